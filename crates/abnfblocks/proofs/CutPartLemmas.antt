@@ -23,8 +23,8 @@ abbrev pub text_inside : List ℕ → List ℕ
 text_inside text = take (size_inside text) text
 
 -- a CR that ends a part stands after its other bytes
-cr-behind : (b c : ℕ) (bytes : List ℕ) → without_cr (b ∷ c ∷ bytes) ≡ b ∷ without_cr (c ∷ bytes)
-cr-behind b c bytes =
+cr-after : (b c : ℕ) (bytes : List ℕ) → without_cr (b ∷ c ∷ bytes) ≡ b ∷ without_cr (c ∷ bytes)
+cr-after b c bytes =
     let next : suc (suc (length bytes)) - 1 ≡ suc (suc (length bytes) - 1) = omega arith in
     elim (cases_Bool (bytes_eq (drop (suc (length bytes) - 1) (c ∷ bytes)) (codes "\r"))) [
       | inl e ↦ rw (next, e) refl
@@ -57,7 +57,7 @@ byte-before b c bytes others h = elim (cases_Bool (c == 10)) [
   | inr e ↦
       let more = more-inside c bytes e in
       byte-kept b (c ∷ bytes) e ∙ ap (with_byte b) h
-      ∙ ap (λ (part : List ℕ). part ∷ others) (rw more (sym (cr-behind b c (text_inside bytes))))
+      ∙ ap (λ (part : List ℕ). part ∷ others) (rw more (sym (cr-after b c (text_inside bytes))))
 ]
 
 -- what a line's end ends
@@ -102,10 +102,10 @@ part-left (x ∷ bytes) lt le = elim (cases_Bool (x == 10)) [
       | inr e ↦ byte-kept x (c ∷ bytes) e ∙ ap (with_byte x) (h (omega arith))
     ]
 
-pub part-before : (text first behind rest : List ℕ) (b n : ℕ) → n ≡ size_inside text
-    → first ≡ take n text → behind ≡ drop n text → behind ≡ b ∷ rest
+pub part-before : (text first after rest : List ℕ) (b n : ℕ) → n ≡ size_inside text
+    → first ≡ take n text → after ≡ drop n text → after ≡ b ∷ rest
     → line_parts text ≡ without_cr first ∷ line_parts rest
-part-before text first behind rest b n size front back more =
+part-before text first after rest b n size front back more =
     let at : drop (size_inside text) text ≡ b ∷ rest = ap (λ (k : ℕ). drop k text) (sym size) ∙ sym back ∙ more in
     rw (front, size) (part-ended text b rest at)
 
@@ -113,11 +113,11 @@ none-left : (rest : List ℕ) → length rest ≡ 0 → rest ≡ []
 none-left [] e = refl
 none-left (b ∷ rest) e = absurd (omega arith)
 
-pub part-last : (text first behind rest : List ℕ) (n : ℕ) → 0 < length text → n ≡ size_inside text
-    → first ≡ take n text → behind ≡ drop n text → length behind ≡ 0 → rest ≡ behind
+pub part-last : (text first after rest : List ℕ) (n : ℕ) → 0 < length text → n ≡ size_inside text
+    → first ≡ take n text → after ≡ drop n text → length after ≡ 0 → rest ≡ after
     → line_parts text ≡ first ∷ line_parts rest
-part-last text first behind rest n lt size front back none same =
+part-last text first after rest n lt size front back none same =
     let few : length text ≤ n = omega (arith, ap length back, length-drop n text) in
     let whole : first ≡ text = front ∙ take_all n text few in
-    let ends : rest ≡ [] = same ∙ none-left behind none in
+    let ends : rest ≡ [] = same ∙ none-left after none in
     rw (whole, ends) (part-left text lt (omega arith))

@@ -36,7 +36,7 @@ use Rattle.abnfblocks.specs.RuleLines.{margin_of}
 use Rattle.abnfblocks.specs.RuleEnds.{line_bound}
 use Rattle.abnfblocks.specs.TextLines.{NumberedLine}
 use Rattle.abnfblocks.proofs.LineEndLemmas.{some_text, white-line, white-on, stands-line}
-use Rattle.abnfblocks.proofs.LineTokenLemmas.{first-longest, indent-front, line-behind, next-on, stands-text}
+use Rattle.abnfblocks.proofs.LineTokenLemmas.{first-longest, indent-front, line-after, next-on, stands-text}
 use Rattle.abnfblocks.proofs.RuleEndLemmas.{cut-line_ends}
 
 -- white space is cut in one way
@@ -82,21 +82,21 @@ next-starts {r = r} {x = tok k z p} h =
 same-marked : {a b : Marked} → Some a ≡ Some b → start_of (tok_of a) ≡ start_of (tok_of b)
 same-marked e = cc
 
-starts-behind : (text : List ℕ) (m : Option ℕ) {total : ℕ} {s : List ℕ} {ts : List (Tok AbnfKind)} (n j : ℕ)
+starts-after : (text : List ℕ) (m : Option ℕ) {total : ℕ} {s : List ℕ} {ts : List (Tok AbnfKind)} (n j : ℕ)
     (w : Marked) → lexing.AreTokens White First ends_list total s ts → slice_get (marks text m n ts) j ≡ Some w
     → total ≤ start_of (tok_of w) + length s
-starts-behind text m n zero w (last_one {x = tok k z p} h e) got =
+starts-after text m n zero w (last_one {x = tok k z p} h e) got =
     let at = next-starts h in
     let same : p.start ≡ start_of (tok_of w) = same-marked got in
     (let f = at.0 in omega arith)
-starts-behind text m n (suc j) w (last_one h e) got = cc
-starts-behind text m n zero w (one_more {x = tok k z p} h e more) got =
+starts-after text m n (suc j) w (last_one h e) got = cc
+starts-after text m n zero w (one_more {x = tok k z p} h e more) got =
     let at = next-starts h in
     let same : p.start ≡ start_of (tok_of w) = same-marked got in
     (let f = at.0 in omega arith)
-starts-behind text m n (suc j) w (one_more {x = x} h e more) got =
+starts-after text m n (suc j) w (one_more {x = x} h e more) got =
     let at = next-starts h in
-    let rest = starts-behind text m (lexing.end_of x) j w more got in
+    let rest = starts-after text m (lexing.end_of x) j w more got in
     (let f = at.1 in omega arith)
 
 -- one token stands first, and one rest follows it
@@ -152,7 +152,7 @@ module _ (a b : List ℕ) (m : Option ℕ) where
       → slice_get (marks (a ++ b) m n ts) j ≡ Some w → start_of (tok_of w) < length a → ⊥
   none-within {t} n j w l white all got lt =
       let rest = tokens-rest (white-on b (some_text l) white) all in
-      let le = starts-behind (a ++ b) m n j w rest got in
+      let le = starts-after (a ++ b) m n j w rest got in
       absurd (omega (arith, length-append a b))
 
   module _ {t r : List ℕ} {k : AbnfKind} {z : List ℕ} {p : Span} (l : EndsLine t)
@@ -209,13 +209,13 @@ module _ (a b : List ℕ) (m : Option ℕ) where
       rw whole (indent-front a b p.start within)
 
 -- how many lines end before a position after them
-ends-behind : (line rest : List ℕ) (n k : ℕ) → n ≡ length line + suc k
+ends-after : (line rest : List ℕ) (n k : ℕ) → n ≡ length line + suc k
     → 1 + line_ends Lf rest k ≤ line_ends Lf (line ++ 10 ∷ rest) n
-ends-behind [] rest zero k e = absurd (omega arith)
-ends-behind [] rest (suc n) k e = let same : n ≡ k = omega arith in rw same (omega arith)
-ends-behind (c ∷ line) rest zero k e = absurd (omega arith)
-ends-behind (c ∷ line) rest (suc n) k e =
-    let more = ends-behind line rest n k (omega arith) in
+ends-after [] rest zero k e = absurd (omega arith)
+ends-after [] rest (suc n) k e = let same : n ≡ k = omega arith in rw same (omega arith)
+ends-after (c ∷ line) rest zero k e = absurd (omega arith)
+ends-after (c ∷ line) rest (suc n) k e =
+    let more = ends-after line rest n k (omega arith) in
     omega arith
 
 lines-counted : (m : ℕ) (xs : List NumberedLine) (b : List ℕ) (n : ℕ) → length (lines_text m xs) ≤ n
@@ -230,7 +230,7 @@ lines-counted m (x ∷ xs) b n le =
     omega (arith, length-append (line ++ 10 ∷ []) others, length-append line (10 ∷ [])) in
     let k = n - length line - 1 in
     let rest = lines-counted m xs b k (omega arith) in
-    let here = ends-behind line (others ++ b) n k (omega arith) in
+    let here = ends-after line (others ++ b) n k (omega arith) in
     rw whole (omega arith)
 
 -- what decides is hopeless or over a limit
@@ -273,7 +273,7 @@ module _ (a b : List ℕ) {ds : List Definition} (l : EndsLine a) (r : Reads a d
 lines-end : (m : ℕ) (xs : List NumberedLine) → 0 < length xs → EndsLine (lines_text m xs)
 lines-end m [] lt = absurd (omega arith)
 lines-end m (x ∷ []) lt = let l = cut-line_ends m x in rw (append-nil (cut_line m x)) l
-lines-end m (x ∷ y ∷ xs) lt = line-behind (cut_line m x) (lines-end m (y ∷ xs) (omega arith))
+lines-end m (x ∷ y ∷ xs) lt = line-after (cut_line m x) (lines-end m (y ∷ xs) (omega arith))
 
 module _ (m : ℕ) (rows : List NumberedLine) (n i : ℕ) (some : 0 < i) (less : i < n) (within : i ≤ length rows)
     {ds : List Definition} (r : Reads (lines_text m (take i rows)) ds) where

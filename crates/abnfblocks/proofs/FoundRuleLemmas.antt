@@ -20,7 +20,7 @@ use Rattle.abnfblocks.specs.declared.found.RuleSearch.{RuleSearch}
 use Rattle.abnfblocks.specs.RuleEnds.{AreTests, IsCutLimit, line_bound}
 use Rattle.abnfblocks.proofs.RuleEndLemmas.{tested-cut}
 use Rattle.abnfblocks.proofs.FaultLineLemmas.{fault-bars}
-use Rattle.abnfblocks.proofs.RuleCutLemmas.{cut-bound, full-cut, rest-rows, row-behind}
+use Rattle.abnfblocks.proofs.RuleCutLemmas.{cut-bound, full-cut, rest-rows, row-after}
 
 -- a text with a fault reads as nothing
 abbrev pub FaultsBar : Type 0
@@ -156,7 +156,7 @@ module _ (lines : List TextLine) (i : ℕ) (before : List RuleSearch) (lt : i < 
   pub nothing-more : (d : TextLine) → begins_rule_line (get_or lines i d).bytes.now ≡ false → (others : List RuleSearch)
       → AreFound (i + 1) next_lines others → AreFound 0 (map numbered lines) (before ++ others)
   nothing-more d e others more = all others
-      (subst (λ (rows : List NumberedLine). AreFound i rows others) (sym (row-behind lines i d lt)) (no_rule e more))
+      (subst (λ (rows : List NumberedLine). AreFound i rows others) (sym (row-after lines i d lt)) (no_rule e more))
 
   abbrev rest_lines : List TextLine
   rest_lines = take (length lines - i) (drop i lines)
@@ -167,7 +167,7 @@ module _ (lines : List TextLine) (i : ℕ) (before : List RuleSearch) (lt : i < 
       → (others : List RuleSearch) → AreFound (i + 1) next_lines others
       → AreFound 0 (map numbered lines) ((before ++ it ∷ []) ++ others)
   rule-more d size it e count h others more =
-      let rows = row-behind lines i d lt in
+      let rows = row-after lines i d lt in
       let whose : map numbered (take size rest_lines) ≡ first_rule (numbered (get_or lines i d) ∷ next_lines) =
       sym (take-map numbered size rest_lines) ∙ ap (λ (k : ℕ). take k (map numbered rest_lines)) count
       ∙ ap (λ (xs : List NumberedLine). first_rule xs) (rest-rows lines i ∙ rows) in

@@ -3,16 +3,16 @@
 use Rattle.std.proofs.Common.{◌≡◌, true, false, List, [], ◌∷◌, refl, sym, ap, ◌∙◌, inl, inr}
 use Rattle.std.proofs.lemmas.Bool.{cases_Bool}
 use Rattle.abnfblocks.specs.Furniture.{Nearest, first, over_blank, IsMark, feed, foot, IsDated, IsAtMark, IsAtHead}
-use Rattle.abnfblocks.specs.Furniture.{IsFurniture, mark, head, behind_mark, behind_head, before_mark, kinds_of}
+use Rattle.abnfblocks.specs.Furniture.{IsFurniture, mark, head, after_mark, after_head, before_mark, kinds_of}
 use Rattle.abnfblocks.specs.Furniture.{KeepsLines}
 use Rattle.abnfblocks.specs.Furniture.{none_left, stays, goes}
-use Rattle.abnfblocks.specs.KeptSteps.{next_behind}
+use Rattle.abnfblocks.specs.KeptSteps.{next_after}
 use Rattle.abnfblocks.specs.TextLines.{NumberedLine}
 use Rattle.abnfblocks.specs.declared.rfctext.before.Before.{Before}
 use Rattle.abnfblocks.specs.declared.rfctext.before.Before.TheVariants.{Text, Mark, Head}
 use Rattle.abnfblocks.specs.declared.rfctext.line_kind.LineKind.{LineKind}
 use Rattle.abnfblocks.specs.declared.rfctext.line_kind.LineKind.TheVariants.{Blank, Feed, Foot, Dated, Other}
-use Rattle.abnfblocks.proofs.KeptLemmas.{at_mark, goes_here, kept_behind}
+use Rattle.abnfblocks.proofs.KeptLemmas.{at_mark, goes_here, kept_after}
 
 -- what stands nearest before the next line
 abbrev pub IsBefore : Before → List LineKind → Type 0
@@ -46,17 +46,17 @@ no-dated_head (first e) m = m
 no-other_head : {kinds rest : List LineKind} → Nearest IsDated (Other ∷ kinds) rest → ⊥
 no-other_head (first e) = cc
 
-pub behind-line : (before : Before) (kind : LineKind) (kinds : List LineKind) → IsBefore before kinds
-    → IsBefore (next_behind before kind) (kind ∷ kinds)
-behind-line before Feed kinds h = (kinds, first feed)
-behind-line before Foot kinds h = (kinds, first foot)
-behind-line Text Blank kinds h = (λ (rest, m). h.0 (no-blank_mark m), λ (rest, m, k). h.1 (no-blank_head m k))
-behind-line Mark Blank kinds h = blank-mark h
-behind-line Head Blank kinds h = (blank-head h.0, λ (rest, m). h.1 (no-blank_mark m))
-behind-line Mark Dated kinds h = ((kinds, first refl, h), λ (rest, m). no-dated_mark m)
-behind-line Text Dated kinds h = (λ (rest, m). no-dated_mark m, λ (rest, m, k). h.0 (no-dated_head m k))
-behind-line Head Dated kinds h = (λ (rest, m). no-dated_mark m, λ (rest, m, k). h.1 (no-dated_head m k))
-behind-line before Other kinds h = (λ (rest, m). no-other_mark m, λ (rest, m, k). no-other_head m)
+pub after-line : (before : Before) (kind : LineKind) (kinds : List LineKind) → IsBefore before kinds
+    → IsBefore (next_after before kind) (kind ∷ kinds)
+after-line before Feed kinds h = (kinds, first feed)
+after-line before Foot kinds h = (kinds, first foot)
+after-line Text Blank kinds h = (λ (rest, m). h.0 (no-blank_mark m), λ (rest, m, k). h.1 (no-blank_head m k))
+after-line Mark Blank kinds h = blank-mark h
+after-line Head Blank kinds h = (blank-head h.0, λ (rest, m). h.1 (no-blank_mark m))
+after-line Mark Dated kinds h = ((kinds, first refl, h), λ (rest, m). no-dated_mark m)
+after-line Text Dated kinds h = (λ (rest, m). no-dated_mark m, λ (rest, m, k). h.0 (no-dated_head m k))
+after-line Head Dated kinds h = (λ (rest, m). no-dated_mark m, λ (rest, m, k). h.1 (no-dated_head m k))
+after-line before Other kinds h = (λ (rest, m). no-other_mark m, λ (rest, m, k). no-other_head m)
 
 is-at_mark : (kinds : List LineKind) → at_mark kinds ≡ true → IsAtMark kinds
 is-at_mark [] e = cc
@@ -71,51 +71,51 @@ nearest-at_mark (first feed) = refl
 nearest-at_mark (first foot) = refl
 nearest-at_mark (over_blank h) = nearest-at_mark h
 
-pub goes-furniture : (before : Before) (kind : LineKind) (kinds behind : List LineKind) → IsBefore before kinds
-    → goes_here before kind behind ≡ true → IsFurniture kinds behind kind
-goes-furniture before Feed kinds behind h e = mark feed
-goes-furniture before Foot kinds behind h e = mark foot
-goes-furniture Mark Dated kinds behind h e = head h
-goes-furniture Text Dated kinds behind h e = cc
-goes-furniture Head Dated kinds behind h e = cc
-goes-furniture Text Blank kinds behind h e = before_mark (is-at_mark behind e)
-goes-furniture Mark Blank kinds behind h e = behind_mark h
-goes-furniture Head Blank kinds behind h e = behind_head h.0
-goes-furniture before Other kinds behind h e = cc
+pub goes-furniture : (before : Before) (kind : LineKind) (kinds after : List LineKind) → IsBefore before kinds
+    → goes_here before kind after ≡ true → IsFurniture kinds after kind
+goes-furniture before Feed kinds after h e = mark feed
+goes-furniture before Foot kinds after h e = mark foot
+goes-furniture Mark Dated kinds after h e = head h
+goes-furniture Text Dated kinds after h e = cc
+goes-furniture Head Dated kinds after h e = cc
+goes-furniture Text Blank kinds after h e = before_mark (is-at_mark after e)
+goes-furniture Mark Blank kinds after h e = after_mark h
+goes-furniture Head Blank kinds after h e = after_head h.0
+goes-furniture before Other kinds after h e = cc
 
-dated-furniture : {kinds behind : List LineKind} → IsFurniture kinds behind Dated → IsAtMark kinds
+dated-furniture : {kinds after : List LineKind} → IsFurniture kinds after Dated → IsAtMark kinds
 dated-furniture (mark m) = elim m [ ]
 dated-furniture (head h) = h
 
-other-furniture : {kinds behind : List LineKind} → IsFurniture kinds behind Other → ⊥
+other-furniture : {kinds after : List LineKind} → IsFurniture kinds after Other → ⊥
 other-furniture (mark m) = elim m [ ]
 
-blank-furniture : {kinds behind : List LineKind} → IsBefore Text kinds → at_mark behind ≡ false
-    → IsFurniture kinds behind Blank → ⊥
+blank-furniture : {kinds after : List LineKind} → IsBefore Text kinds → at_mark after ≡ false
+    → IsFurniture kinds after Blank → ⊥
 blank-furniture h e (mark m) = elim m [ ]
-blank-furniture h e (behind_mark k) = h.0 k
-blank-furniture h e (behind_head k) = h.1 k
+blank-furniture h e (after_mark k) = h.0 k
+blank-furniture h e (after_head k) = h.1 k
 blank-furniture h e (before_mark (rest, n)) = let t : true ≡ false = sym (nearest-at_mark n) ∙ e in cc
 
-pub stays-furniture : (before : Before) (kind : LineKind) (kinds behind : List LineKind) → IsBefore before kinds
-    → goes_here before kind behind ≡ false → IsFurniture kinds behind kind → ⊥
-stays-furniture before Feed kinds behind h e k = cc
-stays-furniture before Foot kinds behind h e k = cc
-stays-furniture Mark Dated kinds behind h e k = cc
-stays-furniture Text Dated kinds behind h e k = h.0 (dated-furniture k)
-stays-furniture Head Dated kinds behind h e k = h.1 (dated-furniture k)
-stays-furniture Text Blank kinds behind h e k = blank-furniture h e k
-stays-furniture Mark Blank kinds behind h e k = cc
-stays-furniture Head Blank kinds behind h e k = cc
-stays-furniture before Other kinds behind h e k = other-furniture k
+pub stays-furniture : (before : Before) (kind : LineKind) (kinds after : List LineKind) → IsBefore before kinds
+    → goes_here before kind after ≡ false → IsFurniture kinds after kind → ⊥
+stays-furniture before Feed kinds after h e k = cc
+stays-furniture before Foot kinds after h e k = cc
+stays-furniture Mark Dated kinds after h e k = cc
+stays-furniture Text Dated kinds after h e k = h.0 (dated-furniture k)
+stays-furniture Head Dated kinds after h e k = h.1 (dated-furniture k)
+stays-furniture Text Blank kinds after h e k = blank-furniture h e k
+stays-furniture Mark Blank kinds after h e k = cc
+stays-furniture Head Blank kinds after h e k = cc
+stays-furniture before Other kinds after h e k = other-furniture k
 
 -- the lines that stay of those to come are no furniture
-pub behind-kept : (before : Before) (kinds : List LineKind) (lines : List NumberedLine) → IsBefore before kinds
-    → KeepsLines kinds lines (kept_behind before lines)
-behind-kept before kinds [] h = none_left
-behind-kept before kinds (line ∷ lines) h =
-    let more = behind-kept (next_behind before line.kind) (line.kind ∷ kinds) lines
-    (behind-line before line.kind kinds h) in
+pub after-kept : (before : Before) (kinds : List LineKind) (lines : List NumberedLine) → IsBefore before kinds
+    → KeepsLines kinds lines (kept_after before lines)
+after-kept before kinds [] h = none_left
+after-kept before kinds (line ∷ lines) h =
+    let more = after-kept (next_after before line.kind) (line.kind ∷ kinds) lines
+    (after-line before line.kind kinds h) in
     elim (cases_Bool (goes_here before line.kind (kinds_of lines))) [
       | inl e ↦ rw e (goes (goes-furniture before line.kind kinds (kinds_of lines) h e) more)
       | inr e ↦ rw e (stays (stays-furniture before line.kind kinds (kinds_of lines) h e) more)

@@ -3,7 +3,7 @@
 use Rattle.std.proofs.Common.{◌≡◌, ℕ, Bool, true, false, ◌||◌, ◌&&◌, List, [], ◌∷◌, ◌++◌, refl, sym, ap, ◌∙◌}
 use Rattle.std.proofs.Common.{append_assoc, cond}
 use Rattle.abnfblocks.specs.Furniture.{kinds_of}
-use Rattle.abnfblocks.specs.KeptSteps.{is_blank_kind, goes_behind, next_behind, cut_blanks, after_line}
+use Rattle.abnfblocks.specs.KeptSteps.{is_blank_kind, goes_after, next_after, cut_blanks, after_line}
 use Rattle.abnfblocks.specs.TextLines.{NumberedLine}
 use Rattle.abnfblocks.specs.declared.rfctext.before.Before.{Before}
 use Rattle.abnfblocks.specs.declared.rfctext.before.Before.TheVariants.{Text, Mark, Head}
@@ -21,17 +21,17 @@ at_mark (Dated ∷ kinds) = false
 at_mark (Other ∷ kinds) = false
 
 abbrev pub goes_here : Before → LineKind → List LineKind → Bool
-goes_here before kind behind = goes_behind before kind || (is_blank_kind kind && at_mark behind)
+goes_here before kind after = goes_after before kind || (is_blank_kind kind && at_mark after)
 
 -- the lines that stay of those to come
-abbrev pub kept_behind : Before → List NumberedLine → List NumberedLine
-kept_behind before [] = []
-kept_behind before (line ∷ lines) = cond (goes_here before line.kind (kinds_of lines))
-    (kept_behind (next_behind before line.kind) lines) (line ∷ kept_behind (next_behind before line.kind) lines)
+abbrev pub kept_after : Before → List NumberedLine → List NumberedLine
+kept_after before [] = []
+kept_after before (line ∷ lines) = cond (goes_here before line.kind (kinds_of lines))
+    (kept_after (next_after before line.kind) lines) (line ∷ kept_after (next_after before line.kind) lines)
 
 -- and after those that the lines so far left
 abbrev pub all_kept : Before → List NumberedLine → List NumberedLine → List NumberedLine
-all_kept before kept lines = cond (at_mark (kinds_of lines)) (cut_blanks kept) kept ++ kept_behind before lines
+all_kept before kept lines = cond (at_mark (kinds_of lines)) (cut_blanks kept) kept ++ kept_after before lines
 
 -- after furniture no blank line is left at the end
 abbrev pub IsClean : Before → List NumberedLine → Type 0
@@ -65,33 +65,33 @@ pushed-blank false kept more line e = sym (append_assoc kept (line ∷ []) more)
 
 step-kept : (before : Before) (kind : LineKind) (n : ℕ) (z : List ℕ) (kept lines : List NumberedLine)
     → IsClean before kept → all_kept before kept (line_of n z kind ∷ lines)
-    ≡ all_kept (next_behind before kind) (after_line before kept (line_of n z kind)) lines
+    ≡ all_kept (next_after before kind) (after_line before kept (line_of n z kind)) lines
 step-kept before Feed n z kept lines clean =
-    ap (λ (t : List NumberedLine). t ++ kept_behind Mark lines) (sym (cut-either (at_mark (kinds_of lines)) kept))
+    ap (λ (t : List NumberedLine). t ++ kept_after Mark lines) (sym (cut-either (at_mark (kinds_of lines)) kept))
 step-kept before Foot n z kept lines clean =
-    ap (λ (t : List NumberedLine). t ++ kept_behind Mark lines) (sym (cut-either (at_mark (kinds_of lines)) kept))
+    ap (λ (t : List NumberedLine). t ++ kept_after Mark lines) (sym (cut-either (at_mark (kinds_of lines)) kept))
 step-kept Text Blank n z kept lines clean =
-    pushed-blank (at_mark (kinds_of lines)) kept (kept_behind Text lines) (line_of n z Blank) refl
+    pushed-blank (at_mark (kinds_of lines)) kept (kept_after Text lines) (line_of n z Blank) refl
 step-kept Mark Blank n z kept lines clean = refl
 step-kept Head Blank n z kept lines clean = refl
 step-kept Text Dated n z kept lines clean =
-    pushed-either (at_mark (kinds_of lines)) kept (kept_behind Text lines) (line_of n z Dated) refl
+    pushed-either (at_mark (kinds_of lines)) kept (kept_after Text lines) (line_of n z Dated) refl
 step-kept Head Dated n z kept lines clean =
-    pushed-either (at_mark (kinds_of lines)) kept (kept_behind Text lines) (line_of n z Dated) refl
+    pushed-either (at_mark (kinds_of lines)) kept (kept_after Text lines) (line_of n z Dated) refl
 step-kept Mark Dated n z kept lines clean =
-    ap (λ (t : List NumberedLine). t ++ kept_behind Head lines)
+    ap (λ (t : List NumberedLine). t ++ kept_after Head lines)
     (sym (either-same (at_mark (kinds_of lines)) kept clean))
 step-kept before Other n z kept lines clean =
-    pushed-either (at_mark (kinds_of lines)) kept (kept_behind Text lines) (line_of n z Other) refl
+    pushed-either (at_mark (kinds_of lines)) kept (kept_after Text lines) (line_of n z Other) refl
 
 -- one more line leaves what stays of all as it is
 pub line-keeps_all : (before : Before) (kept : List NumberedLine) (line : NumberedLine) (lines : List NumberedLine)
     → IsClean before kept
-    → all_kept before kept (line ∷ lines) ≡ all_kept (next_behind before line.kind) (after_line before kept line) lines
+    → all_kept before kept (line ∷ lines) ≡ all_kept (next_after before line.kind) (after_line before kept line) lines
 line-keeps_all before kept line lines clean = step-kept before line.kind line.number line.bytes kept lines clean
 
 step-clean : (before : Before) (kind : LineKind) (n : ℕ) (z : List ℕ) (kept : List NumberedLine) → IsClean before kept
-    → IsClean (next_behind before kind) (after_line before kept (line_of n z kind))
+    → IsClean (next_after before kind) (after_line before kept (line_of n z kind))
 step-clean before Feed n z kept clean = cut-cut kept
 step-clean before Foot n z kept clean = cut-cut kept
 step-clean Text Blank n z kept clean = tt
@@ -103,5 +103,5 @@ step-clean Mark Dated n z kept clean = clean
 step-clean before Other n z kept clean = tt
 
 pub line-keeps_clean : (before : Before) (kept : List NumberedLine) (line : NumberedLine) → IsClean before kept
-    → IsClean (next_behind before line.kind) (after_line before kept line)
+    → IsClean (next_after before line.kind) (after_line before kept line)
 line-keeps_clean before kept line clean = step-clean before line.kind line.number line.bytes kept clean

@@ -4,7 +4,7 @@ use Rattle.std.proofs.Common.{◌≡◌, ℕ, ◌==◌, ◌||◌, inl, inr, Bool
 use Rattle.std.proofs.Common.{ap, ◌∙◌}
 use Rattle.std.proofs.Common.{arith, length-append, append-nil}
 use Rattle.lexer.specs.SliceEnds.{Longest, no_more, piece}
-use Rattle.std.proofs.lemmas.Bool.Decides.{eqb_tells}
+use Rattle.std.proofs.lemmas.Bool.Decides.{eqb_decides}
 use Rattle.std.specs.Char.{is_ascii_alphabetic}
 use Rattle.abnfread.specs.declared.kind.AbnfKind.{AbnfKind}
 use Rattle.abnfread.specs.declared.kind.AbnfKind.TheVariants.{Name, Adds, Repeat, Text, Num, Prose}
@@ -12,8 +12,8 @@ use Rattle.abnfread.specs.AbnfSlices.{Run, none, more, Stops, is_inside, is_case
 use Rattle.abnfread.specs.AbnfSlices.{digits, Dotted, no_dot, dot, Numbers, values, range, Count, exactly, at_least}
 use Rattle.abnfread.specs.AbnfSlices.{Piece, blank, crlf, comment, White, Stands, name, is, adds, slash, lparen, rparen}
 use Rattle.abnfread.specs.AbnfSlices.{lbrack, rbrack, counted, star, text, cased, num, prose}
-use Rattle.abnfread.specs.BaseDigits.{is_digit, Tells, binary, decimals, hexadecimal}
-use Rattle.abnfblocks.specs.LinkedLines.{EndsLine, lf, behind_byte}
+use Rattle.abnfread.specs.BaseDigits.{is_digit, NamesBase, binary, decimals, hexadecimal}
+use Rattle.abnfblocks.specs.LinkedLines.{EndsLine, lf, after_byte}
 
 -- a byte begins such a text, and x stands after it and before b
 record Headed (c : ℕ) (x t b : List ℕ) : Type 0 where
@@ -24,7 +24,7 @@ record Headed (c : ℕ) (x t b : List ℕ) : Type 0 where
 
 first-back : {c : ℕ} {x t : List ℕ} (b : List ℕ) → (c == 10) ≡ false → EndsLine t → c ∷ x ≡ t ++ b → Headed c x t b
 first-back b p lf e = let h = e in cc
-first-back b p (behind_byte {bytes} l) e = record {
+first-back b p (after_byte {bytes} l) e = record {
   rest = bytes;
   is_headed = (let h = e in cc);
   tail = (let h = e in cc);
@@ -45,7 +45,7 @@ at-tail : (P : List ℕ → List ℕ → Type 0) {t u r : List ℕ} → t ≡ u 
 at-tail P e h = rw e at h
 
 not-lf : (f : ℕ → Bool) {c : ℕ} → f 10 ≡ false → f c ≡ true → (c == 10) ≡ false
-not-lf f {c} p q = elim (eqb_tells c 10) [
+not-lf f {c} p q = elim (eqb_decides c 10) [
   | inl h ↦ absurd (let e = h.1 in let k = rw e at q in cc)
   | inr h ↦ h.0
 ]
@@ -58,7 +58,7 @@ module _ {f : ℕ → Bool} (no : f 10 ≡ false) (b : List ℕ) where
   run-line : {t r : List ℕ} → EndsLine t → Run f t r → EndsLine r
   run-line l none = l
   run-line lf (more p h) = let e = not-lf f no p in cc
-  run-line (behind_byte l) (more p h) = run-line l h
+  run-line (after_byte l) (more p h) = run-line l h
 
   run-back : {t u s : List ℕ} → EndsLine t → u ≡ t ++ b → Run f u s → Back (Run f) t b s
   run-back {t} l e none = record { rest = t; same = e; holds = none; line = l }
@@ -127,7 +127,7 @@ module _ {base : ℕ} (no : is_digit base 10 ≡ false) (b : List ℕ) where
 -- LF, and not the end, stops them
 stops-on : (f : ℕ → Bool) (b : List ℕ) {r : List ℕ} → EndsLine r → Stops f r → Stops f (r ++ b)
 stops-on f b lf h = h
-stops-on f b (behind_byte l) h = h
+stops-on f b (after_byte l) h = h
 
 module _ (b : List ℕ) where
   count-on : {t r : List ℕ} → Count t r → Count (t ++ b) (r ++ b)
@@ -149,15 +149,15 @@ module _ (b : List ℕ) where
         line = z.line;
       }
 
-  tells-other : {c base : ℕ} → Tells c base → (c == 10) ≡ false
-  tells-other (binary e) = not-lf (λ x. (x == 98) || (x == 66)) refl e
-  tells-other (decimals e) = not-lf (λ x. (x == 100) || (x == 68)) refl e
-  tells-other (hexadecimal e) = not-lf (λ x. (x == 120) || (x == 88)) refl e
+  reports-other : {c base : ℕ} → NamesBase c base → (c == 10) ≡ false
+  reports-other (binary e) = not-lf (λ x. (x == 98) || (x == 66)) refl e
+  reports-other (decimals e) = not-lf (λ x. (x == 100) || (x == 68)) refl e
+  reports-other (hexadecimal e) = not-lf (λ x. (x == 120) || (x == 88)) refl e
 
-  tells-no_lf : {c base : ℕ} → Tells c base → is_digit base 10 ≡ false
-  tells-no_lf (binary e) = refl
-  tells-no_lf (decimals e) = refl
-  tells-no_lf (hexadecimal e) = refl
+  reports-no_lf : {c base : ℕ} → NamesBase c base → is_digit base 10 ≡ false
+  reports-no_lf (binary e) = refl
+  reports-no_lf (decimals e) = refl
+  reports-no_lf (hexadecimal e) = refl
 
   stands-on : {k : AbnfKind} {t r : List ℕ} → Stands k t r → Stands k (t ++ b) (r ++ b)
   stands-on (name p h) = name p (run-on refl b h)
@@ -172,7 +172,7 @@ module _ (b : List ℕ) where
   stands-on (star h) = star (run-on refl b h)
   stands-on (text h) = text (run-on refl b h)
   stands-on (cased p h) = cased p (run-on refl b h)
-  stands-on (num p h) = num p (numbers-on (tells-no_lf p) b h)
+  stands-on (num p h) = num p (numbers-on (reports-no_lf p) b h)
   stands-on (prose h) = prose (run-on refl b h)
 
   -- a token of one byte
@@ -256,8 +256,8 @@ module _ (b : List ℕ) where
       }
   stands-back l e (num {c = c} p h) =
       let x = first-back b refl l e in
-      let y = first-back b (tells-other p) x.line x.tail in
-      let z = numbers-back (tells-no_lf p) b y.line y.tail h in
+      let y = first-back b (reports-other p) x.line x.tail in
+      let z = numbers-back (reports-no_lf p) b y.line y.tail h in
       record {
         rest = z.rest;
         same = z.same;
@@ -288,7 +288,7 @@ module _ (b : List ℕ) where
   piece-on : {t m : List ℕ} → EndsLine t → Piece t m → Piece (t ++ b) (m ++ b)
   piece-on l (blank p) = blank p
   piece-on l crlf = crlf
-  piece-on (behind_byte l) (comment h stop) =
+  piece-on (after_byte l) (comment h stop) =
       comment (run-on refl b h) (stops-on is_inside b (run-line refl b l h) stop)
 
 pub stands-line : {k : AbnfKind} {t r : List ℕ} → EndsLine t → Stands k t r → EndsLine r
@@ -307,10 +307,10 @@ pub data LeftLine : List ℕ → Type 0 where
 
 piece-line : {t m : List ℕ} → EndsLine t → Piece t m → LeftLine m
 piece-line lf (blank p) = no_text
-piece-line (behind_byte l) (blank p) = some_text l
-piece-line (behind_byte lf) crlf = no_text
-piece-line (behind_byte (behind_byte l)) crlf = some_text l
-piece-line (behind_byte l) (comment h stop) = some_text (run-line refl [] l h)
+piece-line (after_byte l) (blank p) = some_text l
+piece-line (after_byte lf) crlf = no_text
+piece-line (after_byte (after_byte l)) crlf = some_text l
+piece-line (after_byte l) (comment h stop) = some_text (run-line refl [] l h)
 
 pub white-line : {t m : List ℕ} → LeftLine t → White t m → LeftLine m
 white-line l no_more = l

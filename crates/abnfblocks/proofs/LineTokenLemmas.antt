@@ -13,7 +13,7 @@ use Rattle.abnfread.specs.AbnfKinds.{ends_list}
 use Rattle.abnfread.specs.AbnfSlices.{White, First, Stands}
 use Rattle.abnfread.specs.MarkedTokens.{AreTokens, indented, indent_from, indent_at}
 use Rattle.abnfread.proofs.AbnfSliceLemmas.{first-last}
-use Rattle.abnfblocks.specs.LinkedLines.{EndsLine, lf, behind_byte, moved_span}
+use Rattle.abnfblocks.specs.LinkedLines.{EndsLine, lf, after_byte, moved_span}
 use Rattle.abnfblocks.proofs.LineEndLemmas.{some_text, longest-on, stands-line, white-line, white-on, white-through}
 use Rattle.abnfblocks.proofs.LineEndLemmas.{LeftLine, no_text}
 
@@ -70,7 +70,7 @@ tokens-white w (one_more h e more) = one_more (record {
 
 pub line-length : {t : List ℕ} → EndsLine t → 1 ≤ length t
 line-length lf = omega arith
-line-length (behind_byte l) = omega arith
+line-length (after_byte l) = omega arith
 
 pub next-on : (a b : List ℕ) {t r : List ℕ} {k : AbnfKind} {z : List ℕ} {p : Span}
     (h : Next White First (length a) t (tok k z p) r) → EndsLine t → EndsLine h.token → Longest Stands k h.token r
@@ -109,7 +109,7 @@ pub stands-text : {k : AbnfKind} {t r : List ℕ} → LeftLine t → Stands k t 
 stands-text no_text h = elim h [ ]
 stands-text (some_text l) h = l
 
-module _ (a b : List ℕ) {others : List (Tok AbnfKind)} (behind : AreTokens b others) where
+module _ (a b : List ℕ) {others : List (Tok AbnfKind)} (after : AreTokens b others) where
   abbrev Onward : List ℕ → List (Tok AbnfKind) → Type 0
   Onward t ts = HasBad ts ⊎ AreOnward (length (a ++ b)) (length a) (t ++ b) ts others
 
@@ -119,7 +119,7 @@ module _ (a b : List ℕ) {others : List (Tok AbnfKind)} (behind : AreTokens b o
       let nothing : h.token ≡ [] = first-last e h.first in
       let white : White t [] = (let w = h.white in rw nothing at w) in
       let total : length a + length b ≡ length (a ++ b) = sym (length-append a b) in
-      let moved = tokens-white (white-on b (some_text l) white) (tokens-moved (length a) behind) in
+      let moved = tokens-white (white-on b (some_text l) white) (tokens-moved (length a) after) in
       inr (record { front = []; last = x; whole = refl; ends = e; are = rw total at moved })
 
   onward-more : {t r : List ℕ} (k : AbnfKind) (z : List ℕ) (p : Span) {ts : List (Tok AbnfKind)} → EndsLine t
@@ -144,6 +144,6 @@ module _ (a b : List ℕ) {others : List (Tok AbnfKind)} (behind : AreTokens b o
         onward-more k z p l h e line longest (tokens-onward (stands-line line longest.stands) more))
   ]
 
-pub line-behind : (a : List ℕ) {b : List ℕ} → EndsLine b → EndsLine (a ++ b)
-line-behind [] l = l
-line-behind (x ∷ a) l = behind_byte (line-behind a l)
+pub line-after : (a : List ℕ) {b : List ℕ} → EndsLine b → EndsLine (a ++ b)
+line-after [] l = l
+line-after (x ∷ a) l = after_byte (line-after a l)

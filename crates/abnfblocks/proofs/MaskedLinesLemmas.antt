@@ -15,7 +15,7 @@ use Rattle.abnfblocks.specs.Fences.{opening_length, title_size}
 use Rattle.abnfblocks.specs.MaskSteps.{each_longest, line_shown, lines_shown, longest_closing}
 use Rattle.abnfblocks.specs.MaskedLines.{AreRead, MasksBlocks, MasksMarkdown, MasksTags, none_left, no_block, stays}
 use Rattle.abnfblocks.specs.MaskedLines.{ReadsLines, ReadsMarkdown, ReadsPlain, ShowsText}
-use Rattle.abnfblocks.specs.MaskedLines.{behind_blanks, hidden, masked_line}
+use Rattle.abnfblocks.specs.MaskedLines.{after_blanks, hidden, masked_line}
 use Rattle.abnfblocks.specs.OpenTags.{tag_size}
 use Rattle.abnfblocks.specs.RuleCuts.{blanks_first}
 use Rattle.abnfblocks.specs.TextLines.{NumberedLine, line_parts, numbered}
@@ -24,7 +24,7 @@ use Rattle.rfcforms.proofs.XmlPieceLemmas.{one-marking}
 use Rattle.rfcforms.specs.XmlTags.{begins_xml}
 use Rattle.abnfblocks.specs.declared.rfctext.text_line.TextLine.{TextLine}
 use Rattle.abnfblocks.proofs.FurnitureLemmas.{one-kept}
-use Rattle.abnfblocks.proofs.RuleCutLemmas.{one-fails, one-passes, rest-rows, row-behind}
+use Rattle.abnfblocks.proofs.RuleCutLemmas.{one-fails, one-passes, rest-rows, row-after}
 
 less-test : (a b : ℕ) → a < b → nat_lt a b ≡ true
 less-test a b lt = grind (arith, nat_tests)
@@ -127,7 +127,7 @@ longest-step mark lines i d longest more before after some within is most each e
     let line : NumberedLine = numbered (get_or lines (i - 1) d) in
     let next : i - 1 + 1 ≡ i = omega (arith, some) in
     let at : drop (i - 1) rows ≡ line ∷ drop i rows =
-    row-behind lines (i - 1) d (omega (arith, some, within)) ∙ ap (λ (k : ℕ). line ∷ drop k rows) next in
+    row-after lines (i - 1) d (omega (arith, some, within)) ∙ ap (λ (k : ℕ). line ∷ drop k rows) next in
     let here : more ≡ longest_closing mark (line ∷ drop i rows) =
     most ∙ ap (λ (k : ℕ). max k (closing_length mark line.bytes)) is in
     let all : reverse after ≡ more ∷ each_longest mark (drop i rows) =
@@ -137,10 +137,10 @@ longest-step mark lines i d longest more before after some within is most each e
     )
 
 -- the longest fence after a line
-pub longest-behind : (mark : ℕ) (lines : List TextLine) (i k : ℕ) (all : List ℕ) → i < length lines
+pub longest-after : (mark : ℕ) (lines : List TextLine) (i k : ℕ) (all : List ℕ) → i < length lines
     → all ≡ each_longest mark (map numbered lines) → k ≡ get_or all (i + 1) 0
     → k ≡ longest_closing mark (drop 1 (map numbered (lines_from_there lines i)))
-longest-behind mark lines i k all lt are is =
+longest-after mark lines i k all lt are is =
     let rows : List NumberedLine = map numbered lines in
     let within : i + 1 ≤ length rows = omega (arith, lt, length-map lines numbered) in
     let there : drop (i + 1) rows ≡ drop 1 (map numbered (lines_from_there lines i)) =
@@ -237,11 +237,11 @@ module _ (size : List NumberedLine → ℕ) (hides : NumberedLine → Bool) wher
       let rows : List NumberedLine = map numbered lines in
       let first : NumberedLine = numbered (get_or lines i d) in
       let others : List NumberedLine = drop (i + 1) rows in
-      let at : drop i rows ≡ first ∷ others = row-behind lines i d lt in
-      let behind : MasksBlocks size hides (drop n (first ∷ others)) more =
+      let at : drop i rows ≡ first ∷ others = row-after lines i d lt in
+      let after : MasksBlocks size hides (drop n (first ∷ others)) more =
       subst (λ (xs : List NumberedLine). MasksBlocks size hides xs more)
       (sym (drop-drop n i rows) ∙ ap (λ (xs : List NumberedLine). drop n xs) at) rest in
-      let here = block-shown first others k n masks (is ∙ ap size at) count e more behind in
+      let here = block-shown first others k n masks (is ∙ ap size at) count e more after in
       let there : MasksBlocks size hides (drop i rows) (lines_shown masks (take n (first ∷ others)) ++ more) =
       subst (λ (xs : List NumberedLine). MasksBlocks size hides xs
       (lines_shown masks (take n (first ∷ others)) ++ more)) (sym at) here in
@@ -280,12 +280,12 @@ pub markdown-masked : (lines blank rest title text : List TextLine) (b t : ℕ) 
     → one ≡ none ++ map numbered blank → two ≡ one ++ map masked_line (map numbered title)
     → (masked : List NumberedLine) × MasksBlocks fenced_size hides_block (map numbered text) masked
     × (three ≡ two ++ masked) → MasksMarkdown (map numbered lines) three
-markdown-masked lines blank rest title text b t none one two three count before behind size first others empty first_out
+markdown-masked lines blank rest title text b t none one two three count before after size first others empty first_out
     title_out (masked, blocks, out) =
     let rows : List NumberedLine = map numbered lines in
-    let bare : List NumberedLine = behind_blanks rows in
+    let bare : List NumberedLine = after_blanks rows in
     let there : map numbered rest ≡ bare =
-    ap (λ (xs : List TextLine). map numbered xs) behind ∙ sym (drop-map numbered b lines)
+    ap (λ (xs : List TextLine). map numbered xs) after ∙ sym (drop-map numbered b lines)
     ∙ ap (λ (k : ℕ). drop k rows) count in
     let long : t ≡ title_size bare = size ∙ ap title_size there in
     let left : map numbered text ≡ drop (title_size bare) bare =

@@ -11,7 +11,7 @@ use Rattle.abnfblocks.specs.MaskSteps.{each_tag}
 use Rattle.abnfblocks.specs.OpenTags.{goes_on_tag, has_end, has_end_first, opens_tag, tag_left, tag_size}
 use Rattle.abnfblocks.specs.TextLines.{NumberedLine, numbered}
 use Rattle.abnfblocks.specs.declared.rfctext.text_line.TextLine.{TextLine}
-use Rattle.abnfblocks.proofs.RuleCutLemmas.{row-behind}
+use Rattle.abnfblocks.proofs.RuleCutLemmas.{row-after}
 
 -- how many lines a tag takes that goes on with a line, where it takes so many after it
 abbrev pub more_left : NumberedLine → ℕ → ℕ
@@ -52,21 +52,21 @@ more-within line left n le = elim (cases_Bool (has_end line.bytes)) [
 ]
 
 module _ (lines : List TextLine) (i : ℕ) (d : TextLine) (some : 0 < i) (within : i ≤ length lines) where
-  abbrev pub rows_behind : List NumberedLine
-  rows_behind = drop i (map numbered lines)
+  abbrev pub rows_after : List NumberedLine
+  rows_after = drop i (map numbered lines)
 
   abbrev pub row_before : NumberedLine
   row_before = numbered (get_or lines (i - 1) d)
 
-  rows-from : drop (i - 1) (map numbered lines) ≡ row_before ∷ rows_behind
+  rows-from : drop (i - 1) (map numbered lines) ≡ row_before ∷ rows_after
   rows-from =
       let next : i - 1 + 1 ≡ i = omega (arith, some) in
-      row-behind lines (i - 1) d (omega (arith, some, within))
+      row-after lines (i - 1) d (omega (arith, some, within))
       ∙ ap (λ (k : ℕ). row_before ∷ drop k (map numbered lines)) next
 
-  pub left-before : (k more : ℕ) → k ≡ tag_left rows_behind → more ≡ more_left row_before k
+  pub left-before : (k more : ℕ) → k ≡ tag_left rows_after → more ≡ more_left row_before k
       → more ≡ tag_left (drop (i - 1) (map numbered lines))
-  left-before k more is e = e ∙ ap (λ (n : ℕ). more_left row_before n) is ∙ sym (left-step row_before rows_behind)
+  left-before k more is e = e ∙ ap (λ (n : ℕ). more_left row_before n) is ∙ sym (left-step row_before rows_after)
       ∙ ap (λ (xs : List NumberedLine). tag_left xs) (sym rows-from)
 
   pub left-small : (k more : ℕ) → more ≡ more_left row_before k → more ≤ k + 1
@@ -74,27 +74,27 @@ module _ (lines : List TextLine) (i : ℕ) (d : TextLine) (some : 0 < i) (within
       let le : more_left row_before k ≤ k + 1 = more-within row_before k k (omega arith) in
       omega (arith, e, le)
 
-  pub sizes-before : (size : ℕ) (before after : List ℕ) → size ≡ tag_size (row_before ∷ rows_behind)
-      → reverse before ≡ each_tag rows_behind → after ≡ before ++ size ∷ []
+  pub sizes-before : (size : ℕ) (before after : List ℕ) → size ≡ tag_size (row_before ∷ rows_after)
+      → reverse before ≡ each_tag rows_after → after ≡ before ++ size ∷ []
       → reverse after ≡ each_tag (drop (i - 1) (map numbered lines))
   sizes-before size before after is each e =
-      let all : reverse after ≡ size ∷ each_tag rows_behind =
+      let all : reverse after ≡ size ∷ each_tag rows_after =
       ap (λ (xs : List ℕ). reverse xs) e ∙ reverse-append before (size ∷ [])
       ∙ ap (λ (xs : List ℕ). size ∷ xs) each in
-      all ∙ ap (λ (k : ℕ). k ∷ each_tag rows_behind) is
+      all ∙ ap (λ (k : ℕ). k ∷ each_tag rows_after) is
       ∙ ap (λ (xs : List NumberedLine). each_tag xs) (sym rows-from)
 
-  pub tag-none : (k : ℕ) → k ≡ tag_left rows_behind → k ≡ 0 → tag_size (row_before ∷ rows_behind) ≡ 0
+  pub tag-none : (k : ℕ) → k ≡ tag_left rows_after → k ≡ 0 → tag_size (row_before ∷ rows_after) ≡ 0
   tag-none k is e = elim (cases_Bool (opens_tag row_before.bytes)) [
-    | inl f ↦ (let none : tag_left rows_behind ≡ 0 = sym is ∙ e in rw (f, none) refl)
+    | inl f ↦ (let none : tag_left rows_after ≡ 0 = sym is ∙ e in rw (f, none) refl)
     | inr f ↦ rw f refl
   ]
 
-  pub tag-shut : opens_tag row_before.bytes ≡ false → tag_size (row_before ∷ rows_behind) ≡ 0
+  pub tag-shut : opens_tag row_before.bytes ≡ false → tag_size (row_before ∷ rows_after) ≡ 0
   tag-shut f = rw f refl
 
-  pub tag-some : (k : ℕ) → k ≡ tag_left rows_behind → 0 < k → opens_tag row_before.bytes ≡ true
-      → tag_size (row_before ∷ rows_behind) ≡ k + 1
+  pub tag-some : (k : ℕ) → k ≡ tag_left rows_after → 0 < k → opens_tag row_before.bytes ≡ true
+      → tag_size (row_before ∷ rows_after) ≡ k + 1
   tag-some k is lt f =
       let test : (k == 0) ≡ false = grind (arith, nat_tests) in
       rw (f, ← is, test) refl

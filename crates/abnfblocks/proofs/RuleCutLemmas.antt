@@ -22,9 +22,9 @@ use Rattle.abnfblocks.proofs.CutBlanksLemmas.{cut-cut}
 abbrev pub pairs_from : ℕ → List NumberedLine → ℕ → ℕ
 pairs_from m rows n = prefix_len (λ p. belongs m p.0 p.1) (zip (drop (n - 1) rows) (drop n rows))
 
-pub row-behind : (lines : List TextLine) (n : ℕ) (d : TextLine) → n < length lines
+pub row-after : (lines : List TextLine) (n : ℕ) (d : TextLine) → n < length lines
     → drop n (map numbered lines) ≡ numbered (get_or lines n d) ∷ drop (n + 1) (map numbered lines)
-row-behind lines n d lt =
+row-after lines n d lt =
     drop_more (map numbered lines) n (numbered d) (omega (arith, length-map lines numbered))
     ∙ ap (λ (row : NumberedLine). row ∷ drop (n + 1) (map numbered lines))
     (get_or-map numbered lines n d (numbered d) lt)
@@ -46,10 +46,10 @@ module _ (m : ℕ) (lines : List TextLine) (n : ℕ) (d e : TextLine) (some : 0 
   pairs-are =
       let last : n - 1 + 1 ≡ n = omega (arith, some) in
       let front : drop (n - 1) rows ≡ before ∷ drop n rows =
-      row-behind lines (n - 1) d (omega (arith, lt)) ∙ ap (λ (k : ℕ). before ∷ drop k rows) last in
+      row-after lines (n - 1) d (omega (arith, lt)) ∙ ap (λ (k : ℕ). before ∷ drop k rows) last in
       ap (λ (xs : List NumberedLine). prefix_len (λ p. belongs m p.0 p.1) (zip xs (drop n rows))) front
       ∙ ap (λ (xs : List NumberedLine). prefix_len (λ p. belongs m p.0 p.1) (zip (before ∷ drop n rows) xs))
-      (row-behind lines n e lt)
+      (row-after lines n e lt)
 
   pub pair-passes : belongs m before here ≡ true → pairs_from m rows n ≡ 1 + pairs_from m rows (n + 1)
   pair-passes goes =
@@ -109,10 +109,10 @@ module _ (test : NumberedLine → Bool) where
 not-zero : (n : ℕ) → (1 + n == 0) ≡ false
 not-zero n = grind (arith, nat_tests)
 
-kind-behind : (line : TextLine) (lines : List TextLine) (n : ℕ) (d : TextLine) (b : Bool)
+kind-after : (line : TextLine) (lines : List TextLine) (n : ℕ) (d : TextLine) (b : Bool)
     → is_blank_kind (get_or (line ∷ lines) (suc (suc n) - 1) d).kind ≡ b
     → is_empty_line (numbered (get_or lines (suc n - 1) d)) ≡ b
-kind-behind line lines n d b e =
+kind-after line lines n d b e =
     let here : suc (suc n) - 1 ≡ suc n = omega arith in
     let there : n ≡ suc n - 1 = omega arith in
     let at : is_blank_kind (get_or (line ∷ lines) (suc n) d).kind ≡ b =
@@ -127,7 +127,7 @@ blank-ends (line ∷ lines) zero d more within e = absurd (omega (arith, more))
 blank-ends (line ∷ lines) (suc zero) d more within e = absurd (omega (arith, more))
 blank-ends (line ∷ lines) (suc (suc n)) d more within e =
     let more = last-passes is_empty_line lines (suc n) d (omega arith) (omega (arith, within))
-    (kind-behind line lines n d true e) in
+    (kind-after line lines n d true e) in
     rw (more, not-zero) refl
 
 -- no blank line does, so that the lines to come decide
@@ -139,7 +139,7 @@ full-ends (line ∷ lines) zero d more within e = absurd (omega (arith, more))
 full-ends (line ∷ lines) (suc zero) d more within e = absurd (omega (arith, more))
 full-ends (line ∷ lines) (suc (suc n)) d more within e =
     let none = last-fails is_empty_line lines (suc n) d (omega arith) (omega (arith, within))
-    (kind-behind line lines n d false e) in
+    (kind-after line lines n d false e) in
     rw none refl
 
 -- nor does one end the first line
@@ -225,8 +225,8 @@ module _ (p : NumberedLine → Bool) where
       (pass-pushed (reverse backward) line (pass-backward backward))
 
   -- what stands after the last one that fails passes
-  pub pass-behind : (xs : List NumberedLine) → AllPass (drop (full_before xs) xs)
-  pass-behind xs = subst (λ (ys : List NumberedLine). AllPass (drop (full_before ys) ys)) (reverse-reverse xs)
+  pub pass-after : (xs : List NumberedLine) → AllPass (drop (full_before xs) xs)
+  pass-after xs = subst (λ (ys : List NumberedLine). AllPass (drop (full_before ys) ys)) (reverse-reverse xs)
       (pass-backward (reverse xs))
 
   -- so each of them does
@@ -236,7 +236,7 @@ module _ (p : NumberedLine → Bool) where
       let n = full_before xs in
       let place : n + (i - n) ≡ i = omega (arith, le) in
       let passes = prefix_len_passes p (drop n xs) (i - n) d
-      (omega (arith, le, lt, pass-behind xs, length-drop n xs)) in
+      (omega (arith, le, lt, pass-after xs, length-drop n xs)) in
       sym (ap (λ (k : ℕ). p (get_or xs k d)) place) ∙ sym (ap p (get_or-drop n xs (i - n) d)) ∙ passes
 
 none-ends : (others : List NumberedLine)
@@ -266,7 +266,7 @@ full-cut [] lt = absurd (omega (arith, lt))
 full-cut (line ∷ others) lt =
     let n = length others - suffix_len is_empty_line others in
     let rest = drop n others in
-    let blank = pass-behind is_empty_line others in
+    let blank = pass-after is_empty_line others in
     record {
       some = omega arith;
       within = omega arith;

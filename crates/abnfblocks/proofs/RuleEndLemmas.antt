@@ -16,7 +16,7 @@ use Rattle.abnfread.specs.AbnfKinds.{ends_list}
 use Rattle.abnfread.specs.AbnfReading.{Reads}
 use Rattle.abnfread.specs.AbnfSays.{says_name, says_is, says_adds, says_slash, says_lparen, says_rparen}
 use Rattle.abnfread.specs.AbnfSays.{says_lbrack, says_rbrack, says_repeat, says_text, says_cased, says_num, says_prose}
-use Rattle.abnfread.specs.AbnfSays.{says_end, says, SayAll, open_behind}
+use Rattle.abnfread.specs.AbnfSays.{says_end, says, SayAll, open_after}
 use Rattle.abnfread.specs.AbnfSlices.{White, First}
 use Rattle.abnfread.specs.AbnfSpelling.{OneElement, Repetition, Parts, Alternatives, Alternation, Grammar, Assigns}
 use Rattle.abnfread.specs.AbnfSpelling.{name, text, values, range, prose, parens, brackets, once, repeated, one}
@@ -30,13 +30,13 @@ use Rattle.abnfread.proofs.AbnfSliceLemmas.{one-next}
 use Rattle.abnfblocks.specs.LinkedLines.{EndsLine, lf}
 use Rattle.abnfblocks.specs.FoundRules.{IsAbnf}
 use Rattle.abnfblocks.specs.RuleCuts.{cut_line, cut_text, lines_text, margin_at}
-use Rattle.abnfblocks.specs.RuleEnds.{BarEnds, deeper, stand_behind, stands_behind, nothing_open, LeavesOpen}
+use Rattle.abnfblocks.specs.RuleEnds.{BarEnds, deeper, stand_after, stands_after, nothing_open, LeavesOpen}
 use Rattle.abnfblocks.specs.TextLines.{NumberedLine, numbered}
 use Rattle.abnfblocks.specs.declared.rfctext.text_line.TextLine.{TextLine}
 use Rattle.abnfblocks.specs.declared.ends.LeftOpen.{LeftOpen}
 use Rattle.abnfblocks.specs.declared.ends.LeftOpen.TheVariants.{Open, Unknown}
 use Rattle.abnfblocks.proofs.LinesTextLemmas.{one-line_more}
-use Rattle.abnfblocks.proofs.LineTokenLemmas.{HasBad, here, later, AreOnward, moved_token, tokens-onward, line-behind}
+use Rattle.abnfblocks.proofs.LineTokenLemmas.{HasBad, here, later, AreOnward, moved_token, tokens-onward, line-after}
 
 -- whether an element has to follow what a token says
 abbrev said_wants : Said → Bool → Bool
@@ -52,7 +52,7 @@ said_wants s w = false
 -- what words leave open
 abbrev open_words : ℕ → Bool → List Word → LeftOpen
 open_words d w [] = Open d w
-open_words d w (word g f s ∷ ws) = open_words (open_behind s d) (said_wants s w) ws
+open_words d w (word g f s ∷ ws) = open_words (open_after s d) (said_wants s w) ws
 
 mutual
   element-closes : {s r : List Word} {x : Element} → OneElement s r x → (d : ℕ) (w : Bool)
@@ -99,18 +99,18 @@ grammar-closes (more_rules {s} a y g) w = assigns-wants s a 0 false ∙ alternat
 abbrev Agrees : LeftOpen → LeftOpen → Type 0
 Agrees s t = (s ≡ Unknown) ⊎ (s ≡ t)
 
-unknown-stays : (ts : List (Tok AbnfKind)) → stands_behind Unknown ts ≡ Unknown
+unknown-stays : (ts : List (Tok AbnfKind)) → stands_after Unknown ts ≡ Unknown
 unknown-stays [] = refl
 unknown-stays (x ∷ ts) = unknown-stays ts
 
-deeper-agrees : (d : ℕ) (ts : List (Tok AbnfKind)) (t : LeftOpen) → Agrees (stands_behind (Open (d + 1) true) ts) t
-    → Agrees (stands_behind (deeper d) ts) t
+deeper-agrees : (d : ℕ) (ts : List (Tok AbnfKind)) (t : LeftOpen) → Agrees (stands_after (Open (d + 1) true) ts) t
+    → Agrees (stands_after (deeper d) ts) t
 deeper-agrees d ts t h = elim (cases_Bool (nat_lt d max_open)) [
   | inl e ↦ rw e h
   | inr e ↦ inl (rw e (unknown-stays ts))
 ]
 
-one-less : (d : ℕ) (s : Said) → s ≡ RParen ⊎ s ≡ RBrack → open_behind s d ≡ d - 1
+one-less : (d : ℕ) (s : Said) → s ≡ RParen ⊎ s ≡ RBrack → open_after s d ≡ d - 1
 one-less zero s (inl e) = rw e refl
 one-less zero s (inr e) = rw e refl
 one-less (suc d) s (inl e) = rw e (omega arith)
@@ -118,7 +118,7 @@ one-less (suc d) s (inr e) = rw e (omega arith)
 
 module _ (text : List ℕ) (m : Option ℕ) where
   words-agree : (ts : List (Tok AbnfKind)) (n d : ℕ) (w : Bool) {ws : List Word} → SayAll (marks text m n ts) ws
-      → Agrees (stands_behind (Open d w) ts) (open_words d w ws)
+      → Agrees (stands_after (Open d w) ts) (open_words d w ws)
   words-agree [] n d w say_none = inr refl
   words-agree (tok k z p ∷ ts) n d w (say_more (says says_name) more) = words-agree ts p.end d false more
   words-agree (tok k z p ∷ ts) n d w (say_more (says says_is) more) = words-agree ts p.end d true more
@@ -129,10 +129,10 @@ module _ (text : List ℕ) (m : Option ℕ) where
   words-agree (tok k z p ∷ ts) n d w (say_more (says says_lbrack) more) =
       deeper-agrees d ts _ (rw (add-one d) (words-agree ts p.end (suc d) true more))
   words-agree (tok k z p ∷ ts) n d w (say_more (says says_rparen) more) =
-      let h = words-agree ts p.end (open_behind RParen d) false more in
+      let h = words-agree ts p.end (open_after RParen d) false more in
       rw (sym (one-less d RParen (inl refl))) h
   words-agree (tok k z p ∷ ts) n d w (say_more (says says_rbrack) more) =
-      let h = words-agree ts p.end (open_behind RBrack d) false more in
+      let h = words-agree ts p.end (open_after RBrack d) false more in
       rw (sym (one-less d RBrack (inr refl))) h
   words-agree (tok k z p ∷ ts) n d w (say_more (says (says_repeat h)) more) = words-agree ts p.end d true more
   words-agree (tok k z p ∷ ts) n d w (say_more (says (says_text e)) more) = words-agree ts p.end d false more
@@ -152,20 +152,20 @@ closed-by s (inr e) = rw e refl
 pub data IsStand : List ℕ → LeftOpen → Type 0 where
   no_line : IsStand [] (Open 0 false)
   some_lines : {text : List ℕ} {ts : List (Tok AbnfKind)} → EndsLine text → AreTokens text ts
-      → IsStand text (stands_behind (Open 0 false) ts)
+      → IsStand text (stands_after (Open 0 false) ts)
   unknown : {text : List ℕ} → IsStand text Unknown
 
 -- a text that reads leaves nothing open
 reads-closed : {text : List ℕ} {ds : List Definition} {ts : List (Tok AbnfKind)} → AreTokens text ts → Reads text ds
-    → nothing_open (stands_behind (Open 0 false) ts) ≡ true
+    → nothing_open (stands_after (Open 0 false) ts) ≡ true
 reads-closed {text} {ts = ts} t h =
     let m = h.are_tokens in
     let same : m.tokens ≡ ts = tokens-one White First ends_list one-next m.are_tokens t in
     let say : SayAll (marks text (margin text m.tokens) 0 m.tokens) h.words =
     (let s = h.say in let e = m.same in rw e at s) in
-    let told = words-agree text (margin text m.tokens) m.tokens 0 0 false say in
-    let closed = closed-by (stands_behind (Open 0 false) m.tokens) (subst (λ (s : LeftOpen).
-    Agrees (stands_behind (Open 0 false) m.tokens) s) (grammar-closes h.grammar false) told) in
+    let reported = words-agree text (margin text m.tokens) m.tokens 0 0 false say in
+    let closed = closed-by (stands_after (Open 0 false) m.tokens) (subst (λ (s : LeftOpen).
+    Agrees (stands_after (Open 0 false) m.tokens) s) (grammar-closes h.grammar false) reported) in
     rw same at closed
 
 pub open-bars : {text : List ℕ} {s : LeftOpen} (b : Bool) → IsStand text s → b ≡ nothing_open s → b ≡ false
@@ -175,51 +175,51 @@ open-bars b unknown e f h = cc
 open-bars b (some_lines l t) e f h = let c = reads-closed t h in let x : true ≡ false = sym c ∙ sym e ∙ f in cc
 
 stands-append : (xs ys : List (Tok AbnfKind)) (s : LeftOpen)
-    → stands_behind s (xs ++ ys) ≡ stands_behind (stands_behind s xs) ys
+    → stands_after s (xs ++ ys) ≡ stands_after (stands_after s xs) ys
 stands-append [] ys s = refl
-stands-append (x ∷ xs) ys s = stands-append xs ys (stand_behind s (kind_of x))
+stands-append (x ∷ xs) ys s = stands-append xs ys (stand_after s (kind_of x))
 
 pub stands-snoc : (xs : List (Tok AbnfKind)) (x : Tok AbnfKind) (s : LeftOpen)
-    → stands_behind s (xs ++ x ∷ []) ≡ stand_behind (stands_behind s xs) (kind_of x)
+    → stands_after s (xs ++ x ∷ []) ≡ stand_after (stands_after s xs) (kind_of x)
 stands-snoc xs x s = stands-append xs (x ∷ []) s
 
 stands-moved : (n : ℕ) (xs : List (Tok AbnfKind)) (s : LeftOpen)
-    → stands_behind s (map (moved_token n) xs) ≡ stands_behind s xs
+    → stands_after s (map (moved_token n) xs) ≡ stands_after s xs
 stands-moved n [] s = refl
-stands-moved n (tok k z p ∷ xs) s = stands-moved n xs (stand_behind s k)
+stands-moved n (tok k z p ∷ xs) s = stands-moved n xs (stand_after s k)
 
-end-kind : (k : AbnfKind) → ends_list k ≡ true → (s : LeftOpen) → stand_behind s k ≡ s
+end-kind : (k : AbnfKind) → ends_list k ≡ true → (s : LeftOpen) → stand_after s k ≡ s
 end-kind kinds.End e Unknown = refl
 end-kind kinds.End e (Open d w) = refl
 end-kind k e s = cc
 
-bad-kind : (s : LeftOpen) → stand_behind s kinds.Bad ≡ Unknown
+bad-kind : (s : LeftOpen) → stand_after s kinds.Bad ≡ Unknown
 bad-kind Unknown = refl
 bad-kind (Open d w) = refl
 
-bad-unknown : {ts : List (Tok AbnfKind)} → HasBad ts → (s : LeftOpen) → stands_behind s ts ≡ Unknown
-bad-unknown (here {ts}) s = ap (λ (x : LeftOpen). stands_behind x ts) (bad-kind s) ∙ unknown-stays ts
-bad-unknown (later {x} h) s = bad-unknown h (stand_behind s (kind_of x))
+bad-unknown : {ts : List (Tok AbnfKind)} → HasBad ts → (s : LeftOpen) → stands_after s ts ≡ Unknown
+bad-unknown (here {ts}) s = ap (λ (x : LeftOpen). stands_after x ts) (bad-kind s) ∙ unknown-stays ts
+bad-unknown (later {x} h) s = bad-unknown h (stand_after s (kind_of x))
 
 onward-stands : (total n : ℕ) (t : List ℕ) (ts us : List (Tok AbnfKind)) (h : AreOnward total n t ts us)
-    (s : LeftOpen) → stands_behind s (h.front ++ map (moved_token n) us) ≡ stands_behind (stands_behind s ts) us
+    (s : LeftOpen) → stands_after s (h.front ++ map (moved_token n) us) ≡ stands_after (stands_after s ts) us
 onward-stands total n t ts us h s =
-    let before = stands_behind s h.front in
-    let last : stands_behind s ts ≡ before = ap (stands_behind s) h.whole ∙ stands-snoc h.front h.last s
+    let before = stands_after s h.front in
+    let last : stands_after s ts ≡ before = ap (stands_after s) h.whole ∙ stands-snoc h.front h.last s
     ∙ end-kind (kind_of h.last) h.ends before in
     stands-append h.front (map (moved_token n) us) s ∙ stands-moved n us before
-    ∙ ap (λ (x : LeftOpen). stands_behind x us) (sym last)
+    ∙ ap (λ (x : LeftOpen). stands_after x us) (sym last)
 
 -- a line more
 pub line-stand : {a b : List ℕ} {s t : LeftOpen} → IsStand a s → EndsLine b → LeavesOpen s b t → IsStand (a ++ b) t
 line-stand no_line l (ts, are, e) = rw e (some_lines l are)
 line-stand unknown l (ts, are, e) = rw (e ∙ unknown-stays ts) unknown
 line-stand {a} {b} (some_lines {ts = us} l t) k (ts, are, e) = elim (tokens-onward a b are l t) [
-  | inl is_bad ↦ rw (e ∙ ap (λ (x : LeftOpen). stands_behind x ts) (bad-unknown is_bad (Open 0 false))
+  | inl is_bad ↦ rw (e ∙ ap (λ (x : LeftOpen). stands_after x ts) (bad-unknown is_bad (Open 0 false))
       ∙ unknown-stays ts) unknown
   | inr on ↦ (
       let same = onward-stands (length (a ++ b)) (length a) (a ++ b) us ts on (Open 0 false) in
-      rw (e ∙ sym same) (some_lines (line-behind a k) on.are))
+      rw (e ∙ sym same) (some_lines (line-after a k) on.are))
 ]
 
 -- the line with that number, as the text has it one line on, and as it is alone
@@ -250,7 +250,7 @@ line-added m (d ∷ ds) i lt =
     }
 
 pub cut-line_ends : (m : ℕ) (line : NumberedLine) → EndsLine (cut_line m line)
-cut-line_ends m line = line-behind _ lf
+cut-line_ends m line = line-after _ lf
 
 pub stand-more : (m : ℕ) (lines : List TextLine) (i : ℕ) {s t : LeftOpen} → i < length lines
     → IsStand (lines_text m (take i (map numbered lines))) s

@@ -5,7 +5,7 @@ use Rattle.std.specs.Prelude.{drop, codes, max, if◌then◌else◌}
 use Rattle.std.specs.List.{list_all, list_any, prefix_len}
 use Rattle.std.specs.Str.{str_eq_ignore_ascii_case}
 use Rattle.abnfblocks.specs.LineKinds.{bare_end}
-use Rattle.abnfblocks.specs.RuleLines.{begins_by, behind_margin, is_margin}
+use Rattle.abnfblocks.specs.RuleLines.{begins_by, rest_after_margin, is_margin}
 use Rattle.abnfblocks.specs.TextLines.{NumberedLine}
 
 -- how many times that byte begins the text
@@ -13,28 +13,28 @@ abbrev pub byte_run : ℕ → List ℕ → ℕ
 byte_run byte text = prefix_len (λ b. b == byte) text
 
 -- the line without the spaces that begin it
-abbrev pub behind_spaces : List ℕ → List ℕ
-behind_spaces line = drop (byte_run (code " ") line) line
+abbrev pub after_spaces : List ℕ → List ℕ
+after_spaces line = drop (byte_run (code " ") line) line
 
 -- and without the fence of that character
-abbrev pub behind_fence : ℕ → List ℕ → List ℕ
-behind_fence mark line = drop (byte_run mark (behind_spaces line)) (behind_spaces line)
+abbrev pub after_fence : ℕ → List ℕ → List ℕ
+after_fence mark line = drop (byte_run mark (after_spaces line)) (after_spaces line)
 
 -- how long the fence of that character is with which the line begins: after at most three spaces at least three of it;
 -- else 0
 abbrev pub fence_length : ℕ → List ℕ → ℕ
 fence_length mark line =
-    let n = byte_run mark (behind_spaces line) in
+    let n = byte_run mark (after_spaces line) in
     if nat_lt (byte_run (code " ") line) 4 && nat_lt 2 n then n else 0
 
 -- the same of a fence that opens a block: none of backticks has another one behind it in its line
 abbrev pub opening_length : ℕ → List ℕ → ℕ
 opening_length mark line =
-    if (mark == code "`") && list_any (λ b. b == code "`") (behind_fence mark line) then 0 else fence_length mark line
+    if (mark == code "`") && list_any (λ b. b == code "`") (after_fence mark line) then 0 else fence_length mark line
 
 -- and of one that closes a block: nothing but blanks follows it
 abbrev pub closing_length : ℕ → List ℕ → ℕ
-closing_length mark line = if list_all is_margin (behind_fence mark line) then fence_length mark line else 0
+closing_length mark line = if list_all is_margin (after_fence mark line) then fence_length mark line else 0
 
 -- how many of the lines stand before the first one that closes a fence of that character and length
 abbrev pub lines_inside : ℕ → ℕ → List NumberedLine → ℕ
@@ -55,8 +55,8 @@ fenced_size lines = max (opened_size (code "`") lines) (opened_size (code "~") l
 
 -- what follows the line's fence
 abbrev pub information_of : List ℕ → List ℕ
-information_of line = if nat_lt 0 (fence_length (code "`") line) then behind_fence (code "`") line
-    else behind_fence (code "~") line
+information_of line = if nat_lt 0 (fence_length (code "`") line) then after_fence (code "`") line
+    else after_fence (code "~") line
 
 -- the first word of the text, up to a blank or that byte
 abbrev pub first_word_of : ℕ → List ℕ → List ℕ
@@ -73,7 +73,7 @@ class_of before (b ∷ bytes) = if is_margin before && (b == code ".") then firs
 -- begins with `{`, the first word in the braces that begins with `.`.
 abbrev pub language_of : List ℕ → List ℕ
 language_of information =
-    let text = behind_margin information in
+    let text = rest_after_margin information in
     if begins_by (code "{") text then class_of (code " ") (drop 1 text) else first_word_of (code "{") text
 
 -- a language in which ABNF is looked for

@@ -27,12 +27,12 @@ abbrev pub IsAtHead : List LineKind → Type 0
 IsAtHead kinds = (rest : List LineKind) × Nearest IsDated kinds rest × IsAtMark rest
 
 -- A line of a kind is furniture, where these lines stand before it, the nearest first, and those after it.
-pub data IsFurniture (before behind : List LineKind) : LineKind → Type 0 where
-  mark : {kind : LineKind} → IsMark kind → IsFurniture before behind kind
-  head : IsAtMark before → IsFurniture before behind Dated
-  behind_mark : IsAtMark before → IsFurniture before behind Blank
-  behind_head : IsAtHead before → IsFurniture before behind Blank
-  before_mark : IsAtMark behind → IsFurniture before behind Blank
+pub data IsFurniture (before after : List LineKind) : LineKind → Type 0 where
+  mark : {kind : LineKind} → IsMark kind → IsFurniture before after kind
+  head : IsAtMark before → IsFurniture before after Dated
+  after_mark : IsAtMark before → IsFurniture before after Blank
+  after_head : IsAtHead before → IsFurniture before after Blank
+  before_mark : IsAtMark after → IsFurniture before after Blank
 
 abbrev pub kinds_of : List NumberedLine → List LineKind
 kinds_of lines = map (λ line. line.kind) lines

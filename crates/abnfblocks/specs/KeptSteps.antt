@@ -22,26 +22,26 @@ is_mark_kind Dated = false
 is_mark_kind Other = false
 
 -- whether such a line goes, whatever follows it
-abbrev pub goes_behind : Before → LineKind → Bool
-goes_behind before Feed = true
-goes_behind before Foot = true
-goes_behind Mark Dated = true
-goes_behind Text Dated = false
-goes_behind Head Dated = false
-goes_behind Text Blank = false
-goes_behind Mark Blank = true
-goes_behind Head Blank = true
-goes_behind before Other = false
+abbrev pub goes_after : Before → LineKind → Bool
+goes_after before Feed = true
+goes_after before Foot = true
+goes_after Mark Dated = true
+goes_after Text Dated = false
+goes_after Head Dated = false
+goes_after Text Blank = false
+goes_after Mark Blank = true
+goes_after Head Blank = true
+goes_after before Other = false
 
 -- what stands nearest before the next line
-abbrev pub next_behind : Before → LineKind → Before
-next_behind before Feed = Mark
-next_behind before Foot = Mark
-next_behind before Blank = before
-next_behind Mark Dated = Head
-next_behind Text Dated = Text
-next_behind Head Dated = Text
-next_behind before Other = Text
+abbrev pub next_after : Before → LineKind → Before
+next_after before Feed = Mark
+next_after before Foot = Mark
+next_after before Blank = before
+next_after Mark Dated = Head
+next_after Text Dated = Text
+next_after Head Dated = Text
+next_after before Other = Text
 
 -- the list without the blank lines that end it
 abbrev pub cut_blanks : List NumberedLine → List NumberedLine
@@ -50,4 +50,4 @@ cut_blanks lines = take (length lines - suffix_len (λ line. is_blank_kind line.
 -- what is left after one more line
 abbrev pub after_line : Before → List NumberedLine → NumberedLine → List NumberedLine
 after_line before kept line = if is_mark_kind line.kind then cut_blanks kept
-    else if goes_behind before line.kind then kept else kept ++ line ∷ []
+    else if goes_after before line.kind then kept else kept ++ line ∷ []

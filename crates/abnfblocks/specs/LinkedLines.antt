@@ -6,7 +6,7 @@ use Rattle.ruletable.specs.declared.span.Span.{Span}
 -- LF ends the text
 pub data EndsLine : List ℕ → Type 0 where
   lf : EndsLine (code "\n" ∷ [])
-  behind_byte : {b : ℕ} {bytes : List ℕ} → EndsLine bytes → EndsLine (b ∷ bytes)
+  after_byte : {b : ℕ} {bytes : List ℕ} → EndsLine bytes → EndsLine (b ∷ bytes)
 
 -- so many bytes further on
 abbrev pub moved_span : ℕ → Span → Span

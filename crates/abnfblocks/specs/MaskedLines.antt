@@ -28,17 +28,17 @@ pub data MasksBlocks (size : List NumberedLine → ℕ) (hides : NumberedLine �
       → MasksBlocks size hides (line ∷ lines) (map masked_line (take (suc n) (line ∷ lines)) ++ masked)
 
 -- the lines from the first one on that is not blank
-abbrev pub behind_blanks : List NumberedLine → List NumberedLine
-behind_blanks lines = drop (blanks_first lines) lines
+abbrev pub after_blanks : List NumberedLine → List NumberedLine
+after_blanks lines = drop (blanks_first lines) lines
 
 -- Of a text in Markdown, the lines of a title block are masked, from `%%%` on the first line that is not blank to the
 -- next `%%%`; and fenced blocks in another language.
 pub record MasksMarkdown (lines masked : List NumberedLine) : Type 0 where
   pub rest : List NumberedLine
   pub blocks : MasksBlocks fenced_size hides_block
-      (drop (title_size (behind_blanks lines)) (behind_blanks lines)) rest
+      (drop (title_size (after_blanks lines)) (after_blanks lines)) rest
   pub is : masked ≡ take (blanks_first lines) lines
-      ++ (map masked_line (take (title_size (behind_blanks lines)) (behind_blanks lines)) ++ rest)
+      ++ (map masked_line (take (title_size (after_blanks lines)) (after_blanks lines)) ++ rest)
 
 -- Then tags are masked that one line opens and a later one closes, with the lines between.
 abbrev pub MasksTags : List NumberedLine → List NumberedLine → Type 0

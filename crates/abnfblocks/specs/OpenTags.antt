@@ -4,7 +4,7 @@ use Rattle.std.specs.Prelude.{ℕ, ◌+◌, ◌==◌, ◌||◌, ◌&&◌, not, b
 use Rattle.std.specs.Prelude.{if◌then◌else◌}
 use Rattle.std.specs.List.{list_any, prefix_len}
 use Rattle.abnfblocks.specs.RuleCuts.{is_empty_line}
-use Rattle.abnfblocks.specs.RuleLines.{begins_by, begins_letter, behind_margin}
+use Rattle.abnfblocks.specs.RuleLines.{begins_by, begins_letter, rest_after_margin}
 use Rattle.abnfblocks.specs.TextLines.{NumberedLine}
 
 -- the line has `>`
@@ -18,7 +18,7 @@ begins_tag (b ∷ bytes) = (b == code "<") && (begins_letter bytes || begins_by 
 
 -- a tag begins the line after its margin, and does not end on it
 abbrev pub opens_tag : List ℕ → Bool
-opens_tag line = begins_tag (behind_margin line) && not (has_end line)
+opens_tag line = begins_tag (rest_after_margin line) && not (has_end line)
 
 -- A tag goes on over the line: it has no `>`, is not blank, and is not masked.
 abbrev pub goes_on_tag : NumberedLine → Bool

@@ -20,26 +20,26 @@ abbrev pub deeper : ℕ → LeftOpen
 deeper d = if nat_lt d max_open then Open (d + 1) true else Unknown
 
 -- What a token leaves open: brackets, and an element that has to follow. Bytes that begin no token leave all unknown.
-abbrev pub stand_behind : LeftOpen → AbnfKind → LeftOpen
-stand_behind Unknown k = Unknown
-stand_behind (Open d w) LParen = deeper d
-stand_behind (Open d w) LBrack = deeper d
-stand_behind (Open d w) RParen = Open (d - 1) false
-stand_behind (Open d w) RBrack = Open (d - 1) false
-stand_behind (Open d w) Is = Open d true
-stand_behind (Open d w) Adds = Open d true
-stand_behind (Open d w) Slash = Open d true
-stand_behind (Open d w) Repeat = Open d true
-stand_behind (Open d w) Name = Open d false
-stand_behind (Open d w) Text = Open d false
-stand_behind (Open d w) Num = Open d false
-stand_behind (Open d w) Prose = Open d false
-stand_behind (Open d w) Bad = Unknown
-stand_behind (Open d w) End = Open d w
+abbrev pub stand_after : LeftOpen → AbnfKind → LeftOpen
+stand_after Unknown k = Unknown
+stand_after (Open d w) LParen = deeper d
+stand_after (Open d w) LBrack = deeper d
+stand_after (Open d w) RParen = Open (d - 1) false
+stand_after (Open d w) RBrack = Open (d - 1) false
+stand_after (Open d w) Is = Open d true
+stand_after (Open d w) Adds = Open d true
+stand_after (Open d w) Slash = Open d true
+stand_after (Open d w) Repeat = Open d true
+stand_after (Open d w) Name = Open d false
+stand_after (Open d w) Text = Open d false
+stand_after (Open d w) Num = Open d false
+stand_after (Open d w) Prose = Open d false
+stand_after (Open d w) Bad = Unknown
+stand_after (Open d w) End = Open d w
 
-abbrev pub stands_behind : LeftOpen → List (Tok AbnfKind) → LeftOpen
-stands_behind s [] = s
-stands_behind s (x ∷ xs) = stands_behind (stand_behind s (kind_of x)) xs
+abbrev pub stands_after : LeftOpen → List (Tok AbnfKind) → LeftOpen
+stands_after s [] = s
+stands_after s (x ∷ xs) = stands_after (stand_after s (kind_of x)) xs
 
 -- nothing is open, or that is unknown
 abbrev pub nothing_open : LeftOpen → Bool
@@ -48,7 +48,7 @@ nothing_open (Open d w) = (d == 0) && not w
 
 -- what the tokens of a text leave open, after that
 abbrev pub LeavesOpen : LeftOpen → List ℕ → LeftOpen → Type 0
-LeavesOpen before text s = (ts : List (Tok AbnfKind)) × AreTokens text ts × (s ≡ stands_behind before ts)
+LeavesOpen before text s = (ts : List (Tok AbnfKind)) × AreTokens text ts × (s ≡ stands_after before ts)
 
 -- Where the test of a line is false, the lines up to there read as nothing.
 abbrev pub BarEnds : ℕ → List NumberedLine → List Bool → Type 0

@@ -43,5 +43,5 @@ abbrev pub text_lines : List ℕ → List NumberedLine
 text_lines text = lines_from 1 (line_parts text)
 
 -- what stands after the byte order mark, if one begins the text; else the text
-abbrev pub behind_mark : List ℕ → List ℕ
-behind_mark text = if bytes_eq (take 3 text) (0xEF ∷ 0xBB ∷ 0xBF ∷ []) then drop 3 text else text
+abbrev pub after_mark : List ℕ → List ℕ
+after_mark text = if bytes_eq (take 3 text) (0xEF ∷ 0xBB ∷ 0xBF ∷ []) then drop 3 text else text

@@ -1,6 +1,6 @@
 //! Ends of lines at which a rule cannot end.
 ghost use Rattle.std.specs.Prelude.{◌≡◌, map, IfOk};
-ghost use Rattle.abnfblocks.specs.RuleEnds.{AreTests, LeavesOpen, nothing_open, stand_behind};
+ghost use Rattle.abnfblocks.specs.RuleEnds.{AreTests, LeavesOpen, nothing_open, stand_after};
 ghost use Rattle.abnfblocks.specs.TextLines.{numbered};
 
 use crate::rfctext::TextLine;
@@ -21,7 +21,7 @@ pub(crate) enum LeftOpen {
 
 // What is open after a token.
 fn after_token(stand: LeftOpen, kind: AbnfKind) -> LeftOpen
-    ensures { result ≡ stand_behind stand kind }
+    ensures { result ≡ stand_after stand kind }
 {
     let LeftOpen::Open { depth, wants } = stand else {
         return LeftOpen::Unknown;

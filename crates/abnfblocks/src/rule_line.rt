@@ -2,9 +2,9 @@
 ghost use Rattle.std.specs.Prelude.{◌≡◌, ◌≤◌, length};
 ghost use Rattle.std.specs.List.{prefix_len};
 ghost use Rattle.abnfread.specs.AbnfSlices.{continues_name};
-ghost use Rattle.abnfblocks.specs.RuleLines.{is_margin, margin_of, behind_margin, begins_rule_line, begins_comment};
+ghost use Rattle.abnfblocks.specs.RuleLines.{is_margin, margin_of, rest_after_margin, begins_rule_line, begins_comment};
 ghost use Rattle.abnfblocks.specs.RuleLines.{begins_inner, begins_slash};
-ghost use Rattle.abnfblocks.specs.RuleLines.{begins_by as begins, begins_letter as letter_begins, behind_name};
+ghost use Rattle.abnfblocks.specs.RuleLines.{begins_by as begins, begins_letter as letter_begins, rest_after_name};
 
 // Whether the byte belongs to a margin: a space or a tab.
 pub(crate) fn is_space(b: u8) -> bool
@@ -56,14 +56,14 @@ fn name_size(text: &[u8]) -> usize
 
 // Returns what follows the margin.
 pub(crate) fn after_margin(line: &[u8]) -> &[u8]
-    ensures { result.now ≡ behind_margin line.now }
+    ensures { result.now ≡ rest_after_margin line.now }
 {
     &line[margin(line)..]
 }
 
 // Returns what follows the bytes of a name.
 fn after_name(text: &[u8]) -> &[u8]
-    ensures { result.now ≡ behind_name text.now }
+    ensures { result.now ≡ rest_after_name text.now }
 {
     &text[name_size(text)..]
 }

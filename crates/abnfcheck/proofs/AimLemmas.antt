@@ -124,24 +124,24 @@ length_zero_is_empty : (t : List ℕ) → (length t == 0) ≡ true → t ≡ []
 length_zero_is_empty t e = nil_from_length t (eqb-true (length t) 0 e)
 
 module _ (aim : Aim) (is : aim ≡ Empty) (has : ℕ → Bool) (rules : List Rule) where
-  pub empty_text_told : (folds : Bool) (t : List ℕ) (met : Bool) → met ≡ (length t == 0) → IsTrue met
+  pub empty_text_reported : (folds : Bool) (t : List ℕ) (met : Bool) → met ≡ (length t == 0) → IsTrue met
       ↔ Yields has rules aim (e.Text folds t)
-  empty_text_told folds t met e =
+  empty_text_reported folds t met e =
       rw is (
         (λ on. empty_text has rules folds t (length_zero_is_empty t (sym e ∙ on))),
         (λ y. e ∙ ap (λ (l : List ℕ). length l == 0) (text_empty has rules folds t y)),
       )
 
-  pub empty_values_told : (vs : List ℕ) (met : Bool) → met ≡ (length vs == 0) → IsTrue met
+  pub empty_values_reported : (vs : List ℕ) (met : Bool) → met ≡ (length vs == 0) → IsTrue met
       ↔ Yields has rules aim (e.Values vs)
-  empty_values_told vs met e =
+  empty_values_reported vs met e =
       rw is (
         (λ on. empty_values has rules vs (length_zero_is_empty vs (sym e ∙ on))),
         (λ y. e ∙ ap (λ (l : List ℕ). length l == 0) (values_empty has rules vs y)),
       )
 
-  pub empty_range_told : (low high : ℕ) → IsTrue false ↔ Yields has rules aim (e.Range low high)
-  empty_range_told low high = rw is (
+  pub empty_range_reported : (low high : ℕ) → IsTrue false ↔ Yields has rules aim (e.Range low high)
+  empty_range_reported low high = rw is (
     (λ on. absurd (both_ways false refl on)),
     (λ y. absurd (range_not_empty has rules low high y)),
   )
@@ -151,19 +151,23 @@ module _ (aim : Aim) (alphabet : Alphabet) (is : aim ≡ Letters alphabet) (has 
   test_of_alphabet : has ≡ in_alphabet alphabet
   test_of_alphabet = subst (λ v. IsTestOf v has) is asked
 
-  pub text_told : (folds : Bool) (t : List ℕ) → ((i : ℕ) → get_or t i 0 < 256) → IsTrue true
+  pub text_reported : (folds : Bool) (t : List ℕ) → ((i : ℕ) → get_or t i 0 < 256) → IsTrue true
       ↔ Yields has rules aim (e.Text folds t)
-  text_told folds t bytes = rw is ((λ on. text_yields alphabet has test_of_alphabet rules folds t bytes), (λ y. refl))
+  text_reported folds t bytes = rw is (
+    (λ on. text_yields alphabet has test_of_alphabet rules folds t bytes),
+    (λ y. refl),
+  )
 
-  pub values_told : (vs : List ℕ) (met : Bool) → (IsTrue met ↔ AreLetters (in_alphabet alphabet) vs) → IsTrue met
+  pub values_reported : (vs : List ℕ) (met : Bool) → (IsTrue met ↔ AreLetters (in_alphabet alphabet) vs) → IsTrue met
       ↔ Yields has rules aim (e.Values vs)
-  values_told vs met tells = rw is (let y = values_yield alphabet has test_of_alphabet rules vs in
-      ((λ on. y.0 (tells.0 on)), (λ d. tells.1 (y.1 d))))
+  values_reported vs met reports = rw is (let y = values_yield alphabet has test_of_alphabet rules vs in
+      ((λ on. y.0 (reports.0 on)), (λ d. reports.1 (y.1 d))))
 
-  pub range_told : (low high : ℕ) (met : Bool) → (IsTrue met ↔ HasLetter (in_alphabet alphabet) low high) → IsTrue met
+  pub range_reported : (low high : ℕ) (met : Bool) → (IsTrue met ↔ HasLetter (in_alphabet alphabet) low high)
+      → IsTrue met
       ↔ Yields has rules aim (e.Range low high)
-  range_told low high met tells = rw is (let y = range_yields alphabet has test_of_alphabet rules low high in
-      ((λ on. y.0 (tells.0 on)), (λ d. tells.1 (y.1 d))))
+  range_reported low high met reports = rw is (let y = range_yields alphabet has test_of_alphabet rules low high in
+      ((λ on. y.0 (reports.0 on)), (λ d. reports.1 (y.1 d))))
 
 -- values, one after another
 module _ (has : ℕ → Bool) where

@@ -7,7 +7,7 @@ use Rattle.std.specs.Prelude.{slice_get, take}
 use Rattle.std.proofs.lemmas.Bool.{cases_lt}
 use Rattle.std.proofs.lemmas.List.{append-nil}
 use Rattle.abnfread.specs.Element.{Rule}
-use Rattle.abnfcheck.specs.Beginnings.{BeginsMember, IsFurthest}
+use Rattle.abnfcheck.specs.Prefixes.{BeginsMember, IsFurthest}
 use Rattle.abnfcheck.specs.Decided.{Says}
 use Rattle.abnfcheck.specs.Derivable.{AreLetters, RuleDerives}
 use Rattle.abnfcheck.proofs.DerivesDecidedLemmas.{and_first, and_second, and_true, or_true, or_first, or_second}

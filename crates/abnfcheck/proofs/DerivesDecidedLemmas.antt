@@ -268,9 +268,9 @@ named_in (rule ∷ rules) n d is = by (same_name Fold n rule.name) is (λ rest. 
   where
     by : (b : Bool) → cond b (Some rule.body) (body_of rules n) ≡ Some d
         → (body_of rules n ≡ Some d → Listed d (universe rules)) → Listed d (universe (rule ∷ rules))
-    by true is behind = let same : rule.body ≡ d = cc is in
+    by true is after = let same : rule.body ≡ d = cc is in
         on_left (universe rules) (subst (λ v. Listed v (subs rule.body)) same (listed_itself rule.body))
-    by false is behind = on_right (subs rule.body) (behind is)
+    by false is after = on_right (subs rule.body) (after is)
 
 body_listed : (rules : List Rule) (id : ℕ) (d : Element) → slice_get (bodies rules) id ≡ Some d
     → Listed d (universe rules)

@@ -9,7 +9,7 @@ use Rattle.ruletable.specs.declared.table.NameCase.TheVariants.{Fold}
 use Rattle.rulenames.proofs.IsAddedLemmas.{found_in}
 use Rattle.rulenames.proofs.IsPlaceLemmas.{place_below, place_of}
 use Rattle.fixpoint.specs.Distances.{Distance, Steps, no_step, one_more}
-use Rattle.fixpoint.specs.ShortChains.{Back, ChainTo, IsChainIfReached, at_start, behind}
+use Rattle.fixpoint.specs.ShortChains.{Back, ChainTo, IsChainIfReached, at_start, after}
 use Rattle.abnfread.specs.Element.{Rule}
 use Rattle.abnfcheck.specs.NameChains.{IsChainAt, IsFirstUser, IsNameChain, ReachesBy, UseChain, UseDistance, names_at}
 use Rattle.abnfcheck.specs.NameChains.{after_user, judged_alone, no_use, one_use}
@@ -51,7 +51,7 @@ module _ (rules : List Rule) (names rows : List (List ℕ)) (s : ℕ)
 
   use_chain : {v : ℕ} {ns : List ℕ} → ChainTo rows s v ns → UseChain rules names s v ns
   use_chain at_start = judged_alone
-  use_chain (behind back chain) = after_user (first_user back) (use_chain chain)
+  use_chain (after back chain) = after_user (first_user back) (use_chain chain)
 
   chain_if_reached : (v : ℕ) (chain : Option (List ℕ)) → IsChainIfReached rows s v chain
       → MatchOption chain ((n : ℕ) → ReachesBy rules names s v n → ⊥) (UseChain rules names s v)

@@ -1,5 +1,5 @@
 -- The ids of names, in whatever case.
--- Serves: nullable_rules, lower, items_tell
+-- Serves: nullable_rules, lower, items_decide
 use Rattle.std.proofs.Common.{◌≡◌, ℕ, ◌+◌, ◌≤◌, Bool, true, false, cond, nat_lt, List, [], ◌∷◌, length, map, Option}
 use Rattle.std.proofs.Common.{Some, None, refl, sym, ◌∙◌, arith, add-one}
 use Rattle.std.specs.Prelude.{slice_get, unwrap_or}

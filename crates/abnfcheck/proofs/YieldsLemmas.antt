@@ -56,28 +56,28 @@ module _ (has : ℕ → Bool) (rules : List Rule) (aim : Aim) where
   module _ (needs : List Demand) where
     met_need : (met : Bool) (el : Element) → (IsTrue met ↔ Yields has rules aim el)
         → IsNeedOf has rules aim needs (need_if met) el
-    met_need true el tells = of_met (tells.0 refl)
-    met_need false el tells = of_unmet (λ y. both_ways false refl (tells.1 y))
+    met_need true el reports = of_met (reports.0 refl)
+    met_need false el reports = of_unmet (λ y. both_ways false refl (reports.1 y))
 
     pub text_need : (met folds : Bool) (t u : List ℕ) → u ≡ t →
         ((has : ℕ → Bool) (rules : List Rule) (folds : Bool) → IsTestOf aim has → IsTrue met
         ↔ Yields has rules aim (e.Text folds u)) → IsTestOf aim has →
         IsNeedOf has rules aim needs (need_if met) (e.Text folds t)
-    text_need met folds t u same tells test = met_need met (e.Text folds t)
-        (subst (λ v. IsTrue met ↔ Yields has rules aim (e.Text folds v)) same (tells has rules folds test))
+    text_need met folds t u same reports test = met_need met (e.Text folds t)
+        (subst (λ v. IsTrue met ↔ Yields has rules aim (e.Text folds v)) same (reports has rules folds test))
 
     pub values_need : (met : Bool) (vs us : List ℕ) → us ≡ vs →
         ((has : ℕ → Bool) (rules : List Rule) → IsTestOf aim has → IsTrue met ↔ Yields has rules aim (e.Values us))
         → IsTestOf aim has →
         IsNeedOf has rules aim needs (need_if met) (e.Values vs)
-    values_need met vs us same tells test = met_need met (e.Values vs)
-        (subst (λ v. IsTrue met ↔ Yields has rules aim (e.Values v)) same (tells has rules test))
+    values_need met vs us same reports test = met_need met (e.Values vs)
+        (subst (λ v. IsTrue met ↔ Yields has rules aim (e.Values v)) same (reports has rules test))
 
     pub range_need : (met : Bool) (low high : ℕ) →
         ((has : ℕ → Bool) (rules : List Rule) → IsTestOf aim has → IsTrue met ↔ Yields has rules aim (e.Range low high))
         → IsTestOf aim has →
         IsNeedOf has rules aim needs (need_if met) (e.Range low high)
-    range_need met low high tells test = met_need met (e.Range low high) (tells has rules test)
+    range_need met low high reports test = met_need met (e.Range low high) (reports has rules test)
 
     pub option_need : (el : Element) → IsNeedOf has rules aim needs (All []) (e.Opt el)
     option_need el = of_met (record { word = []; asked = aim_nil aim; derives = der.opt_empty })
@@ -143,9 +143,9 @@ module _ (has : ℕ → Bool) (rules : List Rule) (aim : Aim) where
     Gives n = (el : Element) → Means n el → Yields has rules aim el
 
     -- by the needs of a number, all or one of which derive what is asked for
-    abbrev Tells : Demand → Type 0
-    Tells (All row) = (m : ℕ) → Contains row m → Gives m
-    Tells (One row) = (m : ℕ) × Contains row m × Gives m
+    abbrev Reports : Demand → Type 0
+    Reports (All row) = (m : ℕ) → Contains row m → Gives m
+    Reports (One row) = (m : ℕ) × Contains row m × Gives m
 
     all_give : {ms : List ℕ} {es : Elements} → ((m : ℕ) → Contains ms m → Gives m) → AskAll has rules aim needs ms es
         → (w : List ℕ) × IsAim aim w × DerivesAll has rules es w
@@ -170,30 +170,30 @@ module _ (has : ℕ → Bool) (rules : List Rule) (aim : Aim) where
     times_give (suc k) d = let ds = times_give k d in
         (d.word ++ ds.0, aim_both aim d.word ds.0 d.asked ds.1, one_more d.derives ds.2)
 
-    told_of_need : {need : Demand} {el : Element} → IsNeedOf has rules aim needs need el → Tells need
+    reported_of_need : {need : Demand} {el : Element} → IsNeedOf has rules aim needs need el → Reports need
         → Yields has rules aim el
-    told_of_need (of_met y) h = y
-    told_of_need (of_unmet bad) h = absurd (none_of h.0 h.1)
-    told_of_need (of_concat all) h =
+    reported_of_need (of_met y) h = y
+    reported_of_need (of_unmet bad) h = absurd (none_of h.0 h.1)
+    reported_of_need (of_concat all) h =
         let s = all_give h all in record { word = s.0; asked = s.1; derives = der.concat s.2 }
-    told_of_need (of_alt all) h = let s = some_gives h.0 h.1 h.2 all in
+    reported_of_need (of_alt all) h = let s = some_gives h.0 h.1 h.2 all in
         record { word = s.0; asked = s.1; derives = der.alt s.2 }
-    told_of_need (of_rep {a = a} {m = m} {e = el} some within asked) h =
+    reported_of_need (of_rep {a = a} {m = m} {e = el} some within asked) h =
         let s = times_give a (h m (in_first m []) el (inl asked)) in
         record { word = s.0; asked = s.1; derives = der.rep {k = a} (omega arith) within s.2 }
-    told_of_need (of_name {name = name} lt) h =
+    reported_of_need (of_name {name = name} lt) h =
         let b = body_there rules (id_of rules name) lt in
         let d = h (id_of rules name) (in_first (id_of rules name) []) b.0 (inr b.1) in
         record { word = d.word; asked = d.asked; derives = der.name (body_at_id rules name ∙ b.1) d.derives }
 
     -- what a number of the least set means derives a list that is asked for
-    by_need : (n : ℕ) (need : Demand) → slice_get needs n ≡ Some need → Tells need → Gives n
+    by_need : (n : ℕ) (need : Demand) → slice_get needs n ≡ Some need → Reports need → Gives n
     by_need n need at h el (inl (asks le is of)) =
-        told_of_need of (let same : need ≡ _ = cc (at, is) in subst Tells same h)
+        reported_of_need of (let same : need ≡ _ = cc (at, is) in subst Reports same h)
     by_need n need at h el (inr body) =
         let b = have n el (body_below rules n el body) body in
         let same : need ≡ All (b.number ∷ []) = (let is = b.need_is in cc (at, is)) in
-        (subst Tells same h) b.number (in_first b.number []) el (inl b.asked)
+        (subst Reports same h) b.number (in_first b.number []) el (inl b.asked)
 
     comes_yields : {n : ℕ} → Comes needs n → Gives n
     comes_yields (by_all {n = n} {row = row} at each) = by_need n (All row) at (λ m h. comes_yields (each m h))
@@ -242,9 +242,9 @@ module _ (has : ℕ → Bool) (rules : List Rule) (aim : Aim) where
       times_come a no_more good lt = absurd (omega (arith, lt))
       times_come a (one_more {w = w} {v = v} d ds) good lt = yields_comes a d (aim_parts aim w v good).0
 
-    pub mark_tells : (marks : List Bool) → AreMarksOfThose needs marks → (id : ℕ) → id < length rules
+    pub mark_reports : (marks : List Bool) → AreMarksOfThose needs marks → (id : ℕ) → id < length rules
         → (IsMarked marks id ↔ ((w : List ℕ) × IsAim aim w × RuleDerives has rules id w))
-    mark_tells marks are id lt = (
+    mark_reports marks are id lt = (
       (λ on.
           let b = body_there rules id lt in
           let y = comes_yields ((are id).0 on) b.0 (inr b.1) in
@@ -256,7 +256,8 @@ module _ (has : ℕ → Bool) (rules : List Rule) (aim : Aim) where
 pub marks_for : (aim : Aim) (rules : List Rule) (needs : List Demand) (marks : List Bool) →
     ((has : ℕ → Bool) → IsTestOf aim has → HaveBodyNeeds has rules aim needs (length rules))
     → AreMarksOfThose needs marks → AreMarksFor aim rules marks
-marks_for aim rules needs marks have are has test id lt = mark_tells has rules aim needs (have has test) marks are id lt
+marks_for aim rules needs marks have are has test id lt = mark_reports has rules aim needs
+    (have has test) marks are id lt
 
 pub null_marks : (rules : List Rule) (marks : List Bool) (n : ℕ) → n ≡ length rules → AreMarksFor Empty rules marks
     → AreNullMarks rules (take n marks)
@@ -271,7 +272,7 @@ pub productive_marks : (alphabet : Alphabet) (rules : List Rule) (marks : List B
     AreMarksFor (Letters alphabet) rules marks → AreProductive alphabet rules (take n marks)
 productive_marks alphabet rules marks n same fits are = record {
   count = length-take-le n marks (omega (arith, same, fits)) ∙ same;
-  tells = λ id lt.
+  reports = λ id lt.
       subst (λ (b : Bool). (b ≡ true) ↔ ((w : List ℕ) × AreLetters (in_alphabet alphabet) w
       × RuleDerives (in_alphabet alphabet) rules id w))
       (sym (get_or-take n marks id false (omega (arith, lt, same)))) (are (in_alphabet alphabet) refl id lt);

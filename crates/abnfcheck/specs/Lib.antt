@@ -1,7 +1,7 @@
 pub mod AbnfGrammar
 pub mod AbnfNotes
 pub mod AbnfUses
-pub mod Beginnings
+pub mod Prefixes
 pub mod BrokenNeeds
 pub mod Decided
 pub mod Derivable

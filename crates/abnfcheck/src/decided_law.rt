@@ -1,7 +1,7 @@
 //! Laws of derivation.
 ghost use Rattle.std.specs.Prelude.{◌≡◌, ℕ, Bool, List};
 ghost use Rattle.abnfread.specs.Element.{Rule};
-ghost use Rattle.abnfcheck.specs.Beginnings.{IsFurthest};
+ghost use Rattle.abnfcheck.specs.Prefixes.{IsFurthest};
 ghost use Rattle.abnfcheck.specs.Decided.{Says};
 ghost use Rattle.abnfcheck.specs.Derivable.{RuleDerives};
 

@@ -22,7 +22,7 @@ answer_reply text status = record { out = text; err = []; status = code_of statu
 
 -- the messages come first, and then the answer
 abbrev pub IsWholeReport : List ℕ → List ℕ → Status → Input → List ℕ → Reply → Type 0
-IsWholeReport told text status input notes reply = (notes ≡ told) × (reply ≡ answer_reply text status)
+IsWholeReport reported text status input notes reply = (notes ≡ reported) × (reply ≡ answer_reply text status)
 
 -- the report where the text of a grammar is not had
 abbrev pub missing_text : UnreadFile → List ℕ
@@ -40,9 +40,9 @@ missing_stop NoMemory = stop.NoMemory
 -- Or one cannot be read, or an allocation failed.
 pub data FilesCompared (alphabet : Alphabet) (old_rule new_rule : Option (List ℕ)) (input : Input)
     : List ℕ → Reply → Type 0 where
-  compares : {old new told text : List ℕ} {status : Status}
-      → AreCompared alphabet old_rule new_rule old new told text status
-      → FilesCompared alphabet old_rule new_rule input told (answer_reply text status)
+  compares : {old new reported text : List ℕ} {status : Status}
+      → AreCompared alphabet old_rule new_rule old new reported text status
+      → FilesCompared alphabet old_rule new_rule input reported (answer_reply text status)
   unread : (why : UnreadFile) → FilesCompared alphabet old_rule new_rule input (missing_text why)
       (stopped (missing_stop why))
   no_memory : FilesCompared alphabet old_rule new_rule input [] (stopped stop.NoMemory)

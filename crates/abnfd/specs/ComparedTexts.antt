@@ -29,18 +29,18 @@ pub data IsVerdictOn (alphabet : Alphabet) : Option Grammar → Option Grammar �
   lacks_new : (old : Option Grammar) → IsVerdictOn alphabet old None [] Refused
 
 -- the report on an old grammar and the text of a new one: the messages on both, and the answer
-pub record IsReportOn (alphabet : Alphabet) (new_rule : Option (List ℕ)) (old_told : List ℕ)
-    (old_grammar : Option Grammar) (new told text : List ℕ) (status : Status) : Type 0 where
-  pub new_told : List ℕ
+pub record IsReportOn (alphabet : Alphabet) (new_rule : Option (List ℕ)) (old_reported : List ℕ)
+    (old_grammar : Option Grammar) (new reported text : List ℕ) (status : Status) : Type 0 where
+  pub new_reported : List ℕ
   pub new_grammar : Option Grammar
-  pub is_new : IsSideOf (codes "new: ") new new_rule new_told new_grammar
-  pub all : told ≡ old_told ++ new_told
+  pub is_new : IsSideOf (codes "new: ") new new_rule new_reported new_grammar
+  pub all : reported ≡ old_reported ++ new_reported
   pub answer : IsVerdictOn alphabet old_grammar new_grammar text status
 
 -- the report on the texts of two grammars
-pub record AreCompared (alphabet : Alphabet) (old_rule new_rule : Option (List ℕ)) (old new told text : List ℕ)
+pub record AreCompared (alphabet : Alphabet) (old_rule new_rule : Option (List ℕ)) (old new reported text : List ℕ)
     (status : Status) : Type 0 where
-  pub old_told : List ℕ
+  pub old_reported : List ℕ
   pub old_grammar : Option Grammar
-  pub is_old : IsSideOf (codes "old: ") old old_rule old_told old_grammar
-  pub rest : IsReportOn alphabet new_rule old_told old_grammar new told text status
+  pub is_old : IsSideOf (codes "old: ") old old_rule old_reported old_grammar
+  pub rest : IsReportOn alphabet new_rule old_reported old_grammar new reported text status

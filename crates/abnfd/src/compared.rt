@@ -37,7 +37,7 @@ pub(crate) struct ComparisonAnswer {
 #[derive(Drop)]
 pub(crate) struct Report {
     /// The messages on both grammars.
-    pub(crate) told: Vec<u8>,
+    pub(crate) reported: Vec<u8>,
     /// The answer.
     pub(crate) answer: ComparisonAnswer,
 }
@@ -90,13 +90,13 @@ fn answer_to(
 }
 
 // Returns the messages on both grammars, the old one's first. `Memory` if an allocation fails.
-fn both_told(alloc: Global, old: &[u8], new: &[u8]) -> Result<Vec<u8>, Memory>
-    ensures { IfOk result (λ told. told.items ≡ old.now ++ new.now) }
+fn both_reported(alloc: Global, old: &[u8], new: &[u8]) -> Result<Vec<u8>, Memory>
+    ensures { IfOk result (λ reported. reported.items ≡ old.now ++ new.now) }
 {
-    let mut told = Vec::new(alloc);
-    told.extend_from_slice(old)?;
-    told.extend_from_slice(new)?;
-    Ok(told)
+    let mut reported = Vec::new(alloc);
+    reported.extend_from_slice(old)?;
+    reported.extend_from_slice(new)?;
+    Ok(reported)
 }
 
 // Reports on two grammars. `Memory` if an allocation fails.
@@ -106,12 +106,12 @@ fn report_on(
     old: &Side,
     new: &Side,
 ) -> Result<Report, Memory>
-    ensures { IfOk result (λ r. (r.told.items ≡ old.now.told.items ++ new.now.told.items)
+    ensures { IfOk result (λ r. (r.reported.items ≡ old.now.reported.items ++ new.now.reported.items)
         × IsVerdictOn settings.now.letters old.now.grammar new.now.grammar r.answer.text.items r.answer.status) }
 {
-    let told = both_told(alloc, old.told.as_slice(), new.told.as_slice())?;
+    let reported = both_reported(alloc, old.reported.as_slice(), new.reported.as_slice())?;
     let answer = answer_to(alloc, settings, old, new)?;
-    Ok(Report { told, answer })
+    Ok(Report { reported, answer })
 }
 
 // Compares an old grammar with the text of a new one. `Memory` if an allocation fails.
@@ -122,7 +122,7 @@ fn compare_with(
     new: &[u8],
 ) -> Result<Report, Memory>
     ensures { IfOk result (λ r. IsReportOn settings.now.letters (option_copied settings.now.new_rule)
-        old.now.told.items old.now.grammar new.now r.told.items r.answer.text.items r.answer.status) }
+        old.now.reported.items old.now.grammar new.now r.reported.items r.answer.text.items r.answer.status) }
 {
     let new = open_side(alloc, b"new: ", new, settings.new_rule)?;
     report_on(alloc, settings, old, &new)
@@ -137,7 +137,7 @@ pub(crate) fn compare_texts(
     new: &[u8],
 ) -> Result<Report, Memory>
     ensures { IfOk result (λ r. AreCompared settings.now.letters (option_copied settings.now.old_rule)
-        (option_copied settings.now.new_rule) old.now new.now r.told.items r.answer.text.items r.answer.status) }
+        (option_copied settings.now.new_rule) old.now new.now r.reported.items r.answer.text.items r.answer.status) }
 {
     let old = open_side(alloc, b"old: ", old, settings.old_rule)?;
     compare_with(alloc, settings, &old, new)

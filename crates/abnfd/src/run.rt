@@ -5,7 +5,7 @@ ghost use Rattle.abnfd.specs.CompareAnswers.{missing_text};
 ghost use Rattle.abnfd.specs.CompareWords.{IsAbnfdApp};
 ghost use Rattle.clap.specs.Words.{fault_of, found_of, matches_of, rows_of};
 ghost use Rattle.cli.specs.Parsing.{WordsState};
-ghost use Rattle.toolrun.specs.Plan.{IsToldAnd};
+ghost use Rattle.toolrun.specs.Plan.{IsReportedAnd};
 ghost use Rattle.toolrun.specs.Right.{Comes};
 ghost use Rattle.toolrun.specs.Status.{code_of};
 ghost use Rattle.toolrun.specs.Stopped.{Performs};
@@ -37,11 +37,12 @@ fn write_answer<O: Sink>(answer: &ComparisonAnswer, out: &mut O) -> Result<Stop,
 fn end_compared<O: Sink, E: Sink>(report: &Report, out: &mut O, err: &mut E) -> Status
     requires out_is_fresh { O.failed out.old ≡ false }
     requires err_is_fresh { E.failed err.old ≡ false }
-    ensures right { Comes (IsWholeReport report.now.told.items report.now.answer.text.items report.now.answer.status)
+    ensures right { Comes (IsWholeReport report.now.reported.items report.now.answer.text.items
+        report.now.answer.status)
         no_input (passed O.contents O.failed out.old out.new) (passed E.contents E.failed err.old err.new)
         (code_of result) }
 {
-    if write_whole(err, report.told.as_slice()).is_err() {
+    if write_whole(err, report.reported.as_slice()).is_err() {
         return close_run(out, err);
     }
     let stop = write_answer(&report.answer, out);
@@ -49,13 +50,13 @@ fn end_compared<O: Sink, E: Sink>(report: &Report, out: &mut O, err: &mut E) -> 
 }
 
 // Reports that the text of a grammar is not had, and ends.
-fn end_missing<O: Sink, E: Sink>(told: &[u8], out: &mut O, err: &mut E) -> Status
+fn end_missing<O: Sink, E: Sink>(reported: &[u8], out: &mut O, err: &mut E) -> Status
     requires out_is_fresh { O.failed out.old ≡ false }
     requires err_is_fresh { E.failed err.old ≡ false }
-    ensures right { Comes (IsToldAnd told.now (Stop.Quiet Status.Fault)) no_input
+    ensures right { Comes (IsReportedAnd reported.now (Stop.Quiet Status.Fault)) no_input
         (passed O.contents O.failed out.old out.new) (passed E.contents E.failed err.old err.new) (code_of result) }
 {
-    if write_whole(err, told).is_err() {
+    if write_whole(err, reported).is_err() {
         return close_run(out, err);
     }
     end_run(Ok(Stop::Quiet(Status::Fault)), out, err)
@@ -65,7 +66,7 @@ fn end_missing<O: Sink, E: Sink>(told: &[u8], out: &mut O, err: &mut E) -> Statu
 fn end_unread<O: Sink, E: Sink>(why: UnreadFile, out: &mut O, err: &mut E) -> Status
     requires out_is_fresh { O.failed out.old ≡ false }
     requires err_is_fresh { E.failed err.old ≡ false }
-    ensures right { Comes (IsToldAnd (missing_text why) (missing_stop why)) no_input
+    ensures right { Comes (IsReportedAnd (missing_text why) (missing_stop why)) no_input
         (passed O.contents O.failed out.old out.new) (passed E.contents E.failed err.old err.new) (code_of result) }
 {
     match why {

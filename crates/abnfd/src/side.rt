@@ -15,7 +15,7 @@ use toolrun::{Opened, open};
 #[derive(Drop)]
 pub(crate) struct Side {
     /// The messages, each after the name of the side.
-    pub(crate) told: Vec<u8>,
+    pub(crate) reported: Vec<u8>,
     /// The grammar, unless it is rejected.
     pub(crate) grammar: Option<SoundAbnf>,
 }
@@ -77,26 +77,26 @@ fn grammar_of(rules: AllRules, judged: Option<usize>) -> Option<SoundAbnf>
 // Returns a grammar that was opened, with its notes. `Memory` if an allocation fails.
 fn opened_side(alloc: Global, side: &[u8], opened: Opened<AllRules, usize>) -> Result<Side, Memory>
     requires { IfSome opened.judged (λ id. IsSoundGrammar (record { rules = opened.rules.rules; judged = id })) }
-    ensures { IfOk result (λ s. (s.told.items ≡ the_notes side.now (map said_of opened.notes.items))
+    ensures { IfOk result (λ s. (s.reported.items ≡ the_notes side.now (map said_of opened.notes.items))
         × IsMadeOf opened.rules.rules opened.judged s.grammar) }
 {
-    let told = side_notes(alloc, side, opened.notes.as_slice())?;
+    let reported = side_notes(alloc, side, opened.notes.as_slice())?;
     Ok(Side {
-        told,
+        reported,
         grammar: grammar_of(opened.rules, opened.judged),
     })
 }
 
 // Returns the message on a text that has a fault. `Memory` if an allocation fails.
 fn faulty_side(alloc: Global, side: &[u8], fault: &ReadFault) -> Result<Side, Memory>
-    ensures { IfOk result (λ s. (s.told.items ≡ side.now ++ fault_text fault.now) × (s.grammar ≡ None)) }
+    ensures { IfOk result (λ s. (s.reported.items ≡ side.now ++ fault_text fault.now) × (s.grammar ≡ None)) }
 {
     let line = fault_line(alloc, fault)?;
-    let mut told = Vec::new(alloc);
-    told.extend_from_slice(side)?;
-    told.extend_from_slice(line.as_slice())?;
+    let mut reported = Vec::new(alloc);
+    reported.extend_from_slice(side)?;
+    reported.extend_from_slice(line.as_slice())?;
     Ok(Side {
-        told,
+        reported,
         grammar: None,
     })
 }
@@ -131,7 +131,7 @@ pub(crate) fn open_side(
     text: &[u8],
     rule: Option<&str>,
 ) -> Result<Side, Memory>
-    ensures { IfOk result (λ s. IsSideOf side.now text.now (option_copied rule.entry) s.told.items s.grammar) }
+    ensures { IfOk result (λ s. IsSideOf side.now text.now (option_copied rule.entry) s.reported.items s.grammar) }
 {
     let settings = opening_settings(rule);
     match open::<AbnfLanguage>(alloc, text, &settings) {

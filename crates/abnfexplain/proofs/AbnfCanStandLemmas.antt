@@ -29,7 +29,7 @@ use Rattle.abnfexplain.specs.declared.abnf_stand.Stand.TheVariants as stands
 use Rattle.abnfexplain.specs.AbnfExpected.{CanStand}
 use Rattle.abnfexplain.specs.AbnfPlaces.{brackets_of, place_allows}
 use Rattle.abnfexplain.specs.AbnfStands.{allows_marked, allows_first, allows_later, allows_read, innermost}
-use Rattle.abnfexplain.specs.AbnfStands.{behind_marked, brackets_behind}
+use Rattle.abnfexplain.specs.AbnfStands.{after_marked, brackets_after}
 use Rattle.abnfexplain.proofs.AbnfStandLemmas.{kind_said, stand_of, open_of, Comes, step-comes}
 
 no_span : Span
@@ -111,11 +111,11 @@ bad-nowhere s top g false = later-bad s top g
 pub record Onward (c : Config) (g f : Bool) (s : Said) : Type 0 where
   pub config : Config
   pub steps : step c (word g f s) ≡ Some config
-  pub stand : stand_of config ≡ behind_marked (kind_said s) f
-  pub brackets : open_of config ≡ brackets_behind (kind_said s) (open_of c)
+  pub stand : stand_of config ≡ after_marked (kind_said s) f
+  pub brackets : open_of config ≡ brackets_after (kind_said s) (open_of c)
 
 there-onward : (c : Config) (g f : Bool) (s : Said) (b : Bool) (x : Option Config) → step c (word g f s) ≡ x
-    → Comes b (behind_marked (kind_said s) f) (brackets_behind (kind_said s) (open_of c)) x → b ≡ true
+    → Comes b (after_marked (kind_said s) f) (brackets_after (kind_said s) (open_of c)) x → b ≡ true
     → Onward c g f s
 there-onward c g f s b None e h t = absurd (let no : true ≡ false = sym t ∙ h in cc)
 there-onward c g f s b (Some d) e h t = record { config = d; steps = e; stand = h.1; brackets = h.2 }

@@ -11,8 +11,8 @@ use Rattle.lexer.specs.Pieces.{LiesIn}
 use Rattle.lexer.specs.TokenLists.{Tok, start_of, end_of, kind_of}
 use Rattle.lexer.specs.declared.limits.TheConstants.{MAX_GRAMMAR}
 use Rattle.diagnostics.specs.PhraseLists.{listed}
-use Rattle.diagnostics.specs.ToldPhrases.{AreTold}
-use Rattle.diagnostics.proofs.PhraseLemmas.{told-same}
+use Rattle.diagnostics.specs.ReportedPhrases.{AreAllReported}
+use Rattle.diagnostics.proofs.PhraseLemmas.{reported-same}
 use Rattle.abnfread.specs.declared.kind.AbnfKind.{AbnfKind}
 use Rattle.abnfread.specs.declared.marks.MarkedToken.{MarkedToken}
 use Rattle.abnfread.specs.AbnfReading.{is_bracket, IsDecidedAt, IsFaultOf}
@@ -23,7 +23,7 @@ use Rattle.ruletable.specs.declared.fault.ReadFault.TheVariants as faults
 use Rattle.abnfexplain.specs.declared.abnf_decide.Refused.{Refused}
 use Rattle.abnfexplain.specs.declared.abnf_stand.Form.{Form}
 use Rattle.abnfexplain.specs.declared.abnf_stand.Place.{Place}
-use Rattle.abnfexplain.specs.AbnfDecisions.{first_marked, IsTokenOf, TellsForms, IsRefused, NoneDecides}
+use Rattle.abnfexplain.specs.AbnfDecisions.{first_marked, IsTokenOf, ReportsForms, IsRefused, NoneDecides}
 use Rattle.abnfexplain.specs.AbnfExpected.{CanStand, phrases}
 use Rattle.abnfexplain.specs.AbnfExplained.{indent, line_fact, is_later_name, name_fact, token_place, token_facts, Why}
 use Rattle.abnfexplain.specs.AbnfExplained.{hopeless, too_deep, too_large}
@@ -93,27 +93,28 @@ module _ (text : List ℕ) (lies : Lies text) where
       sym (h.holds).origin ∙ ap (option_map marked_of) e in
       token-within text h.all 0 (marked_of o) lies h.are_tokens (first-get h.number h.all (marked_of o) first)
 
-module _ (place : Place) (ms : List Marked) (i : ℕ) (h : TellsForms place ms i) where
+module _ (place : Place) (ms : List Marked) (i : ℕ) (h : ReportsForms place ms i) where
   by-test : (form : Form) (b : Bool) → place_allows place form ≡ b → CanStand ms i form
       → place_allows place form ≡ true
   by-test form true e s = e
   by-test form false e s = absurd (h.other form e s)
 
   -- what the place says can stand there
-  place-tells : {ws : List (List ℕ)} → AreTold (λ k. place_allows place k ≡ true) phrases ws
-      → AreTold (CanStand ms i) phrases ws
-  place-tells t = told-same h.stand (λ k s. by-test k (place_allows place k) refl s) t
+  place-reports : {ws : List (List ℕ)} → AreAllReported (λ k. place_allows place k ≡ true) phrases ws
+      → AreAllReported (CanStand ms i) phrases ws
+  place-reports t = reported-same h.stand (λ k s. by-test k (place_allows place k) refl s) t
 
 module _ (text : List ℕ) (within : length text ≤ MAX_GRAMMAR) where
-  pub hopeless-why : (r : Refused) (told : List (List ℕ)) (why : List ℕ)
-      → IsTokenOf text (marked_of r.token) (IsRefused r) → AreTold (λ k. place_allows r.place k ≡ true) phrases told
-      → why ≡ token_place text (marked_of r.token) ++ (codes "expected " ++ (listed told ++ (codes "\n"
+  pub hopeless-why : (r : Refused) (reported : List (List ℕ)) (why : List ℕ)
+      → IsTokenOf text (marked_of r.token) (IsRefused r) → AreAllReported
+      (λ k. place_allows r.place k ≡ true) phrases reported
+      → why ≡ token_place text (marked_of r.token) ++ (codes "expected " ++ (listed reported ++ (codes "\n"
       ++ token_facts text (option_map marked_of r.origin) (option_map marked_of r.before) (marked_of r.token))))
       → Why text why
-  hopeless-why r told why h tells e =
+  hopeless-why r reported why h reports e =
       let d = h.holds in
       rw (e, d.origin, d.before)
-      (hopeless within h.are_tokens h.there d.hopeless (place-tells r.place h.all h.number d.tells tells))
+      (hopeless within h.are_tokens h.there d.hopeless (place-reports r.place h.all h.number d.reports reports))
 
   pub deep-why : (m : Marked) (why : List ℕ) → IsTokenOf text m (λ us i. IsOver us i × (is_bracket m ≡ true))
       → why ≡ token_place text m ++ codes "200 brackets are open before it\n" → Why text why

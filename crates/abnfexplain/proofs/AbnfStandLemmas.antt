@@ -14,7 +14,7 @@ use Rattle.abnfexplain.specs.declared.abnf_stand.OpenBracket.TheVariants as brac
 use Rattle.abnfexplain.specs.declared.abnf_stand.Stand.{Stand}
 use Rattle.abnfexplain.specs.declared.abnf_stand.Stand.TheVariants as stands
 use Rattle.abnfexplain.specs.AbnfStands.{allows_marked, allows_first, allows_later, allows_read, is_inner, is_item}
-use Rattle.abnfexplain.specs.AbnfStands.{behind_marked, behind_later, brackets_behind, innermost}
+use Rattle.abnfexplain.specs.AbnfStands.{after_marked, after_later, brackets_after, innermost}
 
 -- the kind of the tokens that say it
 abbrev pub kind_said : Said → AbnfKind
@@ -71,7 +71,7 @@ Comes b s bs None = b ≡ false
 Comes b s bs (Some d) = (b ≡ true) × (stand_of d ≡ s) × (open_of d ≡ bs)
 
 abbrev Later : Bool → Said → List OpenBracket → Option Config → Type 0
-Later b s bs x = Comes b (behind_later (kind_said s)) (brackets_behind (kind_said s) bs) x
+Later b s bs x = Comes b (after_later (kind_said s)) (brackets_after (kind_said s) bs) x
 
 element-comes : (h : Head) (o : List Level) (bs es : Elements) (t : Times) (s : Said)
     → Later (is_inner (kind_said s)) s (open_in o) (element_step h o bs es t s)
@@ -141,7 +141,7 @@ read-comes h o bs es true (Prose z) = fresh-comes h o bs es (Prose z)
 read-comes h o bs es false (Prose z) = refl
 
 first-comes : (c : Config) (s : Said) → Comes (allows_first (stand_of c) (innermost (open_of c)) (kind_said s))
-    stands.Named (brackets_behind (kind_said s) (open_of c)) (first_step c s)
+    stands.Named (brackets_after (kind_said s) (open_of c)) (first_step c s)
 first-comes start (Name n q) = (refl, refl, refl)
 first-comes start Is = refl
 first-comes start Adds = refl
@@ -201,7 +201,7 @@ later-comes (body h o bs es read) g s = read-comes h o bs es g s
 later-comes (done ds) g s = refl
 
 pub step-comes : (c : Config) (g f : Bool) (s : Said)
-    → Comes (allows_marked (stand_of c) (innermost (open_of c)) (kind_said s) g f) (behind_marked (kind_said s) f)
-    (brackets_behind (kind_said s) (open_of c)) (step c (word g f s))
+    → Comes (allows_marked (stand_of c) (innermost (open_of c)) (kind_said s) g f) (after_marked (kind_said s) f)
+    (brackets_after (kind_said s) (open_of c)) (step c (word g f s))
 step-comes c g true s = first-comes c s
 step-comes c g false s = later-comes c g s

@@ -4,8 +4,8 @@ use Rattle.std.proofs.Common.{◌≡◌, ℕ, ◌⊎◌, inl, inr, List, ◌++�
 use Rattle.std.proofs.Common.{take, true, false, true≢false}
 use Rattle.lexer.proofs.ViabilityLemmas as viability
 use Rattle.diagnostics.specs.PhraseLists.{listed}
-use Rattle.diagnostics.specs.ToldPhrases.{AreTold}
-use Rattle.diagnostics.proofs.OneToldLemmas.{one-told}
+use Rattle.diagnostics.specs.ReportedPhrases.{AreAllReported}
+use Rattle.diagnostics.proofs.OneReportedLemmas.{one-reported}
 use Rattle.ruletable.specs.declared.fault.ReadFault.{ReadFault}
 use Rattle.ruletable.specs.declared.fault.ReadFault.TheVariants as faults
 use Rattle.abnfread.specs.AbnfReading.{is_bracket}
@@ -59,37 +59,37 @@ not-bracket text all others i j m n are are' at at' h k is isnt =
     let one = one-token text all others i j m n are are' at at' (inr h) (inr k) in
     true≢false (sym is ∙ ap is_bracket one.tokens ∙ isnt)
 
-abbrev told_lines : List ℕ → List Marked → ℕ → Marked → List (List ℕ) → List ℕ
-told_lines text all i m told = token_place text m ++ (codes "expected " ++ (listed told ++ (codes "\n"
+abbrev reported_lines : List ℕ → List Marked → ℕ → Marked → List (List ℕ) → List ℕ
+reported_lines text all i m reported = token_place text m ++ (codes "expected " ++ (listed reported ++ (codes "\n"
     ++ token_facts text (first_marked (take i all)) (last_marked (take i all)) m)))
 
 one-why : (text a b : List ℕ) → Why text a → Why text b → a ≡ b
 one-why text a b (too_long l) (too_long k) = refl
-one-why text a b (too_long l) (hopeless w are at h told) = absurd (omega (arith, l, w))
+one-why text a b (too_long l) (hopeless w are at h reported) = absurd (omega (arith, l, w))
 one-why text a b (too_long l) (too_deep w are at h is) = absurd (omega (arith, l, w))
 one-why text a b (too_long l) (too_large w are at h is) = absurd (omega (arith, l, w))
-one-why text a b (hopeless w are at h told) (too_long l) = absurd (omega (arith, l, w))
+one-why text a b (hopeless w are at h reported) (too_long l) = absurd (omega (arith, l, w))
 one-why text a b (too_deep w are at h is) (too_long l) = absurd (omega (arith, l, w))
 one-why text a b (too_large w are at h is) (too_long l) = absurd (omega (arith, l, w))
-one-why text a b (hopeless {all = all} {i = i} {m = m} {told = said} w are at h told)
-    (hopeless {all = others} {i = j} {m = n} {told = say} v are' at' k tell) =
+one-why text a b (hopeless {all = all} {i = i} {m = m} {reported = said} w are at h reported)
+    (hopeless {all = others} {i = j} {m = n} {reported = say} v are' at' k report) =
     let one = one-token text all others i j m n are are' at at' (inl h) (inl k) in
-    let there : AreTold (CanStand all i) phrases say = (let d = tell in rw (one.lists, one.numbers) at d) in
-    ap (λ (x : Marked). told_lines text all i x said) one.tokens
-    ∙ ap (λ (ws : List (List ℕ)). told_lines text all i n ws) (one-told told there)
-    ∙ ap (λ (x : ℕ). told_lines text all x n say) (sym one.numbers)
-    ∙ ap (λ (ms : List Marked). told_lines text ms j n say) (sym one.lists)
-one-why text a b (hopeless {all = all} {i = i} {m = m} w are at h told)
+    let there : AreAllReported (CanStand all i) phrases say = (let d = report in rw (one.lists, one.numbers) at d) in
+    ap (λ (x : Marked). reported_lines text all i x said) one.tokens
+    ∙ ap (λ (ws : List (List ℕ)). reported_lines text all i n ws) (one-reported reported there)
+    ∙ ap (λ (x : ℕ). reported_lines text all x n say) (sym one.numbers)
+    ∙ ap (λ (ms : List Marked). reported_lines text ms j n say) (sym one.lists)
+one-why text a b (hopeless {all = all} {i = i} {m = m} w are at h reported)
     (too_deep {all = others} {i = j} {m = n} v are' at' k is) =
     absurd (not-both text all others i j m n are are' at at' h k)
-one-why text a b (hopeless {all = all} {i = i} {m = m} w are at h told)
+one-why text a b (hopeless {all = all} {i = i} {m = m} w are at h reported)
     (too_large {all = others} {i = j} {m = n} v are' at' k is) =
     absurd (not-both text all others i j m n are are' at at' h k)
 one-why text a b (too_deep {all = all} {i = i} {m = m} w are at h is)
-    (hopeless {all = others} {i = j} {m = n} v are' at' k told) =
+    (hopeless {all = others} {i = j} {m = n} v are' at' k reported) =
     absurd (not-both text others all j i n m are' are at' at k h)
 one-why text a b (too_large {all = all} {i = i} {m = m} w are at h is)
-    (hopeless {all = others} {i = j} {m = n} v are' at' k told) =
+    (hopeless {all = others} {i = j} {m = n} v are' at' k reported) =
     absurd (not-both text others all j i n m are' are at' at k h)
 one-why text a b (too_deep {all = all} {i = i} {m = m} w are at h is)
     (too_deep {all = others} {i = j} {m = n} v are' at' k so) =

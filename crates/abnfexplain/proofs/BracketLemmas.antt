@@ -16,11 +16,11 @@ record EndsWith (xs : List OpenBracket) : Type 0 where
 
 empty-or_ends : (xs : List OpenBracket) → (xs ≡ []) ⊎ EndsWith xs
 empty-or_ends [] = inl refl
-empty-or_ends (x ∷ xs) = inr (behind x (empty-or_ends xs))
+empty-or_ends (x ∷ xs) = inr (after x (empty-or_ends xs))
   where
-    behind : {ys : List OpenBracket} (y : OpenBracket) → (ys ≡ []) ⊎ EndsWith ys → EndsWith (y ∷ ys)
-    behind y (inl e) = record { front = []; last = y; whole = ap (λ (t : List OpenBracket). y ∷ t) e }
-    behind y (inr h) = record {
+    after : {ys : List OpenBracket} (y : OpenBracket) → (ys ≡ []) ⊎ EndsWith ys → EndsWith (y ∷ ys)
+    after y (inl e) = record { front = []; last = y; whole = ap (λ (t : List OpenBracket). y ∷ t) e }
+    after y (inr h) = record {
       front = y ∷ h.front;
       last = h.last;
       whole = ap (λ (t : List OpenBracket). y ∷ t) h.whole;

@@ -12,18 +12,18 @@ use Rattle.abnfread.specs.declared.number.TheConstants.{MAX_VALUE, MAX_REPEAT}
 use Rattle.abnfread.specs.AbnfSays.{IsSmall}
 use Rattle.abnfread.specs.AbnfSlices.{Run, none, more}
 use Rattle.abnfread.specs.AbnfWords as words
-use Rattle.abnfread.specs.BaseDigits.{is_digit, Tells, binary, decimals, hexadecimal}
+use Rattle.abnfread.specs.BaseDigits.{is_digit, NamesBase, binary, decimals, hexadecimal}
 use Rattle.abnfread.specs.Numerals.{SaysRepeat, says_exactly, says_between, most, Listed, last_number, more_numbers}
 use Rattle.abnfread.specs.Numerals.{SaysNum, says_values, says_range, IsWithin}
 use Rattle.abnfread.proofs.ByteRunLemmas.{no-digit}
 use Rattle.abnfread.proofs.NumeralLemmas.{after-ge, digits-run}
-use Rattle.abnfread.proofs.SaysNumLemmas.{tells-most}
-use Rattle.abnfexplain.specs.LargeRuns.{runs_over, base_told, over_behind}
+use Rattle.abnfread.proofs.SaysNumLemmas.{reports-most}
+use Rattle.abnfexplain.specs.LargeRuns.{runs_over, base_reported, over_after}
 
-tells-least : {c base : ℕ} → Tells c base → 2 ≤ base
-tells-least (binary e) = omega arith
-tells-least (decimals e) = omega arith
-tells-least (hexadecimal e) = omega arith
+reports-least : {c base : ℕ} → NamesBase c base → 2 ≤ base
+reports-least (binary e) = omega arith
+reports-least (decimals e) = omega arith
+reports-least (hexadecimal e) = omega arith
 
 lt-test : (a b : ℕ) → a < b → nat_lt a b ≡ true
 lt-test a b h = grind (arith, nat_tests)
@@ -151,21 +151,21 @@ listed-tests base w le (more_numbers {t} {ds} {r} {vs} e h hs) =
     (All-first (digits_value base ds) vs) (All-rest (digits_value base ds) vs) (listed-tests base w le hs)
     (nat_lt MAX_VALUE (digits_value base ds)) refl)
 
-told-base : {c base : ℕ} → Tells c base → base_told c ≡ base
-told-base {c} (binary e) = rw e refl
-told-base {c} (decimals e) = grind (arith, nat_tests)
-told-base {c} (hexadecimal e) = grind (arith, nat_tests)
+reported-base : {c base : ℕ} → NamesBase c base → base_reported c ≡ base
+reported-base {c} (binary e) = rw e refl
+reported-base {c} (decimals e) = grind (arith, nat_tests)
+reported-base {c} (hexadecimal e) = grind (arith, nat_tests)
 
-pub num-tests : (z : List ℕ) (s : words.Said) → SaysNum z s → Tests (over_behind z) (IsSmall s)
-num-tests z s (says_values {base} {c} {t} {vs} tells h) =
-    let told = told-base tells in
-    rw told (listed-tests base (tells-least tells) (tells-most tells) h)
-num-tests z s (says_range {base} {c} {t} {ds} {es} tells e h k) =
-    let told = told-base tells in
-    let w = tells-least tells in
-    let parts = part-over base 45 ds es w (digits-run h) (no-digit base 45 36 refl (tells-most tells)) in
+pub num-tests : (z : List ℕ) (s : words.Said) → SaysNum z s → Tests (over_after z) (IsSmall s)
+num-tests z s (says_values {base} {c} {t} {vs} reports h) =
+    let reported = reported-base reports in
+    rw reported (listed-tests base (reports-least reports) (reports-most reports) h)
+num-tests z s (says_range {base} {c} {t} {ds} {es} reports e h k) =
+    let reported = reported-base reports in
+    let w = reports-least reports in
+    let parts = part-over base 45 ds es w (digits-run h) (no-digit base 45 36 refl (reports-most reports)) in
     let whole = whole-over base es w (digits-run k) in
-    rw (told, e, parts, whole)
+    rw (reported, e, parts, whole)
     (two-tests (digits_value base ds)
     ((digits_value base ds ≤ MAX_VALUE) × (digits_value base es ≤ MAX_VALUE)) (digits_value base es ≤ MAX_VALUE)
     (nat_lt MAX_VALUE (digits_value base es) || false) (λ a b. (a, b)) (λ p. p.0) (λ p. p.1)

@@ -4,6 +4,6 @@ mod ChainLinesLemmas
 pub mod LargeRunLemmas
 pub mod AbnfCanStandLemmas
 pub mod TakenMarksLemmas
-mod TellsFormsLemmas
+mod ReportsFormsLemmas
 pub mod AbnfExplainedLemmas
 pub mod AbnfWhyLemmas

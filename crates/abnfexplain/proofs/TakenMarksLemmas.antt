@@ -32,7 +32,7 @@ use Rattle.abnfexplain.specs.declared.abnf_stand.Place.{Place}
 use Rattle.abnfexplain.specs.declared.abnf_stand.Stand.TheVariants.{Start}
 use Rattle.abnfexplain.specs.AbnfDecisions.{first_marked, last_marked, IsTokenOf, IsRefused, NoneDecides}
 use Rattle.abnfexplain.specs.AbnfPlaces.{brackets_of, place_allows, IsPlaceAt}
-use Rattle.abnfexplain.specs.AbnfStands.{behind, brackets_behind, innermost}
+use Rattle.abnfexplain.specs.AbnfStands.{next_stand, brackets_after, innermost}
 use Rattle.abnfexplain.proofs.AbnfCanStandLemmas.{StandsAt, TestsForms, Onward, place-tests, goes-on, stops-there}
 use Rattle.abnfexplain.proofs.AbnfCanStandLemmas.{can-stand, cannot-stand}
 use Rattle.abnfexplain.proofs.AbnfCanStandLemmas.{said-kind, bad-nowhere}
@@ -132,7 +132,7 @@ module _ {text : List ℕ} {left : List Marked → Type 0} {place : Place} {orig
     hopeless = lemmas.hopeless-at Viable AreWithin ms here others viable-so_far within-here
         (lemmas.not-viable Says Grammar step start runs-begins stops-begins one-word t.config h.say h.reached here
         (stops-there t.config (place_allows place) form-tests k z p g f e));
-    tells = rw at (record {
+    reports = rw at (record {
       stand = λ other does. can-stand t.config (place_allows place) form-tests h.say h.reached other does
           (here ∷ others);
       other = λ other not. cannot-stand t.config (place_allows place) form-tests h.say h.reached other not
@@ -179,7 +179,7 @@ module _ {text : List ℕ} {left : List Marked → Type 0} {place : Place} {orig
       large-no_bracket g f said-here.1 (large said said-here.1),
     )
 
-    module _ (next : Place) (at : IsPlaceAt next (behind form) (brackets_behind k (brackets_of place))) where
+    module _ (next : Place) (at : IsPlaceAt next (next_stand form) (brackets_after k (brackets_of place))) where
       next-stands : StandsAt step-onward.config next
       next-stands =
           let kind = said-kind said-here.1 in

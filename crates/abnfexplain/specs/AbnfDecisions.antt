@@ -30,14 +30,14 @@ pub record IsTokenOf (text : List ℕ) (m : Marked) (Holds : List Marked → ℕ
   pub holds : Holds all number
 
 -- the place says which tokens can stand where token i does
-pub record TellsForms (place : Place) (ms : List Marked) (i : ℕ) : Type 0 where
+pub record ReportsForms (place : Place) (ms : List Marked) (i : ℕ) : Type 0 where
   pub stand : (form : Form) → place_allows place form ≡ true → CanStand ms i form
   pub other : (form : Form) → place_allows place form ≡ false → CanStand ms i form → ⊥
 
 -- with that token the tokens begin no grammar, and what is known of those before it
 pub record IsRefused (r : Refused) (ms : List Marked) (i : ℕ) : Type 0 where
   pub hopeless : IsHopeless ms i
-  pub tells : TellsForms r.place ms i
+  pub reports : ReportsForms r.place ms i
   pub origin : option_map marked_of r.origin ≡ first_marked (take i ms)
   pub before : option_map marked_of r.before ≡ last_marked (take i ms)
 

@@ -1,6 +1,6 @@
 -- What can stand at a place of a grammar's text, and the phrases for it.
 use Rattle.std.specs.Prelude.{◌≡◌, ℕ, Bool, true, false, List, [], ◌∷◌, ◌++◌, map, take, codes}
-use Rattle.diagnostics.specs.ToldPhrases.{Phrase}
+use Rattle.diagnostics.specs.ReportedPhrases.{Phrase}
 use Rattle.lexer.specs.TokenLists.{Tok, kind_of}
 use Rattle.abnfread.specs.declared.kind.AbnfKind.{AbnfKind}
 use Rattle.abnfread.specs.declared.kind.AbnfKind.TheVariants.{Name, Is, Adds, Slash, LParen, RParen, LBrack, RBrack}

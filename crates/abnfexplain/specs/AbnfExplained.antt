@@ -4,11 +4,11 @@ use Rattle.std.specs.Prelude.{Option, Some, None, codes, decimal, if◌then◌el
 use Rattle.std.specs.Option.{option_map_or}
 use Rattle.lexer.specs.TokenLists.{tok, kind_of, start_of}
 use Rattle.lexer.specs.GrammarLimits.{max_grammar}
-use Rattle.diagnostics.specs.FirstBytes.{Row, row, fact_line, first_told}
+use Rattle.diagnostics.specs.FirstBytes.{Row, row, fact_line, first_reported}
 use Rattle.diagnostics.specs.LinesAround.{bytes_before}
 use Rattle.diagnostics.specs.PhraseLists.{listed}
-use Rattle.diagnostics.specs.Pictures.{place_told}
-use Rattle.diagnostics.specs.ToldPhrases.{AreTold}
+use Rattle.diagnostics.specs.Pictures.{place_reported}
+use Rattle.diagnostics.specs.ReportedPhrases.{AreAllReported}
 use Rattle.abnfread.specs.declared.kind.AbnfKind.TheVariants.{Name, Bad, End}
 use Rattle.abnfread.specs.AbnfReading.{is_bracket}
 use Rattle.abnfread.specs.AbnfSays.{IsHopeless, IsOver}
@@ -24,7 +24,7 @@ use Rattle.abnfexplain.specs.AbnfStands.{defines}
 -- what stands before what is reported of a token: its position, but for the end
 abbrev pub token_place : List ℕ → Marked → List ℕ
 token_place text (marked (tok End z p) g f) = codes "  at the end of the text: "
-token_place text (marked (tok _ z p) g f) = place_told Lf text p.start
+token_place text (marked (tok _ z p) g f) = place_reported Lf text p.start
 
 -- what the first bytes of what begins no token show
 abbrev pub bad_rows : List Row
@@ -44,7 +44,7 @@ bad_rows =
 
 -- what the token itself shows
 abbrev pub bad_fact : Marked → List ℕ
-bad_fact (marked (tok Bad z p) g f) = first_told bad_rows z
+bad_fact (marked (tok Bad z p) g f) = first_reported bad_rows z
 bad_fact (marked (tok _ z p) g f) = []
 
 -- how many bytes stand before the token on its line: its indentation, where it is the first there
@@ -86,9 +86,10 @@ token_facts text o b m = option_map_or fact_line (shown_mistake text b m) (other
 pub data Why (text : List ℕ) : List ℕ → Type 0 where
   too_long : max_grammar < length text → Why text (codes "  a grammar has at most 1048576 bytes\n")
   -- with that token the tokens begin no grammar: what could stand in its place
-  hopeless : {all : List Marked} {i : ℕ} {m : Marked} {told : List (List ℕ)} → length text ≤ max_grammar
-      → AreMarked text all → slice_get all i ≡ Some m → IsHopeless all i → AreTold (CanStand all i) phrases told →
-      Why text (token_place text m ++ (codes "expected " ++ (listed told ++ (codes "\n"
+  hopeless : {all : List Marked} {i : ℕ} {m : Marked} {reported : List (List ℕ)} → length text ≤ max_grammar
+      → AreMarked text all → slice_get all i ≡ Some m → IsHopeless all i
+      → AreAllReported (CanStand all i) phrases reported →
+      Why text (token_place text m ++ (codes "expected " ++ (listed reported ++ (codes "\n"
       ++ token_facts text (first_marked (take i all)) (last_marked (take i all)) m))))
   -- that bracket is one too many of those open at once
   too_deep : {all : List Marked} {i : ℕ} {m : Marked} → length text ≤ max_grammar → AreMarked text all

@@ -14,5 +14,5 @@ mistake_of m = record {
   before = m.before.now;
   word = m.word.now;
   whole = m.whole;
-  told = m.told.now;
+  reported = m.reported.now;
 }

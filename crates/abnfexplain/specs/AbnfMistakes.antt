@@ -39,7 +39,7 @@ pub record Mistake : Type 0 where
   pub before : List AbnfKind
   pub word : List ℕ
   pub whole : Bool
-  pub told : List ℕ
+  pub reported : List ℕ
 
 abbrev pub operands : List AbnfKind
 operands = Name ∷ Text ∷ Num ∷ Prose ∷ RParen ∷ RBrack ∷ []
@@ -52,7 +52,7 @@ all_but_bad = Name ∷ Is ∷ Adds ∷ Slash ∷ LParen ∷ RParen ∷ LBrack �
 
 -- by kinds and marks, the first bytes, and the kinds before
 abbrev pub mistake : List AbnfKind → TokenMarks → List ℕ → List AbnfKind → List ℕ → Mistake
-mistake kinds marks begins before told = record {
+mistake kinds marks begins before reported = record {
   kinds = kinds;
   marks = marks;
   begins = begins;
@@ -62,32 +62,33 @@ mistake kinds marks begins before told = record {
   before = before;
   word = [];
   whole = false;
-  told = told;
+  reported = reported;
 }
 
 -- .. where one of those bytes follows the first ones
 abbrev pub mistake_next : List AbnfKind → TokenMarks → List ℕ → List ℕ → List AbnfKind → List ℕ → Mistake
-mistake_next kinds marks begins next before told = record (mistake kinds marks begins before told) { next = next }
+mistake_next kinds marks begins next before reported = record (mistake kinds marks begins before reported)
+    { next = next }
 
 -- .. where the token before ends so
 abbrev pub mistake_after : TokenMarks → List ℕ → AbnfKind → List ℕ → Bool → List AbnfKind → List ℕ → Mistake
-mistake_after marks begins before word whole kinds told =
-    record (mistake kinds marks begins (before ∷ []) told) { word = word; whole = whole }
+mistake_after marks begins before word whole kinds reported =
+    record (mistake kinds marks begins (before ∷ []) reported) { word = word; whole = whole }
 
-abbrev pub comment_told : List ℕ
-comment_told = codes "comments begin with \";\""
+abbrev pub comment_reported : List ℕ
+comment_reported = codes "comments begin with \";\""
 
-abbrev pub repetition_told : List ℕ
-repetition_told = codes "a repetition stands before its element: 2*3DIGIT"
+abbrev pub repetition_reported : List ℕ
+repetition_reported = codes "a repetition stands before its element: 2*3DIGIT"
 
-abbrev pub range_told : List ℕ
-range_told = codes "a range is written %x30-39"
+abbrev pub range_reported : List ℕ
+range_reported = codes "a range is written %x30-39"
 
-abbrev pub number_told : List ℕ
-number_told = codes "a number is %x, %d or %b and digits"
+abbrev pub number_reported : List ℕ
+number_reported = codes "a number is %x, %d or %b and digits"
 
-abbrev pub point_told : List ℕ
-point_told = codes "a code point is written %x41"
+abbrev pub point_reported : List ℕ
+point_reported = codes "a code point is written %x41"
 
 abbrev pub digit_bytes : List ℕ
 digit_bytes = codes "0123456789"
@@ -101,25 +102,27 @@ mistakes =
     mistake (Bad ∷ []) Any (codes "\r") [] (codes "lines end with LF or CR LF, not CR")
     ∷ mistake_after Tight (codes "\"") Text (codes "\\\"") false []
     (codes "a double quote is DQUOTE: texts have no escapes")
-    ∷ mistake (Slash ∷ []) Tight [] (Slash ∷ []) comment_told ∷ mistake (Bad ∷ []) First (codes "#") [] comment_told
-    ∷ record (mistake_next (Bad ∷ []) Any (codes "#") (codes " \t\r\n#!") [] comment_told) { ends = true }
-    ∷ mistake (Name ∷ []) Tight [] (Num ∷ []) number_told
-    ∷ mistake_next (Repeat ∷ []) Tight [] digit_bytes (Num ∷ []) number_told
-    ∷ mistake all_but_bad Any [] (Repeat ∷ []) repetition_told ∷ mistake (Repeat ∷ []) Tight [] operands repetition_told
-    ∷ mistake_next (Bad ∷ []) Any (codes "{") (code "," ∷ digit_bytes) [] repetition_told
+    ∷ mistake (Slash ∷ []) Tight [] (Slash ∷ []) comment_reported ∷ mistake (Bad ∷ []) First
+    (codes "#") [] comment_reported
+    ∷ record (mistake_next (Bad ∷ []) Any (codes "#") (codes " \t\r\n#!") [] comment_reported) { ends = true }
+    ∷ mistake (Name ∷ []) Tight [] (Num ∷ []) number_reported
+    ∷ mistake_next (Repeat ∷ []) Tight [] digit_bytes (Num ∷ []) number_reported
+    ∷ mistake all_but_bad Any [] (Repeat ∷ []) repetition_reported ∷ mistake
+    (Repeat ∷ []) Tight [] operands repetition_reported
+    ∷ mistake_next (Bad ∷ []) Any (codes "{") (code "," ∷ digit_bytes) [] repetition_reported
     ∷ mistake begin_elements Within [] operands (codes "elements have white space between them")
-    ∷ mistake_after Tight (codes "+") Name (codes "U") true (Bad ∷ []) point_told
-    ∷ mistake_after Tight (codes "+") Name (codes "u") true (Bad ∷ []) point_told
-    ∷ record (mistake_next (Bad ∷ []) Any (codes "-") range_bytes (Num ∷ Text ∷ []) range_told) {
+    ∷ mistake_after Tight (codes "+") Name (codes "U") true (Bad ∷ []) point_reported
+    ∷ mistake_after Tight (codes "+") Name (codes "u") true (Bad ∷ []) point_reported
+    ∷ record (mistake_next (Bad ∷ []) Any (codes "-") range_bytes (Num ∷ Text ∷ []) range_reported) {
       blanks = true;
     }
-    ∷ mistake (Bad ∷ []) Any (codes "..") (Num ∷ Text ∷ []) range_told
+    ∷ mistake (Bad ∷ []) Any (codes "..") (Num ∷ Text ∷ []) range_reported
     ∷ mistake (Bad ∷ []) Any (codes "-") operands (codes "ABNF has no exceptions") ∷ []
 
 -- without the spaces and tabs before it
-abbrev pub after_blanks : List ℕ → List ℕ
-after_blanks [] = []
-after_blanks (b ∷ bs) = if (b == code " ") || (b == code "\t") then after_blanks bs else b ∷ bs
+abbrev pub bytes_after_blanks : List ℕ → List ℕ
+bytes_after_blanks [] = []
+bytes_after_blanks (b ∷ bs) = if (b == code " ") || (b == code "\t") then bytes_after_blanks bs else b ∷ bs
 
 abbrev pub has_byte : List ℕ → ℕ → Bool
 has_byte text byte = list_any (λ b. b == byte) text
@@ -135,7 +138,7 @@ equals a b = a == b
 -- a token's bytes are those of the row
 abbrev pub has_bytes : Mistake → List ℕ → Bool
 has_bytes row z = starts_with equals z row.begins && comes_next row.next row.ends
-    (if row.blanks then after_blanks (drop (length row.begins) z) else drop (length row.begins) z)
+    (if row.blanks then bytes_after_blanks (drop (length row.begins) z) else drop (length row.begins) z)
 
 -- a token ends with that word, or is it
 abbrev pub has_word : List ℕ → Bool → List ℕ → Bool
@@ -156,7 +159,7 @@ is_mistake row before (marked (tok kind z p) gap first) = ((length row.kinds == 
 -- the first that applies
 abbrev pub first_mistake : List Mistake → Option Marked → Marked → Option (List ℕ)
 first_mistake [] before m = None
-first_mistake (row ∷ rows) before m = if is_mistake row before m then Some row.told else first_mistake rows before m
+first_mistake (row ∷ rows) before m = if is_mistake row before m then Some row.reported else first_mistake rows before m
 
 -- the text has a CR and no LF
 abbrev pub ends_in_cr : List ℕ → Bool

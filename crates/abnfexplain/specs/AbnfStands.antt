@@ -75,36 +75,36 @@ allows_marked s top k gap false = allows_later s top k gap
 abbrev pub allows : Stand → Option OpenBracket → Form → Bool
 allows s top form = allows_marked s top form.kind form.gap form.first
 
-abbrev pub behind_later : AbnfKind → Stand
-behind_later Is = Fresh
-behind_later Adds = Fresh
-behind_later Slash = Fresh
-behind_later LParen = Fresh
-behind_later LBrack = Fresh
-behind_later Repeat = Awaits
-behind_later End = Done
-behind_later Bad = Done
-behind_later _ = Read
+abbrev pub after_later : AbnfKind → Stand
+after_later Is = Fresh
+after_later Adds = Fresh
+after_later Slash = Fresh
+after_later LParen = Fresh
+after_later LBrack = Fresh
+after_later Repeat = Awaits
+after_later End = Done
+after_later Bad = Done
+after_later _ = Read
 
-abbrev pub behind_marked : AbnfKind → Bool → Stand
-behind_marked k true = Named
-behind_marked k false = behind_later k
+abbrev pub after_marked : AbnfKind → Bool → Stand
+after_marked k true = Named
+after_marked k false = after_later k
 
 -- where the next token stands, after one that can stand
-abbrev pub behind : Form → Stand
-behind form = behind_marked form.kind form.first
+abbrev pub next_stand : Form → Stand
+next_stand form = after_marked form.kind form.first
 
 abbrev pub without_first : List OpenBracket → List OpenBracket
 without_first [] = []
 without_first (b ∷ bs) = bs
 
 -- the brackets that are open after it, the innermost first
-abbrev pub brackets_behind : AbnfKind → List OpenBracket → List OpenBracket
-brackets_behind LParen bs = Paren ∷ bs
-brackets_behind LBrack bs = Brack ∷ bs
-brackets_behind RParen bs = without_first bs
-brackets_behind RBrack bs = without_first bs
-brackets_behind k bs = bs
+abbrev pub brackets_after : AbnfKind → List OpenBracket → List OpenBracket
+brackets_after LParen bs = Paren ∷ bs
+brackets_after LBrack bs = Brack ∷ bs
+brackets_after RParen bs = without_first bs
+brackets_after RBrack bs = without_first bs
+brackets_after k bs = bs
 
 abbrev pub innermost : List OpenBracket → Option OpenBracket
 innermost [] = None

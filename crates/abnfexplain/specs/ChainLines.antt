@@ -13,20 +13,21 @@ left_out zero = []
 left_out (suc n) = codes " > " ++ (decimal (suc n) ++ codes " more")
 
 -- names after the first one
-abbrev pub names_behind : List (List ℕ) → List ℕ
-names_behind names = flat_map (λ name. codes " > " ++ in_quotes name) names
+abbrev pub names_after : List (List ℕ) → List ℕ
+names_after names = flat_map (λ name. codes " > " ++ in_quotes name) names
 
 -- how many are left out, and the last seven
-abbrev pub last_told : List (List ℕ) → List ℕ
-last_told names = left_out (length names - 7) ++ names_behind (drop (length names - 7) names)
+abbrev pub last_reported : List (List ℕ) → List ℕ
+last_reported names = left_out (length names - 7) ++ names_after (drop (length names - 7) names)
 
 -- a chain of at least two names
 abbrev pub chain_line : List (List ℕ) → List ℕ
 chain_line [] = []
 chain_line (name ∷ []) = []
-chain_line (name ∷ next ∷ names) = codes "  reached by " ++ (in_quotes name ++ (last_told (next ∷ names) ++ codes "\n"))
+chain_line (name ∷ next ∷ names) = codes "  reached by " ++ (in_quotes name
+    ++ (last_reported (next ∷ names) ++ codes "\n"))
 
 -- the line of a chain, if there is one
-abbrev pub chain_told : Option (List (List ℕ)) → List ℕ
-chain_told None = []
-chain_told (Some names) = chain_line names
+abbrev pub chain_reported : Option (List (List ℕ)) → List ℕ
+chain_reported None = []
+chain_reported (Some names) = chain_line names

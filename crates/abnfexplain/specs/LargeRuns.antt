@@ -13,11 +13,12 @@ runs_over base n (b ∷ bs) = if is_digit base b
     else runs_over base 0 bs
 
 -- the base that the letter gives
-abbrev pub base_told : ℕ → ℕ
-base_told c = if (c == code "b") || (c == code "B") then 2 else if (c == code "d") || (c == code "D") then 10 else 16
+abbrev pub base_reported : ℕ → ℕ
+base_reported c = if (c == code "b") || (c == code "B") then 2 else if (c == code "d")
+    || (c == code "D") then 10 else 16
 
 -- after `%` and that letter
-abbrev pub over_behind : List ℕ → Bool
-over_behind [] = false
-over_behind (p ∷ []) = false
-over_behind (p ∷ c ∷ t) = if p == code "%" then runs_over (base_told c) 0 t else false
+abbrev pub over_after : List ℕ → Bool
+over_after [] = false
+over_after (p ∷ []) = false
+over_after (p ∷ c ∷ t) = if p == code "%" then runs_over (base_reported c) 0 t else false

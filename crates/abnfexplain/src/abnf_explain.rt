@@ -5,7 +5,7 @@ ghost use Rattle.lexer.specs.GrammarLimits.{max_grammar};
 ghost use Rattle.lexer.specs.TokenLists.{Tok};
 ghost use Rattle.diagnostics.specs.FactRows.{row_of};
 ghost use Rattle.diagnostics.specs.PhraseLists.{listed};
-ghost use Rattle.diagnostics.specs.ToldPhrases.{AreTold};
+ghost use Rattle.diagnostics.specs.ReportedPhrases.{AreAllReported};
 ghost use Rattle.abnfread.specs.AbnfReading.{IsFaultOf};
 ghost use Rattle.abnfread.specs.MarkedTokens.{AreTokens, marked_of};
 ghost use Rattle.abnfexplain.specs.AbnfDecisions.{NoneDecides};
@@ -19,7 +19,7 @@ ghost use Rattle.abnfread.specs.declared.marks.MarkedToken.{MarkedToken as Marks
 
 use crate::abnf_decide::{Decision, Refused, deciding_token};
 use crate::abnf_mistakes::shown_mistake;
-use crate::abnf_phrases::told_phrases;
+use crate::abnf_phrases::reported_phrases;
 use crate::abnf_stand::Place;
 use abnfread::{AbnfKind, MarkedToken};
 use diagnostics::{
@@ -157,11 +157,12 @@ fn push_name_fact(
 
 // Adds what can stand there.
 fn push_expected(alloc: Global, out: &mut Vec<u8>, place: &Place) -> Result<(), Memory>
-    ensures { OnOk result ((told : List (List ℕ)) × AreTold (λ k. place_allows place.now k ≡ true) phrases told
-        × (out.new.items ≡ out.old.items ++ listed told)) }
+    ensures { OnOk result ((reported : List (List ℕ)) × AreAllReported
+        (λ k. place_allows place.now k ≡ true) phrases reported
+        × (out.new.items ≡ out.old.items ++ listed reported)) }
 {
-    let told = told_phrases(alloc, place)?;
-    push_phrases(out, told.as_slice())?;
+    let reported = reported_phrases(alloc, place)?;
+    push_phrases(out, reported.as_slice())?;
     Ok(())
 }
 
@@ -198,7 +199,7 @@ fn push_token_facts(
         (option_map marked_of before.entry) (marked_of token.entry)) }
 {
     match shown_mistake(text, before, token) {
-        Some(told) => push_line(out, told),
+        Some(reported) => push_line(out, reported),
         None => push_other_facts(out, text, origin, before, token),
     }
 }
@@ -207,8 +208,10 @@ fn push_token_facts(
 fn hopeless_lines(alloc: Global, text: &[u8], refused: &Refused<'_>) -> Result<Vec<u8>, Memory>
     requires first { (o : Marks) → refused.now.origin ≡ Some o → o.token.span.start ≤ length text.now }
     requires within { refused.now.token.token.span.start ≤ length text.now }
-    ensures { IfOk result (λ v. (told : List (List ℕ)) × AreTold (λ k. place_allows refused.now.place k ≡ true) phrases
-        told × (v.items ≡ token_place text.now (marked_of refused.now.token) ++ (codes "expected " ++ (listed told
+    ensures { IfOk result (λ v. (reported : List (List ℕ)) × AreAllReported
+        (λ k. place_allows refused.now.place k ≡ true) phrases
+        reported × (v.items ≡ token_place text.now (marked_of refused.now.token)
+        ++ (codes "expected " ++ (listed reported
         ++ (codes "\n" ++ token_facts text.now (option_map marked_of refused.now.origin)
         (option_map marked_of refused.now.before) (marked_of refused.now.token)))))) }
 {
@@ -232,14 +235,14 @@ fn limit_lines(
     alloc: Global,
     text: &[u8],
     token: MarkedToken<'_>,
-    told: &[u8],
+    reported: &[u8],
 ) -> Result<Vec<u8>, Memory>
     requires { token.token.span.start ≤ length text.now }
-    ensures { IfOk result (λ v. v.items ≡ token_place text.now (marked_of token.entry) ++ told.now) }
+    ensures { IfOk result (λ v. v.items ≡ token_place text.now (marked_of token.entry) ++ reported.now) }
 {
     let mut out = Vec::new(alloc);
     push_token_place(&mut out, text, token)?;
-    out.extend_from_slice(told)?;
+    out.extend_from_slice(reported)?;
     Ok(out)
 }
 

@@ -5,7 +5,7 @@ ghost use Rattle.diagnostics.specs.CodePoints.{quote_rows};
 ghost use Rattle.diagnostics.specs.FactRows.{row_of};
 ghost use Rattle.abnfread.specs.MarkedTokens.{marked_of};
 ghost use Rattle.abnfexplain.specs.AbnfMistakeRows.{mistake_of};
-ghost use Rattle.abnfexplain.specs.AbnfMistakes.{after_blanks, comes_next, ends_in_cr, first_mistake, has_byte};
+ghost use Rattle.abnfexplain.specs.AbnfMistakes.{bytes_after_blanks, comes_next, ends_in_cr, first_mistake, has_byte};
 ghost use Rattle.abnfexplain.specs.AbnfMistakes.{has_bytes, has_kind, has_marks, has_word, is_after, is_mistake};
 ghost use Rattle.abnfexplain.specs.AbnfMistakes.{mistakes, point_mistake, shown_mistake as the_mistake, text_mistake};
 
@@ -51,7 +51,7 @@ pub(crate) struct Mistake {
     /// That token has no other bytes.
     pub(crate) whole: bool,
     /// The text that is reported.
-    pub(crate) told: &'static [u8],
+    pub(crate) reported: &'static [u8],
 }
 
 // Kinds of what begins an element.
@@ -75,13 +75,13 @@ const EACH_TOKEN: Mistake = Mistake {
     before: &[],
     word: b"",
     whole: false,
-    told: b"",
+    reported: b"",
 };
 
 // Makes an array of mistakes. Before what is reported of each stand the fields that differ from those of `EACH_TOKEN`.
 macro_rules! mistakes {
-    ($({ $($field:ident: $value:expr),+ } => $told:literal,)*) => {
-        [$(Mistake { $($field: $value,)+ told: $told, ..EACH_TOKEN }),*]
+    ($({ $($field:ident: $value:expr),+ } => $reported:literal,)*) => {
+        [$(Mistake { $($field: $value,)+ reported: $reported, ..EACH_TOKEN }),*]
     };
 }
 
@@ -151,8 +151,8 @@ fn has_marks(marks: TokenMarks, gap: bool, first: bool) -> bool
 }
 
 // Returns a text without the spaces and tabs before it.
-fn after_blanks(text: &[u8]) -> &[u8]
-    ensures { result.now ≡ after_blanks text.now }
+fn bytes_after_blanks(text: &[u8]) -> &[u8]
+    ensures { result.now ≡ bytes_after_blanks text.now }
 {
     let mut rest = text;
     while let [b' ' | b'\t', others @ ..] = rest {
@@ -189,7 +189,7 @@ fn has_bytes(row: &Mistake, slice: &[u8]) -> bool
     }
     let rest = &slice[row.begins.len()..];
     if row.blanks {
-        return comes_next(row.next, row.ends, after_blanks(rest));
+        return comes_next(row.next, row.ends, bytes_after_blanks(rest));
     }
     comes_next(row.next, row.ends, rest)
 }
@@ -238,7 +238,7 @@ fn first_mistake(
 {
     for row in rows {
         if is_mistake(row, before, token) {
-            return Some(row.told);
+            return Some(row.reported);
         }
     }
     None
@@ -278,8 +278,8 @@ fn point_mistake(token: MarkedToken<'_>) -> Option<&'static [u8]>
 {
     match token.token.kind {
         Bad => {
-            if let Some(told) = find_fact(quote_facts(), token.token.slice) {
-                return Some(told);
+            if let Some(reported) = find_fact(quote_facts(), token.token.slice) {
+                return Some(reported);
             }
             find_fact(point_facts(), token.token.slice)
         }
@@ -296,11 +296,11 @@ pub(crate) fn shown_mistake(
     ensures { option_map (λ w. w.now) result ≡ the_mistake text.now (option_map marked_of before.entry)
         (marked_of token.entry) }
 {
-    if let Some(told) = text_mistake(text, token.token.kind) {
-        return Some(told);
+    if let Some(reported) = text_mistake(text, token.token.kind) {
+        return Some(reported);
     }
-    if let Some(told) = first_mistake(all_mistakes(), before, token) {
-        return Some(told);
+    if let Some(reported) = first_mistake(all_mistakes(), before, token) {
+        return Some(reported);
     }
     point_mistake(token)
 }

@@ -1,7 +1,7 @@
 //! The phrases for what can stand at a position in ABNF.
 ghost use Rattle.std.specs.Prelude.{◌≡◌, true, map, IfOk};
 ghost use Rattle.std.specs.List.{list_all, list_any};
-ghost use Rattle.diagnostics.specs.ToldPhrases.{AreTold, tells};
+ghost use Rattle.diagnostics.specs.ReportedPhrases.{AreAllReported, reports};
 ghost use Rattle.abnfexplain.specs.AbnfExpected.{phrases};
 ghost use Rattle.abnfexplain.specs.AbnfPhraseRows.{phrase_of};
 ghost use Rattle.abnfexplain.specs.AbnfPlaces.{place_allows};
@@ -320,8 +320,8 @@ fn allows_any(place: &Place, forms: &[Form]) -> bool
     false
 }
 
-fn is_told(place: &Place, phrase: &Phrase) -> bool
-    ensures { result ≡ tells (place_allows place.now) (phrase_of phrase.now) }
+fn is_reported(place: &Place, phrase: &Phrase) -> bool
+    ensures { result ≡ reports (place_allows place.now) (phrase_of phrase.now) }
 {
     allows_all(place, phrase.forms) && !allows_any(place, phrase.bars)
 }
@@ -333,25 +333,26 @@ fn all_phrases() -> &'static [Phrase]
 }
 
 // The words of the phrases of a table that are reported.
-fn told_of(alloc: Global, place: &Place, table: &[Phrase]) -> Result<Vec<&'static [u8]>, Memory>
-    ensures { IfOk result (λ v. AreTold (λ k. place_allows place.now k ≡ true) (map phrase_of table.now)
+fn reported_of(alloc: Global, place: &Place, table: &[Phrase]) -> Result<Vec<&'static [u8]>, Memory>
+    ensures { IfOk result (λ v. AreAllReported (λ k. place_allows place.now k ≡ true) (map phrase_of table.now)
         (map (λ w. w.now) v.items)) }
 {
-    let mut told = Vec::new(alloc);
+    let mut reported = Vec::new(alloc);
     for phrase in table {
-        if is_told(place, phrase) {
-            told.push(phrase.words)?;
+        if is_reported(place, phrase) {
+            reported.push(phrase.words)?;
         }
     }
-    Ok(told)
+    Ok(reported)
 }
 
 /// Returns the words of the phrases for what can stand there, in their order.
 ///
 /// # Errors
 /// `Memory` if an allocation fails.
-pub(crate) fn told_phrases(alloc: Global, place: &Place) -> Result<Vec<&'static [u8]>, Memory>
-    ensures { IfOk result (λ v. AreTold (λ k. place_allows place.now k ≡ true) phrases (map (λ w. w.now) v.items)) }
+pub(crate) fn reported_phrases(alloc: Global, place: &Place) -> Result<Vec<&'static [u8]>, Memory>
+    ensures { IfOk result (λ v. AreAllReported (λ k. place_allows place.now k ≡ true) phrases
+        (map (λ w. w.now) v.items)) }
 {
-    told_of(alloc, place, all_phrases())
+    reported_of(alloc, place, all_phrases())
 }

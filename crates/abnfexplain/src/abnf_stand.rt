@@ -1,6 +1,6 @@
 //! Where a token of ABNF stands in a grammar, as far as the kinds of the tokens before it say.
 ghost use Rattle.std.specs.Prelude.{◌≡◌, [], OnOk};
-ghost use Rattle.abnfexplain.specs.AbnfStands.{is_item, is_inner, allows, allows_read, behind, brackets_behind};
+ghost use Rattle.abnfexplain.specs.AbnfStands.{is_item, is_inner, allows, allows_read, next_stand, brackets_after};
 
 use abnfread::AbnfKind;
 use ruletable::Memory;
@@ -67,7 +67,7 @@ fn begins_item(kind: AbnfKind) -> bool
 }
 
 // Whether it closes the innermost bracket, or ends where none is open.
-fn allows_behind(top: Option<OpenBracket>, kind: AbnfKind, gap: bool) -> bool
+fn allows_after(top: Option<OpenBracket>, kind: AbnfKind, gap: bool) -> bool
     ensures { result ≡ allows_read top kind gap }
 {
     match kind {
@@ -94,14 +94,14 @@ pub(crate) fn allows_form(stand: Stand, top: Option<OpenBracket>, form: Form) ->
         Stand::Named => matches!(form.kind, AbnfKind::Is | AbnfKind::Adds),
         Stand::Fresh => begins_item(form.kind),
         Stand::Awaits => !form.gap && begins_inner(form.kind),
-        Stand::Read => allows_behind(top, form.kind, form.gap),
+        Stand::Read => allows_after(top, form.kind, form.gap),
         Stand::Start | Stand::Done => false,
     }
 }
 
 /// Returns where the next token stands, after one that can stand.
-pub(crate) fn stand_behind(form: Form) -> Stand
-    ensures { result ≡ behind form }
+pub(crate) fn stand_after(form: Form) -> Stand
+    ensures { result ≡ next_stand form }
 {
     if form.first {
         return Stand::Named;
@@ -148,7 +148,7 @@ impl Place {
     /// # Errors
     /// `Memory` if an allocation fails.
     pub(crate) fn advance(&mut self, form: Form) -> Result<(), Memory>
-        ensures { OnOk result (IsPlaceAt self.new (behind form) (brackets_behind form.kind (brackets_of self.old))) }
+        ensures { OnOk result (IsPlaceAt self.new (next_stand form) (brackets_after form.kind (brackets_of self.old))) }
     {
         match form.kind {
             AbnfKind::LParen => self.brackets.push(OpenBracket::Paren)?,
@@ -158,7 +158,7 @@ impl Place {
             }
             _ => {}
         }
-        self.stand = stand_behind(form);
+        self.stand = stand_after(form);
         Ok(())
     }
 }

@@ -1,7 +1,7 @@
 //! The line that reports by which rules a name is reached.
 ghost use Rattle.std.specs.Prelude.{◌≡◌, ◌++◌, [], map, slice_index_or, OnOk};
 ghost use Rattle.ruletable.specs.Rules.{names_of};
-ghost use Rattle.abnfexplain.specs.ChainLines.{chain_line, last_told, left_out, names_behind, in_quotes};
+ghost use Rattle.abnfexplain.specs.ChainLines.{chain_line, last_reported, left_out, names_after, in_quotes};
 
 use diagnostics::{push_cut, push_number};
 use ruletable::{Memory, RuleTable};
@@ -42,9 +42,9 @@ fn push_left_out(out: &mut Vec<u8>, count: usize) -> Result<(), Memory>
 }
 
 // Adds the names with these ids, each after `>`.
-fn push_behind(out: &mut Vec<u8>, names: &RuleTable<()>, ids: &[usize]) -> Result<(), Memory>
+fn push_after(out: &mut Vec<u8>, names: &RuleTable<()>, ids: &[usize]) -> Result<(), Memory>
     ensures { OnOk result (out.new.items ≡ out.old.items
-        ++ names_behind (map (λ id. slice_index_or (names_of names.now) id []) ids.now)) }
+        ++ names_after (map (λ id. slice_index_or (names_of names.now) id []) ids.now)) }
 {
     for id in ids {
         out.extend_from_slice(b" > ")?;
@@ -56,11 +56,11 @@ fn push_behind(out: &mut Vec<u8>, names: &RuleTable<()>, ids: &[usize]) -> Resul
 // Adds how many of the names with these ids are left out, and the last ones.
 fn push_last(out: &mut Vec<u8>, names: &RuleTable<()>, ids: &[usize]) -> Result<(), Memory>
     ensures { OnOk result (out.new.items ≡ out.old.items
-        ++ last_told (map (λ id. slice_index_or (names_of names.now) id []) ids.now)) }
+        ++ last_reported (map (λ id. slice_index_or (names_of names.now) id []) ids.now)) }
 {
     let count = ids.len().saturating_sub(MAX_LAST);
     push_left_out(out, count)?;
-    push_behind(out, names, &ids[count..])?;
+    push_after(out, names, &ids[count..])?;
     Ok(())
 }
 

@@ -3,7 +3,7 @@ ghost use Rattle.std.specs.Prelude.{◌≡◌, ◌≤◌, MatchBool};
 ghost use Rattle.std.specs.Char.{digit_value};
 ghost use Rattle.abnfread.specs.AbnfSays.{SaysKind, IsSmall};
 ghost use Rattle.abnfread.specs.AbnfWords.{Said};
-ghost use Rattle.abnfexplain.specs.LargeRuns.{runs_over, base_told, over_behind};
+ghost use Rattle.abnfexplain.specs.LargeRuns.{runs_over, base_reported, over_after};
 
 use abnfread::{AbnfKind, MAX_VALUE};
 use lexer::{Token, after_byte};
@@ -24,7 +24,7 @@ fn digit(b: u8) -> u8
 
 // The base that the letter gives.
 fn base_of(letter: u8) -> u8
-    ensures { result ≡ base_told letter }
+    ensures { result ≡ base_reported letter }
 {
     match letter {
         b'b' | b'B' => 2,
@@ -55,12 +55,12 @@ fn has_large_run(base: u8, text: &[u8]) -> bool
 
 // Whether a number after `%` is over the limit.
 fn has_large_value(slice: &[u8]) -> bool
-    ensures { result ≡ over_behind slice.now }
+    ensures { result ≡ over_after slice.now }
 {
-    let Some(behind) = after_byte(slice, b'%') else {
+    let Some(after) = after_byte(slice, b'%') else {
         return false;
     };
-    match behind.split_first() {
+    match after.split_first() {
         Some((letter, digits)) => has_large_run(base_of(*letter), digits),
         None => false,
     }

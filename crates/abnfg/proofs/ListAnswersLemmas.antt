@@ -23,15 +23,15 @@ use Rattle.toolrun.specs.NotesText.{notes_text}
 use Rattle.toolrun.specs.Plan.{stopped}
 use Rattle.toolrun.specs.Reply.{Reply, without_memory}
 use Rattle.toolrun.specs.Stop.{unread}
-use Rattle.toolrun.specs.ToldNotes.{HintedNotes, ToldNotes, no_note, note_told}
+use Rattle.toolrun.specs.ReportedNotes.{HintedNotes, ReportedNotes, no_note, note_reported}
 use Rattle.toolrun.specs.declared.settings.Settings.{Settings as Opening}
 
 -- notes that are not explained
 module _ {O : Type 0} (opening : Opening O) (Why : Option (List ℕ) → Said → List ℕ → Type 0)
     (AreHints : List ℕ → Type 0) (plain : opening.explain ≡ false) where
-  notes_plain : {notes : List Said} {text : List ℕ} → ToldNotes opening Why notes text → text ≡ notes_text notes
+  notes_plain : {notes : List Said} {text : List ℕ} → ReportedNotes opening Why notes text → text ≡ notes_text notes
   notes_plain no_note = refl
-  notes_plain (note_told {note = note} {why = why} {notes = notes} {text = text} is rest) =
+  notes_plain (note_reported {note = note} {why = why} {notes = notes} {text = text} is rest) =
       let none : why ≡ [] =
       subst (λ b. ExplainedIf b (Why (option_copied opening.start) note) why) plain is in
       let same : text ≡ notes_text notes = notes_plain rest in
@@ -41,7 +41,7 @@ module _ {O : Type 0} (opening : Opening O) (Why : Option (List ℕ) → Said �
       → text ≡ notes_text notes
   hinted_plain notes text is =
       let none : is.hints ≡ [] = subst (λ b. ExplainedIf b AreHints is.hints) plain is.are_hints in
-      is.all ∙ (rw none (append-nil is.first) ∙ notes_plain is.are_told)
+      is.all ∙ (rw none (append-nil is.first) ∙ notes_plain is.are_reported)
 
 -- some reply is stated
 pub judged_some : (settings : ListSettings) (rules : List Rule) (judged : Option ℕ)
@@ -50,7 +50,7 @@ judged_some settings rules None = (_, refl)
 judged_some settings rules (Some id) = (_, no_room (no_lines_first _) (omega arith))
 
 module _ (text : List ℕ) (settings : ListSettings) (notes : List Said) (rules : table.Rules Elem) (input : Input)
-    (out told : List ℕ) (reply : Reply) (same : told ≡ notes_text notes) where
+    (out reported : List ℕ) (reply : Reply) (same : reported ≡ notes_text notes) where
   listed_as : (judged : Option ℕ) → IsChecked text (option_copied settings.rule) notes rules judged
       → JudgedReply settings (rules_of rules) judged reply → TextStates text settings input (notes_text notes) reply
   listed_as None c is =
@@ -61,7 +61,7 @@ module _ (text : List ℕ) (settings : ListSettings) (notes : List Said) (rules 
       (subst (λ (r : List Rule). JudgedReply settings r (Some id) reply) c.kept is))
 
   pub text_listed : (start : Option (List ℕ)) → start ≡ option_copied settings.rule → (judged : Option ℕ)
-      → IsChecked text start notes rules judged → OpenedStates settings told (rules_of rules) judged input out reply
+      → IsChecked text start notes rules judged → OpenedStates settings reported (rules_of rules) judged input out reply
       → TextStates text settings input out reply
   text_listed start given judged c is =
       subst (λ o. TextStates text settings input o reply) (sym (is.0 ∙ same))

@@ -128,21 +128,22 @@ module _ (lines : List ℕ → Type 0) where
           (inl refl);
     }
 
-  abbrev pub StepTold : ℕ → List ℕ → Result (Option NextLine) Memory → Type 0
-  StepTold done last r = IfOk r (λ told. IfSome told (λ step. (ws : List (List ℕ)) → AreListed lines done last ws
+  abbrev pub StepReported : ℕ → List ℕ → Result (Option NextLine) Memory → Type 0
+  StepReported done last r = IfOk r (λ reported. IfSome reported (λ step. (ws : List (List ℕ))
+      → AreListed lines done last ws
       → IsStepOf lines ws step))
 
-  pub told_first : (done : ℕ) (last : List ℕ) → done ≡ 0 → (r : Result (Option NextLine) Memory)
-      → IfOk r (λ told. IfSome told (IsFirstStep lines)) → StepTold done last r
-  told_first done last none (Ok (Some step)) first = λ ws l. step_first ws done last l none step first
-  told_first done last none (Ok None) first = tt
-  told_first done last none (Err e) first = tt
+  pub reported_first : (done : ℕ) (last : List ℕ) → done ≡ 0 → (r : Result (Option NextLine) Memory)
+      → IfOk r (λ reported. IfSome reported (IsFirstStep lines)) → StepReported done last r
+  reported_first done last none (Ok (Some step)) first = λ ws l. step_first ws done last l none step first
+  reported_first done last none (Ok None) first = tt
+  reported_first done last none (Err e) first = tt
 
-  pub told_next : (done : ℕ) (last : List ℕ) → 0 < done → (r : Result (Option NextLine) Memory)
-      → IfOk r (λ told. IfSome told (IsLineAfter lines last)) → StepTold done last r
-  told_next done last some (Ok (Some step)) next = λ ws l. step_next ws done last l some step next
-  told_next done last some (Ok None) next = tt
-  told_next done last some (Err e) next = tt
+  pub reported_next : (done : ℕ) (last : List ℕ) → 0 < done → (r : Result (Option NextLine) Memory)
+      → IfOk r (λ reported. IfSome reported (IsLineAfter lines last)) → StepReported done last r
+  reported_next done last some (Ok (Some step)) next = λ ws l. step_next ws done last l some step next
+  reported_next done last some (Ok None) next = tt
+  reported_next done last some (Err e) next = tt
 
   -- why there is no line
   pub halt_none : (ws : List (List ℕ)) (done : ℕ) (last : List ℕ) → AreListed lines done last ws → done ≡ 0

@@ -27,7 +27,8 @@ JudgedReply settings rules (Some id) reply = LinesReply
 
 -- the text of the notes comes first
 abbrev pub OpenedStates : ListSettings → List ℕ → List Rule → Option ℕ → Input → List ℕ → Reply → Type 0
-OpenedStates settings told rules judged input notes reply = (notes ≡ told) × JudgedReply settings rules judged reply
+OpenedStates settings reported rules judged input notes reply = (notes ≡ reported)
+    × JudgedReply settings rules judged reply
 
 -- What is stated for a grammar's text: its fault; or the notes on it, and it is rejected for them; or the notes, and
 -- then the first lines that the rule derives. Or an allocation fails.

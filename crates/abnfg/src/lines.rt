@@ -14,7 +14,7 @@ use derivedlines::{Lines, NextLine};
 use letters::Alphabet;
 use ruletable::{Memory, Sink, WriteFault, write_whole};
 use std::alloc::Global;
-use toolrun::{Ending, Status, Stop, ToldRefusals};
+use toolrun::{Ending, ReportedRefusals, Status, Stop};
 
 /// How many entries the states of a grammar may have.
 const ROOM: usize = 1_000_000;
@@ -68,7 +68,7 @@ fn line_text(alloc: Global, settings: &ListSettings<'_>, line: &[u32]) -> Result
 // if an allocation fails.
 fn next_step(lines: &mut Lines, done: u32, last: &[u32]) -> Result<Option<NextLine>, Memory>
     ensures same { lines.new ≡ lines.old }
-    ensures next { IfOk result (λ told. IfSome told (λ step. (ws : List (List ℕ)) →
+    ensures next { IfOk result (λ reported. IfSome reported (λ step. (ws : List (List ℕ)) →
         AreListed (IsLineIn lines.old) done last.now ws → IsStepOf (IsLineIn lines.old) ws step)) }
 {
     if done == 0 {
@@ -170,7 +170,7 @@ fn too_many(alloc: Global) -> Result<Ending, Memory>
     let mut why = Vec::new(alloc);
     why.extend_from_slice(b"too many stacks\n")?;
     Ok(Ending::Explained {
-        told: ToldRefusals::none(alloc),
+        reported: ReportedRefusals::none(alloc),
         stop: Stop::Quiet(Status::Overlong),
         why,
     })

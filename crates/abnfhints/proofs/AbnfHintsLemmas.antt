@@ -12,13 +12,13 @@ use Rattle.diagnostics.specs.BodyMentions.{MentionedAt, mentioned_at, mentions_i
 use Rattle.diagnostics.specs.DefinitionHeads.{DefinedAt, defined_at, definitions_in, sign_at}
 use Rattle.diagnostics.specs.declared.noteplaces.places.Places.{Places}
 use Rattle.ruletable.specs.declared.lines.LineRule.TheVariants.{Lf}
-use Rattle.abnfhints.specs.AbnfHints.{AreAbnfHints, AreHintsBy, DerivesNothing, IsToldOfJudged, no_rule, no_line}
-use Rattle.abnfhints.specs.AbnfHints.{some_line, told_first, barren_told, reversed_told}
+use Rattle.abnfhints.specs.AbnfHints.{AreAbnfHints, AreHintsBy, DerivesNothing, IsReportedOfJudged, no_rule, no_line}
+use Rattle.abnfhints.specs.AbnfHints.{some_line, reported_first, barren_reported, reversed_reported}
 use Rattle.abnfhints.specs.declared.line_end.LineEnd.{LineEnd}
 use Rattle.abnfhints.proofs.AreReversedLemmas.{one_reversed_list}
 
 one_last : {has : ℕ → Bool} {rules : List Rule} {end : LineEnd} {judged : Option ℕ} {a b : List ℕ}
-    → IsToldOfJudged has rules end judged a → IsToldOfJudged has rules end judged b → a ≡ b
+    → IsReportedOfJudged has rules end judged a → IsReportedOfJudged has rules end judged b → a ≡ b
 one_last no_rule no_rule = refl
 one_last (no_line d) (no_line e) = refl
 one_last (no_line d) (some_line f) = absurd (f d)
@@ -33,9 +33,12 @@ module _ (has : ℕ → Bool) (rules : List Rule) (count : ℕ) (judged : Option
       let reversed = one_reversed_list h.are_reversed g.are_reversed in
       let last = one_last h.is_last g.is_last in
       h.all
-      ∙ ap (λ l. told_first (barren_told ds) l ++ (told_first (reversed_told ds) h.reversed ++ h.last)) barren
-      ∙ ap (λ l. told_first (barren_told ds) g.barren ++ (told_first (reversed_told ds) l ++ h.last)) reversed
-      ∙ ap (λ l. told_first (barren_told ds) g.barren ++ (told_first (reversed_told ds) g.reversed ++ l)) last
+      ∙ ap (λ l. reported_first (barren_reported ds) l ++ (reported_first (reversed_reported ds) h.reversed ++ h.last))
+      barren
+      ∙ ap (λ l. reported_first (barren_reported ds) g.barren ++ (reported_first (reversed_reported ds) l ++ h.last))
+      reversed
+      ∙ ap (λ l. reported_first (barren_reported ds) g.barren ++ (reported_first (reversed_reported ds) g.reversed
+      ++ l)) last
       ∙ sym g.all
 
   pub one_text : (text a b : List ℕ)

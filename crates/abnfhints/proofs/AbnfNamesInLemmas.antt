@@ -10,7 +10,7 @@ use Rattle.diagnostics.specs.BodyMentions.{mentions_in}
 use Rattle.diagnostics.specs.DefinitionHeads.{definitions_in, sign_at}
 use Rattle.diagnostics.specs.ReportedTrees.{Heading, headings, placed_uses, ReportTree}
 use Rattle.diagnostics.proofs.ReportTreeLemmas.{placed, Keeps, keeps-none, keeps-both, keeps-names, keeps-before}
-use Rattle.diagnostics.proofs.ReportTreeLemmas.{keeps-behind}
+use Rattle.diagnostics.proofs.ReportTreeLemmas.{keeps-after}
 use Rattle.abnfcheck.specs.AbnfUses.{names_in, names_in_all}
 use Rattle.abnfread.specs.declared.kind.AbnfKind.{AbnfKind}
 use Rattle.abnfread.specs.AbnfReading.{Reads}
@@ -98,7 +98,7 @@ one-more g f s h {ws} o k =
 one-within : (g f : Bool) (s : Said) → NoName s → {ws r : List Word} {names : List (List ℕ)}
     → Uses ws (word g f s ∷ r) names → Uses ws r names
 one-within g f s h {r = r} k =
-    keeps-behind uses_within word_heads NoSign (word g f s) (skip-uses g f s h r) (skip-heads g f s h r) k
+    keeps-after uses_within word_heads NoSign (word g f s) (skip-uses g f s h r) (skip-heads g f s h r) k
 
 -- a word alone
 word-alone : (g f : Bool) (s : Said) → NoName s → (r : List Word) → NoSign r → NoSign (word g f s ∷ r)
@@ -178,8 +178,8 @@ grammar-reports (last_rule {g} {a = a} {n} {p} {s = s} is h) =
       heads_are = assigns-heads is g true n p s ∙ ap (λ (hs : List Heading). (n, p.start, a) ∷ hs) k.heads_are;
       onward = tt;
     }
-grammar-reports (more_rules {g} {a} {n} {p} {s = s} {x = x} is h behind) =
-    let i = grammar-reports behind in
+grammar-reports (more_rules {g} {a} {n} {p} {s = s} {x = x} is h after) =
+    let i = grammar-reports after in
     let k = alternation-uses h i.onward in
     record {
       uses_are = λ within. assigns-uses is g true n p s within ∙ k.uses_are p.start

@@ -41,14 +41,14 @@ module _ (has : ℕ → Bool) (letter : ℕ) (rules : List Rule) (id : ℕ) wher
   }
 
   -- what the mark of the rule among those without the letter says
-  pub only_told : (kept : Bool) → IsSound rules id → (w : List ℕ) × AreLetters has w × RuleDerives has rules id w
+  pub only_reported : (kept : Bool) → IsSound rules id → (w : List ℕ) × AreLetters has w × RuleDerives has rules id w
       → ((kept ≡ true) ↔ Sparing has letter rules id) → IsTrue (not kept) ↔ DerivesOnlyWith has rules letter id
-  only_told true sound p tells = (
+  only_reported true sound p reports = (
     (λ off. absurd (cc off)),
-    (λ d. let s = tells.0 refl in absurd (s.avoids (d.holds s.word s.letters s.derives))),
+    (λ d. let s = reports.0 refl in absurd (s.avoids (d.holds s.word s.letters s.derives))),
   )
-  only_told false sound p tells = (
-    (λ off. only_with sound p (λ s. let on = tells.1 s in absurd (cc on))),
+  only_reported false sound p reports = (
+    (λ off. only_with sound p (λ s. let on = reports.1 s in absurd (cc on))),
     (λ d. refl),
   )
 
@@ -58,9 +58,9 @@ end_low Lf = lit< tt
 end_low Nul = lit< tt
 
 -- the name of the rule at an id
-pub name_told : (rules : List (table.Rule Elem)) (id : ℕ) (name : List ℕ)
+pub name_reported : (rules : List (table.Rule Elem)) (id : ℕ) (name : List ℕ)
     → slice_get (map (λ rule. rule.name) rules) id ≡ Some name
     → slice_index_or (rule_names (map rule_of rules)) id [] ≡ name
-name_told [] id name at = absurd (cc at)
-name_told (rule ∷ rules) zero name at = let same : rule.name ≡ name = cc at in same
-name_told (rule ∷ rules) (suc id) name at = name_told rules id name at
+name_reported [] id name at = absurd (cc at)
+name_reported (rule ∷ rules) zero name at = let same : rule.name ≡ name = cc at in same
+name_reported (rule ∷ rules) (suc id) name at = name_reported rules id name at

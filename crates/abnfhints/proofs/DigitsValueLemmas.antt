@@ -96,11 +96,11 @@ module _ (base : ℕ) where
       same-first a b xs ys (omega arith) (same 0 (omega arith))
       (first-differ i xs ys (omega arith) (omega arith) (λ k h. same (suc k) (omega arith)) d.1 lt)
 
-  pub above-told : (i x y : ℕ) (xs ys : List ℕ) → length xs ≡ length ys → i < length xs
+  pub above-reported : (i x y : ℕ) (xs ys : List ℕ) → length xs ≡ length ys → i < length xs
       → ((k : ℕ) → k < i → digit_value (get_or xs k 0) ≡ digit_value (get_or ys k 0)) → AllDigits base xs
       → AllDigits base ys → x ≡ digit_value (get_or xs i 0) → y ≡ digit_value (get_or ys i 0) → x ≢ y
       → IsTrue (nat_lt y x) ↔ (digits_value base ys < digits_value base xs)
-  above-told i x y xs ys e l same d f is it ne = (
+  above-reported i x y xs ys e l same d f is it ne = (
     (λ on. let lt = ltb-true y x on in
         first-differ i xs ys e l same f (omega (arith, lt, is, it))),
     (λ less. ⊎_elim (λ eq. absurd (ne (sym eq)))

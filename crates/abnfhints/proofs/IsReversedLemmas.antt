@@ -11,9 +11,9 @@ use Rattle.lexer.specs.SliceEnds.{Lacks}
 use Rattle.lexer.proofs.TokenListLemmas.{cut-front}
 use Rattle.abnfread.specs.AbnfSlices.{Run, Stops, Digits, none, more, digits}
 use Rattle.abnfread.specs.AbnfWords.{Said, Range}
-use Rattle.abnfread.specs.BaseDigits.{is_digit, Tells}
+use Rattle.abnfread.specs.BaseDigits.{is_digit, NamesBase}
 use Rattle.abnfread.specs.Numerals.{SaysNum, SaysRepeat, most, says_between, says_exactly, says_values, says_range}
-use Rattle.abnfread.proofs.AbnfFirstLemmas.{tells-one}
+use Rattle.abnfread.proofs.AbnfFirstLemmas.{reports-one}
 use Rattle.abnfread.proofs.AbnfSliceLemmas.{run-end}
 use Rattle.abnfread.proofs.ByteRunLemmas.{run-to, no-digit}
 use Rattle.abnfread.proofs.NumeralLemmas.{digits-run, heads-equal, run-before, run-front, tails-equal}
@@ -30,11 +30,11 @@ all_digits base (digits {b} is run) = (ltb-true (digit_value b) base is, all_run
 run_digits : (base b : ℕ) (bs : List ℕ) → Run (is_digit base) (b ∷ bs) [] → Digits base (b ∷ bs) []
 run_digits base b bs (more is rest) = digits is rest
 
-pub told_digits : (base : ℕ) (t rest : List ℕ) (empty ends : Bool) → empty ≡ (length t == 0) → empty ≡ false
+pub reported_digits : (base : ℕ) (t rest : List ℕ) (empty ends : Bool) → empty ≡ (length t == 0) → empty ≡ false
     → ends ≡ (length rest == 0) → Run (is_digit base) t rest → Stops (is_digit base) rest
     → (IsTrue ends) ↔ Digits base t []
-told_digits base [] rest empty ends e off f run stop = absurd (cc (e, off))
-told_digits base (b ∷ bs) rest empty ends e off f run stop = (
+reported_digits base [] rest empty ends e off f run stop = absurd (cc (e, off))
+reported_digits base (b ∷ bs) rest empty ends e off f run stop = (
   (λ on. let nil = nil_from_length rest (eqb-true (length rest) 0 (sym f ∙ on)) in
       run_digits base b bs (subst (λ v. Run (is_digit base) (b ∷ bs) v) nil run)),
   (λ d. let nil = run-to run stop (digits-run d) tt in
@@ -78,28 +78,28 @@ record RangeIn (z : List ℕ) (a b : ℕ) : Type 0 where
   pub low : List ℕ
   pub high : List ℕ
   pub is : z ≡ 37 ∷ letter ∷ (low ++ 45 ∷ high)
-  pub tells : Tells letter base
+  pub reports : NamesBase letter base
   pub low_digits : Digits base low []
   pub high_digits : Digits base high []
   pub low_is : a ≡ digits_value base low
   pub high_is : b ≡ digits_value base high
 
 range_in : {z : List ℕ} {s : Said} (a b : ℕ) → SaysNum z s → s ≡ Range a b → RangeIn z a b
-range_in a b (says_values tells k) is = absurd (cc is)
-range_in a b (says_range {base = base} {c = c} {t = t} {ds = ds} {es = es} tells cut d f) is = record {
+range_in a b (says_values reports k) is = absurd (cc is)
+range_in a b (says_range {base = base} {c = c} {t = t} {ds = ds} {es = es} reports cut d f) is = record {
   base = base;
   letter = c;
   low = ds;
   high = es;
   is = ap (λ (v : List ℕ). 37 ∷ c ∷ v) cut;
-  tells = tells;
+  reports = reports;
   low_digits = d;
   high_digits = f;
   low_is = sym (cc is);
   high_is = sym (cc is);
 }
 
-module _ (z t : List ℕ) (base c : ℕ) (is : z ≡ 37 ∷ c ∷ t) (tells : Tells c base) where
+module _ (z t : List ℕ) (base c : ℕ) (is : z ≡ 37 ∷ c ∷ t) (reports : NamesBase c base) where
   -- the same parts
   record SameRange (a b : ℕ) : Type 0 where
     pub low : List ℕ
@@ -114,7 +114,7 @@ module _ (z t : List ℕ) (base c : ℕ) (is : z ≡ 37 ∷ c ∷ t) (tells : Te
   same_range a b r =
       let whole : 37 ∷ c ∷ t ≡ 37 ∷ r.letter ∷ (r.low ++ 45 ∷ r.high) = sym is ∙ r.is in
       let letter : c ≡ r.letter = heads-equal (tails-equal whole) in
-      let same : r.base ≡ base = tells-one (rw (sym letter) at r.tells) tells in
+      let same : r.base ≡ base = reports-one (rw (sym letter) at r.reports) reports in
       record {
         low = r.low;
         high = r.high;
@@ -131,16 +131,16 @@ module _ (z t : List ℕ) (base c : ℕ) (is : z ≡ 37 ∷ c ∷ t) (tells : Te
       let s = same_range r.low r.high (range_in r.low r.high r.says refl) in
       never s.low s.high s.cut s.low_digits s.high_digits
 
-  pub reversed_as : (low high : List ℕ) (told : Bool) → base ≤ 36 → t ≡ low ++ 45 ∷ high → Digits base low []
-      → Digits base high [] → (IsTrue told ↔ (digits_value base high < digits_value base low))
-      → IsTrue told ↔ IsReversed z
-  reversed_as low high told w cut d f tell = (
+  pub reversed_as : (low high : List ℕ) (reported : Bool) → base ≤ 36 → t ≡ low ++ 45 ∷ high → Digits base low []
+      → Digits base high [] → (IsTrue reported ↔ (digits_value base high < digits_value base low))
+      → IsTrue reported ↔ IsReversed z
+  reversed_as low high reported w cut d f report = (
     (λ on. record {
       low = digits_value base low;
       high = digits_value base high;
       says = subst (λ v. SaysNum v (Range (digits_value base low) (digits_value base high))) (sym is)
-          (says_range tells cut d f);
-      less = tell.0 on;
+          (says_range reports cut d f);
+      less = report.0 on;
     }),
     (λ r.
         let s = same_range r.low r.high (range_in r.low r.high r.says refl) in
@@ -148,7 +148,7 @@ module _ (z t : List ℕ) (base c : ℕ) (is : z ≡ 37 ∷ c ∷ t) (tells : Te
         (digits-run s.low_digits) in
         let low_is : r.low ≡ digits_value base low = s.low_is ∙ ap (digits_value base) ends.0 in
         let high_is : r.high ≡ digits_value base high = s.high_is ∙ ap (digits_value base) (tails-equal ends.1) in
-        tell.1 (rw (sym low_is, sym high_is) r.less)),
+        report.1 (rw (sym low_is, sym high_is) r.less)),
   )
 
 -- the parts of a repetition
@@ -190,21 +190,21 @@ module _ (z : List ℕ) where
   no_reversed_repeat never r =
       let s = repeat_in r.most r.says refl r.less in never s.low s.high s.cut s.low_digits s.high_digits
 
-  pub reversed_repeat_as : (low high : List ℕ) (told : Bool) → z ≡ low ++ 42 ∷ high → Digits 10 low []
-      → Digits 10 high [] → (IsTrue told ↔ (digits_value 10 high < digits_value 10 low))
-      → IsTrue told ↔ IsReversedRepeat z
-  reversed_repeat_as low high told cut d f tell = (
+  pub reversed_repeat_as : (low high : List ℕ) (reported : Bool) → z ≡ low ++ 42 ∷ high → Digits 10 low []
+      → Digits 10 high [] → (IsTrue reported ↔ (digits_value 10 high < digits_value 10 low))
+      → IsTrue reported ↔ IsReversedRepeat z
+  reversed_repeat_as low high reported cut d f report = (
     (λ on. record {
       least = digits_value 10 low;
       most = digits_value 10 high;
       says = subst (λ v. SaysRepeat z (digits_value 10 low) v) (most_some f)
           (says_between cut (digits-run d) (digits-run f));
-      less = tell.0 on;
+      less = report.0 on;
     }),
     (λ r.
         let s = repeat_in r.most r.says refl r.less in
         let ends = same-ends refl cut (digits-run d) refl s.cut (digits-run s.low_digits) in
         let low_is : r.least ≡ digits_value 10 low = s.low_is ∙ ap (digits_value 10) ends.0 in
         let high_is : r.most ≡ digits_value 10 high = s.high_is ∙ ap (digits_value 10) (tails-equal ends.1) in
-        tell.1 (rw (sym low_is, sym high_is) r.less)),
+        report.1 (rw (sym low_is, sym high_is) r.less)),
   )

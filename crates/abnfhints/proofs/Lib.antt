@@ -6,5 +6,5 @@ mod DerivesOnlyWithLemmas
 mod DigitsValueLemmas
 mod IsReversedLemmas
 mod RulesWithoutLemmas
-mod ToldFirstLemmas
+mod ReportedFirstLemmas
 mod WithoutLemmas

@@ -301,9 +301,9 @@ pub record Sparing (has : ℕ → Bool) (letter : ℕ) (rules : List Rule) (id :
 pub left_marks : (alphabet : Alphabet) (letter : ℕ) → letter < 65 → (rules left : List Rule)
     → AreRulesWithout letter rules left → (marks : List Bool) → AreProductive alphabet left marks → (id : ℕ)
     → id < length rules → (IsMarked marks id ↔ Sparing (in_alphabet alphabet) letter rules id)
-left_marks alphabet letter low rules left are marks tell id lt = (
+left_marks alphabet letter low rules left are marks report id lt = (
   (λ on.
-      let p = (tell.tells id (omega (arith, lt, many_left letter are))).0 on in
+      let p = (report.reports id (omega (arith, lt, many_left letter are))).0 on in
       let b = at_from letter are id p.2.body p.2.is in
       let d = whole_derives (in_alphabet alphabet) letter low rules left are p.2.derives b.without in
       record {
@@ -314,7 +314,7 @@ left_marks alphabet letter low rules left are marks tell id lt = (
       }),
   (λ s.
       let b = at_left letter are id s.derives.body s.derives.is in
-      (tell.tells id (omega (arith, lt, many_left letter are))).1 (
+      (report.reports id (omega (arith, lt, many_left letter are))).1 (
         s.word,
         s.letters,
         record {

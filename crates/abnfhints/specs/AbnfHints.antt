@@ -19,7 +19,7 @@ use Rattle.abnfread.specs.declared.kind.AbnfKind.{AbnfKind}
 use Rattle.lexer.specs.TokenLists.{Tok, AreTokens}
 use Rattle.diagnostics.specs.BodyMentions.{MentionedAt, mentions_in}
 use Rattle.diagnostics.specs.DefinitionHeads.{DefinedAt, definitions_in, sign_at}
-use Rattle.diagnostics.specs.NoteLines.{defined_line, more_told}
+use Rattle.diagnostics.specs.NoteLines.{defined_line, more_reported}
 use Rattle.diagnostics.specs.declared.noteplaces.mentions.MentionKind.TheVariants.{Number, Repeat}
 use Rattle.diagnostics.specs.ShownBytes.{cut}
 use Rattle.ruletable.specs.declared.lines.LineRule.TheVariants.{Lf}
@@ -69,8 +69,8 @@ pub data AreReversed : List MentionedAt → List MentionedAt → Type 0 where
       → AreReversed (m ∷ ms) rs
 
 -- the first 16 as they are reported, and how many more there are
-abbrev pub told_first : {A : Type 0} → (A → List ℕ) → List A → List ℕ
-told_first told xs = flat_map told (take 16 xs) ++ more_told (length xs - 16)
+abbrev pub reported_first : {A : Type 0} → (A → List ℕ) → List A → List ℕ
+reported_first reported xs = flat_map reported (take 16 xs) ++ more_reported (length xs - 16)
 
 -- the name at the head of a definition, if there is one
 abbrev pub name_of_head : Option DefinedAt → List ℕ
@@ -79,32 +79,33 @@ name_of_head (Some d) = d.name
 
 module _ (definitions : List DefinedAt) where
   -- a rule that derives nothing, and where it is first defined
-  abbrev pub barren_told : List ℕ → List ℕ
-  barren_told name = codes "rule '" ++ (cut name ++ (codes "' derives nothing\n"
+  abbrev pub barren_reported : List ℕ → List ℕ
+  barren_reported name = codes "rule '" ++ (cut name ++ (codes "' derives nothing\n"
       ++ defined_line Fold definitions name))
 
   -- reversed numbers, in the rule of the definition in whose body they stand
-  abbrev pub reversed_told : MentionedAt → List ℕ
-  reversed_told m = codes "reversed numbers in rule '"
+  abbrev pub reversed_reported : MentionedAt → List ℕ
+  reversed_reported m = codes "reversed numbers in rule '"
       ++ (cut (name_of_head (find (λ d. d.start == m.within) definitions)) ++ (codes "'\n  line "
       ++ (decimal m.line ++ (codes ": " ++ (cut m.text ++ codes " derives nothing\n")))))
 
 -- the byte that ends a line, and the option by which another one does
-abbrev pub end_told : LineEnd → List ℕ
-end_told AtLf = codes "%x0A\n  with -z, records end with %x00 and may hold %x0A\n"
-end_told AtNul = codes "%x00\n"
+abbrev pub end_reported : LineEnd → List ℕ
+end_reported AtLf = codes "%x0A\n  with -z, records end with %x00 and may hold %x0A\n"
+end_reported AtNul = codes "%x00\n"
 
 -- a rule that derives no line
-abbrev pub lineless_told : LineEnd → List ℕ → List ℕ
-lineless_told end name = codes "rule '" ++ (cut name ++ (codes "' derives no line\n  all that it derives holds "
-    ++ end_told end))
+abbrev pub lineless_reported : LineEnd → List ℕ → List ℕ
+lineless_reported end name = codes "rule '" ++ (cut name ++ (codes "' derives no line\n  all that it derives holds "
+    ++ end_reported end))
 
 -- what is reported of the judged rule: that it derives no line, if it derives something
-pub data IsToldOfJudged (has : ℕ → Bool) (rules : List Rule) (end : LineEnd) : Option ℕ → List ℕ → Type 0 where
-  no_rule : IsToldOfJudged has rules end None []
+pub data IsReportedOfJudged (has : ℕ → Bool) (rules : List Rule) (end : LineEnd) : Option ℕ → List ℕ → Type 0 where
+  no_rule : IsReportedOfJudged has rules end None []
   no_line : {id : ℕ} → DerivesOnlyWith has rules (end_byte end) id
-      → IsToldOfJudged has rules end (Some id) (lineless_told end (slice_index_or (rule_names rules) id []))
-  some_line : {id : ℕ} → (DerivesOnlyWith has rules (end_byte end) id → ⊥) → IsToldOfJudged has rules end (Some id) []
+      → IsReportedOfJudged has rules end (Some id) (lineless_reported end (slice_index_or (rule_names rules) id []))
+  some_line : {id : ℕ} → (DerivesOnlyWith has rules (end_byte end) id → ⊥)
+      → IsReportedOfJudged has rules end (Some id) []
 
 module _ (has : ℕ → Bool) (rules : List Rule) (count : ℕ) (judged : Option ℕ) (end : LineEnd) where
   -- The hints, given all rules, of which those of the file are the first ones, their count, and the judged rule: on
@@ -116,9 +117,9 @@ module _ (has : ℕ → Bool) (rules : List Rule) (count : ℕ) (judged : Option
     pub last : List ℕ
     pub are_barren : Those (DerivesNothing has rules) 0 (take count rules) barren
     pub are_reversed : AreReversed mentions reversed
-    pub is_last : IsToldOfJudged has rules end judged last
-    pub all : hints ≡ told_first (barren_told definitions) barren
-        ++ (told_first (reversed_told definitions) reversed ++ last)
+    pub is_last : IsReportedOfJudged has rules end judged last
+    pub all : hints ≡ reported_first (barren_reported definitions) barren
+        ++ (reported_first (reversed_reported definitions) reversed ++ last)
 
   -- the hints on the grammar of a text
   pub record AreAbnfHints (text hints : List ℕ) : Type 0 where

@@ -4,7 +4,7 @@ ghost use Rattle.abnfread.specs.AbnfViews.{rules_of};
 ghost use Rattle.abnfcheck.specs.AbnfGrammar.{IsSound};
 ghost use Rattle.abnfcheck.specs.AbnfNotes.{Those};
 ghost use Rattle.abnfcheck.specs.RuleMarks.{AreProductive};
-ghost use Rattle.abnfhints.specs.AbnfHints.{DerivesNothing, barren_told, told_first};
+ghost use Rattle.abnfhints.specs.AbnfHints.{DerivesNothing, barren_reported, reported_first};
 ghost use Rattle.letters.specs.Letters.{has};
 ghost use Rattle.diagnostics.specs.DefinitionHeads.{defined_at};
 ghost use Rattle.diagnostics.specs.NoteLines.{defined_line};
@@ -66,7 +66,7 @@ fn first_definition(alloc: Global, places: &Places, name: &[u8]) -> Result<Vec<u
 // Adds what is reported of a rule that derives nothing.
 fn push_barren(alloc: Global, out: &mut Vec<u8>, places: &Places, name: &[u8]) -> Result<(), Memory>
     requires { places.now.names ≡ NameCase.Fold }
-    ensures { OnOk result (out.new.items ≡ out.old.items ++ barren_told (map defined_at places.now.heads.items)
+    ensures { OnOk result (out.new.items ≡ out.old.items ++ barren_reported (map defined_at places.now.heads.items)
         name.now) }
 {
     out.extend_from_slice(b"rule '")?;
@@ -85,7 +85,7 @@ fn push_each_barren(
     names: &[&[u8]],
 ) -> Result<(), Memory>
     requires { places.now.names ≡ NameCase.Fold }
-    ensures { OnOk result (out.new.items ≡ out.old.items ++ flat_map (barren_told (map defined_at
+    ensures { OnOk result (out.new.items ≡ out.old.items ++ flat_map (barren_reported (map defined_at
         places.now.heads.items)) (map (λ name. name.now) names.now)) }
 {
     for name in names {
@@ -104,7 +104,7 @@ pub(crate) fn push_all_barren(
     names: &[&[u8]],
 ) -> Result<(), Memory>
     requires { places.now.names ≡ NameCase.Fold }
-    ensures { OnOk result (out.new.items ≡ out.old.items ++ told_first (barren_told (map defined_at
+    ensures { OnOk result (out.new.items ≡ out.old.items ++ reported_first (barren_reported (map defined_at
         places.now.heads.items)) (map (λ name. name.now) names.now)) }
 {
     let shown = names.len().min(MAX_HINTS);

@@ -4,7 +4,7 @@ ghost use Rattle.abnfread.specs.AbnfViews.{rules_of};
 ghost use Rattle.abnfcheck.specs.AbnfGrammar.{IsSound};
 ghost use Rattle.abnfcheck.specs.AbnfUses.{rule_names};
 ghost use Rattle.abnfcheck.specs.RuleMarks.{AreProductive};
-ghost use Rattle.abnfhints.specs.AbnfHints.{DerivesOnlyWith, IsToldOfJudged, end_told, lineless_told};
+ghost use Rattle.abnfhints.specs.AbnfHints.{DerivesOnlyWith, IsReportedOfJudged, end_reported, lineless_reported};
 ghost use Rattle.abnfhints.specs.LineEnds.{end_byte};
 ghost use Rattle.letters.specs.Letters.{has};
 ghost use Rattle.rulenames.specs.IdMarks.{AreMarks};
@@ -19,8 +19,8 @@ use ruletable::{Memory, NameCase};
 use std::alloc::Global;
 
 // Returns the byte that ends a line, as it is reported, and the option by which another one does.
-fn told_end(end: LineEnd) -> &'static [u8]
-    ensures { result.now ≡ end_told end }
+fn reported_end(end: LineEnd) -> &'static [u8]
+    ensures { result.now ≡ end_reported end }
 {
     match end {
         LineEnd::Lf => b"%x0A\n  with -z, records end with %x00 and may hold %x0A\n",
@@ -47,12 +47,12 @@ fn is_lineless(alloc: Global, hinted: &Hinted<'_>, marks: &Marks, id: usize) -> 
 
 // Adds that a rule derives no line.
 fn push_lineless(out: &mut Vec<u8>, end: LineEnd, name: &[u8]) -> Result<(), Memory>
-    ensures { OnOk result (out.new.items ≡ out.old.items ++ lineless_told end name.now) }
+    ensures { OnOk result (out.new.items ≡ out.old.items ++ lineless_reported end name.now) }
 {
     out.extend_from_slice(b"rule '")?;
     push_cut(out, name)?;
     out.extend_from_slice(b"' derives no line\n  all that it derives holds ")?;
-    out.extend_from_slice(told_end(end))?;
+    out.extend_from_slice(reported_end(end))?;
     Ok(())
 }
 
@@ -69,7 +69,7 @@ pub(crate) fn push_judged(
     requires sound { AreMarks (IsSound (rules_of hinted.now.rules.now)) (length (rules_of hinted.now.rules.now))
         marks.now.sound.items }
     requires productive { AreProductive hinted.now.letters (rules_of hinted.now.rules.now) marks.now.productive.items }
-    ensures { OnOk result ((last : List ℕ) × IsToldOfJudged (has hinted.now.letters) (rules_of hinted.now.rules.now)
+    ensures { OnOk result ((last : List ℕ) × IsReportedOfJudged (has hinted.now.letters) (rules_of hinted.now.rules.now)
         hinted.now.end hinted.now.judged last × (out.new.items ≡ out.old.items ++ last)) }
 {
     let Some(id) = hinted.judged else {

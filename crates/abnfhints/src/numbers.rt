@@ -4,7 +4,7 @@ ghost use Rattle.std.specs.Char.{digit_value};
 ghost use Rattle.std.specs.Str.Parse.{AllDigits, digits_value};
 ghost use Rattle.abnfhints.specs.AbnfHints.{IsReversed, IsReversedRepeat};
 ghost use Rattle.abnfread.specs.AbnfSlices.{Run, Stops, Digits};
-ghost use Rattle.abnfread.specs.BaseDigits.{is_digit as is_digit_in, Tells};
+ghost use Rattle.abnfread.specs.BaseDigits.{is_digit as is_digit_in, NamesBase};
 ghost use Rattle.lexer.specs.SliceEnds.{Lacks};
 
 use lexer::after_byte;
@@ -26,8 +26,8 @@ fn digit(b: u8) -> u8
 
 // Returns the base that a letter gives.
 fn base_of(letter: u8) -> Option<u8>
-    ensures { MatchOption result ((base : ℕ) → Tells letter base → ⊥)
-        (λ base. Tells letter base × (2 ≤ base) × (base ≤ 36)) }
+    ensures { MatchOption result ((base : ℕ) → NamesBase letter base → ⊥)
+        (λ base. NamesBase letter base × (2 ≤ base) × (base ≤ 36)) }
 {
     match letter {
         b'b' | b'B' => Some(2),
@@ -39,11 +39,11 @@ fn base_of(letter: u8) -> Option<u8>
 
 // Returns the base of a number, and what stands after the letter that gives it.
 fn after_base(text: &[u8]) -> Option<(u8, &[u8])>
-    ensures { MatchOption result ((base c : ℕ) (t : List ℕ) → text.now ≡ 37 ∷ c ∷ t → Tells c base → ⊥)
-        (λ r. (c : ℕ) × (text.now ≡ 37 ∷ c ∷ r.1.now) × Tells c r.0 × (2 ≤ r.0) × (r.0 ≤ 36)) }
+    ensures { MatchOption result ((base c : ℕ) (t : List ℕ) → text.now ≡ 37 ∷ c ∷ t → NamesBase c base → ⊥)
+        (λ r. (c : ℕ) × (text.now ≡ 37 ∷ c ∷ r.1.now) × NamesBase c r.0 × (2 ≤ r.0) × (r.0 ≤ 36)) }
 {
-    let behind = after_byte(text, b'%')?;
-    let (letter, digits) = behind.split_first()?;
+    let after = after_byte(text, b'%')?;
+    let (letter, digits) = after.split_first()?;
     let base = base_of(*letter)?;
     Some((base, digits))
 }

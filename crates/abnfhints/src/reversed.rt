@@ -1,7 +1,13 @@
 //! Ranges and repetitions whose numbers are reversed.
 ghost use Rattle.std.specs.Prelude.{◌≡◌, ◌↔◌, ◌++◌, ◌==◌, flat_map, map, option_map, IsTrue, IfOk, OnOk};
 ghost use Rattle.std.specs.List.{find};
-ghost use Rattle.abnfhints.specs.AbnfHints.{AreReversed, IsReversedMention, name_of_head, reversed_told, told_first};
+ghost use Rattle.abnfhints.specs.AbnfHints.{
+  AreReversed,
+  IsReversedMention,
+  name_of_head,
+  reversed_reported,
+  reported_first,
+};
 ghost use Rattle.diagnostics.specs.BodyMentions.{mentioned_at};
 ghost use Rattle.diagnostics.specs.DefinitionHeads.{defined_at};
 
@@ -62,7 +68,7 @@ fn name_at(heads: &[Head], place: usize) -> &[u8]
 
 // Adds what is reported of reversed numbers.
 fn push_reversed(out: &mut Vec<u8>, places: &Places, mention: &Mention) -> Result<(), Memory>
-    ensures { OnOk result (out.new.items ≡ out.old.items ++ reversed_told (map defined_at places.now.heads.items)
+    ensures { OnOk result (out.new.items ≡ out.old.items ++ reversed_reported (map defined_at places.now.heads.items)
         (mentioned_at mention.now)) }
 {
     out.extend_from_slice(b"reversed numbers in rule '")?;
@@ -81,7 +87,7 @@ fn push_each_reversed(
     places: &Places,
     mentions: &[&Mention],
 ) -> Result<(), Memory>
-    ensures { OnOk result (out.new.items ≡ out.old.items ++ flat_map (reversed_told (map defined_at
+    ensures { OnOk result (out.new.items ≡ out.old.items ++ flat_map (reversed_reported (map defined_at
         places.now.heads.items)) (map (λ m. mentioned_at m.now) mentions.now)) }
 {
     for mention in mentions {
@@ -98,7 +104,7 @@ pub(crate) fn push_all_reversed(
     places: &Places,
     mentions: &[&Mention],
 ) -> Result<(), Memory>
-    ensures { OnOk result (out.new.items ≡ out.old.items ++ told_first (reversed_told (map defined_at
+    ensures { OnOk result (out.new.items ≡ out.old.items ++ reported_first (reversed_reported (map defined_at
         places.now.heads.items)) (map (λ m. mentioned_at m.now) mentions.now)) }
 {
     let shown = mentions.len().min(MAX_HINTS);

@@ -45,19 +45,19 @@ fn range_without(alloc: Global, letter: u8, low: u32, high: u32) -> Result<Elem,
     if letter < low || high < letter {
         return Ok(Elem::Range { low, high });
     }
-    let behind = Elem::Range {
+    let after = Elem::Range {
         low: letter + 1,
         high,
     };
     if low == letter {
-        return Ok(behind);
+        return Ok(after);
     }
     let mut parts = Vec::new(alloc);
     parts.push(Elem::Range {
         low,
         high: letter - 1,
     })?;
-    parts.push(behind)?;
+    parts.push(after)?;
     Ok(Elem::Alt(parts))
 }
 

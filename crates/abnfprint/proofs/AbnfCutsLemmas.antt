@@ -3,7 +3,7 @@
 use Rattle.std.proofs.Common.{◌≡◌, ℕ, ◌+◌, ◌≤◌, ◌==◌, ◌||◌, not, cond, Bool, true, false, Option, Some, None, List, []}
 use Rattle.std.proofs.Common.{◌∷◌, ◌++◌, length, take, refl, sym, ap, ◌∙◌, subst, arith, inl, inr, append_assoc}
 use Rattle.std.proofs.Common.{append-nil, length-append}
-use Rattle.std.proofs.lemmas.Bool.Decides.{eqb_tells, nat_tests}
+use Rattle.std.proofs.lemmas.Bool.Decides.{eqb_decides, nat_tests}
 use Rattle.std.proofs.lemmas.Bool.{eqb-true}
 use Rattle.std.proofs.lemmas.List.{take_at}
 use Rattle.ruletable.specs.declared.span.Span.{Span}
@@ -116,11 +116,11 @@ first-by text front t k s end i whole before e =
     let cut : take (length front) text ≡ front = ap (take (length front)) whole ∙ take_at front t (length front) refl in
     rw (e, cut, before) refl
 
-behind-later : (m n : ℕ) → n ≤ m → not (m + 1 == n) ≡ true
-behind-later m n h = grind (arith, nat_tests)
+after-later : (m n : ℕ) → n ≤ m → not (m + 1 == n) ≡ true
+after-later m n h = grind (arith, nat_tests)
 
-behind-here : (m : ℕ) → not (m == m) ≡ false
-behind-here m = grind (arith, nat_tests)
+after-here : (m : ℕ) → not (m == m) ≡ false
+after-here m = grind (arith, nat_tests)
 
 pub cuts-placed : (text front u : List ℕ) (n : ℕ) {i : Option ℕ} {g : Bool} {t : List ℕ} {ws : List Word}
     → text ≡ front ++ t
@@ -132,13 +132,13 @@ cuts-placed text front u n whole before le gap f (blanked {i} {b = b} {t} h c) =
     cuts-placed text (front ++ b ∷ []) u n (whole ∙ sym (append_assoc front (b ∷ []) t))
     (indent-append (Some 0) front (b ∷ []) ∙ ap (λ (x : Option ℕ). indented x b) before)
     (omega (arith, length-append front (b ∷ []))) (ap (λ (m : ℕ). not (m == n)) (length-append front (b ∷ []))
-    ∙ behind-later (length front) n le)
+    ∙ after-later (length front) n le)
     (λ r w. f r (piece (blank h) w)) c
 cuts-placed text front u n whole before le gap f (next {k} {i} {t = t} {s} {r} x e h d y c) =
     let rest = cuts-placed text (front ++ s) r (length front + length s) (whole ∙ ap (λ (z : List ℕ). front ++ z) e
     ∙ sym (append_assoc front s r))
     (indent-append (Some 0) front s ∙ d.ends (indent_from (Some 0) front)) (omega (arith, length-append front s))
-    (ap (λ (m : ℕ). not (m == length front + length s)) (length-append front s) ∙ behind-here (length front + length s))
+    (ap (λ (m : ℕ). not (m == length front + length s)) (length-append front s) ∙ after-here (length front + length s))
     (λ z w. w) c in
     marked-so gap (first-by text front t k s (length front + length s) i whole before h)
     (next-placed text front t u s r n whole (f t no_more) x e h y rest)
@@ -181,7 +181,7 @@ said-text {text} {ws} l c =
 
 -- bytes of a class without LF
 pub inside-of : (f : ℕ → Bool) → f 10 ≡ false → (b : ℕ) → f b ≡ true → is_inside b ≡ true
-inside-of f e b h = elim (eqb_tells b 10) [
+inside-of f e b h = elim (eqb_decides b 10) [
   | inl k ↦ absurd (let g = rw (k.1) at h in let z : true ≡ false = sym g ∙ e in
       cc)
   | inr k ↦ (let g = k.0 in rw g refl)

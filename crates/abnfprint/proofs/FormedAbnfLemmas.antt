@@ -15,7 +15,7 @@ use Rattle.abnfread.specs.declared.kind.AbnfKind.TheVariants as kinds
 use Rattle.abnfread.specs.AbnfKinds.{ends_list}
 use Rattle.abnfread.specs.AbnfReading.{Reads}
 use Rattle.abnfread.specs.AbnfSays.{SaysKind, says_name, says_text, says_cased, says_num, says_prose, Says, says}
-use Rattle.abnfread.specs.AbnfSays.{SayAll, AreSmall, open_behind, IsShallow}
+use Rattle.abnfread.specs.AbnfSays.{SayAll, AreSmall, open_after, IsShallow}
 use Rattle.abnfread.specs.AbnfSlices.{White, First, Run, is_quotable, is_prose, Stands, name, text, cased, prose}
 use Rattle.abnfread.specs.AbnfSpelling as spelling
 use Rattle.abnfread.specs.AbnfSpelling.{concatenation, alternation, OneElement, values, range, parens, brackets}
@@ -174,9 +174,9 @@ record Pass (m d : ℕ) (ws : List Word) : Type 0 where
   small : AreSmall ws
   proper : AreProper ws
 
-pass-behind : {m d : ℕ} {g f : Bool} {s : Said} {ws : List Word} → Pass m d (word g f s ∷ ws)
-    → Pass m (open_behind s d) ws
-pass-behind p = record { shallow = p.shallow.1; small = p.small.1; proper = p.proper.1 }
+pass-after : {m d : ℕ} {g f : Bool} {s : Said} {ws : List Word} → Pass m d (word g f s ∷ ws)
+    → Pass m (open_after s d) ws
+pass-after p = record { shallow = p.shallow.1; small = p.small.1; proper = p.proper.1 }
 
 -- what passing words spell is formed and nests so deep, and they leave passing words
 record Gives (m d n : ℕ) (Formed : Type 0) (r : List Word) : Type 0 where
@@ -198,34 +198,34 @@ mutual
   element-gives spelling.name m d w = record {
     formed = w.proper.0;
     low = (let l = w.shallow.0 in omega arith);
-    rest = pass-behind w;
+    rest = pass-after w;
   }
   element-gives spelling.text m d w = record {
     formed = w.proper.0;
     low = (let l = w.shallow.0 in omega arith);
-    rest = pass-behind w;
+    rest = pass-after w;
   }
   element-gives values m d w = record {
     formed = (w.proper.0, w.small.0);
     low = (let l = w.shallow.0 in omega arith);
-    rest = pass-behind w;
+    rest = pass-after w;
   }
   element-gives range m d w =
-      record { formed = w.small.0; low = (let l = w.shallow.0 in omega arith); rest = pass-behind w }
+      record { formed = w.small.0; low = (let l = w.shallow.0 in omega arith); rest = pass-after w }
   element-gives spelling.prose m d w = record {
     formed = w.proper.0;
     low = (let l = w.shallow.0 in omega arith);
-    rest = pass-behind w;
+    rest = pass-after w;
   }
   element-gives (parens {x = x} h) m d w =
-      let g = alternation-gives h m (suc d) (pass-behind w) in
+      let g = alternation-gives h m (suc d) (pass-after w) in
       let l = lift-le (wraps Repeated x) (nest x) in
       let k = g.low in
-      record { formed = g.formed; low = omega arith; rest = pass-behind g.rest }
+      record { formed = g.formed; low = omega arith; rest = pass-after g.rest }
   element-gives (brackets {x = x} h) m d w =
-      let g = alternation-gives h m (suc d) (pass-behind w) in
+      let g = alternation-gives h m (suc d) (pass-after w) in
       let k = g.low in
-      record { formed = g.formed; low = omega arith; rest = pass-behind g.rest }
+      record { formed = g.formed; low = omega arith; rest = pass-after g.rest }
 
   repetition-gives : {s r : List Word} {x : Element} → Repetition s r x → (m d : ℕ) → Pass m d s
       → Gives m d (nest_at Member x) (IsFormed x) r
@@ -234,7 +234,7 @@ mutual
       let l = member-repeated x in
       let k = g.low in
       record { formed = g.formed; low = omega arith; rest = g.rest }
-  repetition-gives (repeated n h) m d w = let g = element-gives h m d (pass-behind w) in
+  repetition-gives (repeated n h) m d w = let g = element-gives h m d (pass-after w) in
       record { formed = (w.small.0, g.formed); low = g.low; rest = g.rest }
 
   parts-give : {s r : List Word} {xs : Elements} → Parts s r xs → (m d : ℕ) → Pass m d s
@@ -258,7 +258,7 @@ mutual
   alternatives-give (others {xs = xs} h k) m d w =
       let i = parts-give h m d w in
       let l = concatenation-nest xs in
-      let j = alternatives-give k m d (pass-behind i.rest) in
+      let j = alternatives-give k m d (pass-after i.rest) in
       let a = i.low in
       let b = j.low in
       record { formed = (concatenation-formed xs (full-parts h) i.formed, j.formed); low = omega arith; rest = j.rest }
@@ -286,12 +286,12 @@ alternation-fit h w = let g = alternation-gives h MAX_OPEN 0 w in let l = g.low 
 
 grammar-fit : {ws : List Word} {ds : List Definition} → Grammar ws ds → Pass MAX_OPEN 0 ws → AreFit ds
 grammar-fit (last_rule spelling.defines h) w =
-    let g = alternation-fit h (pass-behind (pass-behind w)) in (w.proper.0, g.0, tt)
+    let g = alternation-fit h (pass-after (pass-after w)) in (w.proper.0, g.0, tt)
 grammar-fit (last_rule spelling.extends h) w =
-    let g = alternation-fit h (pass-behind (pass-behind w)) in (w.proper.0, g.0, tt)
-grammar-fit (more_rules spelling.defines h k) w = let g = alternation-fit h (pass-behind (pass-behind w)) in
+    let g = alternation-fit h (pass-after (pass-after w)) in (w.proper.0, g.0, tt)
+grammar-fit (more_rules spelling.defines h k) w = let g = alternation-fit h (pass-after (pass-after w)) in
     (w.proper.0, g.0, grammar-fit k g.1)
-grammar-fit (more_rules spelling.extends h k) w = let g = alternation-fit h (pass-behind (pass-behind w)) in
+grammar-fit (more_rules spelling.extends h k) w = let g = alternation-fit h (pass-after (pass-after w)) in
     (w.proper.0, g.0, grammar-fit k g.1)
 
 pub some-definitions : {ws : List Word} {ds : List Definition} → Grammar ws ds → IsSome ds

@@ -87,15 +87,15 @@ abbrev pub NoCount : List ℕ → Type 0
 NoCount r = Stops (is_digit 10) r × Lacks 42 r
 
 -- the slice is a token before what may stand behind it, and says that
-pub record IsToken (Behind : List ℕ → Type 0) (z : List ℕ) (w : Said) : Type 0 where
+pub record IsToken (Follows : List ℕ → Type 0) (z : List ℕ) (w : Said) : Type 0 where
   pub kind : AbnfKind
-  pub first : (r : List ℕ) → Behind r → First kind (z ++ r) r
+  pub first : (r : List ℕ) → Follows r → First kind (z ++ r) r
   pub goes_on : ends_list kind ≡ false
   pub darkens : IsDark z
   pub like : (p : Span) → SaysLike kind z p w
 
-pub token-cut : {Behind : List ℕ → Type 0} {z : List ℕ} {w : Said} {i : Option ℕ} {g : Bool} {ws : List Word}
-    → IsToken Behind z w → (r : List ℕ) → Behind r → Cuts None false r ws →
+pub token-cut : {Follows : List ℕ → Type 0} {z : List ℕ} {w : Said} {i : Option ℕ} {g : Bool} {ws : List Word}
+    → IsToken Follows z w → (r : List ℕ) → Follows r → Cuts None false r ws →
     Cuts i g (z ++ r) (word g (begins_rule (Some 0) i) w ∷ ws)
 token-cut t r h c = next (t.first r h) refl t.goes_on t.darkens t.like c
 

@@ -32,12 +32,12 @@ fn print_at<W: Sink>(e: &Elem, place: Context, w: &mut W) -> Result<(), WriteFau
 fn print_between<W: Sink>(
     before: &[u8],
     e: &Elem,
-    behind: &[u8],
+    after: &[u8],
     w: &mut W,
 ) -> Result<(), WriteFault>
     requires { W.failed w.old ≡ false }
     ensures bytes { Writes (W.contents w.old) (W.contents w.new)
-        (before.now ++ (canon.text_of (element_of e.now) ++ behind.now)) result }
+        (before.now ++ (canon.text_of (element_of e.now) ++ after.now)) result }
     ensures flag { Flags (W.failed w.old) (W.failed w.new) result }
 {
     match write_whole(w, before) {
@@ -45,7 +45,7 @@ fn print_between<W: Sink>(
         Err(fault) => return Err(fault),
     }
     match print_elem(e, w) {
-        Ok(()) => write_whole(w, behind),
+        Ok(()) => write_whole(w, after),
         Err(fault) => Err(fault),
     }
 }

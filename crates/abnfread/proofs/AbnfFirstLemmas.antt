@@ -8,7 +8,7 @@ use Rattle.std.proofs.lemmas.Bool.{eqb-true, or_cases}
 use Rattle.lexer.specs.SliceEnds.{Lacks, NoPiece, Longest, NoToken, found, bad, at_end}
 use Rattle.abnfread.specs.declared.kind.AbnfKind.{AbnfKind}
 use Rattle.abnfread.specs.declared.kind.AbnfKind.TheVariants.{Name, Is, Adds, Repeat, Text, Num, Prose, Bad, End}
-use Rattle.abnfread.specs.BaseDigits.{is_digit, Tells, binary, decimals, hexadecimal}
+use Rattle.abnfread.specs.BaseDigits.{is_digit, NamesBase, binary, decimals, hexadecimal}
 use Rattle.abnfread.specs.AbnfSlices.{continues_name, is_quotable, is_prose, is_case, is_blank, is_inside, Run, Stops}
 use Rattle.abnfread.specs.AbnfSlices.{Numbers, Count, Piece, blank, crlf, comment, Stands, name, is, adds, slash}
 use Rattle.abnfread.specs.AbnfSlices.{lparen, rparen, lbrack, rbrack, counted, star, text, cased, num, prose, First}
@@ -128,31 +128,31 @@ either-of : (c x y : ℕ) → ((c == x) || (c == y)) ≡ true → (c ≡ x) ⊎ 
 either-of c x y e = elim (or_cases (c == x) (c == y) e) [ inl h ↦ inl (eqb-true c x h) | inr h ↦ inr (eqb-true c y h) ]
 
 -- a letter that names a base names no case
-pub tells-case : {c base : ℕ} → Tells c base → is_case c ≡ true → ⊥
-tells-case {c} (binary e) f = elim (either-of c 98 66 e)
+pub reports-case : {c base : ℕ} → NamesBase c base → is_case c ≡ true → ⊥
+reports-case {c} (binary e) f = elim (either-of c 98 66 e)
     [ inl p ↦ (let g = rw p at f in cc) | inr p ↦ (let g = rw p at f in cc) ]
-tells-case {c} (decimals e) f = elim (either-of c 100 68 e)
+reports-case {c} (decimals e) f = elim (either-of c 100 68 e)
     [ inl p ↦ (let g = rw p at f in cc) | inr p ↦ (let g = rw p at f in cc) ]
-tells-case {c} (hexadecimal e) f = elim (either-of c 120 88 e)
+reports-case {c} (hexadecimal e) f = elim (either-of c 120 88 e)
     [ inl p ↦ (let g = rw p at f in cc) | inr p ↦ (let g = rw p at f in cc) ]
 
 -- a letter names one base
-base_told : ℕ → ℕ
-base_told c = cond ((c == 98) || (c == 66)) 2 (cond ((c == 100) || (c == 68)) 10 16)
+base_reported : ℕ → ℕ
+base_reported c = cond ((c == 98) || (c == 66)) 2 (cond ((c == 100) || (c == 68)) 10 16)
 
-tells-is : {c base : ℕ} → Tells c base → base ≡ base_told c
-unfolding base_told
-tells-is {c} (binary e) = rw e refl
-tells-is {c} (decimals e) = elim (either-of c 100 68 e) [ inl p ↦ rw p refl | inr p ↦ rw p refl ]
-tells-is {c} (hexadecimal e) = elim (either-of c 120 88 e) [ inl p ↦ rw p refl | inr p ↦ rw p refl ]
+reports-is : {c base : ℕ} → NamesBase c base → base ≡ base_reported c
+unfolding base_reported
+reports-is {c} (binary e) = rw e refl
+reports-is {c} (decimals e) = elim (either-of c 100 68 e) [ inl p ↦ rw p refl | inr p ↦ rw p refl ]
+reports-is {c} (hexadecimal e) = elim (either-of c 120 88 e) [ inl p ↦ rw p refl | inr p ↦ rw p refl ]
 
-pub tells-one : {c a b : ℕ} → Tells c a → Tells c b → a ≡ b
-tells-one h k = tells-is h ∙ sym (tells-is k)
+pub reports-one : {c a b : ℕ} → NamesBase c a → NamesBase c b → a ≡ b
+reports-one h k = reports-is h ∙ sym (reports-is k)
 
 -- after `%`
 PercentCase : AbnfKind → ℕ → List ℕ → List ℕ → Type 0
 PercentCase k c bs s = ((is_case c ≡ true) × (m : List ℕ) × (bs ≡ 34 ∷ m) × Run is_quotable m (34 ∷ s))
-    ⊎ ((base : ℕ) × Tells c base × Numbers base bs s)
+    ⊎ ((base : ℕ) × NamesBase c base × Numbers base bs s)
 
 percent-by : {k : AbnfKind} {c : ℕ} {bs s : List ℕ} → Stands k (37 ∷ c ∷ bs) s → PercentCase k c bs s
 unfolding PercentCase
@@ -164,10 +164,10 @@ percent-by (num {base} t h) = inr (base, t, h)
 cased-run : {k : AbnfKind} {c : ℕ} {bs s : List ℕ} → is_case c ≡ true → Stands k (37 ∷ c ∷ bs) s → (m : List ℕ)
     × (bs ≡ 34 ∷ m) × Run is_quotable m (34 ∷ s)
 unfolding PercentCase
-cased-run e x = elim (percent-by x) [ inl h ↦ (h.1, h.2, h.3) | inr h ↦ absurd (tells-case h.1 e) ]
+cased-run e x = elim (percent-by x) [ inl h ↦ (h.1, h.2, h.3) | inr h ↦ absurd (reports-case h.1 e) ]
 
 based-numbers : {k : AbnfKind} {c : ℕ} {bs s : List ℕ} → is_case c ≡ false → Stands k (37 ∷ c ∷ bs) s → (base : ℕ)
-    × Tells c base × Numbers base bs s
+    × NamesBase c base × Numbers base bs s
 unfolding PercentCase
 based-numbers e x = elim (percent-by x) [ inl h ↦ (let f = h.0 in cc) | inr h ↦ (h.0, h.1, h.2) ]
 
@@ -188,16 +188,17 @@ lacks-quote e l = let k = rw e at l in k refl
 pub no-quote : {c : ℕ} {bs : List ℕ} → is_case c ≡ true → Lacks 34 bs → NoToken Stands (37 ∷ c ∷ bs)
 no-quote e l k r x = let h = cased-run e x in lacks-quote h.1 l
 
-pub longest-num : {c base : ℕ} {bs r : List ℕ} → is_case c ≡ false → Tells c base → Numbers base bs r
+pub longest-num : {c base : ℕ} {bs r : List ℕ} → is_case c ≡ false → NamesBase c base → Numbers base bs r
     → ((s : List ℕ) → Numbers base bs s → length r ≤ length s) → Longest Stands Num (37 ∷ c ∷ bs) r
 longest-num e t h f =
-    stands-longest (num t h) (λ j s x. (let k = based-numbers e x in f s (rw (tells-one k.1 t) at k.2)))
+    stands-longest (num t h) (λ j s x. (let k = based-numbers e x in f s (rw (reports-one k.1 t) at k.2)))
 
-pub no-num : {c base : ℕ} {bs : List ℕ} → is_case c ≡ false → Tells c base → ((r : List ℕ) → Numbers base bs r → ⊥)
+pub no-num : {c base : ℕ} {bs : List ℕ} → is_case c ≡ false → NamesBase c base → ((r : List ℕ) → Numbers base bs r → ⊥)
     → NoToken Stands (37 ∷ c ∷ bs)
-no-num e t f k r x = let h = based-numbers e x in f r (rw (tells-one h.1 t) at h.2)
+no-num e t f k r x = let h = based-numbers e x in f r (rw (reports-one h.1 t) at h.2)
 
-pub no-base : {c : ℕ} {bs : List ℕ} → is_case c ≡ false → ((base : ℕ) → Tells c base → ⊥) → NoToken Stands (37 ∷ c ∷ bs)
+pub no-base : {c : ℕ} {bs : List ℕ} → is_case c ≡ false → ((base : ℕ) → NamesBase c base → ⊥)
+    → NoToken Stands (37 ∷ c ∷ bs)
 no-base e f k r x = let h = based-numbers e x in f h.0 h.1
 
 pub no-percent : {bs : List ℕ} → length bs ≡ 0 → NoToken Stands (37 ∷ bs)

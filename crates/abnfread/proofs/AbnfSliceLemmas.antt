@@ -14,15 +14,15 @@ use Rattle.abnfread.specs.AbnfSlices.{Run, none, more, Stops, is_inside, Digits,
 use Rattle.abnfread.specs.AbnfSlices.{Count, exactly, at_least, Piece, blank, crlf, comment, White, Stands, name, is}
 use Rattle.abnfread.specs.AbnfSlices.{values, range, adds, counted, star, text, cased, num, prose, First}
 use Rattle.abnfread.proofs.ByteRunLemmas.{run-to}
-use Rattle.abnfread.proofs.AbnfFirstLemmas.{letter-digit, letter-dark, digit-dark, tells-case}
+use Rattle.abnfread.proofs.AbnfFirstLemmas.{letter-digit, letter-dark, digit-dark, reports-case}
 
 pub run-end : {f : ℕ → Bool} {t r : List ℕ} → Run f t r → IsEnd t r
 run-end none = end-here
 run-end (more e h) = end-more _ (run-end h)
 
 -- up to a byte, and with it
-is_end-behind : {t r : List ℕ} (c : ℕ) → IsEnd t (c ∷ r) → IsEnd t r
-is_end-behind c h = end-both h (end-more c end-here)
+is_end-after : {t r : List ℕ} (c : ℕ) → IsEnd t (c ∷ r) → IsEnd t r
+is_end-after c h = end-both h (end-more c end-here)
 
 digits-end : {base : ℕ} {t r : List ℕ} → Digits base t r → IsEnd t r
 digits-end (digits e h) = end-more _ (run-end h)
@@ -33,21 +33,21 @@ dotted-end (dot d h) = end-more _ (end-both (digits-end d) (dotted-end h))
 
 numbers-end : {base : ℕ} {t r : List ℕ} → Numbers base t r → IsEnd t r
 numbers-end (values d h) = end-both (digits-end d) (dotted-end h)
-numbers-end (range d h) = end-both (is_end-behind 45 (digits-end d)) (digits-end h)
+numbers-end (range d h) = end-both (is_end-after 45 (digits-end d)) (digits-end h)
 
 count-end : {t r : List ℕ} → Count t r → IsEnd t r
 count-end (exactly h) = run-end h
-count-end (at_least h k) = end-both (is_end-behind 42 (run-end h)) (run-end k)
+count-end (at_least h k) = end-both (is_end-after 42 (run-end h)) (run-end k)
 
 stands-part : (k : AbnfKind) (t r : List ℕ) → Stands k t r → IsPart t r
 stands-part k t r (name e h) = less-one _ (run-end h)
 stands-part k t r adds = less-one _ (end-more _ end-here)
 stands-part k t r (counted e h) = less-one _ (count-end h)
 stands-part k t r (star h) = less-one _ (run-end h)
-stands-part k t r (text h) = less-one _ (is_end-behind 34 (run-end h))
-stands-part k t r (cased e h) = less-one _ (end-more _ (end-more _ (is_end-behind 34 (run-end h))))
+stands-part k t r (text h) = less-one _ (is_end-after 34 (run-end h))
+stands-part k t r (cased e h) = less-one _ (end-more _ (end-more _ (is_end-after 34 (run-end h))))
 stands-part k t r (num e h) = less-one _ (end-more _ (numbers-end h))
-stands-part k t r (prose h) = less-one _ (is_end-behind 62 (run-end h))
+stands-part k t r (prose h) = less-one _ (is_end-after 62 (run-end h))
 stands-part k t r _ = less-one _ end-here
 
 letter-kind : {k : AbnfKind} {b : ℕ} {bs r : List ℕ} → is_ascii_alphabetic b ≡ true → Stands k (b ∷ bs) r → k ≡ Name
@@ -69,8 +69,8 @@ kinds-one e (counted h n) y = sym (digit-kind h y)
 kinds-one e x (counted h n) = digit-kind h x
 kinds-one e is adds = absurd (omega (arith, ap length e))
 kinds-one e adds is = absurd (omega (arith, ap length e))
-kinds-one e (cased h n) (num p q) = absurd (tells-case p h)
-kinds-one e (num p q) (cased h n) = absurd (tells-case p h)
+kinds-one e (cased h n) (num p q) = absurd (reports-case p h)
+kinds-one e (num p q) (cased h n) = absurd (reports-case p h)
 kinds-one e _ _ = refl
 
 stands-one : (k j : AbnfKind) (t r : List ℕ) → Stands k t r → Stands j t r → k ≡ j
@@ -133,32 +133,32 @@ pub white-alone : {t r : List ℕ} → White t r → StandsAlone White t r
 white-alone no_more = record { part = record { front = []; whole = refl }; alone = no_more }
 white-alone (piece (blank {b} p) h) =
     let x = white-alone h in
-    let behind = x.part in
+    let after = x.part in
     record {
-      part = record { front = b ∷ behind.front; whole = ap (λ (z : List ℕ). b ∷ z) behind.whole };
+      part = record { front = b ∷ after.front; whole = ap (λ (z : List ℕ). b ∷ z) after.whole };
       alone = piece (blank p) x.alone;
     }
 white-alone (piece crlf h) =
     let x = white-alone h in
-    let behind = x.part in
+    let after = x.part in
     record {
       part = record {
-        front = 13 ∷ 10 ∷ behind.front;
-        whole = ap (λ (z : List ℕ). 13 ∷ 10 ∷ z) behind.whole;
+        front = 13 ∷ 10 ∷ after.front;
+        whole = ap (λ (z : List ℕ). 13 ∷ 10 ∷ z) after.whole;
       };
       alone = piece crlf x.alone;
     }
 white-alone {r} (piece (comment c stop) h) =
     let x = run-anywhere c in
     let y = white-alone h in
-    let behind = y.part in
+    let after = y.part in
     record {
       part = record {
-        front = 59 ∷ (x.part ++ behind.front);
-        whole = ap (λ (z : List ℕ). 59 ∷ z) (x.cut ∙ ap (λ (z : List ℕ). x.part ++ z) behind.whole
-            ∙ sym (append_assoc x.part behind.front r));
+        front = 59 ∷ (x.part ++ after.front);
+        whole = ap (λ (z : List ℕ). 59 ∷ z) (x.cut ∙ ap (λ (z : List ℕ). x.part ++ z) after.whole
+            ∙ sym (append_assoc x.part after.front r));
       };
-      alone = piece (comment (x.anywhere behind.front) (stops-front is_inside behind.front r behind.whole stop))
+      alone = piece (comment (x.anywhere after.front) (stops-front is_inside after.front r after.whole stop))
           y.alone;
     }
 

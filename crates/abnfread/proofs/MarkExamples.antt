@@ -23,8 +23,8 @@ inside-no_indent : indent_at indented 15 ≡ None
 inside-no_indent = refl
 
 -- a comment's line does not count, nor does a blank one
-margin-behind : margin (codes ";c\n \t\n a=b") (at Name 7 8 ∷ []) ≡ Some 1
-margin-behind = refl
+margin-after : margin (codes ";c\n \t\n a=b") (at Name 7 8 ∷ []) ≡ Some 1
+margin-after = refl
 
 -- the text's first token is the first of a line that begins a rule, but for the end
 first-token : marks (codes " a=") (indent_at (codes " a=") 1) 0 (at Name 1 2 ∷ at Is 2 3 ∷ at End 3 3 ∷ [])

@@ -117,17 +117,17 @@ module _ (limit : ℕ) (t ds rest : List ℕ) (a : ℕ) (b : Option ℕ) (e : t 
   unfolding RepeatCase
   least-over l w = let k = (repeat-by t ds rest s e h stop).0 in let v = w.0 in absurd (omega arith)
 
-  most-is : (behind : List ℕ) → rest ≡ 42 ∷ behind → b ≡ most behind
+  most-is : (after : List ℕ) → rest ≡ 42 ∷ after → b ≡ most after
   unfolding RepeatCase
-  most-is behind r = elim (repeat-by t ds rest s e h stop).1 [
+  most-is after r = elim (repeat-by t ds rest s e h stop).1 [
     | inl z ↦ absurd (no-mark z.0 r)
     | inr z ↦ z.2
         ∙ ap most (same-tail z.1 r)
   ]
 
-  pub most-over : (behind : List ℕ) → rest ≡ 42 ∷ behind → length behind ≢ 0 → limit < digits_value 10 behind
+  pub most-over : (after : List ℕ) → rest ≡ 42 ∷ after → length after ≢ 0 → limit < digits_value 10 after
       → IsWithin limit a b → ⊥
-  most-over behind r z l w = not-within (most-is behind r ∙ most-some behind z) l w.1
+  most-over after r z l w = not-within (most-is after r ∙ most-some after z) l w.1
 
   module _ (n : ℕ) (same : n ≡ digits_value 10 ds) (within : n ≤ limit) where
     least-is : n ≡ a
@@ -139,13 +139,13 @@ module _ (limit : ℕ) (t ds rest : List ℕ) (a : ℕ) (b : Option ℕ) (e : t 
     exactly-read l = elim (repeat-by t ds rest s e h stop).1
         [ inl z ↦ within-of least-is (ap Some same ∙ sym z.1) (within, within) | inr z ↦ absurd (lacks-none l z.1) ]
 
-    pub least-read : (behind : List ℕ) → rest ≡ 42 ∷ behind → length behind ≡ 0 → (n ≡ a) × (None ≡ b)
+    pub least-read : (after : List ℕ) → rest ≡ 42 ∷ after → length after ≡ 0 → (n ≡ a) × (None ≡ b)
         × IsWithin limit a b
-    least-read behind r z = within-of least-is (sym (most-is behind r ∙ most-none behind z)) (within, tt)
+    least-read after r z = within-of least-is (sym (most-is after r ∙ most-none after z)) (within, tt)
 
-    pub both-read : (behind : List ℕ) (m : ℕ) → rest ≡ 42 ∷ behind → length behind ≢ 0 → m ≡ digits_value 10 behind
+    pub both-read : (after : List ℕ) (m : ℕ) → rest ≡ 42 ∷ after → length after ≢ 0 → m ≡ digits_value 10 after
         → m ≤ limit → (n ≡ a) × (Some m ≡ b) × IsWithin limit a b
-    both-read behind m r z p q = within-of least-is (ap Some p ∙ sym (most-is behind r ∙ most-some behind z))
+    both-read after m r z p q = within-of least-is (ap Some p ∙ sym (most-is after r ∙ most-some after z))
         (within, q)
 
 -- numbers with dots between
@@ -280,9 +280,9 @@ ends-range base t ds es front rest w e d cut run stop = same-front (no-digit bas
     (digits-run d)
 
 -- numbers with dots are no range
-pub listed-no_range : (base : ℕ) (t front behind : List ℕ) {vs : List ℕ} → base ≤ 36 → Listed base t vs → t ≡ front
-    ++ 45 ∷ behind → Run (is_digit base) front [] → ⊥
+pub listed-no_range : (base : ℕ) (t front after : List ℕ) {vs : List ℕ} → base ≤ 36 → Listed base t vs → t ≡ front
+    ++ 45 ∷ after → Run (is_digit base) front [] → ⊥
 unfolding ListedCase
-listed-no_range base t front behind w k cut run =
-    let r = listed-by base t front (45 ∷ behind) w k cut run (no-digit base 45 36 refl w) in
+listed-no_range base t front after w k cut run =
+    let r = listed-by base t front (45 ∷ after) w k cut run (no-digit base 45 36 refl w) in
     elim r.2 [ inl x ↦ absurd (nothing-not x.0) | inr x ↦ absurd (dot-dash x.1) ]

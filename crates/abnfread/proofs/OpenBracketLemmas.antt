@@ -11,7 +11,7 @@ use Rattle.abnfread.specs.AbnfMachine.{first_step, later_step, step, run, levels
 use Rattle.abnfread.specs.AbnfReading.{is_bracket}
 use Rattle.abnfread.specs.AbnfSays.{SaysKind, says_name, says_is, says_adds, says_slash, says_lparen, says_rparen}
 use Rattle.abnfread.specs.AbnfSays.{says_lbrack, says_rbrack, says_repeat, says_text, says_cased, says_num, says_prose}
-use Rattle.abnfread.specs.AbnfSays.{says_end, open_behind, IsShallow}
+use Rattle.abnfread.specs.AbnfSays.{says_end, open_after, IsShallow}
 use Rattle.abnfread.specs.AbnfWords.{Said, Name, Is, Adds, Slash, LParen, RParen, LBrack, RBrack, Repeat, Text, Values}
 use Rattle.abnfread.specs.AbnfWords.{Range, Prose, End, Word, word}
 use Rattle.abnfread.specs.declared.kind.AbnfKind.{AbnfKind}
@@ -24,7 +24,7 @@ LevelsOf None n = Unit {0}
 LevelsOf (Some d) n = levels_in d ≡ n
 
 element-levels : (h : Head) (o : List Level) (bs es : Elements) (t : Times) (s : Said)
-    → LevelsOf (element_step h o bs es t s) (open_behind s (levels o))
+    → LevelsOf (element_step h o bs es t s) (open_after s (levels o))
 element-levels h o bs es t (Name n p) = refl
 element-levels h o bs es t (Text c z) = refl
 element-levels h o bs es t (Values vs) = refl
@@ -35,12 +35,12 @@ element-levels h o bs es t LBrack = refl
 element-levels h o bs es t _ = tt
 
 fresh-levels : (h : Head) (o : List Level) (bs es : Elements) (s : Said)
-    → LevelsOf (fresh_step h o bs es s) (open_behind s (levels o))
+    → LevelsOf (fresh_step h o bs es s) (open_after s (levels o))
 fresh-levels h o bs es (Repeat a b) = refl
 fresh-levels h o bs es s = element-levels h o bs es just s
 
 read-levels : (h : Head) (o : List Level) (bs es : Elements) (g : Bool) (s : Said)
-    → LevelsOf (read_step h o bs es g s) (open_behind s (levels o))
+    → LevelsOf (read_step h o bs es g s) (open_after s (levels o))
 read-levels h o bs es g Slash = refl
 read-levels h [] bs es g RParen = tt
 read-levels h (level b f t paren ∷ o) bs es g RParen = refl
@@ -53,7 +53,7 @@ read-levels h (l ∷ o) bs es g End = tt
 read-levels h o bs es true s = fresh-levels h o bs es s
 read-levels h o bs es false s = tt
 
-first-levels : (c : Config) (s : Said) → LevelsOf (first_step c s) (open_behind s (levels_in c))
+first-levels : (c : Config) (s : Said) → LevelsOf (first_step c s) (open_after s (levels_in c))
 first-levels start (Name n p) = refl
 first-levels start _ = tt
 first-levels (named ds n p) s = tt
@@ -64,7 +64,7 @@ first-levels (body h [] bs es read) _ = tt
 first-levels (body h (l ∷ o) bs es read) s = tt
 first-levels (done ds) s = tt
 
-later-levels : (c : Config) (g : Bool) (s : Said) → LevelsOf (later_step c g s) (open_behind s (levels_in c))
+later-levels : (c : Config) (g : Bool) (s : Said) → LevelsOf (later_step c g s) (open_after s (levels_in c))
 later-levels start g s = tt
 later-levels (named ds n p) g Is = refl
 later-levels (named ds n p) g Adds = refl
@@ -75,19 +75,19 @@ later-levels (body h o bs es (awaits a b)) false s = element-levels h o bs es (t
 later-levels (body h o bs es read) g s = read-levels h o bs es g s
 later-levels (done ds) g s = tt
 
-step-levels : (c : Config) (g f : Bool) (s : Said) → LevelsOf (step c (word g f s)) (open_behind s (levels_in c))
+step-levels : (c : Config) (g f : Bool) (s : Said) → LevelsOf (step c (word g f s)) (open_after s (levels_in c))
 step-levels c g true s = first-levels c s
 step-levels c g false s = later-levels c g s
 
 pub step-opens : (c d : Config) (g f : Bool) (s : Said) → step c (word g f s) ≡ Some d
-    → levels_in d ≡ open_behind s (levels_in c)
-step-opens c d g f s h = let l = step-levels c g f s in let k : LevelsOf (Some d) (open_behind s (levels_in c)) =
+    → levels_in d ≡ open_after s (levels_in c)
+step-opens c d g f s h = let l = step-levels c g f s in let k : LevelsOf (Some d) (open_after s (levels_in c)) =
     rw h at l in k
 
 -- the brackets that are open after a list, of those that were open before it
 abbrev pub open_count : ℕ → List Word → ℕ
 open_count d [] = d
-open_count d (word g f s ∷ ws) = open_count (open_behind s d) ws
+open_count d (word g f s ∷ ws) = open_count (open_after s d) ws
 
 levels-of_option : (ws : List Word) (n : ℕ) (d : Config) → ((c : Config) → run c ws ≡ Some d
     → levels_in d ≡ open_count (levels_in c) ws) → (x : Option Config) → ((c : Config) → x ≡ Some c → levels_in c ≡ n) →
@@ -98,23 +98,23 @@ levels-of_option ws n d f (Some c) l h = f c h ∙ ap (λ (m : ℕ). open_count 
 -- after a run as many levels stand open as brackets
 run-levels : (ws : List Word) (c d : Config) → run c ws ≡ Some d → levels_in d ≡ open_count (levels_in c) ws
 run-levels [] c d h = ap levels_in (let same : d ≡ c = cc in same)
-run-levels (word g f s ∷ ws) c d h = levels-of_option ws (open_behind s (levels_in c)) d (λ e r. run-levels ws e d r)
+run-levels (word g f s ∷ ws) c d h = levels-of_option ws (open_after s (levels_in c)) d (λ e r. run-levels ws e d r)
     (step c (word g f s)) (λ e r. step-opens c e g f s r) h
 
 shallow-within : (m d : ℕ) (ws : List Word) → IsShallow m d ws → open_count d ws ≤ m
 shallow-within m d [] h = h
-shallow-within m d (word g f s ∷ ws) h = shallow-within m (open_behind s d) ws h.1
+shallow-within m d (word g f s ∷ ws) h = shallow-within m (open_after s d) ws h.1
 
 -- a shorter prefix
 pub shallow-front : (m d : ℕ) (ws us : List Word) → IsShallow m d (ws ++ us) → IsShallow m d ws
 shallow-front m d [] [] h = h
 shallow-front m d [] (word g f s ∷ us) h = h.0
-shallow-front m d (word g f s ∷ ws) us h = (h.0, shallow-front m (open_behind s d) ws us h.1)
+shallow-front m d (word g f s ∷ ws) us h = (h.0, shallow-front m (open_after s d) ws us h.1)
 
 shallow-snoc : (m d : ℕ) (ws : List Word) (w : Word) → IsShallow m d ws → open_count d (ws ++ w ∷ []) ≤ m
     → IsShallow m d (ws ++ w ∷ [])
 shallow-snoc m d [] (word g f s) h le = (h, le)
-shallow-snoc m d (word g f s ∷ ws) w h le = (h.0, shallow-snoc m (open_behind s d) ws w h.1 le)
+shallow-snoc m d (word g f s ∷ ws) w h le = (h.0, shallow-snoc m (open_after s d) ws w h.1 le)
 
 -- the machine took one word more
 module _ (ws : List Word) (w : Word) (c d : Config) (runs : run start ws ≡ Some c) (steps : step c w ≡ Some d) where
@@ -131,15 +131,15 @@ pub levels-within : (ws : List Word) (c : Config) (m : ℕ) → run start ws ≡
 levels-within ws c m runs h = let e = run-levels ws start c runs in let le = shallow-within m 0 ws h in omega arith
 
 -- brackets alone open more
-closes-less : (s : Said) (m d : ℕ) → d ≤ m → m < open_behind s d → open_behind s d ≤ d → ⊥
+closes-less : (s : Said) (m d : ℕ) → d ≤ m → m < open_after s d → open_after s d ≤ d → ⊥
 closes-less s m d le lt k = absurd (omega arith)
 
-close-less : (d : ℕ) → open_behind RParen d ≤ d
+close-less : (d : ℕ) → open_after RParen d ≤ d
 close-less zero = omega arith
 close-less (suc d) = omega arith
 
 pub opens-bracket : {k : AbnfKind} {z : List ℕ} {p : Span} {s : Said} (g f : Bool) (m d : ℕ) → SaysKind k z p s → d ≤ m
-    → m < open_behind s d → is_bracket (marked (tok k z p) g f) ≡ true
+    → m < open_after s d → is_bracket (marked (tok k z p) g f) ≡ true
 opens-bracket g f m d says_lparen le lt = refl
 opens-bracket g f m d says_lbrack le lt = refl
 opens-bracket g f m d says_rparen le lt = absurd (closes-less RParen m d le lt (close-less d))

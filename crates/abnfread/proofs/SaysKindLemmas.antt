@@ -24,27 +24,28 @@ use Rattle.abnfread.specs.BaseDigits.{is_digit}
 use Rattle.abnfread.specs.MarkedTokens.{Marked, marked, tok_of, marks, AreMarked}
 use Rattle.abnfread.specs.Numerals.{says_exactly, says_between, SaysNum, says_values, says_range, Listed, last_number}
 use Rattle.abnfread.specs.Numerals.{more_numbers}
-use Rattle.abnfread.proofs.AbnfFirstLemmas.{tells-one}
+use Rattle.abnfread.proofs.AbnfFirstLemmas.{reports-one}
 use Rattle.abnfread.proofs.ByteRunLemmas.{no-digit}
 use Rattle.abnfread.proofs.NumberStepLemmas as numbers
 use Rattle.abnfread.proofs.NumeralLemmas.{heads-equal, tails-equal, run-part, digits-run, one-repeat, one-listed}
 use Rattle.abnfread.proofs.NumeralLemmas.{ends-range}
 use Rattle.abnfread.proofs.NumeralLemmas.{listed-no_range}
-use Rattle.abnfread.proofs.SaysNumLemmas.{tells-most}
+use Rattle.abnfread.proofs.SaysNumLemmas.{reports-most}
 
 one-num : {z : List ℕ} {s t : Said} → SaysNum z s → SaysNum z t → s ≡ t
-one-num (says_values {t} a h) (says_values d k) = ap Values (one-listed _ t (tells-most a) h (rw (tells-one d a) at k))
+one-num (says_values {t} a h) (says_values d k) = ap Values (one-listed _ t (reports-most a) h
+    (rw (reports-one d a) at k))
 one-num (says_values {t} a h) (says_range {ds} {es} d e f g) =
-    absurd (listed-no_range _ t ds es (tells-most a) h e (digits-run (rw (tells-one d a) at f)))
+    absurd (listed-no_range _ t ds es (reports-most a) h e (digits-run (rw (reports-one d a) at f)))
 one-num (says_range {t} {ds} {es} d e f g) (says_values a h) =
-    absurd (listed-no_range _ t ds es (tells-most d) (rw (tells-one a d) at h) e (digits-run f))
+    absurd (listed-no_range _ t ds es (reports-most d) (rw (reports-one a d) at h) e (digits-run f))
 one-num (says_range {base} {t} {ds} {es} a e f g) (says_range {base = b} {ds = us} {es = vs} d i j k) =
-    let ends = ends-range base t us vs ds (45 ∷ es) (tells-most a) i (rw (tells-one d a) at j) e (digits-run f)
-    (no-digit base 45 36 refl (tells-most a)) in
-    let behind : vs ≡ es = tails-equal ends.1 in
-    ap (λ (n : ℕ). Range (digits_value n ds) (digits_value n es)) (sym (tells-one d a))
+    let ends = ends-range base t us vs ds (45 ∷ es) (reports-most a) i (rw (reports-one d a) at j) e (digits-run f)
+    (no-digit base 45 36 refl (reports-most a)) in
+    let after : vs ≡ es = tails-equal ends.1 in
+    ap (λ (n : ℕ). Range (digits_value n ds) (digits_value n es)) (sym (reports-one d a))
     ∙ ap (λ (x : List ℕ). Range (digits_value b x) (digits_value b es)) (sym ends.0)
-    ∙ ap (λ (x : List ℕ). Range (digits_value b us) (digits_value b x)) (sym behind)
+    ∙ ap (λ (x : List ℕ). Range (digits_value b us) (digits_value b x)) (sym after)
 
 pub one-said : {k : AbnfKind} {z : List ℕ} {p : Span} {s t : Said} → SaysKind k z p s → SaysKind k z p t → s ≡ t
 one-said says_name says_name = refl
@@ -156,22 +157,22 @@ module _ (p : Span) where
         says =
             says_cased {t = q.0} e refl;
       }
-  own-of (num {c} {bs} {r} tells (values d h)) =
+  own-of (num {c} {bs} {r} reports (values d h)) =
       let q = listed-part d h in
       record {
         own = 37 ∷ c ∷ q.0;
         cut = ap (λ (x : List ℕ). 37 ∷ c ∷ x) q.2;
         said = _;
-        says = says_num (says_values tells q.3);
+        says = says_num (says_values reports q.3);
       }
-  own-of (num {c} {bs} {r} tells (range {m} d k)) =
+  own-of (num {c} {bs} {r} reports (range {m} d k)) =
       let q = digits-part d in
       let u = digits-part k in
       record {
         own = 37 ∷ c ∷ (q.0 ++ 45 ∷ u.0);
         cut = ap (λ (x : List ℕ). 37 ∷ c ∷ x) (joined-cut 45 bs q.0 m u.0 r q.1 u.1);
         said = _;
-        says = says_num (says_range tells refl q.2 u.2);
+        says = says_num (says_range reports refl q.2 u.2);
       }
   own-of (prose {bs} {r} h) =
       let q = run-part h in

@@ -61,19 +61,19 @@ AreSmall [] = Unit {0}
 AreSmall (word g f s ∷ ws) = IsSmall s × AreSmall ws
 
 -- the brackets that are open after a word, of those that were open before it
-abbrev pub open_behind : Said → ℕ → ℕ
-open_behind LParen d = suc d
-open_behind LBrack d = suc d
-open_behind RParen zero = zero
-open_behind RParen (suc d) = d
-open_behind RBrack zero = zero
-open_behind RBrack (suc d) = d
-open_behind s d = d
+abbrev pub open_after : Said → ℕ → ℕ
+open_after LParen d = suc d
+open_after LBrack d = suc d
+open_after RParen zero = zero
+open_after RParen (suc d) = d
+open_after RBrack zero = zero
+open_after RBrack (suc d) = d
+open_after s d = d
 
 -- with d brackets open before the list, at most m are open anywhere in it
 abbrev pub IsShallow : ℕ → ℕ → List Word → Type 0
 IsShallow m d [] = d ≤ m
-IsShallow m d (word g f s ∷ ws) = (d ≤ m) × IsShallow m (open_behind s d) ws
+IsShallow m d (word g f s ∷ ws) = (d ≤ m) × IsShallow m (open_after s d) ws
 
 -- the tokens' words pass no limit
 pub record AreWithin (ms : List Marked) : Type 0 where

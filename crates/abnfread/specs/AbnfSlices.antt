@@ -7,7 +7,7 @@ use Rattle.lexer.specs.SliceEnds as cuts
 use Rattle.abnfread.specs.declared.kind.AbnfKind.{AbnfKind}
 use Rattle.abnfread.specs.declared.kind.AbnfKind.TheVariants.{Name, Is, Adds, Slash, LParen, RParen, LBrack, RBrack}
 use Rattle.abnfread.specs.declared.kind.AbnfKind.TheVariants.{Repeat, Text, Num, Prose, Bad, End}
-use Rattle.abnfread.specs.BaseDigits.{is_digit, Tells}
+use Rattle.abnfread.specs.BaseDigits.{is_digit, NamesBase}
 
 -- letters, digits and `-`
 abbrev pub continues_name : ℕ → Bool
@@ -86,7 +86,7 @@ pub data Stands : AbnfKind → List ℕ → List ℕ → Type 0 where
   text : {bs r : List ℕ} → Run is_quotable bs (code "\"" ∷ r) → Stands Text (code "\"" ∷ bs) r
   cased : {c : ℕ} {bs r : List ℕ} → is_case c ≡ true → Run is_quotable bs (code "\"" ∷ r)
       → Stands Text (code "%" ∷ c ∷ code "\"" ∷ bs) r
-  num : {base c : ℕ} {bs r : List ℕ} → Tells c base → Numbers base bs r → Stands Num (code "%" ∷ c ∷ bs) r
+  num : {base c : ℕ} {bs r : List ℕ} → NamesBase c base → Numbers base bs r → Stands Num (code "%" ∷ c ∷ bs) r
   prose : {bs r : List ℕ} → Run is_prose bs (code ">" ∷ r) → Stands Prose (code "<" ∷ bs) r
 
 abbrev pub First : AbnfKind → List ℕ → List ℕ → Type 0

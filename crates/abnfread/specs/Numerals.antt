@@ -2,7 +2,7 @@
 use Prim.Native.Char.{code}
 use Rattle.std.specs.Prelude.{◌≡◌, ℕ, ◌≤◌, List, [], ◌∷◌, ◌++◌, Option, Some, None, MatchOption}
 use Rattle.std.specs.Str.Parse.{digits_value}
-use Rattle.abnfread.specs.BaseDigits.{is_digit, Tells}
+use Rattle.abnfread.specs.BaseDigits.{is_digit, NamesBase}
 use Rattle.abnfread.specs.AbnfSlices.{Run, Digits}
 use Rattle.abnfread.specs.AbnfWords.{Said, Values, Range}
 
@@ -25,8 +25,9 @@ pub data Listed (base : ℕ) : List ℕ → List ℕ → Type 0 where
 
 -- the slice of a number
 pub data SaysNum : List ℕ → Said → Type 0 where
-  says_values : {base c : ℕ} {t vs : List ℕ} → Tells c base → Listed base t vs → SaysNum (code "%" ∷ c ∷ t) (Values vs)
-  says_range : {base c : ℕ} {t ds es : List ℕ} → Tells c base → t ≡ ds ++ code "-" ∷ es → Digits base ds []
+  says_values : {base c : ℕ} {t vs : List ℕ} → NamesBase c base → Listed base t vs
+      → SaysNum (code "%" ∷ c ∷ t) (Values vs)
+  says_range : {base c : ℕ} {t ds es : List ℕ} → NamesBase c base → t ≡ ds ++ code "-" ∷ es → Digits base ds []
       → Digits base es [] → SaysNum (code "%" ∷ c ∷ t) (Range (digits_value base ds) (digits_value base es))
 
 -- the greatest number of a repetition, and of a terminal value

@@ -83,13 +83,13 @@ pub(crate) fn read_repeat(limit: u32, slice: &[u8]) -> Result<(u32, Option<u32>)
     let Some(least) = number_in(10, limit, front) else {
         return Err(NumberFault::TooLarge);
     };
-    let Some(behind) = after_byte(rest, b'*') else {
+    let Some(after) = after_byte(rest, b'*') else {
         return Ok((least, Some(least)));
     };
-    if behind.is_empty() {
+    if after.is_empty() {
         return Ok((least, None));
     }
-    match number_in(10, limit, behind) {
+    match number_in(10, limit, after) {
         Some(most) => Ok((least, Some(most))),
         None => Err(NumberFault::TooLarge),
     }

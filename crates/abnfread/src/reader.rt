@@ -318,7 +318,7 @@ impl<'a> Reader<'a> {
     }
 
     // Takes a word after a repetition.
-    fn take_behind(&mut self, gap: bool, said: Said<'a>) -> Result<(), ReaderStop>
+    fn take_after(&mut self, gap: bool, said: Said<'a>) -> Result<(), ReaderStop>
         ensures { Steps (read_step (head_of self.old) (outer_of self.old) (ended_of self.old) (parts_of self.old) gap
             (said_of said.entry)) result self.new }
     {
@@ -422,7 +422,7 @@ impl<'a> Reader<'a> {
                 }
                 self.take_element(Times::Repeated(least, most), said)
             }
-            At::Read => self.take_behind(gap, said),
+            At::Read => self.take_after(gap, said),
             _ => Err(ReaderStop::Hopeless),
         }
     }

@@ -2,7 +2,7 @@
 ghost use Rattle.std.specs.Prelude.{◌≡◌, ◌≢◌, ℕ, ◌<◌, ◌≤◌, ◌==◌, ◌||◌, true, false, List, ◌∷◌, length, MatchOption};
 ghost use Rattle.std.specs.Char.{is_ascii_alphabetic, digit_value};
 ghost use Rattle.abnfread.specs.ByteClasses.{test_of};
-ghost use Rattle.abnfread.specs.BaseDigits.{is_digit as is_digit_in, Tells};
+ghost use Rattle.abnfread.specs.BaseDigits.{is_digit as is_digit_in, NamesBase};
 ghost use Rattle.abnfread.specs.AbnfSlices.{is_blank, is_case as is_case_letter, Run, Stops, Digits, Dotted};
 ghost use Rattle.abnfread.specs.AbnfSlices.{Numbers, Count, Piece, White, Stands, First};
 ghost use Rattle.lexer.specs.SliceEnds.{NoPiece, NoToken, Longest};
@@ -178,7 +178,8 @@ pub(crate) fn after_blanks(text: &[u8]) -> &[u8]
 
 // Returns the base that a letter names.
 pub(crate) fn base_of(c: u8) -> Option<u8>
-    ensures { MatchOption result ((base : ℕ) → Tells c base → ⊥) (λ base. Tells c base × (2 ≤ base) × (base ≤ 36)) }
+    ensures { MatchOption result ((base : ℕ) → NamesBase c base → ⊥)
+        (λ base. NamesBase c base × (2 ≤ base) × (base ≤ 36)) }
 {
     match c {
         b'b' | b'B' => Some(2),
@@ -231,11 +232,11 @@ fn percent_token(tail: &[u8]) -> Option<(AbnfKind, &[u8])>
     ensures { MatchOption result (NoToken Stands (37 ∷ tail.now))
         (λ token. Longest Stands token.0 (37 ∷ tail.now) token.1.now) }
 {
-    let (c, behind) = tail.split_first()?;
+    let (c, after) = tail.split_first()?;
     if is_case(*c) {
-        cased_token(behind)
+        cased_token(after)
     } else {
-        based_token(*c, behind)
+        based_token(*c, after)
     }
 }
 

@@ -6,7 +6,7 @@ ghost use Rattle.abnfread.specs.AbnfReader.{said_of, Gives};
 ghost use Rattle.abnfread.specs.AbnfSays.{SaysKind, IsSmall};
 ghost use Rattle.abnfread.specs.AbnfSlices.{is_case};
 ghost use Rattle.abnfread.specs.AbnfWords as words;
-ghost use Rattle.abnfread.specs.BaseDigits.{Tells};
+ghost use Rattle.abnfread.specs.BaseDigits.{NamesBase};
 ghost use Rattle.abnfread.specs.Numerals.{SaysNum};
 
 use crate::kind::AbnfKind;
@@ -80,26 +80,26 @@ fn quoted(slice: &[u8]) -> (bool, &[u8])
     ensures cased { (c : ℕ) (text : List ℕ) → slice.now ≡ 37 ∷ c ∷ 34 ∷ (text ++ 34 ∷ [])
         → (result.0 ≡ ((c == 105) || (c == 73))) × (result.1.now ≡ text) }
 {
-    let Some(behind) = after_byte(slice, b'%') else {
+    let Some(after) = after_byte(slice, b'%') else {
         return (true, inside(slice));
     };
-    match behind.split_first() {
+    match after.split_first() {
         Some((c, text)) => (*c == b'i' || *c == b'I', inside(text)),
-        None => (true, behind),
+        None => (true, after),
     }
 }
 
 // Returns the base of a number, and what follows the letter that names it.
 fn split_base(slice: &[u8]) -> (u8, &[u8])
-    ensures told { (base c : ℕ) (text : List ℕ) → slice.now ≡ 37 ∷ c ∷ text → Tells c base → (result.0 ≡ base)
+    ensures reported { (base c : ℕ) (text : List ℕ) → slice.now ≡ 37 ∷ c ∷ text → NamesBase c base → (result.0 ≡ base)
         × (result.1.now ≡ text) }
     ensures least { 2 ≤ result.0 }
     ensures most { result.0 ≤ 36 }
 {
-    let Some(behind) = after_byte(slice, b'%') else {
+    let Some(after) = after_byte(slice, b'%') else {
         return (10, slice);
     };
-    let Some((c, text)) = behind.split_first() else {
+    let Some((c, text)) = after.split_first() else {
         return (10, slice);
     };
     match base_of(*c) {
@@ -115,7 +115,7 @@ fn said_number(alloc: Global, slice: &[u8]) -> Result<Said<'_>, NumberFault>
 {
     let (base, digits) = split_base(slice);
     let (front, rest) = split_digits(base, digits);
-    let Some(behind) = after_byte(rest, b'-') else {
+    let Some(after) = after_byte(rest, b'-') else {
         return match read_values(alloc, base, MAX_VALUE, digits) {
             Ok(values) => Ok(Said::Values(values)),
             Err(fault) => Err(fault),
@@ -124,7 +124,7 @@ fn said_number(alloc: Global, slice: &[u8]) -> Result<Said<'_>, NumberFault>
     let Some(low) = number_in(base, MAX_VALUE, front) else {
         return Err(NumberFault::TooLarge);
     };
-    match number_in(base, MAX_VALUE, behind) {
+    match number_in(base, MAX_VALUE, after) {
         Some(high) => Ok(Said::Range(low, high)),
         None => Err(NumberFault::TooLarge),
     }

@@ -15,9 +15,9 @@ use Rattle.abnfread.specs.Element.{Definition, Rule}
 use Rattle.abnfcheck.specs.NameChains.{IsNameChain}
 use Rattle.abnfcheck.specs.WithCore.{with_core}
 use Rattle.abnfexplain.specs.AbnfNoteLines.{ExplainsNote}
-use Rattle.abnfexplain.specs.ChainLines.{chain_told}
+use Rattle.abnfexplain.specs.ChainLines.{chain_reported}
 use Rattle.abnfrun.specs.AbnfNoted.{all_rules}
-use Rattle.abnfrun.specs.AbnfExplainedNotes.{AreAllRules, ExplainsAbnfNote, IsReachBehind, IsReachLine}
+use Rattle.abnfrun.specs.AbnfExplainedNotes.{AreAllRules, ExplainsAbnfNote, IsReachAfter, IsReachLine}
 use Rattle.abnfrun.proofs.AllRulesLemmas.{all_same}
 
 -- the lines of places are one text
@@ -39,24 +39,24 @@ module _ (reading : ReadingsAreOne) (one : ChainsAreOne) (text : List ℕ) (star
   reach_is_one name a b g h =
       let same = reading text h.definitions g.definitions h.reads g.reads in
       let moved = subst (λ z. IsNameChain (all_rules z) start name h.chain) same h.is_chain in
-      g.is ∙ (ap chain_told (one (all_rules g.definitions) start name g.chain h.chain g.is_chain moved) ∙ sym h.is)
+      g.is ∙ (ap chain_reported (one (all_rules g.definitions) start name g.chain h.chain g.is_chain moved) ∙ sym h.is)
 
-  behind_is_one : (kind : NoteKind) (name a b : List ℕ) → IsReachBehind text start kind name a
-      → IsReachBehind text start kind name b → a ≡ b
-  behind_is_one Redefined name a b g h = g ∙ sym h
-  behind_is_one ExtendedEarly name a b g h = g ∙ sym h
-  behind_is_one Undefined name a b g h = reach_is_one name a b g h
-  behind_is_one Prose name a b g h = reach_is_one name a b g h
-  behind_is_one Unused name a b g h = g ∙ sym h
-  behind_is_one LeftRecursion name a b g h = g ∙ sym h
-  behind_is_one Loop name a b g h = g ∙ sym h
+  after_is_one : (kind : NoteKind) (name a b : List ℕ) → IsReachAfter text start kind name a
+      → IsReachAfter text start kind name b → a ≡ b
+  after_is_one Redefined name a b g h = g ∙ sym h
+  after_is_one ExtendedEarly name a b g h = g ∙ sym h
+  after_is_one Undefined name a b g h = reach_is_one name a b g h
+  after_is_one Prose name a b g h = reach_is_one name a b g h
+  after_is_one Unused name a b g h = g ∙ sym h
+  after_is_one LeftRecursion name a b g h = g ∙ sym h
+  after_is_one Loop name a b g h = g ∙ sym h
 
 pub explanation_is_one : LinesAreOne → ReadingsAreOne → ChainsAreOne → (text : List ℕ) (start : Option (List ℕ))
     (note : Said) (a b : List ℕ) → ExplainsAbnfNote text start note a → ExplainsAbnfNote text start note b → a ≡ b
 explanation_is_one lines reading one text start note a b g h =
     g.is
     ∙ (ap (λ z. z ++ g.line) (lines text start note g.lines h.lines g.explains h.explains)
-    ∙ (ap (λ z. h.lines ++ z) (behind_is_one reading one text start note.kind note.name g.line h.line g.behind h.behind)
+    ∙ (ap (λ z. h.lines ++ z) (after_is_one reading one text start note.kind note.name g.line h.line g.after h.after)
     ∙ sym h.is))
 
 -- the rules of a text with the core rules that it leaves alone
@@ -74,6 +74,6 @@ rules_are_all text file core again early rules count many (ds, reads, t) c is = 
 
 -- the line of a chain stands behind notes of two kinds
 pub reach_stands : (text : List ℕ) (start : Option (List ℕ)) (kind : NoteKind) (name line : List ℕ)
-    → (kind ≡ Undefined) ⊎ (kind ≡ Prose) → IsReachLine text start name line → IsReachBehind text start kind name line
+    → (kind ≡ Undefined) ⊎ (kind ≡ Prose) → IsReachLine text start name line → IsReachAfter text start kind name line
 reach_stands text start kind name line (inl is) r = rw is r
 reach_stands text start kind name line (inr is) r = rw is r

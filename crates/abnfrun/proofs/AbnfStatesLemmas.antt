@@ -35,8 +35,8 @@ use Rattle.toolrun.specs.RunSteps as steps
 use Rattle.abnfrun.specs.AbnfSettings.{AbnfSettings}
 use Rattle.toolrun.proofs.OneStatementLemmas.{Stated, one_stated, one-explained, is_noted, is_checked, is_run}
 use Rattle.toolrun.proofs.OneStatementLemmas.{is_again, is_printed}
-use Rattle.toolrun.proofs.ToldNotesLemmas.{hinted-one, told-one}
-use Rattle.toolrun.specs.ToldNotes.{HintedNotes, ToldNotes, WhyNoted}
+use Rattle.toolrun.proofs.ReportedNotesLemmas.{hinted-one, reported-one}
+use Rattle.toolrun.specs.ReportedNotes.{HintedNotes, ReportedNotes, WhyNoted}
 
 -- each line has one answer
 abbrev pub AnswersAreOne : AbnfSettings → Type 0
@@ -91,7 +91,7 @@ module _ (settings : AbnfSettings) (input : Input) where
         (λ definitions notes. IsRefusedFor definitions (rule_given settings))
         (λ definitions notes. IsRefusedFor definitions (rule_given settings) → ⊥) AreAgain
         (HintedNotes settings (ExplainsAbnfNote text) (AreTextHints text settings))
-        (ToldNotes settings (ExplainsAbnfNote text)) PlainOf
+        (ReportedNotes settings (ExplainsAbnfNote text)) PlainOf
         (λ definitions. printed_rules (file_rules definitions)) settings.mode
 
     -- it is stated, but for what explains a run
@@ -104,29 +104,29 @@ module _ (settings : AbnfSettings) (input : Input) where
 
     parts_of_states : (notes : List ℕ) (reply : Reply) → AbnfStates text settings input notes reply → reply.status ≢ 5
         → IsAlmost notes reply
-    parts_of_states notes reply (refused fault why f m told) ample = is_itself notes reply (inl (record {
+    parts_of_states notes reply (refused fault why f m reported) ample = is_itself notes reply (inl (record {
       fault = fault;
       is_fault = f;
       other = m;
       why = why;
-      explains = told;
+      explains = reported;
       none = refl;
-      told = refl;
+      reported = refl;
     }))
     parts_of_states notes reply (unexplained fault f m asked) ample = absurd (ample refl)
-    parts_of_states notes reply (noted ds said told r are tells bad mode) ample =
+    parts_of_states notes reply (noted ds said reported r are reports bad mode) ample =
         is_itself notes reply (inr (record {
           definitions = ds;
           reads = r;
-          states = is_noted said told are tells bad mode;
+          states = is_noted said reported are reports bad mode;
         }))
-    parts_of_states notes reply (checked ds said told r are tells fine mode) ample =
+    parts_of_states notes reply (checked ds said reported r are reports fine mode) ample =
         is_itself notes reply (inr (record {
           definitions = ds;
           reads = r;
-          states = is_checked said told are tells fine mode;
+          states = is_checked said reported are reports fine mode;
         }))
-    parts_of_states notes reply (judges ds said told stated r are tells fine mode run) ample =
+    parts_of_states notes reply (judges ds said reported stated r are reports fine mode run) ample =
         let rules = all_rules ds in
         let judged = judged_of ds (rule_given settings) in
         let plain = same_but_why (AnswersFor rules judged settings) settings.explain (RefusalFor rules judged settings)
@@ -135,18 +135,18 @@ module _ (settings : AbnfSettings) (input : Input) where
           inr (record {
             definitions = ds;
             reads = r;
-            states = is_run said told plain.0 are tells fine mode plain.1;
+            states = is_run said reported plain.0 are reports fine mode plain.1;
           }),
           plain.2,
         )
-    parts_of_states notes reply (cut_notes ds said told r are cut mode) ample = absurd (ample refl)
-    parts_of_states notes reply (again ds said told r are tells some mode) ample =
+    parts_of_states notes reply (cut_notes ds said reported r are cut mode) ample = absurd (ample refl)
+    parts_of_states notes reply (again ds said reported r are reports some mode) ample =
         is_itself notes reply (inr (record {
           definitions = ds;
           reads = r;
-          states = is_again said told are tells some mode;
+          states = is_again said reported are reports some mode;
         }))
-    parts_of_states notes reply (cut_again ds said told r are cut mode) ample = absurd (ample refl)
+    parts_of_states notes reply (cut_again ds said reported r are cut mode) ample = absurd (ample refl)
     parts_of_states notes reply (printed ds r are mode) ample =
         is_itself notes reply (inr (record { definitions = ds; reads = r; states = is_printed are mode }))
     parts_of_states notes reply (no_memory within) ample = absurd (ample refl)
@@ -154,24 +154,24 @@ module _ (settings : AbnfSettings) (input : Input) where
     one_of_text : ExplanationsAreOne → NotesAreOne → HintsAreOne → AnswersAreOne settings
         → (notes others : List ℕ) (a b : Reply) → IsStated notes a → IsStated others b → a.status ≢ 5
         → b.status ≢ 5 → (notes ≡ others) × (a ≡ b)
-    one_of_text explained told hints one = one_stated (IsFaultOf text)
+    one_of_text explained reported hints one = one_stated (IsFaultOf text)
         (λ fault. Explained settings (Explains text fault)) (Reads text)
         (λ definitions. AreNotesOn definitions (rule_given settings))
         (λ definitions notes. IsRefusedFor definitions (rule_given settings))
         (λ definitions notes. IsRefusedFor definitions (rule_given settings) → ⊥) AreAgain
         (HintedNotes settings (ExplainsAbnfNote text) (AreTextHints text settings))
-        (ToldNotes settings (ExplainsAbnfNote text)) PlainOf
+        (ReportedNotes settings (ExplainsAbnfNote text)) PlainOf
         (λ definitions. printed_rules (file_rules definitions)) settings.mode (one-reading text) (one-fault text)
         (λ fault. one-explained settings (Explains text fault) (explained text fault)) (no-fault text) notes_are_one
         one_again
         (hinted-one settings (ExplainsAbnfNote text) (AreTextHints text settings) one_line (hints text settings))
-        (λ notes. told-one one_line)
+        (λ notes. reported-one one_line)
         (λ definitions notes bad fine. fine bad) (one_run one)
       where
         one_line : (note : Said) (a b : List ℕ) → WhyNoted settings (ExplainsAbnfNote text) note a
             → WhyNoted settings (ExplainsAbnfNote text) note b → a ≡ b
         one_line note = one-explained settings (ExplainsAbnfNote text (rule_given settings) note)
-            (told text (rule_given settings) note)
+            (reported text (rule_given settings) note)
 
 -- two replies that are one, but for what explains them
 pub same_twice : (asked : Bool) (a b p q : Reply) → SameButWhy asked a p → SameButWhy asked b q → p ≡ q
@@ -188,10 +188,10 @@ pub one_statement : ExplanationsAreOne → NotesAreOne → HintsAreOne → TextI
     → (text : List ℕ) (settings : AbnfSettings) (input : Input) (notes others : List ℕ) (a b : Reply) →
     AbnfStates text settings input notes a → AbnfStates text settings input others b → a.status ≢ 5 → b.status ≢ 5
     → (notes ≡ others) × SameButWhy settings.explain a b
-one_statement explained told hints one furthest text settings input notes others a b g h m n =
+one_statement explained reported hints one furthest text settings input notes others a b g h m n =
     let p = parts_of_states settings input text notes a g m in
     let q = parts_of_states settings input text others b h n in
-    let same = one_of_text settings input text explained told hints
+    let same = one_of_text settings input text explained reported hints
     (λ rules judged line. one_answer one furthest settings.options.letters rules judged line
     settings.options.viable) notes others p.0 q.0 p.1 q.1 (λ e. m (p.2.status ∙ e)) (λ e. n (q.2.status ∙ e)) in
     (same.0, same_twice settings.explain a b p.0 q.0 p.2 q.2 same.1)
@@ -201,33 +201,33 @@ long-unread : {text : List ℕ} {definitions : List Definition} → IsFaultOf te
 long-unread long r = let within = r.size in omega arith
 
 -- a text that is too long is told so, whatever memory does
-pub long_is_told : (text : List ℕ) (settings : AbnfSettings) (input : Input) (notes : List ℕ) (reply : Reply)
+pub long_is_reported : (text : List ℕ) (settings : AbnfSettings) (input : Input) (notes : List ℕ) (reply : Reply)
     → IsFaultOf text TooLong → AbnfStates text settings input notes reply
     → (notes ≡ []) × IsLongReply settings (Explains text TooLong) reply
-long_is_told text settings input notes reply long (refused fault why f other told) =
+long_is_reported text settings input notes reply long (refused fault why f other reported) =
     let is : fault ≡ TooLong = one-fault text fault TooLong f long other (λ e. cc) in (
       refl,
       inl (
         why,
-        subst (λ (f : ReadFault). Explained settings (Explains text f) why) is told,
+        subst (λ (f : ReadFault). Explained settings (Explains text f) why) is reported,
         ap (λ f. refusal f why) is,
       ),
     )
-long_is_told text settings input notes reply long (unexplained fault f other asked) = (
+long_is_reported text settings input notes reply long (unexplained fault f other asked) = (
   refl,
   inr (asked, ap unexplained_fault (one-fault text fault TooLong f long other (λ e. cc))),
 )
-long_is_told text settings input notes reply long (noted ds said told r are tells bad mode) =
+long_is_reported text settings input notes reply long (noted ds said reported r are reports bad mode) =
     absurd (long-unread long r)
-long_is_told text settings input notes reply long (checked ds said told r are tells fine mode) =
+long_is_reported text settings input notes reply long (checked ds said reported r are reports fine mode) =
     absurd (long-unread long r)
-long_is_told text settings input notes reply long (judges ds said told stated r are tells fine mode run) =
+long_is_reported text settings input notes reply long (judges ds said reported stated r are reports fine mode run) =
     absurd (long-unread long r)
-long_is_told text settings input notes reply long (cut_notes ds said told r are cut mode) =
+long_is_reported text settings input notes reply long (cut_notes ds said reported r are cut mode) =
     absurd (long-unread long r)
-long_is_told text settings input notes reply long (again ds said told r are tells some mode) =
+long_is_reported text settings input notes reply long (again ds said reported r are reports some mode) =
     absurd (long-unread long r)
-long_is_told text settings input notes reply long (cut_again ds said told r are cut mode) =
+long_is_reported text settings input notes reply long (cut_again ds said reported r are cut mode) =
     absurd (long-unread long r)
-long_is_told text settings input notes reply long (printed ds r are mode) = absurd (long-unread long r)
-long_is_told text settings input notes reply long (no_memory within) = absurd (omega arith)
+long_is_reported text settings input notes reply long (printed ds r are mode) = absurd (long-unread long r)
+long_is_reported text settings input notes reply long (no_memory within) = absurd (omega arith)

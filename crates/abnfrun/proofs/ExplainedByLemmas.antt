@@ -25,7 +25,7 @@ module _ (settings : AbnfSettings) (input : Input) (text : List ℕ) where
       (λ definitions. AreNotesOn definitions (rule_given settings))
       (λ definitions notes. IsRefusedFor definitions (rule_given settings))
       (λ definitions notes. IsRefusedFor definitions (rule_given settings) → ⊥) AreAgain
-      (λ notes told. told ≡ []) (λ notes told. told ≡ []) (PlainOf settings input)
+      (λ notes reported. reported ≡ []) (λ notes reported. reported ≡ []) (PlainOf settings input)
       (λ definitions. printed_rules (file_rules definitions)) settings.mode [] reply
 
   -- .. but for what explains
@@ -37,7 +37,7 @@ module _ (settings : AbnfSettings) (input : Input) (text : List ℕ) where
 
   bare_parts : (notes : List ℕ) (reply : Reply) → AbnfStates text settings input notes reply → reply.status ≢ 5
       → IsBarely reply
-  bare_parts notes reply (refused fault why f m told) ample = (
+  bare_parts notes reply (refused fault why f m reported) ample = (
     refusal fault [],
     inl (record {
       fault = fault;
@@ -46,16 +46,16 @@ module _ (settings : AbnfSettings) (input : Input) (text : List ℕ) where
       why = [];
       explains = refl;
       none = refl;
-      told = refl;
+      reported = refl;
     }),
     record { out = refl; status = refl; taken = refl; err = λ asked. absurd (cc) },
   )
   bare_parts notes reply (unexplained fault f m asked) ample = absurd (ample refl)
-  bare_parts notes reply (noted ds said told r are tells bad mode) ample =
+  bare_parts notes reply (noted ds said reported r are reports bad mode) ample =
       is_itself reply (inr (record { definitions = ds; reads = r; states = is_noted said [] are refl bad mode }))
-  bare_parts notes reply (checked ds said told r are tells fine mode) ample =
+  bare_parts notes reply (checked ds said reported r are reports fine mode) ample =
       is_itself reply (inr (record { definitions = ds; reads = r; states = is_checked said [] are refl fine mode }))
-  bare_parts notes reply (judges ds said told stated r are tells fine mode run) ample =
+  bare_parts notes reply (judges ds said reported stated r are reports fine mode run) ample =
       let rules = all_rules ds in
       let judged = judged_of ds (rule_given settings) in
       let plain = same_but_why (AnswersFor rules judged settings) settings.explain (RefusalFor rules judged settings)
@@ -73,10 +73,10 @@ module _ (settings : AbnfSettings) (input : Input) (text : List ℕ) where
           err = λ asked. absurd (cc);
         },
       )
-  bare_parts notes reply (cut_notes ds said told r are cut mode) ample = absurd (ample refl)
-  bare_parts notes reply (again ds said told r are tells some mode) ample =
+  bare_parts notes reply (cut_notes ds said reported r are cut mode) ample = absurd (ample refl)
+  bare_parts notes reply (again ds said reported r are reports some mode) ample =
       is_itself reply (inr (record { definitions = ds; reads = r; states = is_again said [] are refl some mode }))
-  bare_parts notes reply (cut_again ds said told r are cut mode) ample = absurd (ample refl)
+  bare_parts notes reply (cut_again ds said reported r are cut mode) ample = absurd (ample refl)
   bare_parts notes reply (printed ds r are mode) ample =
       is_itself reply (inr (record { definitions = ds; reads = r; states = is_printed are mode }))
   bare_parts notes reply (no_memory within) ample = absurd (ample refl)
@@ -87,7 +87,7 @@ module _ (settings : AbnfSettings) (input : Input) (text : List ℕ) where
       (λ definitions. AreNotesOn definitions (rule_given settings))
       (λ definitions notes. IsRefusedFor definitions (rule_given settings))
       (λ definitions notes. IsRefusedFor definitions (rule_given settings) → ⊥) AreAgain
-      (λ notes told. told ≡ []) (λ notes told. told ≡ []) (PlainOf settings input)
+      (λ notes reported. reported ≡ []) (λ notes reported. reported ≡ []) (PlainOf settings input)
       (λ definitions. printed_rules (file_rules definitions)) settings.mode (one-reading text) (one-fault text)
       (λ fault x y p q. p ∙ sym q) (no-fault text) (notes_are_one settings input) one_again
       (λ notes x y p q. p ∙ sym q) (λ notes x y p q. p ∙ sym q) (λ definitions notes bad fine. fine bad)

@@ -6,7 +6,7 @@ use Rattle.std.proofs.lemmas.Bool.{both_ways, cases_lt}
 use mathlib.Core.HLevel.{⊥_prop}
 use mathlib.Core.Logic.{∥∥₁_elim}
 use Rattle.abnfread.specs.Element.{Rule}
-use Rattle.abnfcheck.specs.Beginnings.{IsFurthest}
+use Rattle.abnfcheck.specs.Prefixes.{IsFurthest}
 use Rattle.abnfcheck.specs.Decided.{Says}
 use Rattle.abnfcheck.specs.Derivable.{AreLetters, RuleDerives}
 use Rattle.abnfrun.specs.LetterAnswers.{IsAnswerOn}
@@ -16,7 +16,7 @@ use Rattle.flatgrammar.specs.declared.verdict.Verdict.TheVariants as verdict
 use Rattle.flatgrammar.specs.Flat.{Flat}
 use Rattle.flatgrammar.specs.FlatVerdicts.{DerivesLine, IsFlatVerdict}
 use Rattle.lowering.specs.Lowered.{IsLowered}
-use Rattle.lowering.specs.ToldBeginnings.{TellsBeginnings}
+use Rattle.lowering.specs.GivenPrefixes.{GivesPrefixes}
 use Rattle.linejudge.specs.declared.answers.Answer.{Answer}
 use Rattle.linejudge.specs.declared.answers.Answer.TheVariants.{Yes, No, NoAfter}
 
@@ -40,7 +40,7 @@ FlatDerives = (has : ℕ → Bool) (rules : List Rule) (judged : ℕ) (flat : Fl
 
 abbrev pub FlatJudges : Type 0
 FlatJudges = (has : ℕ → Bool) (rules : List Rule) (judged : ℕ) (flat : Flat) (x : List ℕ) (said : Verdict)
-    → TellsBeginnings has rules judged flat → length x ≤ flat.limit → AreLetters has x → IsFlatVerdict flat x said
+    → GivesPrefixes has rules judged flat → length x ≤ flat.limit → AreLetters has x → IsFlatVerdict flat x said
     → IsVerdict has rules judged x said
 
 module _ (has : ℕ → Bool) (rules : List Rule) (judged : ℕ) (x : List ℕ) where
@@ -51,20 +51,20 @@ module _ (has : ℕ → Bool) (rules : List Rule) (judged : ℕ) (x : List ℕ) 
   FurthestAt n = IsFurthest has rules judged x n
 
   -- what follows of a grammar that is only known to be there
-  told_yes : (Known : Type 0) → ∥ Known ∥₁ → (Known → Derived) → (said : Bool) × Says Derived said → Derived
-  told_yes Known known tells (true, p) = p
-  told_yes Known known tells (false, none) = absurd (∥∥₁_elim known ⊥_prop (λ k. none (tells k)))
+  reported_yes : (Known : Type 0) → ∥ Known ∥₁ → (Known → Derived) → (said : Bool) × Says Derived said → Derived
+  reported_yes Known known reports (true, p) = p
+  reported_yes Known known reports (false, none) = absurd (∥∥₁_elim known ⊥_prop (λ k. none (reports k)))
 
-  told_no : (Known : Type 0) → ∥ Known ∥₁ → (Known → Derived → ⊥) → Derived → ⊥
-  told_no Known known tells p = ∥∥₁_elim known ⊥_prop (λ k. tells k p)
+  reported_no : (Known : Type 0) → ∥ Known ∥₁ → (Known → Derived → ⊥) → Derived → ⊥
+  reported_no Known known reports p = ∥∥₁_elim known ⊥_prop (λ k. reports k p)
 
-  told_furthest : FurthestIsOne → (Known : Type 0) → ∥ Known ∥₁ → (n : ℕ) → (Known → FurthestAt n) → (m : ℕ)
+  reported_furthest : FurthestIsOne → (Known : Type 0) → ∥ Known ∥₁ → (n : ℕ) → (Known → FurthestAt n) → (m : ℕ)
       × FurthestAt m → FurthestAt n
-  told_furthest one Known known n tells (m, found) = elim (cases_lt m n) [
-    | inl lt ↦ absurd (∥∥₁_elim known ⊥_prop (λ k. let e = one has rules judged x m n found (tells k) in
+  reported_furthest one Known known n reports (m, found) = elim (cases_lt m n) [
+    | inl lt ↦ absurd (∥∥₁_elim known ⊥_prop (λ k. let e = one has rules judged x m n found (reports k) in
         omega (arith, e, lt)))
     | inr ge ↦ elim (cases_lt n m) [
-      | inl lt ↦ absurd (∥∥₁_elim known ⊥_prop (λ k. let e = one has rules judged x m n found (tells k) in
+      | inl lt ↦ absurd (∥∥₁_elim known ⊥_prop (λ k. let e = one has rules judged x m n found (reports k) in
           omega (arith, e, lt)))
       | inr le ↦ let same : m ≡ n = omega (arith, ge, le) in subst (λ (v : ℕ). FurthestAt v) same found
     ]
@@ -74,19 +74,19 @@ module _ (has : ℕ → Bool) (rules : List Rule) (judged : ℕ) (x : List ℕ) 
   module _ (flat : Flat) (short : length x ≤ flat.limit) (letters : AreLetters has x) where
     pub judge_says : DerivationIsDecided → FlatDerives → (said : Bool) → ∥ IsLowered rules judged flat ∥₁
         → (IsTrue said ↔ DerivesLine flat x) → Says Derived said
-    judge_says law items true lowered answer = told_yes (IsLowered rules judged flat) lowered
+    judge_says law items true lowered answer = reported_yes (IsLowered rules judged flat) lowered
         (λ l. (items has rules judged flat x l short letters).0 (answer.0 refl)) (law has rules judged x)
-    judge_says law items false lowered answer = told_no (IsLowered rules judged flat) lowered
+    judge_says law items false lowered answer = reported_no (IsLowered rules judged flat) lowered
         (λ l p. both_ways false refl (answer.1 ((items has rules judged flat x l short letters).1 p)))
 
     pub verdict_says : DerivationIsDecided → FurthestIsFound → FurthestIsOne → FlatJudges → (said : Verdict)
-        → ∥ TellsBeginnings has rules judged flat ∥₁ → IsFlatVerdict flat x said → IsVerdict has rules judged x said
-    verdict_says law found one items verdict.Yes pruned is = told_yes (TellsBeginnings has rules judged flat) pruned
+        → ∥ GivesPrefixes has rules judged flat ∥₁ → IsFlatVerdict flat x said → IsVerdict has rules judged x said
+    verdict_says law found one items verdict.Yes pruned is = reported_yes (GivesPrefixes has rules judged flat) pruned
         (λ t. items has rules judged flat x verdict.Yes t short letters is) (law has rules judged x)
     verdict_says law found one items (verdict.No n) pruned is = (
-      told_no (TellsBeginnings has rules judged flat) pruned
+      reported_no (GivesPrefixes has rules judged flat) pruned
           (λ t. (items has rules judged flat x (verdict.No n) t short letters is).0),
-      told_furthest one (TellsBeginnings has rules judged flat) pruned n
+      reported_furthest one (GivesPrefixes has rules judged flat) pruned n
           (λ t. (items has rules judged flat x (verdict.No n) t short letters is).1) (found has rules judged x),
     )
 

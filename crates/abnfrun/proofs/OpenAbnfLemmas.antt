@@ -12,13 +12,23 @@ use Rattle.abnfrun.specs.AbnfAnswers.{AbnfStates, judges}
 use Rattle.abnfrun.specs.AbnfLanguage.{IsChecked}
 use Rattle.abnfrun.specs.AbnfNoted.{all_rules, judged_of, rule_given}
 use Rattle.abnfrun.specs.AbnfReply.{AnswersFor, IsAnswerTo, RefusalFor, form_of, judged_size}
-use Rattle.abnfrun.specs.OpenAbnf.{IsOpened, TellsAlone, answer_alone, judged_line, line_alone}
+use Rattle.abnfrun.specs.OpenAbnf.{IsOpened, ReportsAlone, answer_alone, judged_line, line_alone}
 use Rattle.abnfrun.specs.AbnfTextHints.{AreTextHints}
 use Rattle.abnfrun.specs.OpenJudge.{OpenJudge}
-use Rattle.linejudge.specs.InputLines.{GoesBy, HasNoEnd, StandsAt, with_end, none, one_more, at_front, behind, is_over}
+use Rattle.linejudge.specs.InputLines.{
+  GoesBy,
+  HasNoEnd,
+  StandsAt,
+  with_end,
+  none,
+  one_more,
+  at_front,
+  position_after,
+  is_over,
+}
 use Rattle.linejudge.specs.InputLines.{kept_line, kept_size, printed_last, printed_line, refused_by, status_after}
 use Rattle.linejudge.specs.InputLines.{place_taken}
-use Rattle.linejudge.specs.LineRefusals.{LinesReply, TellsLine, count_untold, none_told, one_told}
+use Rattle.linejudge.specs.LineRefusals.{LinesReply, ReportsLine, count_untold, none_reported, one_reported}
 use Rattle.linejudge.specs.declared.answers.Answer.{Answer}
 use Rattle.linejudge.specs.declared.answers.Answer.TheVariants.{Yes, No, NoAfter}
 use Rattle.linejudge.specs.declared.line.LineForm.{LineForm}
@@ -33,7 +43,7 @@ use Rattle.toolrun.specs.Reply.{Reply}
 use Rattle.toolrun.specs.Explained.{ExplainedIf}
 use Rattle.toolrun.specs.RunEnd.{more_refused}
 use Rattle.toolrun.specs.Status.{code_of}
-use Rattle.toolrun.specs.ToldNotes.{HintedNotes}
+use Rattle.toolrun.specs.ReportedNotes.{HintedNotes}
 use Rattle.toolrun.specs.declared.settings.Mode.TheVariants.{Run}
 use Rattle.abnfrun.specs.AbnfSettings.{AbnfSettings}
 use Rattle.toolrun.specs.declared.stop.Stop.TheVariants.{Quiet}
@@ -50,13 +60,13 @@ quiet_ends : (asked : Bool) → ExplainedIf asked (λ text. text ≡ []) []
 quiet_ends true = refl
 quiet_ends false = refl
 
-module _ (Told : List ℕ → Answer → Type 0) (asked : Bool) (Refusal : List ℕ → ℕ → List ℕ → Type 0) (form : LineForm)
+module _ (Reported : List ℕ → Answer → Type 0) (asked : Bool) (Refusal : List ℕ → ℕ → List ℕ → Type 0) (form : LineForm)
     (line : List ℕ) (said : Answer) (why : List ℕ) where
   abbrev alone : Input
   alone = record { bytes = line ++ form.end ∷ []; fault = false }
 
   abbrev after : LinePosition
-  after = behind at_front (length line + 1) said
+  after = position_after at_front (length line + 1) said
 
   abbrev judged : List ℕ
   judged = kept_line form line
@@ -68,9 +78,9 @@ module _ (Told : List ℕ → Answer → Type 0) (asked : Bool) (Refusal : List 
   last = printed_last form.printed after
 
   abbrev reply_of : List ℕ → Reply
-  reply_of told = record {
+  reply_of reported = record {
     out = shown ++ last;
-    err = told;
+    err = reported;
     status = code_of (status_after (refused_by said));
     taken = length line + 1;
   }
@@ -90,9 +100,9 @@ module _ (Told : List ℕ → Answer → Type 0) (asked : Bool) (Refusal : List 
   one_line_taken : length line + 1 ≡ place_taken form.limit alone after
   one_line_taken = omega (arith, all_is_taken)
 
-  pub one_line_replies : HasNoEnd form.end line → length judged ≤ kept_size form form.limit → Told judged said
-      → TellsLine Told asked Refusal at_front judged said why → LinesReply Told asked Refusal form alone reply
-  one_line_replies one within told tells =
+  pub one_line_replies : HasNoEnd form.end line → length judged ≤ kept_size form form.limit → Reported judged said
+      → ReportsLine Reported asked Refusal at_front judged said why → LinesReply Reported asked Refusal form alone reply
+  one_line_replies one within reported reports =
       let short = kept_short form line form.limit within in
       let stands : StandsAt form alone 0 judged (length line + 1) =
       with_end line (record { after = []; cut = refl; one = one; within = short }) in
@@ -104,7 +114,7 @@ module _ (Told : List ℕ → Answer → Type 0) (asked : Bool) (Refusal : List 
           before = shown;
           last = last;
           stop = Quiet (status_after after.refused);
-          steps = one_more at_front [] judged (length line + 1) said none by told;
+          steps = one_more at_front [] judged (length line + 1) said none by reported;
           ends = ends_quietly form alone after (is_over form after) refl (nothing_is_left, refl);
           out = refl;
           err = refl;
@@ -112,14 +122,14 @@ module _ (Told : List ℕ → Answer → Type 0) (asked : Bool) (Refusal : List 
           taken = one_line_taken;
         };
         before = why;
-        tells = record {
+        reports = record {
           first = why;
-          refusals = one_told at_front [] judged (length line + 1) said why none_told by told tells;
+          refusals = one_reported at_front [] judged (length line + 1) said why none_reported by reported reports;
           is = rw (one_counted, none_more asked said) (sym (append-nil why));
         };
         why = [];
         explains = quiet_ends asked;
-        told = ap reply_of (sym (append-nil why));
+        reported = ap reply_of (sym (append-nil why));
       }
 
 -- a text that was checked, and whose grammar is refused
@@ -163,19 +173,21 @@ judge_is_opened text settings notes rules known id grammar judge is some same at
     })
 
 -- the answer of an open grammar to a line is what a run of its text states for that line alone
-pub open_states : (text line : List ℕ) (settings : AbnfSettings) (notes : List Said) (told : List ℕ) (judge : OpenJudge)
+pub open_states : (text line : List ℕ) (settings : AbnfSettings) (notes : List Said) (reported : List ℕ)
+    (judge : OpenJudge)
     (said : Answer) (why : List ℕ) → settings.mode ≡ Run → IsOpened text settings notes (Some judge)
-    → HintedNotes settings (ExplainsAbnfNote text) (AreTextHints text settings) notes told
+    → HintedNotes settings (ExplainsAbnfNote text) (AreTextHints text settings) notes reported
     → HasNoEnd (form_of settings).end line
     → length (judged_line settings line) ≤ judge.limit
     → IsAnswerTo judge.letters judge.viable (rules_of judge.grammar.rules) judge.grammar.judged
-    (judged_line settings line) said → TellsAlone judge settings (judged_line settings line) said why
-    → AbnfStates text settings (line_alone settings line) told (answer_alone settings line said why)
-open_states text line settings notes told judge said why run is tells one within answers explains =
+    (judged_line settings line) said → ReportsAlone judge settings (judged_line settings line) said why
+    → AbnfStates text settings (line_alone settings line) reported (answer_alone settings line said why)
+open_states text line settings notes reported judge said why run is reports one within answers explains =
     let j = is.ready.1 in
     let rules = all_rules is.definitions in
     let judged = judged_of is.definitions (rule_given settings) in
-    judges is.definitions notes told (answer_alone settings line said why) is.reads is.are_notes tells is.ready.0 run
+    judges is.definitions notes reported (answer_alone settings line said why) is.reads is.are_notes reports is.ready.0
+    run
     (whole_states (AnswersFor rules judged settings) settings.explain (RefusalFor rules judged settings)
     (form_of settings) (line_alone settings line) _ (one_line_replies (AnswersFor rules judged settings)
     settings.explain (RefusalFor rules judged settings) (form_of settings) line said why one (rw (← j.limit) within)

@@ -14,7 +14,7 @@ use Rattle.abnfrun.specs.AbnfTextHints.{AreTextHints}
 use Rattle.toolrun.specs.Explained.{Explained}
 use Rattle.toolrun.specs.Input.{Input}
 use Rattle.toolrun.specs.Reply.{Reply, notes_alone, refusal, unexplained_fault, without_memory}
-use Rattle.toolrun.specs.ToldNotes.{CutNotes, HintedNotes, ToldNotes}
+use Rattle.toolrun.specs.ReportedNotes.{CutNotes, HintedNotes, ReportedNotes}
 use Rattle.toolrun.specs.declared.settings.Mode.TheVariants.{Run, Check, Print}
 use Rattle.abnfrun.specs.AbnfSettings.{AbnfSettings}
 
@@ -28,36 +28,36 @@ pub data AbnfStates (text : List ℕ) (settings : AbnfSettings) (input : Input) 
   unexplained : (fault : ReadFault) → IsFaultOf text fault → fault ≢ Memory → settings.explain ≡ true
       → AbnfStates text settings input [] (unexplained_fault fault)
   -- the text is a grammar that notes reject
-  noted : (definitions : List Definition) (notes : List Said) (told : List ℕ) → Reads text definitions
+  noted : (definitions : List Definition) (notes : List Said) (reported : List ℕ) → Reads text definitions
       → AreNotesOn definitions (rule_given settings) notes
-      → HintedNotes settings (ExplainsAbnfNote text) (AreTextHints text settings) notes told →
+      → HintedNotes settings (ExplainsAbnfNote text) (AreTextHints text settings) notes reported →
       IsRefusedFor definitions (rule_given settings) → settings.mode ≢ Print
-      → AbnfStates text settings input told (notes_alone 2)
+      → AbnfStates text settings input reported (notes_alone 2)
   -- it is a grammar that no note rejects, and no more is asked
-  checked : (definitions : List Definition) (notes : List Said) (told : List ℕ) → Reads text definitions
+  checked : (definitions : List Definition) (notes : List Said) (reported : List ℕ) → Reads text definitions
       → AreNotesOn definitions (rule_given settings) notes
-      → HintedNotes settings (ExplainsAbnfNote text) (AreTextHints text settings) notes told →
+      → HintedNotes settings (ExplainsAbnfNote text) (AreTextHints text settings) notes reported →
       (IsRefusedFor definitions (rule_given settings) → ⊥) → settings.mode ≡ Check
-      → AbnfStates text settings input told (notes_alone 0)
+      → AbnfStates text settings input reported (notes_alone 0)
   -- the lines of the input are judged by its judged rule
-  judges : (definitions : List Definition) (notes : List Said) (told : List ℕ) (stated : Reply)
+  judges : (definitions : List Definition) (notes : List Said) (reported : List ℕ) (stated : Reply)
       → Reads text definitions → AreNotesOn definitions (rule_given settings) notes
-      → HintedNotes settings (ExplainsAbnfNote text) (AreTextHints text settings) notes told →
+      → HintedNotes settings (ExplainsAbnfNote text) (AreTextHints text settings) notes reported →
       (IsRefusedFor definitions (rule_given settings) → ⊥) → settings.mode ≡ Run →
       JudgeReply (all_rules definitions) (judged_of definitions (rule_given settings)) settings input stated
-      → AbnfStates text settings input told stated
+      → AbnfStates text settings input reported stated
   -- an allocation failed in explaining its notes: the first of them are written
-  cut_notes : (definitions : List Definition) (notes : List Said) (told : List ℕ) → Reads text definitions
-      → AreNotesOn definitions (rule_given settings) notes → CutNotes settings (ExplainsAbnfNote text) notes told
-      → settings.mode ≢ Print → AbnfStates text settings input told (without_memory [] 0)
+  cut_notes : (definitions : List Definition) (notes : List Said) (reported : List ℕ) → Reads text definitions
+      → AreNotesOn definitions (rule_given settings) notes → CutNotes settings (ExplainsAbnfNote text) notes reported
+      → settings.mode ≢ Print → AbnfStates text settings input reported (without_memory [] 0)
   -- it is only to be printed, but defines a rule again
-  again : (definitions : List Definition) (notes : List Said) (told : List ℕ) → Reads text definitions
-      → AreAgain definitions notes → ToldNotes settings (ExplainsAbnfNote text) notes told → notes ≢ []
-      → settings.mode ≡ Print → AbnfStates text settings input told (notes_alone 2)
+  again : (definitions : List Definition) (notes : List Said) (reported : List ℕ) → Reads text definitions
+      → AreAgain definitions notes → ReportedNotes settings (ExplainsAbnfNote text) notes reported → notes ≢ []
+      → settings.mode ≡ Print → AbnfStates text settings input reported (notes_alone 2)
   -- an allocation failed in explaining that
-  cut_again : (definitions : List Definition) (notes : List Said) (told : List ℕ) → Reads text definitions
-      → AreAgain definitions notes → CutNotes settings (ExplainsAbnfNote text) notes told → settings.mode ≡ Print
-      → AbnfStates text settings input told (without_memory [] 0)
+  cut_again : (definitions : List Definition) (notes : List Said) (reported : List ℕ) → Reads text definitions
+      → AreAgain definitions notes → CutNotes settings (ExplainsAbnfNote text) notes reported → settings.mode ≡ Print
+      → AbnfStates text settings input reported (without_memory [] 0)
   -- it is only to be printed, and defines no rule again
   printed : (definitions : List Definition) → Reads text definitions → AreAgain definitions [] → settings.mode ≡ Print →
       AbnfStates text settings input [] (printed_rules (file_rules definitions))

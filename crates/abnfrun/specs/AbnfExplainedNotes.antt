@@ -11,7 +11,7 @@ use Rattle.abnfread.specs.Element.{Definition}
 use Rattle.abnfread.specs.declared.elem.Elem.{Elem}
 use Rattle.abnfcheck.specs.NameChains.{AreNameChains, IsNameChain}
 use Rattle.abnfexplain.specs.AbnfNoteLines.{AreAbnfPlaces, ExplainsNote}
-use Rattle.abnfexplain.specs.ChainLines.{chain_told}
+use Rattle.abnfexplain.specs.ChainLines.{chain_reported}
 use Rattle.abnfprint.specs.AbnfReadBack.{file_rules}
 use Rattle.abnfrun.specs.AbnfNoted.{all_rules}
 use Rattle.abnfrun.specs.declared.abnf_places.AbnfPlaces.{AbnfPlaces}
@@ -22,20 +22,20 @@ pub record IsReachLine (text : List ℕ) (start : Option (List ℕ)) (name line 
   pub reads : Reads text definitions
   pub chain : Option (List (List ℕ))
   pub is_chain : IsNameChain (all_rules definitions) start name chain
-  pub is : line ≡ chain_told chain
+  pub is : line ≡ chain_reported chain
 
 -- it follows notes on names that no rule has, and on rules that hold prose
-abbrev pub IsReachBehind : List ℕ → Option (List ℕ) → NoteKind → List ℕ → List ℕ → Type 0
-IsReachBehind text start Undefined name line = IsReachLine text start name line
-IsReachBehind text start Prose name line = IsReachLine text start name line
-IsReachBehind text start _ name line = line ≡ []
+abbrev pub IsReachAfter : List ℕ → Option (List ℕ) → NoteKind → List ℕ → List ℕ → Type 0
+IsReachAfter text start Undefined name line = IsReachLine text start name line
+IsReachAfter text start Prose name line = IsReachLine text start name line
+IsReachAfter text start _ name line = line ≡ []
 
 -- the lines explain the note
 pub record ExplainsAbnfNote (text : List ℕ) (start : Option (List ℕ)) (note : Said) (why : List ℕ) : Type 0 where
   pub lines : List ℕ
   pub line : List ℕ
   pub explains : ExplainsNote text start note lines
-  pub behind : IsReachBehind text start note.kind note.name line
+  pub after : IsReachAfter text start note.kind note.name line
   pub is : why ≡ lines ++ line
 
 -- the code's rules are those of a text, so many, and then the core rules that it leaves alone

@@ -2,7 +2,7 @@
 use Prim.Native.Char.{code}
 use Rattle.std.specs.Prelude.{◌≡◌, ℕ, Bool, true, false, cond, List, take}
 use Rattle.abnfread.specs.Element.{Rule}
-use Rattle.abnfcheck.specs.Beginnings.{IsFurthest}
+use Rattle.abnfcheck.specs.Prefixes.{IsFurthest}
 use Rattle.abnfcheck.specs.Derivable.{RuleDerives}
 use Rattle.abnfprint.specs.CanonicalAbnf.{grammar_text}
 use Rattle.letters.specs.Letters.{has}
@@ -16,7 +16,7 @@ use Rattle.linejudge.specs.declared.line.LineForm.{LineForm}
 use Rattle.linejudge.specs.declared.printed.Printed.{Printed}
 use Rattle.linejudge.specs.declared.printed.Printed.TheVariants.{Nothing}
 use Rattle.linejudge.specs.declared.answers.Answer.TheVariants.{Yes, No, NoAfter}
-use Rattle.refusedlines.specs.Refusals.{IsRefusalTold}
+use Rattle.refusedlines.specs.Refusals.{IsRefusalReported}
 use Rattle.toolrun.specs.Input.{Input}
 use Rattle.toolrun.specs.Reply.{Reply, text_alone}
 use Rattle.abnfrun.specs.AbnfSettings.{AbnfSettings}
@@ -78,7 +78,7 @@ judged_size settings = kept_size (form_of settings)
 
 -- what explains a rejected line of that number
 abbrev pub RefusalFor : List Rule → ℕ → AbnfSettings → List ℕ → ℕ → List ℕ → Type 0
-RefusalFor rules judged settings = IsRefusalTold settings.options.letters rules judged
+RefusalFor rules judged settings = IsRefusalReported settings.options.letters rules judged
 
 -- each line of the input is judged by that rule, and the first rejected ones are explained if that is asked; no
 -- allocation fails

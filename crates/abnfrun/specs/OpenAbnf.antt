@@ -6,11 +6,11 @@ use Rattle.abnfread.specs.Element.{Definition}
 use Rattle.abnfrun.specs.AbnfNoted.{all_rules, judged_of, AreNotesOn, IsRefusedFor, rule_given}
 use Rattle.abnfrun.specs.AbnfReply.{IsAnswerTo, form_of, judged_size}
 use Rattle.abnfrun.specs.OpenJudge.{OpenJudge}
-use Rattle.linejudge.specs.InputLines.{at_front, behind, kept_line, printed_last, printed_line, refused_by}
+use Rattle.linejudge.specs.InputLines.{at_front, position_after, kept_line, printed_last, printed_line, refused_by}
 use Rattle.linejudge.specs.InputLines.{status_after}
-use Rattle.linejudge.specs.LineRefusals.{TellsLine}
+use Rattle.linejudge.specs.LineRefusals.{ReportsLine}
 use Rattle.linejudge.specs.declared.answers.Answer.{Answer}
-use Rattle.refusedlines.specs.Refusals.{IsRefusalTold}
+use Rattle.refusedlines.specs.Refusals.{IsRefusalReported}
 use Rattle.ruletable.specs.Notes.{Said}
 use Rattle.toolrun.specs.Input.{Input}
 use Rattle.toolrun.specs.Reply.{Reply}
@@ -39,10 +39,10 @@ abbrev pub line_alone : AbnfSettings → List ℕ → Input
 line_alone settings line = record { bytes = line ++ (form_of settings).end ∷ []; fault = false }
 
 -- the explanation of the line with that answer, if it is rejected and explanations are asked for
-abbrev pub TellsAlone : OpenJudge → AbnfSettings → List ℕ → Answer → List ℕ → Type 0
-TellsAlone judge settings = TellsLine
+abbrev pub ReportsAlone : OpenJudge → AbnfSettings → List ℕ → Answer → List ℕ → Type 0
+ReportsAlone judge settings = ReportsLine
     (IsAnswerTo judge.letters judge.viable (rules_of judge.grammar.rules) judge.grammar.judged) settings.explain
-    (IsRefusalTold judge.letters (rules_of judge.grammar.rules) judge.grammar.judged) at_front
+    (IsRefusalReported judge.letters (rules_of judge.grammar.rules) judge.grammar.judged) at_front
 
 -- what is judged of that line: the line, or the line with its end, if settings ask for it
 abbrev pub judged_line : AbnfSettings → List ℕ → List ℕ
@@ -50,10 +50,10 @@ judged_line settings = kept_line (form_of settings)
 
 -- the reply to the input that is one line: what is printed for that answer, and its explanation
 abbrev pub answer_alone : AbnfSettings → List ℕ → Answer → List ℕ → Reply
-answer_alone settings line said told = record {
+answer_alone settings line said reported = record {
   out = printed_line (form_of settings) 1 (judged_line settings line) said
-      ++ printed_last (form_of settings).printed (behind at_front (length line + 1) said);
-  err = told;
+      ++ printed_last (form_of settings).printed (position_after at_front (length line + 1) said);
+  err = reported;
   status = code_of (status_after (refused_by said));
   taken = length line + 1;
 }

@@ -69,16 +69,16 @@ pub fn run_abnf<R: Source, O: Sink, E: Sink>(
     requires reader_is_open { R.ended reader.old ≡ false }
     requires out_is_fresh { O.failed out.old ≡ false }
     requires err_is_fresh { E.failed err.old ≡ false }
-    ensures right { IfSome (R.remaining reader.old) (λ given. (taken wrote told : List ℕ) ×
+    ensures right { IfSome (R.remaining reader.old) (λ given. (taken wrote reported : List ℕ) ×
         Consumes (R.remaining reader.old) (R.remaining reader.new) taken ×
         Appends (O.contents out.old) (O.contents out.new) wrote ×
-        Appends (E.contents err.old) (E.contents err.new) told ×
+        Appends (E.contents err.old) (E.contents err.new) reported ×
         IsRight (AbnfStates grammar.now settings.now) given (record {
           taken = taken;
           read_failed = R.failed reader.new;
           out = wrote;
           out_failed = O.failed out.new;
-          err = told;
+          err = reported;
           err_failed = E.failed err.new;
           status = code_of result;
         })) }

@@ -50,8 +50,9 @@ pub(crate) fn hints_of(
     places: &AbnfPlaces,
     settings: &AbnfSettings<'_>,
 ) -> Result<Vec<u8>, Memory>
-    ensures { IfOk result (λ told. (text : List ℕ) → AreNotePlaces text (option_copied settings.now.start) places.now
-        → AreTextHints text settings.now told.items) }
+    ensures { IfOk result (λ reported. (text : List ℕ) → AreNotePlaces text
+        (option_copied settings.now.start) places.now
+        → AreTextHints text settings.now reported.items) }
 {
     let judged = hinted_id(&places.all.rules, settings)?;
     let hinted = Hinted {

@@ -7,11 +7,11 @@ ghost use Rattle.abnfrun.specs.AbnfReply.{IsAnswerTo, form_of, judged_size};
 ghost use Rattle.abnfrun.specs.OpenJudge.{ExplainsLines};
 ghost use Rattle.abnfrun.specs.LetterAnswers.{IsAnswerOn, torn};
 ghost use Rattle.lowering.specs.Lowered.{IsLowered};
-ghost use Rattle.lowering.specs.ToldBeginnings.{TellsBeginnings};
+ghost use Rattle.lowering.specs.GivenPrefixes.{GivesPrefixes};
 ghost use Rattle.letters.specs.Letters.{has};
 ghost use Rattle.letters.specs.Utf8Text.{IsText};
 ghost use Rattle.linejudge.specs.declared.answers.Answer.{Answer};
-ghost use Rattle.refusedlines.specs.Refusals.{IsRefusalTold};
+ghost use Rattle.refusedlines.specs.Refusals.{IsRefusalReported};
 
 use crate::engines::Engines;
 use crate::options::AbnfSettings;
@@ -21,7 +21,7 @@ use flatgrammar::{Flat, Verdict};
 use lazydfa::Automaton;
 use letters::{Alphabet, CodePoint, Letter, decode, utf8_is_decided, utf8_len};
 use linejudge::{Answer, Judge, LineForm, Printed};
-use lowering::{items_tell, lower, lower_viable, values_are_letters};
+use lowering::{items_decide, lower, lower_viable, values_are_letters};
 use refusedlines::{Explainer, RefusedLine, explain_refused};
 use ruletable::Memory;
 use std::alloc::Global;
@@ -44,7 +44,7 @@ pub struct LineJudge<'a> {
     /// an allocation failed in making it.
     pub(crate) explainer: Option<&'a Flat>,
     ghost lowered: { viable ≡ false → ∥ IsLowered (rules_of grammar.now.rules) grammar.now.judged flat.now ∥₁ },
-    ghost tells: { viable ≡ true → ∥ TellsBeginnings (has letters) (rules_of grammar.now.rules) grammar.now.judged
+    ghost reports: { viable ≡ true → ∥ GivesPrefixes (has letters) (rules_of grammar.now.rules) grammar.now.judged
         flat.now ∥₁ },
 }
 
@@ -105,7 +105,7 @@ fn judge_letters<L: Letter>(
 {
     derivation_is_decided();
     furthest_is_found();
-    items_tell();
+    items_decide();
     if judges.viable {
         return match engines.viable(judges.flat, line)? {
             Verdict::Yes => Ok(Answer::Yes),
@@ -190,7 +190,7 @@ fn explain_line(
     requires more { IfSome work.old.explainer (λ a. a ≡ more.now) }
     ensures same { work.new.engines ≡ work.old.engines }
     ensures more { IfSome work.new.explainer (λ a. a ≡ more.now) }
-    ensures told { IfOk result (λ why. IsRefusalTold judges.now.letters (rules_of judges.now.grammar.now.rules)
+    ensures reported { IfOk result (λ why. IsRefusalReported judges.now.letters (rules_of judges.now.grammar.now.rules)
         judges.now.grammar.now.judged line.entry.bytes.now line.entry.number why.items) }
 {
     let explainer = Explainer {
@@ -220,11 +220,11 @@ fn explain_line(
 }
 
 impl Judge<Work> for LineJudge<'_> {
-    ghost told = { λ j. IsAnswerTo j.letters j.viable (rules_of j.grammar.now.rules) j.grammar.now.judged };
+    ghost reported = { λ j. IsAnswerTo j.letters j.viable (rules_of j.grammar.now.rules) j.grammar.now.judged };
 
     ghost explains = { λ j. j.explains };
 
-    ghost refusal = { λ j. IsRefusalTold j.letters (rules_of j.grammar.now.rules) j.grammar.now.judged };
+    ghost refusal = { λ j. IsRefusalReported j.letters (rules_of j.grammar.now.rules) j.grammar.now.judged };
 
     ghost served = { λ j. j.flat.now.limit };
 
@@ -286,8 +286,8 @@ pub(crate) fn lowered(
     ensures limit { IfOk result (λ flat. flat.limit ≡ judged_size settings.now settings.now.limit) }
     ensures lowered { IfOk result (λ flat. settings.now.options.viable ≡ false →
         IsLowered (rules_of grammar.now.rules) grammar.now.judged flat) }
-    ensures tells { IfOk result (λ flat. settings.now.options.viable ≡ true →
-        TellsBeginnings (has settings.now.options.letters) (rules_of grammar.now.rules) grammar.now.judged flat) }
+    ensures reports { IfOk result (λ flat. settings.now.options.viable ≡ true →
+        GivesPrefixes (has settings.now.options.letters) (rules_of grammar.now.rules) grammar.now.judged flat) }
 {
     if settings.options.viable {
         return lower_viable(

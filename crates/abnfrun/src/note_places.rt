@@ -4,8 +4,8 @@ ghost use Rattle.ruletable.specs.Notes.{said_of};
 ghost use Rattle.abnfread.specs.AbnfReading.{Reads};
 ghost use Rattle.abnfread.specs.Element.{Definition, Rule};
 ghost use Rattle.abnfcheck.specs.NameChains.{AreNameChains, IsNameChain};
-ghost use Rattle.abnfexplain.specs.ChainLines.{chain_told};
-ghost use Rattle.abnfrun.specs.AbnfExplainedNotes.{AreAllRules, AreNotePlaces, ExplainsAbnfNote, IsReachBehind};
+ghost use Rattle.abnfexplain.specs.ChainLines.{chain_reported};
+ghost use Rattle.abnfrun.specs.AbnfExplainedNotes.{AreAllRules, AreNotePlaces, ExplainsAbnfNote, IsReachAfter};
 ghost use Rattle.abnfrun.specs.AbnfNoted.{all_rules};
 
 use crate::abnf_places::AbnfPlaces;
@@ -46,7 +46,7 @@ fn push_reached(
 ) -> Result<(), Memory>
     ensures { OnOk result ((rules : List Rule) (given : Option (List ℕ)) → AreNameChains rules given chains.now
         → (chain : Option (List (List ℕ))) × IsNameChain rules given name.now chain
-        × (out.new.items ≡ out.old.items ++ chain_told chain)) }
+        × (out.new.items ≡ out.old.items ++ chain_reported chain)) }
 {
     if let Some(ids) = chains.chain_to(alloc, name)? {
         push_chain(out, &chains.names, &ids)?;
@@ -55,7 +55,7 @@ fn push_reached(
 }
 
 // Adds the line that follows those of a note, if one does.
-fn push_behind(
+fn push_after(
     alloc: Global,
     out: &mut Vec<u8>,
     chains: &NameChains,
@@ -63,7 +63,7 @@ fn push_behind(
 ) -> Result<(), Memory>
     ensures { OnOk result ((text : List ℕ) (start : Option (List ℕ)) (definitions : List Definition)
         → Reads text definitions → AreNameChains (all_rules definitions) start chains.now → (line : List ℕ)
-        × IsReachBehind text start note.now.kind note.now.name.items line
+        × IsReachAfter text start note.now.kind note.now.name.items line
         × (out.new.items ≡ out.old.items ++ line)) }
 {
     match note.kind {
@@ -89,6 +89,6 @@ pub(crate) fn explain_reached(
         → ExplainsAbnfNote text (option_copied start.entry) (said_of note.now) why.items) }
 {
     let mut why = explain_abnf_note(alloc, &places.places, start, note)?;
-    push_behind(alloc, &mut why, &places.chains, note)?;
+    push_after(alloc, &mut why, &places.chains, note)?;
     Ok(why)
 }

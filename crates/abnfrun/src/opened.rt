@@ -7,7 +7,7 @@ ghost use Rattle.abnfrun.specs.AbnfReply.{IsAnswerTo, judged_size};
 ghost use Rattle.abnfrun.specs.AbnfTextHints.{AreTextHints};
 ghost use Rattle.abnfrun.specs.OpenAbnf.{IsOpened};
 ghost use Rattle.ruletable.specs.Notes.{said_of};
-ghost use Rattle.toolrun.specs.ToldNotes.{HintedNotes};
+ghost use Rattle.toolrun.specs.ReportedNotes.{HintedNotes};
 
 use crate::abnf_language::AbnfLanguage;
 use crate::line_judge::{LineJudge, Work, lowered};

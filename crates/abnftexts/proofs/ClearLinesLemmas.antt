@@ -8,7 +8,7 @@ use Rattle.abnfblocks.specs.Fences.{title_size}
 use Rattle.abnfblocks.specs.Furniture.{KeepsLines, none_left as none_kept, stays, goes}
 use Rattle.abnfblocks.specs.KeptSteps.{is_blank_kind}
 use Rattle.abnfblocks.specs.LineKinds.{is_blank, is_blank_line, is_dated, is_feed, is_foot, kind_of}
-use Rattle.abnfblocks.specs.MaskedLines.{AreRead, MasksBlocks, MasksMarkdown, ReadsLines, behind_blanks, hidden}
+use Rattle.abnfblocks.specs.MaskedLines.{AreRead, MasksBlocks, MasksMarkdown, ReadsLines, after_blanks, hidden}
 use Rattle.abnfblocks.specs.MaskedLines.{masked_line}
 use Rattle.abnfblocks.specs.MaskedLines.{none_left, no_block, stays as stays_there}
 use Rattle.abnfblocks.specs.RuleCuts.{blanks_first}
@@ -121,7 +121,7 @@ markdown-clear : {lines masked : List NumberedLine} → MasksMarkdown lines mask
     → Each IsClear masked
 markdown-clear {lines} m h =
     let n = blanks_first lines in
-    let bare = behind_blanks lines in
+    let bare = after_blanks lines in
     subst (Each IsClear) (sym m.is) (both-clear (first-clear n h) (both-clear
     (all-masked (take (title_size bare) bare)) (blocks-clear m.blocks (each-drop (title_size bare) (each-drop n h)))))
 

@@ -88,11 +88,11 @@ fates-more rules n x fate old all lt e is h =
     let within : n < length rows = omega (arith, length-map rules text_rule) in
     let here = given-at rules n x lt e in
     let next : suc n ≡ n + 1 = omega arith in
-    let behind : drop n rows ≡ text_rule x ∷ drop (n + 1) rows =
+    let after : drop n rows ≡ text_rule x ∷ drop (n + 1) rows =
     drop-cons rows n (text_rule x) within
     ∙ ap (λ (row : RuleGiven). row ∷ drop (suc n) rows) here
     ∙ ap (λ (k : ℕ). text_rule x ∷ drop k rows) next in
     let step : map (fate_here rules) (enumerate_from n (drop n rows))
-    ≡ fate ∷ map (fate_here rules) (enumerate_from (n + 1) (drop (n + 1) rows)) = rw (behind, is) refl in
+    ≡ fate ∷ map (fate_here rules) (enumerate_from (n + 1) (drop (n + 1) rows)) = rw (after, is) refl in
     append_assoc old (fate ∷ []) (map (fate_here rules) (enumerate_from (n + 1) (drop (n + 1) rows)))
     ∙ ap (λ (fates : List Fate). old ++ fates) (sym step) ∙ h

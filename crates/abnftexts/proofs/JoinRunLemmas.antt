@@ -44,8 +44,8 @@ IsTextFault TooLong = Unit {0}
 IsTextFault Memory = ⊥
 IsTextFault (NumberTooLarge line) = Unit {0}
 
-no_memory-told : (fault : ReadFault) → IsTextFault fault → fault ≡ Memory → ⊥
-no_memory-told fault is e = subst IsTextFault e is
+no_memory-reported : (fault : ReadFault) → IsTextFault fault → fault ≡ Memory → ⊥
+no_memory-reported fault is e = subst IsTextFault e is
 
 module _ (form : JoinForm) (j : GrammarJoined) where
   abbrev pub DoesJoin : Input → Reply → Type 0
@@ -116,14 +116,14 @@ module _ (form : JoinForm) (j : GrammarJoined) where
   pub fault-stated : (fault : ReadFault) → form ≢ Listed → j.grammar ≢ [] → IsFaultOf j.grammar fault
       → TriedReply form j (stopped (unread fault))
   fault-stated (Syntax line) no_list some is =
-      refused {fault = Syntax line} no_list some is (no_memory-told (Syntax line) tt)
+      refused {fault = Syntax line} no_list some is (no_memory-reported (Syntax line) tt)
   fault-stated (Depth line) no_list some is =
-      refused {fault = Depth line} no_list some is (no_memory-told (Depth line) tt)
+      refused {fault = Depth line} no_list some is (no_memory-reported (Depth line) tt)
   fault-stated (CodePredicate line) no_list some is = absurd is
-  fault-stated TooLong no_list some is = refused {fault = TooLong} no_list some is (no_memory-told TooLong tt)
+  fault-stated TooLong no_list some is = refused {fault = TooLong} no_list some is (no_memory-reported TooLong tt)
   fault-stated Memory no_list some is = tries run.no_memory
   fault-stated (NumberTooLarge line) no_list some is =
-      refused {fault = NumberTooLarge line} no_list some is (no_memory-told (NumberTooLarge line) tt)
+      refused {fault = NumberTooLarge line} no_list some is (no_memory-reported (NumberTooLarge line) tt)
 
   pub fault-stops : (text : List ℕ) (fault : ReadFault) (stop : Stop) (s : Option (List ℕ)) (was : Bool)
       → form ≢ Listed → j.grammar ≢ [] → text ≡ j.grammar → IsFaultOf text fault → stop ≡ unread fault →
@@ -179,7 +179,7 @@ module _ (texts : List NamedText) (form : JoinForm) where
       (too_long no_list some (subst (λ (w : ReadFault). IsFaultOf j.grammar w) long f))
 
   pub joined-planned : (j : GrammarJoined) → AreTextsJoined texts j
-      → IsPlan (JoinStates texts form) j.told (DoesJoin form j)
+      → IsPlan (JoinStates texts form) j.reported (DoesJoin form j)
   joined-planned j are = record {
     stated = λ input reply is. joins are (tried-joined are is);
     some = λ input. (stopped NoMemory, tries run.no_memory);

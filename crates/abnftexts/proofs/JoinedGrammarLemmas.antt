@@ -9,13 +9,13 @@ use Rattle.std.specs.Prelude.{Result, Ok, Err, IfOk, OnOk, slice_get}
 use Rattle.abnftexts.specs.GivenRules.{RuleGiven, fates_of, text_rule}
 use Rattle.abnftexts.specs.declared.join.fate.Fate.{Fate}
 use Rattle.abnftexts.specs.declared.join.given.GivenRule.{GivenRule}
-use Rattle.abnftexts.specs.JoinedGrammar.{GrammarJoined, fate_told, has_stayed, numbered_place, ordered_rules}
-use Rattle.abnftexts.specs.JoinedGrammar.{printed_behind, rule_printed}
+use Rattle.abnftexts.specs.JoinedGrammar.{GrammarJoined, fate_reported, has_stayed, numbered_place, ordered_rules}
+use Rattle.abnftexts.specs.JoinedGrammar.{printed_after, rule_printed}
 use Rattle.abnftexts.specs.JoinedGrammar.{rules_listed, standing}
 use Rattle.abnftexts.specs.JoinedViews.{IsGatheredJoined, IsStandingJoined}
 use Rattle.abnftexts.specs.RulesGathered.{RuleLines, lines_placed}
 use Rattle.abnftexts.specs.declared.gathered.RulePlace.{RulePlace}
-use Rattle.abnftexts.proofs.RulesTakenLemmas.{one-behind}
+use Rattle.abnftexts.proofs.RulesTakenLemmas.{one-after}
 
 -- what stands of rows that are seen otherwise
 pub standing-seen : {A B : Type 0} (f : A → B) (fates : List Fate) (xs : List A)
@@ -46,41 +46,43 @@ module _ (places : List RuleLines) (order : List ℕ) (i : ℕ) where
   pub place-printed : (before after : Option RuleLines) (place : RuleLines) (old new all : List ℕ) → i < length order
       → slice_get places (get_or order i 0) ≡ Some place → after ≡ Some place
       → new ≡ old ++ rule_printed before place
-      → old ++ printed_behind before (ordered_rules places (drop i order)) ≡ all
-      → new ++ printed_behind after (ordered_rules places (drop (i + 1) order)) ≡ all
+      → old ++ printed_after before (ordered_rules places (drop i order)) ≡ all
+      → new ++ printed_after after (ordered_rules places (drop (i + 1) order)) ≡ all
   place-printed before after place old new all lt is last more h =
       let rows = ordered_rules places (drop (i + 1) order) in
-      let rest = printed_behind (Some place) rows in
+      let rest = printed_after (Some place) rows in
       let front : ordered_rules places (drop i order) ≡ ordered_rules places (get_or order i 0 ∷ drop (i + 1) order) =
-      ap (λ (ns : List ℕ). ordered_rules places ns) (one-behind order i 0 lt) in
+      ap (λ (ns : List ℕ). ordered_rules places ns) (one-after order i 0 lt) in
       let here : ordered_rules places (get_or order i 0 ∷ drop (i + 1) order) ≡ place ∷ rows = rw is refl in
-      let step : printed_behind before (ordered_rules places (drop i order)) ≡ rule_printed before place ++ rest =
-      ap (λ (ps : List RuleLines). printed_behind before ps) (front ∙ here) in
-      ap (λ (o : Option RuleLines). new ++ printed_behind o rows) last
+      let step : printed_after before (ordered_rules places (drop i order)) ≡ rule_printed before place ++ rest =
+      ap (λ (ps : List RuleLines). printed_after before ps) (front ∙ here) in
+      ap (λ (o : Option RuleLines). new ++ printed_after o rows) last
       ∙ ap (λ (z : List ℕ). z ++ rest) more ∙ append_assoc old (rule_printed before place) rest
       ∙ ap (λ (z : List ℕ). old ++ z) (sym step) ∙ h
 
   pub no_place-printed : (before after : Option RuleLines) (old new all : List ℕ) → i < length order
       → slice_get places (get_or order i 0) ≡ None → after ≡ before → new ≡ old
-      → old ++ printed_behind before (ordered_rules places (drop i order)) ≡ all
-      → new ++ printed_behind after (ordered_rules places (drop (i + 1) order)) ≡ all
+      → old ++ printed_after before (ordered_rules places (drop i order)) ≡ all
+      → new ++ printed_after after (ordered_rules places (drop (i + 1) order)) ≡ all
   no_place-printed before after old new all lt is last same h =
       let rows = ordered_rules places (drop (i + 1) order) in
       let front : ordered_rules places (drop i order) ≡ ordered_rules places (get_or order i 0 ∷ drop (i + 1) order) =
-      ap (λ (ns : List ℕ). ordered_rules places ns) (one-behind order i 0 lt) in
+      ap (λ (ns : List ℕ). ordered_rules places ns) (one-after order i 0 lt) in
       let here : ordered_rules places (get_or order i 0 ∷ drop (i + 1) order) ≡ rows = rw is refl in
-      ap (λ (o : Option RuleLines). new ++ printed_behind o rows) last
-      ∙ ap (λ (z : List ℕ). z ++ printed_behind before rows) same
-      ∙ ap (λ (ps : List RuleLines). old ++ printed_behind before ps) (sym (front ∙ here)) ∙ h
+      ap (λ (o : Option RuleLines). new ++ printed_after o rows) last
+      ∙ ap (λ (z : List ℕ). z ++ printed_after before rows) same
+      ∙ ap (λ (ps : List RuleLines). old ++ printed_after before ps) (sym (front ∙ here)) ∙ h
 
 -- what stands of what was gathered is joined
-pub gathered-all : (places sp : List RulePlace) (rules sr : List GivenRule) (told listed : List ℕ) (fates : List Fate)
+pub gathered-all : (places sp : List RulePlace) (rules sr : List GivenRule) (reported listed : List ℕ)
+    (fates : List Fate)
     (joined : GrammarJoined) → fates ≡ fates_of (map text_rule rules)
     → listed ≡ rules_listed (map lines_placed places) (map text_rule rules) fates
     → sp ≡ standing fates places → sr ≡ standing fates rules
-    → IsStandingJoined (map lines_placed sp) (map text_rule sr) told listed joined
-    → IsGatheredJoined (record { places = map lines_placed places; rules = map text_rule rules; told = told }) joined
-gathered-all places sp rules sr told listed fates joined are list stand_places stand_rules h =
+    → IsStandingJoined (map lines_placed sp) (map text_rule sr) reported listed joined
+    → IsGatheredJoined (record { places = map lines_placed places; rules = map text_rule rules; reported = reported })
+    joined
+gathered-all places sp rules sr reported listed fates joined are list stand_places stand_rules h =
     let rows : List RuleLines = map lines_placed places in
     let given : List RuleGiven = map text_rule rules in
     let a : map lines_placed sp ≡ standing (fates_of given) rows =
@@ -91,11 +93,14 @@ gathered-all places sp rules sr told listed fates joined are list stand_places s
     ∙ ap (λ (fs : List Fate). standing fs given) are in
     let c : listed ≡ rules_listed rows given (fates_of given) =
     list ∙ ap (λ (fs : List Fate). rules_listed rows given fs) are in
-    let one : IsStandingJoined (standing (fates_of given) rows) (map text_rule sr) told listed joined =
-    subst (λ (ps : List RuleLines). IsStandingJoined ps (map text_rule sr) told listed joined) a h in
-    let two : IsStandingJoined (standing (fates_of given) rows) (standing (fates_of given) given) told listed joined =
-    subst (λ (rs : List RuleGiven). IsStandingJoined (standing (fates_of given) rows) rs told listed joined) b one in
-    subst (λ (l : List ℕ). IsStandingJoined (standing (fates_of given) rows) (standing (fates_of given) given) told l
+    let one : IsStandingJoined (standing (fates_of given) rows) (map text_rule sr) reported listed joined =
+    subst (λ (ps : List RuleLines). IsStandingJoined ps (map text_rule sr) reported listed joined) a h in
+    let two : IsStandingJoined (standing (fates_of given) rows) (standing (fates_of given) given) reported listed joined
+    =
+    subst (λ (rs : List RuleGiven). IsStandingJoined (standing (fates_of given) rows) rs reported listed joined) b one
+    in
+    subst (λ (l : List ℕ). IsStandingJoined (standing (fates_of given) rows)
+    (standing (fates_of given) given) reported l
     joined) c two
 
 -- what is known of a result implies something else
@@ -104,10 +109,10 @@ ok-more P Q (Ok x) more h = more x h
 ok-more P Q (Err e) more h = tt
 
 -- what becomes of a rule, where a word and the position of another one say it
-pub fate-told : {T E : Type 0} (r : Result T E) (places : List RuleLines) (fate : Fate) (n : ℕ)
-    (word old middle new : List ℕ) → fate_told places fate ≡ word ++ numbered_place places n → middle ≡ old ++ word
-    → OnOk r (new ≡ middle ++ numbered_place places n) → OnOk r (new ≡ old ++ fate_told places fate)
-fate-told (Ok x) places fate n word old middle new is mid h =
+pub fate-reported : {T E : Type 0} (r : Result T E) (places : List RuleLines) (fate : Fate) (n : ℕ)
+    (word old middle new : List ℕ) → fate_reported places fate ≡ word ++ numbered_place places n → middle ≡ old ++ word
+    → OnOk r (new ≡ middle ++ numbered_place places n) → OnOk r (new ≡ old ++ fate_reported places fate)
+fate-reported (Ok x) places fate n word old middle new is mid h =
     h ∙ ap (λ (z : List ℕ). z ++ numbered_place places n) mid ∙ append_assoc old word (numbered_place places n)
     ∙ ap (λ (z : List ℕ). old ++ z) (sym is)
-fate-told (Err e) places fate n word old middle new is mid h = tt
+fate-reported (Err e) places fate n word old middle new is mid h = tt

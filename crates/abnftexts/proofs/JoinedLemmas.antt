@@ -11,9 +11,9 @@ use Rattle.abnftexts.specs.JoinedRules.{first_definition, adding_numbers, printe
 use Rattle.abnftexts.specs.declared.join.given.GivenRule.{GivenRule}
 use Rattle.abnftexts.proofs.FatesLemmas.{given-at}
 
-rows-behind : (rules : List GivenRule) (n : ℕ) (x : GivenRule) → n < length rules → x ≡ get_or rules n x
+rows-after : (rules : List GivenRule) (n : ℕ) (x : GivenRule) → n < length rules → x ≡ get_or rules n x
     → drop n (map text_rule rules) ≡ text_rule x ∷ drop (n + 1) (map text_rule rules)
-rows-behind rules n x lt e =
+rows-after rules n x lt e =
     let next : suc n ≡ n + 1 = omega arith in
     drop-cons (map text_rule rules) n (text_rule x) (omega (arith, length-map rules text_rule))
     ∙ ap (λ (row : RuleGiven). row ∷ drop (suc n) (map text_rule rules)) (given-at rules n x lt e)
@@ -31,7 +31,7 @@ module _ {A : Type 0} (here : ℕ → RuleGiven → List A) where
   one-more rules n x old new all lt e more h =
       let rest = from (n + 1) (drop (n + 1) (map text_rule rules)) in
       let step : from n (drop n (map text_rule rules)) ≡ here n (text_rule x) ++ rest =
-      ap (λ (rows : List RuleGiven). from n rows) (rows-behind rules n x lt e) in
+      ap (λ (rows : List RuleGiven). from n rows) (rows-after rules n x lt e) in
       ap (λ (z : List A). z ++ rest) more ∙ append_assoc old (here n (text_rule x)) rest
       ∙ ap (λ (z : List A). old ++ z) (sym step) ∙ h
 

@@ -55,18 +55,18 @@ module _ (one : OneReading) where
     not-refused (as_it_is more reads) no_list fault f n some = one.no_fault _ _ fault f n reads
     not-refused (canonical more reads) no_list fault f n some = one.no_fault _ _ fault f n reads
 
-    long-told : faults.TooLong ≢ faults.Memory
-    long-told bad = absurd (cc)
+    long-reported : faults.TooLong ≢ faults.Memory
+    long-reported bad = absurd (cc)
 
     reply-same : {form : JoinForm} {a b : Reply} → JoinedReply form j a → JoinedReply form j b → a.status ≢ 5
         → b.status ≢ 5 → a ≡ b
     reply-same (writes t) (writes u) p q =
         ap (λ (text : List ℕ). text_written text (joined_status j)) (written-same t u)
     reply-same (writes t) (too_long no_list some f) p q =
-        absurd (not-refused t no_list faults.TooLong f long-told some)
+        absurd (not-refused t no_list faults.TooLong f long-reported some)
     reply-same (writes t) no_memory p q = absurd (q refl)
     reply-same (too_long no_list some f) (writes t) p q =
-        absurd (not-refused t no_list faults.TooLong f long-told some)
+        absurd (not-refused t no_list faults.TooLong f long-reported some)
     reply-same (too_long l s f) (too_long k r g) p q = refl
     reply-same (too_long l s f) no_memory p q = absurd (q refl)
     reply-same no_memory r p q = absurd (p refl)
@@ -77,6 +77,6 @@ module _ (one : OneReading) where
   stated-same texts {form} (joins {j} {reply} x r) (joins {j = k} {reply = other} y s) p q =
       let same : j ≡ k = joined-same texts j k x y in
       let here : JoinedReply form k reply = subst (λ (g : GrammarJoined). JoinedReply form g reply) same r in
-      (ap (λ (g : GrammarJoined). g.told) same, reply-same k here s p q)
+      (ap (λ (g : GrammarJoined). g.reported) same, reply-same k here s p q)
   stated-same texts (joins x r) no_room p q = absurd (q refl)
   stated-same texts no_room s p q = absurd (p refl)

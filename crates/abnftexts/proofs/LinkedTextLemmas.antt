@@ -22,47 +22,47 @@ use Rattle.abnfread.proofs.AbnfFirstLemmas.{letter-dark}
 use Rattle.abnfread.proofs.IndentLemmas.{margin-is}
 use Rattle.abnfblocks.specs.LinkedLines.{EndsLine}
 use Rattle.abnftexts.specs.LinkedTexts.{SpellsAtMargin, moved_definition}
-use Rattle.abnftexts.proofs.LinkedTokenLemmas.{tells-first, tells-second}
-use Rattle.abnftexts.proofs.MovedWordLemmas.{words_behind, grammar-behind, grammar-linked, shallow-behind}
+use Rattle.abnftexts.proofs.LinkedTokenLemmas.{reports-first, reports-second}
+use Rattle.abnftexts.proofs.MovedWordLemmas.{words_after, grammar-after, grammar-linked, shallow-after}
 use Rattle.abnftexts.proofs.MovedWordLemmas.{shallow-linked}
-use Rattle.abnftexts.proofs.MovedWordLemmas.{small-behind, small-linked}
+use Rattle.abnftexts.proofs.MovedWordLemmas.{small-after, small-linked}
 
 pub spells-linked : {a b : List ℕ} {first second : List Definition} → EndsLine a → SpellsAtMargin a first
     → SpellsAtMargin b second → SpellsAtMargin (a ++ b) (first ++ map (moved_definition (length a)) second)
 spells-linked {a} {b} {first} {second} l h k =
     let n = length a in
-    let t = tells-first a b (words_behind n k.words) 0 l (omega arith) h.are_tokens h.say
-    (λ u j lu w e. tells-second j l k.are_tokens k.say lu w e) in
+    let t = reports-first a b (words_after n k.words) 0 l (omega arith) h.are_tokens h.say
+    (λ u j lu w e. reports-second j l k.are_tokens k.say lu w e) in
     let whole = t.whole in
     let spelled : Grammar (t.front ++ word t.gap false End ∷ []) first = (let g = h.grammar in rw whole at g) in
     let shallow : IsShallow MAX_OPEN 0 (t.front ++ word t.gap false End ∷ []) =
     (let g = h.shallow in rw whole at g) in
     let small : AreSmall (t.front ++ word t.gap false End ∷ []) = (let g = h.small in rw whole at g) in
-    let told = t.tells in
+    let reported = t.reports in
     record {
-      tokens = told.tokens;
-      are_tokens = told.are_tokens;
-      words = t.front ++ words_behind n k.words;
-      say = told.say;
+      tokens = reported.tokens;
+      are_tokens = reported.are_tokens;
+      words = t.front ++ words_after n k.words;
+      say = reported.say;
       grammar = grammar-linked t.front t.gap n spelled k.grammar;
       shallow = shallow-linked t.front t.gap MAX_OPEN n spelled k.grammar shallow k.shallow;
       small = small-linked t.front t.gap n k.words small k.small;
     }
 
 -- after comments and blank lines
-pub spells-behind : {a b : List ℕ} {ds : List Definition} → EndsLine a → White a [] → SpellsAtMargin b ds
+pub spells-after : {a b : List ℕ} {ds : List Definition} → EndsLine a → White a [] → SpellsAtMargin b ds
     → SpellsAtMargin (a ++ b) (map (moved_definition (length a)) ds)
-spells-behind {a} l w h =
+spells-after {a} l w h =
     let n = length a in
-    let told = tells-second 0 l h.are_tokens h.say l w (omega arith) in
+    let reported = reports-second 0 l h.are_tokens h.say l w (omega arith) in
     record {
-      tokens = told.tokens;
-      are_tokens = told.are_tokens;
-      words = words_behind n h.words;
-      say = told.say;
-      grammar = grammar-behind n h.grammar;
-      shallow = shallow-behind MAX_OPEN n h.words h.shallow;
-      small = small-behind n h.words h.small;
+      tokens = reported.tokens;
+      are_tokens = reported.are_tokens;
+      words = words_after n h.words;
+      say = reported.say;
+      grammar = grammar-after n h.grammar;
+      shallow = shallow-after MAX_OPEN n h.words h.shallow;
+      small = small-after n h.words h.small;
     }
 
 -- a token begins a rule at no indentation alone

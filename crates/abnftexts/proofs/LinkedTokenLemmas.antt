@@ -20,19 +20,19 @@ use Rattle.abnfread.specs.AbnfWords.{Said, End, Word, word}
 use Rattle.abnfread.specs.Numerals.{says_values, says_range}
 use Rattle.abnfread.specs.MarkedTokens.{marked, begins_rule, indented, indent_from, indent_at, is_first, marks}
 use Rattle.abnfread.proofs.AbnfSliceLemmas.{first-last}
-use Rattle.abnfblocks.specs.LinkedLines.{EndsLine, lf, behind_byte, moved_span}
+use Rattle.abnfblocks.specs.LinkedLines.{EndsLine, lf, after_byte, moved_span}
 use Rattle.abnfblocks.proofs.LineEndLemmas.{LeftLine, no_text, some_text, stands-line, white-line, white-on}
 use Rattle.abnfblocks.proofs.LineTokenLemmas.{indent-append, indent-front, line-length, moved_token, next-on}
 use Rattle.abnfblocks.proofs.LineTokenLemmas.{tokens-moved, tokens-white}
-use Rattle.abnftexts.proofs.MovedWordLemmas.{moved_said, moved_word, with_gap, words_behind}
+use Rattle.abnftexts.proofs.MovedWordLemmas.{moved_said, moved_word, with_gap, words_after}
 
 line-indent : {a : List ℕ} → EndsLine a → (i : Option ℕ) → indent_from i a ≡ Some 0
 line-indent lf i = refl
-line-indent (behind_byte {b} l) i = line-indent l (indented i b)
+line-indent (after_byte {b} l) i = line-indent l (indented i b)
 
 -- a position after a line's end, and one before it
-pub indent-behind : {a : List ℕ} (b : List ℕ) (n : ℕ) → EndsLine a → indent_at (a ++ b) (length a + n) ≡ indent_at b n
-indent-behind {a} b n l = ap (indent_from (Some 0)) (take-append-add a b n) ∙ indent-append (Some 0) a (take n b)
+pub indent-after : {a : List ℕ} (b : List ℕ) (n : ℕ) → EndsLine a → indent_at (a ++ b) (length a + n) ≡ indent_at b n
+indent-after {a} b n l = ap (indent_from (Some 0)) (take-append-add a b n) ∙ indent-append (Some 0) a (take n b)
     ∙ ap (λ (i : Option ℕ). indent_from i (take n b)) (line-indent l (Some 0))
 
 kind-moved : (n : ℕ) {k : AbnfKind} {z : List ℕ} {p : Span} {s : Said} → SaysKind k z p s
@@ -67,17 +67,17 @@ pub say-moved : {a : List ℕ} (b : List ℕ) (n : ℕ) (ts : List (Tok AbnfKind
 say-moved b n [] l say_none = say_none
 say-moved {a} b n (tok k z p ∷ ts) l (say_more (says h) more) =
     say_more (says-so (eqb-moved (length a) p.start n)
-    (ap (λ (i : Option ℕ). not (ends_list k) && begins_rule (Some 0) i) (indent-behind b p.start l))
+    (ap (λ (i : Option ℕ). not (ends_list k) && begins_rule (Some 0) i) (indent-after b p.start l))
     (kind-moved (length a) h)) (say-moved b p.end ts l more)
 
 -- the tokens of t, the end of the text, from that position on say these words
-pub record TellsBehind (text : List ℕ) (place : ℕ) (t : List ℕ) (ws : List Word) : Type 0 where
+pub record ReportsAfter (text : List ℕ) (place : ℕ) (t : List ℕ) (ws : List Word) : Type 0 where
   pub tokens : List (Tok AbnfKind)
   pub are_tokens : lexing.AreTokens White First ends_list (length text) t tokens
   pub say : SayAll (marks text (Some 0) place tokens) ws
 
-gap-behind : (n m j : ℕ) → j < n → not (n + m == j) ≡ true
-gap-behind n m j lt = grind (arith, nat_tests)
+gap-after : (n m j : ℕ) → j < n → not (n + m == j) ≡ true
+gap-after n m j lt = grind (arith, nat_tests)
 
 -- white space stands before the first token, where the last one ended earlier
 say-gap : (text : List ℕ) (n j m : ℕ) (ts : List (Tok AbnfKind)) {ws : List Word} → j < n
@@ -85,13 +85,13 @@ say-gap : (text : List ℕ) (n j m : ℕ) (ts : List (Tok AbnfKind)) {ws : List 
     → SayAll (marks text (Some 0) j (map (moved_token n) ts)) (with_gap ws)
 say-gap text n j m [] lt say_none = say_none
 say-gap text n j m (tok k z p ∷ ts) lt (say_more (says h) more) =
-    say_more (says-so (gap-behind n p.start j lt) refl h) more
+    say_more (says-so (gap-after n p.start j lt) refl h) more
 
 -- what a text says after one that LF ends, of which u is left, and is white space
-pub tells-second : {a b u : List ℕ} {ts : List (Tok AbnfKind)} {ws : List Word} (j : ℕ) → EndsLine a
+pub reports-second : {a b u : List ℕ} {ts : List (Tok AbnfKind)} {ws : List Word} (j : ℕ) → EndsLine a
     → lexing.AreTokens White First ends_list (length b) b ts → SayAll (marks b (Some 0) 0 ts) ws → EndsLine u
-    → White u [] → j + length u ≡ length a → TellsBehind (a ++ b) j (u ++ b) (words_behind (length a) ws)
-tells-second {a} {b} {u} {ts} {ws} j l t s lu w e =
+    → White u [] → j + length u ≡ length a → ReportsAfter (a ++ b) j (u ++ b) (words_after (length a) ws)
+reports-second {a} {b} {u} {ts} {ws} j l t s lu w e =
     let total : length a + length b ≡ length (a ++ b) = sym (length-append a b) in
     let moved = tokens-white (white-on b (some_text lu) w) (tokens-moved (length a) t) in
     let some = line-length lu in
@@ -116,11 +116,11 @@ stands-some no_text h = elim h [ ]
 stands-some (some_text l) h = l
 
 -- the words of a text but its end, and what it says where words follow it
-pub record TellsFirst (text : List ℕ) (place : ℕ) (t : List ℕ) (ws others : List Word) : Type 0 where
+pub record ReportsFirst (text : List ℕ) (place : ℕ) (t : List ℕ) (ws others : List Word) : Type 0 where
   pub front : List Word
   pub gap : Bool
   pub whole : ws ≡ front ++ word gap false End ∷ []
-  pub tells : TellsBehind text place t (front ++ others)
+  pub reports : ReportsAfter text place t (front ++ others)
 
 pub first-same : (a b : List ℕ) (k : AbnfKind) (z : List ℕ) (p : Span) → p.start ≤ length a
     → is_first (a ++ b) (Some 0) (tok k z p) ≡ is_first a (Some 0) (tok k z p)
@@ -148,37 +148,37 @@ front-whole : {v w : Word} {vs : List Word} (front : List Word) (g : Bool) → v
     → v ∷ vs ≡ w ∷ (front ++ word g false End ∷ [])
 front-whole front g p q = rw (p, q) refl
 
-pub tells-first : (a b : List ℕ) {t : List ℕ} {ts : List (Tok AbnfKind)} {ws : List Word} (others : List Word) (n : ℕ)
+pub reports-first : (a b : List ℕ) {t : List ℕ} {ts : List (Tok AbnfKind)} {ws : List Word} (others : List Word) (n : ℕ)
     → EndsLine t → n + length t ≡ length a → lexing.AreTokens White First ends_list (length a) t ts
     → SayAll (marks a (Some 0) n ts) ws → ((u : List ℕ) (j : ℕ) → EndsLine u → White u [] → j + length u ≡ length a
-    → TellsBehind (a ++ b) j (u ++ b) others) → TellsFirst (a ++ b) n (t ++ b) ws others
-tells-first a b {t} others n l e (last_one {x = tok k z p} h is_end) (say_more y say_none) f =
+    → ReportsAfter (a ++ b) j (u ++ b) others) → ReportsFirst (a ++ b) n (t ++ b) ws others
+reports-first a b {t} others n l e (last_one {x = tok k z p} h is_end) (say_more y say_none) f =
     let nothing : h.token ≡ [] = first-last is_end h.first in
     record {
       front = [];
       gap = not (p.start == n);
       whole = last-whole (begins_rule (Some 0) (indent_at a p.start)) is_end (word-said y);
-      tells = f t n l (let w = h.white in rw nothing at w) e;
+      reports = f t n l (let w = h.white in rw nothing at w) e;
     }
-tells-first a b {t} others n l e (one_more {r = r} {x = tok k z p} h goes more) (say_more {ws = vs} y says_more) f =
+reports-first a b {t} others n l e (one_more {r = r} {x = tok k z p} h goes more) (say_more {ws = vs} y says_more) f =
     let o = word-said y in
     let longest = first-said goes o.says_it h.first in
     let line = stands-some (white-line (some_text l) h.white) longest.stands in
-    let behind = stands-line line longest.stands in
+    let after = stands-line line longest.stands in
     let size : p.end + length r ≡ length a = (let x = ap length h.cut in let y = h.place in let v = h.size in
     omega (arith, length-append z r)) in
     let within : p.start ≤ length a = (let y = h.place in omega arith) in
-    let rest = tells-first a b others p.end behind size more says_more f in
-    let told = rest.tells in
+    let rest = reports-first a b others p.end after size more says_more f in
+    let reported = rest.reports in
     let gap = not (p.start == n) in
     let first = is_first a (Some 0) (tok k z p) in
     record {
       front = word gap first o.said ∷ rest.front;
       gap = rest.gap;
       whole = front-whole rest.front rest.gap o.is rest.whole;
-      tells = record {
-        tokens = tok k z p ∷ told.tokens;
-        are_tokens = one_more (next-on a b h l line longest) goes told.are_tokens;
-        say = say_more (says-so refl (first-same a b k z p within) o.says_it) told.say;
+      reports = record {
+        tokens = tok k z p ∷ reported.tokens;
+        are_tokens = one_more (next-on a b h l line longest) goes reported.are_tokens;
+        say = say_more (says-so refl (first-same a b k z p within) o.says_it) reported.say;
       };
     }

@@ -23,7 +23,7 @@ use Rattle.abnftexts.specs.NamedRules.{token_named, tokens_named, SpellsNamed}
 use Rattle.abnftexts.specs.UsedNames.{is_known_name}
 use Rattle.abnftexts.specs.declared.join.given.GivenRule.{GivenRule}
 use Rattle.abnftexts.proofs.ListNamesLemmas.{any-listed}
-use Rattle.abnftexts.proofs.RulesTakenLemmas.{one-behind}
+use Rattle.abnftexts.proofs.RulesTakenLemmas.{one-after}
 use Rattle.std.specs.Char.{is_ascii_alphabetic}
 use Rattle.std.specs.Prelude.{slice_get}
 use Rattle.abnfread.specs.AbnfReading.{Reads}
@@ -77,7 +77,7 @@ pub line-more : (known : List ℕ → Bool) (own : List ℕ) (m : ℕ) (lines : 
 line-more known own m lines i d bare new c t d1 u more others lt bare_is named comments text so rest =
     let row = numbered (get_or lines i d) in
     let here : map numbered (drop i lines) ≡ row ∷ map numbered (drop (i + 1) lines) =
-    ap (λ (xs : List TextLine). map numbered xs) (one-behind lines i d lt) in
+    ap (λ (xs : List TextLine). map numbered xs) (one-after lines i d lt) in
     let one : IsLineNamed known own (bare_line m row) new =
     subst (λ (b : List ℕ). IsLineNamed known own b new) bare_is named in
     let whole = so (comment_of (bare_line m row) new ++ more) (new ++ (codes "\n" ++ others))
@@ -107,16 +107,16 @@ lines-all known own m lines i c t le so =
 -- rows of two lists give those of a third, pair by pair
 module _ {A B C X Y Z : Type 0} (f : A → X) (g : B → Y) (h : C → Z) (Pairs : List X → List Y → List Z → Type 0)
     (All : List Z → Type 0) where
-  pub pair-more : (left behind : List A) (a : A) (rest next : List B) (b : B) (named new : List C) (c : C)
-      → left ≡ a ∷ behind → rest ≡ b ∷ next → new ≡ named ++ c ∷ []
-      → ((zs : List Z) → Pairs (map f behind) (map g next) zs
-      → Pairs (f a ∷ map f behind) (g b ∷ map g next) (h c ∷ zs))
+  pub pair-more : (left after : List A) (a : A) (rest next : List B) (b : B) (named new : List C) (c : C)
+      → left ≡ a ∷ after → rest ≡ b ∷ next → new ≡ named ++ c ∷ []
+      → ((zs : List Z) → Pairs (map f after) (map g next) zs
+      → Pairs (f a ∷ map f after) (g b ∷ map g next) (h c ∷ zs))
       → ((zs : List Z) → Pairs (map f left) (map g rest) zs → All (map h named ++ zs))
-      → (zs : List Z) → Pairs (map f behind) (map g next) zs → All (map h new ++ zs)
-  pair-more left behind a rest next b named new c front more done one so zs others =
+      → (zs : List Z) → Pairs (map f after) (map g next) zs → All (map h new ++ zs)
+  pair-more left after a rest next b named new c front more done one so zs others =
       let pairs : Pairs (map f left) (map g rest) (h c ∷ zs) =
       subst (λ (xs : List A). Pairs (map f xs) (map g rest) (h c ∷ zs)) (sym front)
-      (subst (λ (ys : List B). Pairs (f a ∷ map f behind) (map g ys) (h c ∷ zs)) (sym more) (one zs others)) in
+      (subst (λ (ys : List B). Pairs (f a ∷ map f after) (map g ys) (h c ∷ zs)) (sym more) (one zs others)) in
       let rows : map h named ++ (h c ∷ zs) ≡ map h new ++ zs =
       sym (append_assoc (map h named) (h c ∷ []) zs)
       ∙ ap (λ (xs : List Z). xs ++ zs) (sym (map-append h named (c ∷ []))

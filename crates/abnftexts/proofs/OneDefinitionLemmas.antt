@@ -40,8 +40,8 @@ abbrev pub NotFirst : Word → Type 0
 NotFirst (word g f s) = IsName s → f ≡ false
 
 module _ {P : Word → Type 0} where
-  behind-one : {w : Word} {r : List Word} → Each P (w ∷ r) → Each P r
-  behind-one (each_next p h) = h
+  after-one : {w : Word} {r : List Word} → Each P (w ∷ r) → Each P r
+  after-one (each_next p h) = h
 
   mutual
     element-each : {s r : List Word} {x : Element} → OneElement s r x → Each P s → Each P r
@@ -50,8 +50,8 @@ module _ {P : Word → Type 0} where
     element-each spelling.values (each_next p h) = h
     element-each spelling.range (each_next p h) = h
     element-each spelling.prose (each_next p h) = h
-    element-each (parens y) (each_next p h) = behind-one (alternation-each y h)
-    element-each (brackets y) (each_next p h) = behind-one (alternation-each y h)
+    element-each (parens y) (each_next p h) = after-one (alternation-each y h)
+    element-each (brackets y) (each_next p h) = after-one (alternation-each y h)
 
     repetition-each : {s r : List Word} {x : Element} → Repetition s r x → Each P s → Each P r
     repetition-each (once y) h = element-each y h
@@ -63,7 +63,7 @@ module _ {P : Word → Type 0} where
 
     alternatives-each : {s r : List Word} {xs : Elements} → Alternatives s r xs → Each P s → Each P r
     alternatives-each (only y) h = parts-each y h
-    alternatives-each (others y ys) h = alternatives-each ys (behind-one (parts-each y h))
+    alternatives-each (others y ys) h = alternatives-each ys (after-one (parts-each y h))
 
     alternation-each : {s r : List Word} {x : Element} → Alternation s r x → Each P s → Each P r
     alternation-each (alternatives ys) h = alternatives-each ys h
@@ -99,7 +99,7 @@ one-spelled (last_rule {g} {a = a} {n} {p} {w = v} {s = s} {x = x} y h) k = reco
   body = x;
   is_one = refl;
 }
-one-spelled (more_rules y h more) k = absurd (no_rule-first more (alternation-each h (behind-one k)))
+one-spelled (more_rules y h more) k = absurd (no_rule-first more (alternation-each h (after-one k)))
 
 letter-not_dark : (c : ℕ) → is_ascii_alphabetic c ≡ true → is_dark c ≡ true → ⊥
 letter-not_dark c e f = let bad : not true ≡ true = rw e at f in cc

@@ -87,11 +87,11 @@ module _ (one : OneReading) where
       let here : AreRulesNamed b.places given.rules a.rules =
       subst (λ (ps : List RuleLines). AreRulesNamed ps given.rules a.rules) places x.rules in
       let rules : a.rules ≡ b.rules = rules-same here y.rules in
-      let told : a.told ≡ b.told = x.told ∙ sym y.told in
-      all-same a b places rules told
+      let reported : a.reported ≡ b.reported = x.reported ∙ sym y.reported in
+      all-same a b places rules reported
     where
-      all-same : (a b : RulesGathered) → a.places ≡ b.places → a.rules ≡ b.rules → a.told ≡ b.told → a ≡ b
-      all-same a b places rules told =
-          ap (λ (ps : List RuleLines). record { places = ps; rules = a.rules; told = a.told }) places
-          ∙ ap (λ (rs : List RuleGiven). record { places = b.places; rules = rs; told = a.told }) rules
-          ∙ ap (λ (t : List ℕ). record { places = b.places; rules = b.rules; told = t }) told
+      all-same : (a b : RulesGathered) → a.places ≡ b.places → a.rules ≡ b.rules → a.reported ≡ b.reported → a ≡ b
+      all-same a b places rules reported =
+          ap (λ (ps : List RuleLines). record { places = ps; rules = a.rules; reported = a.reported }) places
+          ∙ ap (λ (rs : List RuleGiven). record { places = b.places; rules = rs; reported = a.reported }) rules
+          ∙ ap (λ (t : List ℕ). record { places = b.places; rules = b.rules; reported = t }) reported

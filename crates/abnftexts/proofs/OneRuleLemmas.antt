@@ -11,7 +11,7 @@ use Rattle.abnfblocks.specs.LineKinds.{is_blank as is_blank_byte}
 use Rattle.abnfblocks.specs.TextLines.{NumberedLine}
 use Rattle.abnfread.specs.AbnfSlices.{is_inside}
 use Rattle.abnfread.specs.MarkedTokens.{plus, indented, indent_from}
-use Rattle.abnfblocks.specs.RuleLines.{begins_by, begins_comment, begins_inner, behind_margin, is_margin, margin_of}
+use Rattle.abnfblocks.specs.RuleLines.{begins_by, begins_comment, begins_inner, rest_after_margin, is_margin, margin_of}
 use Rattle.abnfblocks.specs.RuleCuts.{is_empty_line, lines_text}
 use Rattle.abnftexts.proofs.ClearLinesLemmas.{AreInside, IsClear}
 use Rattle.abnftexts.proofs.EachLemmas.{Each, each_none, each_next, each-drop}
@@ -103,19 +103,19 @@ cut-dark : (m : ℕ) (line : NumberedLine) → IsClear line → may_go_on m line
 cut-dark m line clear goes = elim (cases_Bool (is_empty_line line)) [
   | inl e ↦ first-blank (each-drop (min m (margin_of line.bytes)) (clear.blank e))
   | inr e ↦ elim (cases_Bool (begins_comment line.bytes)) [
-    | inl f ↦ behind-first (comment-first (behind_margin line.bytes) f)
+    | inl f ↦ after-first (comment-first (rest_after_margin line.bytes) f)
     | inr f ↦ elim (cases_Bool (nat_lt m (margin_of line.bytes))) [
       | inl g ↦ dark-margin (min m (margin_of line.bytes)) line.bytes (omega arith)
           (λ q. absurd (lower m (margin_of line.bytes) g q))
-      | inr g ↦ behind-first (inner-first (behind_margin line.bytes)
+      | inr g ↦ after-first (inner-first (rest_after_margin line.bytes)
           (last-true (is_empty_line line) (begins_comment line.bytes) (nat_lt m (margin_of line.bytes))
           (begins_inner line.bytes) e f g goes))
     ]
   ]
 ]
   where
-    behind-first : DarkFirst (behind_margin line.bytes) → DarkFirst (drop (min m (margin_of line.bytes)) line.bytes)
-    behind-first h = dark-margin (min m (margin_of line.bytes)) line.bytes (omega arith)
+    after-first : DarkFirst (rest_after_margin line.bytes) → DarkFirst (drop (min m (margin_of line.bytes)) line.bytes)
+    after-first h = dark-margin (min m (margin_of line.bytes)) line.bytes (omega arith)
         (λ q. subst (λ (k : ℕ). DarkFirst (drop k line.bytes)) (sym q) h)
 
     lower : (m n : ℕ) → nat_lt m n ≡ true → min m n ≡ n → ⊥

@@ -8,7 +8,7 @@ use Rattle.abnfblocks.specs.FoundRules.{AreFound, IsFoundOf, IsLongestCut, none_
 use Rattle.abnfblocks.specs.FoundRules.{it_reads, it_is_none}
 use Rattle.abnfblocks.specs.RuleCuts.{cut_text, lines_text, margin_at, opens_rule, first_rule}
 use Rattle.abnfblocks.specs.RuleLines.{margin_of}
-use Rattle.abnfblocks.specs.TextLines.{NumberedLine, behind_mark}
+use Rattle.abnfblocks.specs.TextLines.{NumberedLine, after_mark}
 use Rattle.abnfblocks.specs.declared.found.RuleSearch.{RuleSearch}
 use Rattle.abnfblocks.specs.declared.found.RuleSearch.TheVariants as found
 use Rattle.abnftexts.specs.GivenRules.{RuleGiven}
@@ -98,7 +98,7 @@ found-placed (no_rule h) (each_next r e) = found-placed h e
 
 text-placed : (text : NamedText) {g : RulesGathered} → GivesText text g → Placed g
 text-placed text x =
-    found-placed x.gives (found-alone (kept-clear (behind_mark text.bytes) x.keeps) x.are_found refl)
+    found-placed x.gives (found-alone (kept-clear (after_mark text.bytes) x.keeps) x.are_found refl)
 
 pub texts-placed : {texts : List NamedText} {g : RulesGathered} → GiveTexts texts g → ArePlaced g.places g.rules
 texts-placed no_texts = none_placed

@@ -9,10 +9,10 @@ use Rattle.abnfread.specs.AbnfSpelling.{definition}
 use Rattle.abnfread.specs.CoreRules.{nowhere}
 use Rattle.abnfread.specs.Element.{Definition}
 use Rattle.abnfread.specs.MarkedTokens.{indented}
-use Rattle.abnfblocks.specs.RuleLines.{begins_letter, begins_by, behind_margin, behind_name, margin_of}
+use Rattle.abnfblocks.specs.RuleLines.{begins_letter, begins_by, rest_after_margin, rest_after_name, margin_of}
 use Rattle.abnfblocks.specs.RuleCuts.{cut_line, lines_text, opens_rule}
 use Rattle.abnftexts.specs.GivenRules.{RuleGiven}
-use Rattle.abnfblocks.specs.LinkedLines.{EndsLine, lf, behind_byte}
+use Rattle.abnfblocks.specs.LinkedLines.{EndsLine, lf, after_byte}
 use Rattle.abnftexts.specs.LinkedTexts.{SpellsAtMargin, moved_definition}
 use Rattle.abnftexts.specs.SpelledRules.{unplaced}
 use Rattle.abnftexts.specs.TextRules.{given_by}
@@ -23,9 +23,9 @@ use Rattle.abnftexts.proofs.OneDefinitionLemmas.{text-one}
 use Rattle.abnftexts.proofs.OneRuleLemmas.{Later, indented-inner, inner-later, lines-later}
 use Rattle.abnftexts.proofs.OwnLinesLemmas.{OwnLines}
 
-pub line-behind : (front : List ℕ) {t : List ℕ} → EndsLine t → EndsLine (front ++ t)
-line-behind [] l = l
-line-behind (b ∷ front) l = behind_byte (line-behind front l)
+pub line-after : (front : List ℕ) {t : List ℕ} → EndsLine t → EndsLine (front ++ t)
+line-after [] l = l
+line-after (b ∷ front) l = after_byte (line-after front l)
 
 -- The text of a rule begins with a letter, and LF ends it. No line but the first begins a rule.
 pub record RuleText (m : ℕ) (lines : List NumberedLine) : Type 0 where
@@ -59,8 +59,8 @@ each-rest (each_next p h) = h
 pub lines-end : (m : ℕ) (line : NumberedLine) (lines : List NumberedLine) → EndsLine (lines_text m (line ∷ lines))
 lines-end m line [] =
     let e = append-nil (cut_line m line) in
-    rw e (line-behind (drop (min m (margin_of line.bytes)) line.bytes) lf)
-lines-end m line (next ∷ lines) = line-behind (cut_line m line) (lines-end m next lines)
+    rw e (line-after (drop (min m (margin_of line.bytes)) line.bytes) lf)
+lines-end m line (next ∷ lines) = line-after (cut_line m line) (lines-end m next lines)
 
 first-true : (x y : Bool) → (x && y) ≡ true → x ≡ true
 first-true true y e = refl
@@ -77,21 +77,21 @@ record LetterText (m : ℕ) (line : NumberedLine) (lines : List NumberedLine) : 
   first : ℕ
   tail : List ℕ
   whole : lines_text m (line ∷ lines) ≡ first ∷ (tail ++ 10 ∷ lines_text m lines)
-  is_line : behind_margin line.bytes ≡ first ∷ tail
+  is_line : rest_after_margin line.bytes ≡ first ∷ tail
   letter : is_ascii_alphabetic first ≡ true
 
 letter-text : {m : ℕ} (line : NumberedLine) (lines : List NumberedLine) → margin_of line.bytes ≡ m
     → opens_rule line ≡ true → LetterText m line lines
 letter-text {m} line lines margin opens =
     let bytes = line.bytes in
-    let letter : begins_letter (behind_margin bytes) ≡ true = first-true (begins_letter (behind_margin bytes))
-    (begins_by 61 (behind_margin (behind_name (behind_margin bytes)))) opens in
+    let letter : begins_letter (rest_after_margin bytes) ≡ true = first-true (begins_letter (rest_after_margin bytes))
+    (begins_by 61 (rest_after_margin (rest_after_name (rest_after_margin bytes)))) opens in
     let cut : min m (margin_of bytes) ≡ margin_of bytes =
     ap (λ (k : ℕ). min k (margin_of bytes)) (sym margin) ∙ min-same (margin_of bytes) in
     let others = lines_text m lines in
-    let x = letter-first (behind_margin bytes) letter in
-    let text : lines_text m (line ∷ lines) ≡ behind_margin bytes ++ 10 ∷ others =
-    ap (λ (k : ℕ). (drop k bytes ++ 10 ∷ []) ++ others) cut ∙ append_assoc (behind_margin bytes) (10 ∷ []) others in
+    let x = letter-first (rest_after_margin bytes) letter in
+    let text : lines_text m (line ∷ lines) ≡ rest_after_margin bytes ++ 10 ∷ others =
+    ap (λ (k : ℕ). (drop k bytes ++ 10 ∷ []) ++ others) cut ∙ append_assoc (rest_after_margin bytes) (10 ∷ []) others in
     record {
       first = x.first;
       tail = x.tail;

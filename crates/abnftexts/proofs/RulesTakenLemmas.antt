@@ -6,7 +6,7 @@ use Rattle.std.proofs.Math.Seq.{drop-cons}
 use Rattle.std.proofs.lemmas.Grind.{take_at_read}
 use Rattle.std.proofs.lemmas.List.{at_drop_all, drop-map, map-append, take-map, take_all}
 use Rattle.ruletable.specs.declared.fault.ReadFault.{ReadFault}
-use Rattle.abnfblocks.specs.TextLines.{NumberedLine, behind_mark, numbered}
+use Rattle.abnfblocks.specs.TextLines.{NumberedLine, after_mark, numbered}
 use Rattle.abnfblocks.specs.FoundRules.{AreFound}
 use Rattle.abnfblocks.specs.MaskedLines.{AreRead, ReadsLines, ShowsText}
 use Rattle.rfcforms.specs.XmlTags.{begins_xml}
@@ -15,11 +15,11 @@ use Rattle.abnfblocks.specs.RuleCuts.{blanks_first, lines_text, margin_at}
 use Rattle.abnfblocks.specs.declared.found.RuleSearch.{RuleSearch}
 use Rattle.abnfblocks.specs.declared.found.RuleSearch.TheVariants as found
 use Rattle.abnftexts.specs.RulesGathered.{RuleLines, RulesGathered, NamedText, both_given, named_text}
-use Rattle.abnftexts.specs.RulesGathered.{none_given, one_rule, told_alone}
+use Rattle.abnftexts.specs.RulesGathered.{none_given, one_rule, reported_alone}
 use Rattle.abnftexts.specs.TakenRules.{TakesFound, TakesMore, TakesRule}
 use Rattle.abnftexts.specs.TextRules.{GivesFound, GivesText, GiveTexts, SpellRule, given_by, next_rule, next_text}
 use Rattle.abnftexts.specs.TextRules.{no_rule, no_texts, none_found, place_in}
-use Rattle.abnftexts.specs.TextPlaces.{not_abnf_told}
+use Rattle.abnftexts.specs.TextPlaces.{not_abnf_reported}
 use Rattle.abnftexts.specs.ShownTexts.{AreShown, IsShown, next_shown, none_shown}
 use Rattle.abnftexts.specs.declared.gathered.ShownText.{ShownText}
 use Rattle.abnftexts.specs.declared.gathered.SourceText.{SourceText}
@@ -27,9 +27,9 @@ use Rattle.abnftexts.proofs.EachLemmas.{Each, each_next}
 use Rattle.abnftexts.proofs.PlacedRulesLemmas.{IsReadAlone, ReadAlone}
 
 -- the element at a position stands before what follows it
-pub one-behind : {A : Type 0} (xs : List A) (i : ℕ) (d : A) → i < length xs
+pub one-after : {A : Type 0} (xs : List A) (i : ℕ) (d : A) → i < length xs
     → drop i xs ≡ get_or xs i d ∷ drop (i + 1) xs
-one-behind {A} xs i d lt =
+one-after {A} xs i d lt =
     let next : suc i ≡ i + 1 = omega arith in
     drop-cons xs i d lt ∙ ap (λ (k : ℕ). get_or xs i d ∷ drop k xs) next
 
@@ -39,16 +39,16 @@ both-assoc a b c =
     rw (
       append_assoc a.places b.places c.places,
       append_assoc a.rules b.rules c.rules,
-      append_assoc a.told b.told c.told,
+      append_assoc a.reported b.reported c.reported,
     ) refl
 
 pub both-none : (a : RulesGathered) → both_given a none_given ≡ a
-both-none a = rw (append-nil a.places, append-nil a.rules, append-nil a.told) refl
+both-none a = rw (append-nil a.places, append-nil a.rules, append-nil a.reported) refl
 
 -- something is reported, and all else is as it was
-with-told : (g : RulesGathered) (told more : List ℕ) → told ≡ g.told ++ more
-    → record { places = g.places; rules = g.rules; told = told } ≡ both_given g (told_alone more)
-with-told g told more e = rw (e, append-nil g.places, append-nil g.rules) refl
+with-reported : (g : RulesGathered) (reported more : List ℕ) → reported ≡ g.reported ++ more
+    → record { places = g.places; rules = g.rules; reported = reported } ≡ both_given g (reported_alone more)
+with-reported g reported more e = rw (e, append-nil g.places, append-nil g.rules) refl
 
 -- nothing is taken
 none-taken : (Gives : RulesGathered → Type 0) (g : RulesGathered) → Gives none_given → TakesMore Gives g g
@@ -78,19 +78,19 @@ place-same : (name : List ℕ) (m n : ℕ) (xs ys : List NumberedLine) (k l : �
     → place_with name m xs k comments text ≡ place_with name n ys l [] (lines_text n ys)
 place-same name m n xs ys k l comments text e f g h t = rw (e, f, g, h, t) refl
 
-pub place-made : (name : List ℕ) (rest own behind : List TextLine) (count margin blanks : ℕ) (lines : List TextLine)
-    (comments text : List ℕ) → own ≡ take count rest → behind ≡ drop count rest
-    → margin ≡ margin_at (map numbered own) → lines ≡ own → blanks ≡ blanks_first (map numbered behind)
+pub place-made : (name : List ℕ) (rest own after : List TextLine) (count margin blanks : ℕ) (lines : List TextLine)
+    (comments text : List ℕ) → own ≡ take count rest → after ≡ drop count rest
+    → margin ≡ margin_at (map numbered own) → lines ≡ own → blanks ≡ blanks_first (map numbered after)
     → comments ≡ [] → text ≡ lines_text margin (map numbered own)
     → place_with name margin (map numbered lines) blanks comments text ≡ place_in name (map numbered rest) count
-place-made name rest own behind count margin blanks lines comments text front back cut same empty none all =
+place-made name rest own after count margin blanks lines comments text front back cut same empty none all =
     let own_is : map numbered own ≡ take count (map numbered rest) =
     ap (λ (xs : List TextLine). map numbered xs) front ∙ sym (take-map numbered count rest) in
-    let behind_is : map numbered behind ≡ drop count (map numbered rest) =
+    let after_is : map numbered after ≡ drop count (map numbered rest) =
     ap (λ (xs : List TextLine). map numbered xs) back ∙ sym (drop-map numbered count rest) in
     let margin_is = cut ∙ ap (λ (xs : List NumberedLine). margin_at xs) own_is in
     place-same name _ _ _ _ _ _ comments text margin_is (ap (λ (xs : List TextLine). map numbered xs) same ∙ own_is)
-    (empty ∙ ap (λ (xs : List NumberedLine). blanks_first xs) behind_is) none
+    (empty ∙ ap (λ (xs : List NumberedLine). blanks_first xs) after_is) none
     (all ∙ ap (λ (xs : List NumberedLine). lines_text margin xs) own_is
     ∙ ap (λ (m : ℕ). lines_text m (take count (map numbered rest))) margin_is)
 
@@ -107,7 +107,7 @@ module _ (name : List ℕ) (kept : List NumberedLine) (all : List RuleSearch) (i
   rule-more first count rest g h end lt is rows alone takes more =
       let others = drop (i + 1) all in
       let here : drop i all ≡ found.Rule first count ∷ others =
-      one-behind all i d lt ∙ ap (λ (x : RuleSearch). x ∷ others) is in
+      one-after all i d lt ∙ ap (λ (x : RuleSearch). x ∷ others) is in
       let own : ReadAlone (take count (drop first kept)) =
       subst (λ (x : RuleSearch). IsReadAlone kept x) is (each-at (IsReadAlone kept) all i d alone lt) in
       let spells : SpellRule (lines_text (margin_at (take count (drop first kept))) (take count (drop first kept)))
@@ -121,24 +121,24 @@ module _ (name : List ℕ) (kept : List NumberedLine) (all : List RuleSearch) (i
       (one, refl, taken own.definition own.reads) more)
 
   pub no_rule-more : (first count : ℕ) (fault : ReadFault) (lines : List NumberedLine) (g : RulesGathered)
-      (told : List ℕ) (end : RulesGathered) → i < length all → get_or all i d ≡ found.NotAbnf first count fault
-      → lines ≡ take count (drop first kept) → told ≡ g.told ++ not_abnf_told name lines fault
+      (reported : List ℕ) (end : RulesGathered) → i < length all → get_or all i d ≡ found.NotAbnf first count fault
+      → lines ≡ take count (drop first kept) → reported ≡ g.reported ++ not_abnf_reported name lines fault
       → TakesMore (GivesFound name kept (drop (i + 1) all))
-      (record { places = g.places; rules = g.rules; told = told }) end
+      (record { places = g.places; rules = g.rules; reported = reported }) end
       → TakesMore (GivesFound name kept (drop i all)) g end
-  no_rule-more first count fault lines g told end lt is rows e more =
+  no_rule-more first count fault lines g reported end lt is rows e more =
       let own = take count (drop first kept) in
       let others = drop (i + 1) all in
       let here : drop i all ≡ found.NotAbnf first count fault ∷ others =
-      one-behind all i d lt ∙ ap (λ (x : RuleSearch). x ∷ others) is in
-      let same : told ≡ g.told ++ not_abnf_told name own fault =
-      e ∙ ap (λ (xs : List NumberedLine). g.told ++ not_abnf_told name xs fault) rows in
-      let one : RulesGathered = told_alone (not_abnf_told name own fault) in
-      let h : RulesGathered = record { places = g.places; rules = g.rules; told = told } in
+      one-after all i d lt ∙ ap (λ (x : RuleSearch). x ∷ others) is in
+      let same : reported ≡ g.reported ++ not_abnf_reported name own fault =
+      e ∙ ap (λ (xs : List NumberedLine). g.reported ++ not_abnf_reported name xs fault) rows in
+      let one : RulesGathered = reported_alone (not_abnf_reported name own fault) in
+      let h : RulesGathered = record { places = g.places; rules = g.rules; reported = reported } in
       subst (λ (xs : List RuleSearch). TakesMore (GivesFound name kept xs) g end) (sym here)
       (more-taken (λ x. x ≡ one) (GivesFound name kept others)
       (GivesFound name kept (found.NotAbnf first count fault ∷ others)) g h end
-      (λ a b x y. rw x (no_rule y)) (one, refl, with-told g told _ same) more)
+      (λ a b x y. rw x (no_rule y)) (one, refl, with-reported g reported _ same) more)
 
 pub lines-from : (kept lines : List TextLine) (first : ℕ) → lines ≡ drop first kept
     → map numbered lines ≡ drop first (map numbered kept)
@@ -146,11 +146,11 @@ lines-from kept lines first from =
     ap (λ (xs : List TextLine). map numbered xs) from ∙ sym (drop-map numbered first kept)
 
 -- so many of these lines as the code takes them
-pub lines-taken : (kept behind lines : List TextLine) (first count : ℕ) → behind ≡ drop first kept
-    → lines ≡ take count behind → map numbered lines ≡ take count (drop first (map numbered kept))
-lines-taken kept behind lines first count from front =
-    ap (λ (xs : List TextLine). map numbered xs) front ∙ sym (take-map numbered count behind)
-    ∙ ap (λ (xs : List NumberedLine). take count xs) (lines-from kept behind first from)
+pub lines-taken : (kept after lines : List TextLine) (first count : ℕ) → after ≡ drop first kept
+    → lines ≡ take count after → map numbered lines ≡ take count (drop first (map numbered kept))
+lines-taken kept after lines first count from front =
+    ap (λ (xs : List TextLine). map numbered xs) front ∙ sym (take-map numbered count after)
+    ∙ ap (λ (xs : List NumberedLine). take count xs) (lines-from kept after first from)
 
 pub found-all : (name : List ℕ) (kept : List NumberedLine) (all : List RuleSearch) (i : ℕ) (g : RulesGathered)
     → length all ≤ i → TakesMore (GivesFound name kept (drop i all)) g g
@@ -163,7 +163,7 @@ pub text-taken : (text : NamedText) (shown : ShownText) (kept : List NumberedLin
     (g h : RulesGathered) → IsShown text shown → ReadsLines shown.of_xml shown.bytes.items kept → AreFound 0 kept all
     → TakesFound shown.name.now kept all g h → TakesMore (GivesText text) g h
 text-taken text shown kept all g h is reads finds takes =
-    let source : List ℕ = behind_mark text.bytes in
+    let source : List ℕ = after_mark text.bytes in
     let are : AreRead source kept = record {
       source = shown.bytes.items;
       shows = subst (λ (b : Bool). ShowsText b source shown.bytes.items) is.of_xml is.shows;
@@ -216,7 +216,7 @@ texts-all named texts i le shown =
 
 -- a text is shown that has the bytes of a source
 pub shown-made : (text : NamedText) (shown : ShownText) (source : List ℕ) → shown.name.now ≡ text.name
-    → source ≡ behind_mark text.bytes → shown.of_xml ≡ begins_xml source
+    → source ≡ after_mark text.bytes → shown.of_xml ≡ begins_xml source
     → ShowsText shown.of_xml source shown.bytes.items → IsShown text shown
 shown-made text shown source name e is shows = record {
   name = name;

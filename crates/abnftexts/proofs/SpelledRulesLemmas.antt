@@ -19,8 +19,8 @@ use Rattle.abnfread.proofs.AbnfFaultLemmas.{long-fault, no-fault, one-reading}
 use Rattle.abnftexts.specs.GivenRules.{RuleGiven, fates_of}
 use Rattle.abnftexts.specs.JoinedRules.{joined_order}
 use Rattle.abnftexts.specs.JoinedGrammar.{AreTextsJoined, GrammarJoined, comment_before, first_number, gap_before}
-use Rattle.abnftexts.specs.JoinedGrammar.{goes_behind_it, printed_behind, rule_printed, standing_rules}
-use Rattle.abnfblocks.specs.LinkedLines.{EndsLine, lf, behind_byte}
+use Rattle.abnftexts.specs.JoinedGrammar.{goes_after_it, printed_after, rule_printed, standing_rules}
+use Rattle.abnfblocks.specs.LinkedLines.{EndsLine, lf, after_byte}
 use Rattle.abnftexts.specs.LinkedTexts.{SpellsAtMargin, moved_definition}
 use Rattle.abnftexts.specs.RulesGathered.{NamedText, RuleLines}
 use Rattle.abnftexts.specs.SpelledRules.{AreSpelled, no_rules, next_rule, joined_places, joined_rules}
@@ -29,9 +29,9 @@ use Rattle.abnftexts.specs.TextPlaces.{place_shown}
 use Rattle.abnftexts.specs.TextRules.{given_by}
 use Rattle.abnftexts.proofs.ClearLinesLemmas.{AreInside}
 use Rattle.abnftexts.proofs.EachLemmas.{each_none, each_next, each-both}
-use Rattle.abnftexts.proofs.LinkedTextLemmas.{nothing-reads, spells-linked, spells-behind, spells-reads}
+use Rattle.abnftexts.proofs.LinkedTextLemmas.{nothing-reads, spells-linked, spells-after, spells-reads}
 use Rattle.abnftexts.proofs.PlacedRulesLemmas.{texts-placed}
-use Rattle.abnftexts.proofs.RuleTextLemmas.{SameUnplaced, all-given, line-behind, moved-same, text-spells}
+use Rattle.abnftexts.proofs.RuleTextLemmas.{SameUnplaced, all-given, line-after, moved-same, text-spells}
 use Rattle.abnftexts.proofs.WrittenRulesLemmas.{AreComments, no_comments, a_comment, IsWritten, AreWritten}
 use Rattle.abnftexts.proofs.WrittenRulesLemmas.{none_written, next_written, named-written, written-ordered}
 use Rattle.abnftexts.proofs.WrittenRulesLemmas.{written-standing}
@@ -100,51 +100,51 @@ pub record SpellsLike (text : List ℕ) (alone : List Definition) : Type 0 where
 comment-white : (bytes : List ℕ) → AreInside bytes → White (59 ∷ (bytes ++ 10 ∷ [])) []
 comment-white bytes h = piece (comment (run-inside (10 ∷ []) h) refl) (piece (blank refl) no_more)
 
-behind-comment : (place : RuleLines) {text : List ℕ} {ds : List Definition} → SpellsAtMargin text ds → EndsLine text
+after-comment : (place : RuleLines) {text : List ℕ} {ds : List Definition} → SpellsAtMargin text ds → EndsLine text
     → SpellsLike (comment_before place ++ text) ds
-behind-comment place {text} {ds} h l =
+after-comment place {text} {ds} h l =
     let shown = 32 ∷ place_shown place.name (first_number place) in
     let here : List ℕ = 59 ∷ (shown ++ 10 ∷ []) in
     let white = comment-white shown (each_next refl (inside-place place.name (first_number place))) in
     record {
       definitions = map (moved_definition (length here)) ds;
-      spells = spells-behind (line-behind (59 ∷ shown) lf) white h;
+      spells = spells-after (line-after (59 ∷ shown) lf) white h;
       same = moved-same (length here) ds;
-      line = line-behind here l;
+      line = line-after here l;
     }
 
-behind-empty : (n : ℕ) {text : List ℕ} {ds : List Definition} → SpellsAtMargin text ds → EndsLine text
+after-empty : (n : ℕ) {text : List ℕ} {ds : List Definition} → SpellsAtMargin text ds → EndsLine text
     → SpellsLike (replicate n 10 ++ text) ds
-behind-empty zero {ds = ds} h l = record { definitions = ds; spells = h; same = refl; line = l }
-behind-empty (suc n) {ds = ds} h l =
-    let rest = behind-empty n h l in
+after-empty zero {ds = ds} h l = record { definitions = ds; spells = h; same = refl; line = l }
+after-empty (suc n) {ds = ds} h l =
+    let rest = after-empty n h l in
     record {
       definitions = map (moved_definition 1) rest.definitions;
-      spells = spells-behind lf (piece (blank refl) no_more) rest.spells;
+      spells = spells-after lf (piece (blank refl) no_more) rest.spells;
       same = moved-same 1 rest.definitions ∙ rest.same;
-      line = behind_byte rest.line;
+      line = after_byte rest.line;
     }
 
-behind-gap : (before : Option RuleLines) (place : RuleLines) {text : List ℕ} {ds : List Definition}
+after-gap : (before : Option RuleLines) (place : RuleLines) {text : List ℕ} {ds : List Definition}
     → SpellsAtMargin text ds → EndsLine text → SpellsLike (gap_before before place ++ text) ds
-behind-gap None place h l = behind-comment place h l
-behind-gap (Some before) place h l = elim (cases_Bool (goes_behind_it before place)) [
-  | inl e ↦ rw e (behind-empty before.blanks h l)
-  | inr e ↦ rw e (behind-comment place h l)
+after-gap None place h l = after-comment place h l
+after-gap (Some before) place h l = elim (cases_Bool (goes_after_it before place)) [
+  | inl e ↦ rw e (after-empty before.blanks h l)
+  | inr e ↦ rw e (after-comment place h l)
 ]
 
-behind-comments : {comments text : List ℕ} {ds : List Definition} → AreComments comments → SpellsAtMargin text ds
+after-comments : {comments text : List ℕ} {ds : List Definition} → AreComments comments → SpellsAtMargin text ds
     → EndsLine text → SpellsLike (comments ++ text) ds
-behind-comments {ds = ds} no_comments h l = record { definitions = ds; spells = h; same = refl; line = l }
-behind-comments {text = text} (a_comment {rest = others} bytes inside further) h l =
-    let rest = behind-comments further h l in
+after-comments {ds = ds} no_comments h l = record { definitions = ds; spells = h; same = refl; line = l }
+after-comments {text = text} (a_comment {rest = others} bytes inside further) h l =
+    let rest = after-comments further h l in
     let here : List ℕ = 59 ∷ (bytes ++ 10 ∷ []) in
     let assoc = append_assoc here others text in
     record {
       definitions = map (moved_definition (length here)) rest.definitions;
-      spells = rw assoc (spells-behind (line-behind (59 ∷ bytes) lf) (comment-white bytes inside) rest.spells);
+      spells = rw assoc (spells-after (line-after (59 ∷ bytes) lf) (comment-white bytes inside) rest.spells);
       same = moved-same (length here) rest.definitions ∙ rest.same;
-      line = rw assoc (line-behind here rest.line);
+      line = rw assoc (line-after here rest.line);
     }
 
 -- what is like something that is like the definitions
@@ -156,8 +156,8 @@ row-spells : (before : Option RuleLines) (place : RuleLines) {given : RuleGiven}
 row-spells before place is =
     let spells = is.spells in
     let t = is.first in
-    let row = behind-comments is.comments (text-spells t.is_letter t.letter spells.reads) is.line in
-    like-like (behind-gap before place row.spells row.line) row.same
+    let row = after-comments is.comments (text-spells t.is_letter t.letter spells.reads) is.line in
+    like-like (after-gap before place row.spells row.line) row.same
 
 linked-like : {a b : List ℕ} {first second : List Definition} → SpellsLike a first → SpellsLike b second
     → SpellsLike (a ++ b) (first ++ second)
@@ -168,7 +168,7 @@ linked-like {a} {b} {first} {second} x y = record {
       ∙ ap (λ (z : List RuleGiven). z ++ map unplaced (map (moved_definition (length a)) y.definitions)) x.same
       ∙ ap (λ (z : List RuleGiven). map unplaced first ++ z) (moved-same (length a) y.definitions ∙ y.same)
       ∙ sym (map-append unplaced first second);
-  line = line-behind a y.line;
+  line = line-after a y.line;
 }
 
 -- what is printed of rules
@@ -176,7 +176,7 @@ pub record RowsSpell (before : Option RuleLines) (places : List RuleLines) (rule
   pub alone : List Definition
   pub are : AreSpelled places rules alone
   pub given : map given_by alone ≡ map as_written rules
-  pub like : SpellsLike (printed_behind before places) alone
+  pub like : SpellsLike (printed_after before places) alone
 
 pub rows-spell : (before : Option RuleLines) (place : RuleLines) {places : List RuleLines} {rules : List RuleGiven}
     → AreWritten (place ∷ places) rules → RowsSpell before (place ∷ places) rules
@@ -211,7 +211,7 @@ joined-written a =
 
 -- nothing is printed, or what is printed spells rules
 data PrintedSpells (places : List RuleLines) (rules : List RuleGiven) : Type 0 where
-  nothing_printed : printed_behind None places ≡ [] → PrintedSpells places rules
+  nothing_printed : printed_after None places ≡ [] → PrintedSpells places rules
   rows : RowsSpell None places rules → PrintedSpells places rules
 
 printed-spells : {places : List RuleLines} {rules : List RuleGiven} → AreWritten places rules
@@ -220,22 +220,22 @@ printed-spells none_written = nothing_printed refl
 printed-spells (next_written {place} is h) = rows (rows-spell None place (next_written is h))
 
 some-reads : {places : List RuleLines} {rules : List RuleGiven} {text : List ℕ} → PrintedSpells places rules
-    → text ≡ printed_behind None places → text ≢ [] → length text ≤ MAX_GRAMMAR
+    → text ≡ printed_after None places → text ≢ [] → length text ≤ MAX_GRAMMAR
     → (definitions : List Definition) × Reads text definitions
 some-reads (nothing_printed n) e some le = absurd (some (e ∙ n))
 some-reads (rows r) e some le = let like = r.like in (like.definitions, rw e (spells-reads like.spells (rw e at le)))
 
 text-alone : {places : List RuleLines} {rules : List RuleGiven} {text : List ℕ} {definitions : List Definition}
-    → PrintedSpells places rules → text ≡ printed_behind None places → Reads text definitions
+    → PrintedSpells places rules → text ≡ printed_after None places → Reads text definitions
     → (alone : List Definition) × AreSpelled places rules alone × SameUnplaced definitions alone
     × (map given_by definitions ≡ map as_written rules)
 text-alone {definitions = definitions} (nothing_printed n) e h =
     absurd (nothing-reads (subst (λ (t : List ℕ). Reads t definitions) (e ∙ n) h))
 text-alone {places} {definitions = definitions} (rows r) e h =
     let like = r.like in
-    let here : Reads (printed_behind None places) definitions =
+    let here : Reads (printed_after None places) definitions =
     subst (λ (t : List ℕ). Reads t definitions) e h in
-    let same = one-reading (printed_behind None places) definitions like.definitions here
+    let same = one-reading (printed_after None places) definitions like.definitions here
     (spells-reads like.spells here.size) in
     let unplaced_same = ap (map unplaced) same ∙ like.same in
     (r.alone, r.are, unplaced_same, all-given definitions r.alone unplaced_same ∙ r.given)

@@ -18,8 +18,8 @@ use Rattle.abnfblocks.specs.MaskedLines.{AreRead}
 use Rattle.abnfblocks.specs.TextLines.{NumberedLine}
 use Rattle.abnfblocks.specs.FoundRules.{AreFound}
 use Rattle.abnfblocks.specs.declared.found.RuleSearch.{RuleSearch}
-use Rattle.abnftexts.specs.RulesGathered.{NamedText, RuleLines, RulesGathered, both_given, one_rule, told_alone}
-use Rattle.abnftexts.specs.TextPlaces.{not_abnf_told}
+use Rattle.abnftexts.specs.RulesGathered.{NamedText, RuleLines, RulesGathered, both_given, one_rule, reported_alone}
+use Rattle.abnftexts.specs.TextPlaces.{not_abnf_reported}
 use Rattle.abnftexts.specs.TextRules.{GivesFound, GivesText, GiveTexts, given_by, next_rule, next_text, no_rule}
 use Rattle.abnftexts.specs.TextRules.{no_texts, none_found, place_in}
 use Rattle.abnftexts.specs.UsedNames.{AreRuleUses, AreNameUses, UsedName, next_uses, no_rules, used_at}
@@ -52,7 +52,8 @@ module _ (one : OneReading) where
         both-same _ _ _ _ (ap (λ (g : RuleGiven). one_rule (place_in name (drop first kept) count) g) rules)
         (found-same h k)
     found-same {kept} (no_rule {first} {count} {fault} h) (no_rule k) =
-        ap (λ (x : RulesGathered). both_given (told_alone (not_abnf_told name (take count (drop first kept)) fault)) x)
+        ap (λ (x : RulesGathered). both_given (reported_alone (not_abnf_reported name
+        (take count (drop first kept)) fault)) x)
         (found-same h k)
 
   text-same : (text : NamedText) (a b : RulesGathered) → GivesText text a → GivesText text b → a ≡ b
@@ -80,6 +81,6 @@ module _ (one : OneReading) where
 
   pub uses-same : {places : List RuleLines} {a b : List UsedName} → AreNameUses places a → AreNameUses places b → a ≡ b
   uses-same no_rules no_rules = refl
-  uses-same (next_uses {place} {here} {behind} x h) (next_uses {here = other} y k) =
-      ap (λ (us : List UsedName). us ++ behind) (rule-uses place here other x y)
+  uses-same (next_uses {place} {here} {after} x h) (next_uses {here = other} y k) =
+      ap (λ (us : List UsedName). us ++ after) (rule-uses place here other x y)
       ∙ ap (λ (us : List UsedName). other ++ us) (uses-same h k)

@@ -25,24 +25,24 @@ use Rattle.abnfexplain.specs.AbnfNoteLines.{AreAbnfPlaces}
 use Rattle.diagnostics.specs.NumberLists.{numbers_for}
 use Rattle.abnftexts.specs.GivenRules.{RuleGiven, text_rule}
 use Rattle.abnftexts.specs.JoinedGrammar.{ordered_rules}
-use Rattle.abnftexts.specs.CodeUses.{AddsUses, ListKnown, ListsMore, is_defined, name_used, unknown_told}
+use Rattle.abnftexts.specs.CodeUses.{AddsUses, ListKnown, ListsMore, is_defined, name_used, unknown_reported}
 use Rattle.abnftexts.specs.ListedRules.{ListNames, has_list, has_some, is_listed_for}
 use Rattle.abnftexts.specs.RulesGathered.{RuleLines}
-use Rattle.abnftexts.specs.UsedNames.{AreNameUses, UsedName, next_uses, no_rules, undefined_line, undefined_told}
-use Rattle.abnftexts.specs.UsedNames.{use_told, used_at}
+use Rattle.abnftexts.specs.UsedNames.{AreNameUses, UsedName, next_uses, no_rules, undefined_line, undefined_reported}
+use Rattle.abnftexts.specs.UsedNames.{use_reported, used_at}
 use Rattle.abnftexts.specs.declared.join.by_name.Listed.TheVariants as kinds
 use Rattle.abnftexts.specs.declared.join.given.GivenRule.{GivenRule}
 use Rattle.abnftexts.specs.declared.uses.NameUse.{NameUse}
 use Rattle.abnftexts.proofs.ListNamesLemmas.{any-listed}
-use Rattle.abnftexts.proofs.RulesTakenLemmas.{one-behind}
+use Rattle.abnftexts.proofs.RulesTakenLemmas.{one-after}
 
 -- what the uses from that number on report
-abbrev pub told-from : List RuleGiven → List UsedName → ℕ → List UsedName → List ℕ
-told-from rules uses n some = flat_map (λ p. use_told rules (take p.0 uses) p.1) (enumerate_from n some)
+abbrev pub reported-from : List RuleGiven → List UsedName → ℕ → List UsedName → List ℕ
+reported-from rules uses n some = flat_map (λ p. use_reported rules (take p.0 uses) p.1) (enumerate_from n some)
 
-use-behind : (uses : List NameUse) (n : ℕ) (x : NameUse) → n < length uses → x ≡ get_or uses n x
+use-after : (uses : List NameUse) (n : ℕ) (x : NameUse) → n < length uses → x ≡ get_or uses n x
     → drop n (map name_used uses) ≡ name_used x ∷ drop (n + 1) (map name_used uses)
-use-behind uses n x lt e =
+use-after uses n x lt e =
     let next : suc n ≡ n + 1 = omega arith in
     let here : get_or (map name_used uses) n (name_used x) ≡ name_used x =
     get_or-map name_used uses n x (name_used x) lt ∙ ap name_used (sym e) in
@@ -50,30 +50,30 @@ use-behind uses n x lt e =
     ∙ ap (λ (u : UsedName). u ∷ drop (suc n) (map name_used uses)) here
     ∙ ap (λ (k : ℕ). name_used x ∷ drop k (map name_used uses)) next
 
-pub told-more : (rules : List RuleGiven) (uses : List NameUse) (n : ℕ) (x : NameUse) (old new all : List ℕ)
+pub reported-more : (rules : List RuleGiven) (uses : List NameUse) (n : ℕ) (x : NameUse) (old new all : List ℕ)
     → n < length uses → x ≡ get_or uses n x
-    → new ≡ old ++ use_told rules (map name_used (take n uses)) (name_used x)
-    → old ++ told-from rules (map name_used uses) n (drop n (map name_used uses)) ≡ all
-    → new ++ told-from rules (map name_used uses) (n + 1) (drop (n + 1) (map name_used uses)) ≡ all
-told-more rules uses n x old new all lt e more h =
+    → new ≡ old ++ use_reported rules (map name_used (take n uses)) (name_used x)
+    → old ++ reported-from rules (map name_used uses) n (drop n (map name_used uses)) ≡ all
+    → new ++ reported-from rules (map name_used uses) (n + 1) (drop (n + 1) (map name_used uses)) ≡ all
+reported-more rules uses n x old new all lt e more h =
     let rows : List UsedName = map name_used uses in
-    let rest = told-from rules rows (n + 1) (drop (n + 1) rows) in
+    let rest = reported-from rules rows (n + 1) (drop (n + 1) rows) in
     let same : map name_used (take n uses) ≡ take n rows = sym (take-map name_used n uses) in
-    let here = use_told rules (take n rows) (name_used x) in
-    let step : told-from rules rows n (drop n rows) ≡ here ++ rest =
-    ap (λ (us : List UsedName). told-from rules rows n us) (use-behind uses n x lt e) in
-    ap (λ (z : List ℕ). z ++ rest) (more ∙ ap (λ (us : List UsedName). old ++ use_told rules us (name_used x)) same)
+    let here = use_reported rules (take n rows) (name_used x) in
+    let step : reported-from rules rows n (drop n rows) ≡ here ++ rest =
+    ap (λ (us : List UsedName). reported-from rules rows n us) (use-after uses n x lt e) in
+    ap (λ (z : List ℕ). z ++ rest) (more ∙ ap (λ (us : List UsedName). old ++ use_reported rules us (name_used x)) same)
     ∙ append_assoc old here rest ∙ ap (λ (z : List ℕ). old ++ z) (sym step) ∙ h
 
-pub told-all : (rules : List RuleGiven) (uses : List NameUse) (n : ℕ) (start now : List ℕ) → length uses ≤ n
-    → now ++ told-from rules (map name_used uses) n (drop n (map name_used uses))
-    ≡ start ++ undefined_told rules (map name_used uses)
-    → now ≡ start ++ undefined_told rules (map name_used uses)
-told-all rules uses n start now le h =
+pub reported-all : (rules : List RuleGiven) (uses : List NameUse) (n : ℕ) (start now : List ℕ) → length uses ≤ n
+    → now ++ reported-from rules (map name_used uses) n (drop n (map name_used uses))
+    ≡ start ++ undefined_reported rules (map name_used uses)
+    → now ≡ start ++ undefined_reported rules (map name_used uses)
+reported-all rules uses n start now le h =
     let rows : List UsedName = map name_used uses in
     let done : drop n rows ≡ [] = at_drop_all (λ xs. xs) rows n (omega (arith, length-map uses name_used)) in
-    let none : told-from rules rows n (drop n rows) ≡ [] =
-    ap (λ (us : List UsedName). told-from rules rows n us) done in
+    let none : reported-from rules rows n (drop n rows) ≡ [] =
+    ap (λ (us : List UsedName). reported-from rules rows n us) done in
     sym (append-nil now) ∙ ap (λ (z : List ℕ). now ++ z) (sym none) ∙ h
 
 -- a position is found where some element passes
@@ -161,9 +161,10 @@ or-none true = refl
 or-none false = refl
 
 -- what is listed nowhere is neither that of a rule nor that of a use before
-pub known-told : (rules : List RuleGiven) (before : List UsedName) (names : table.Rules (Vec ℕ Global)) (u : UsedName)
-    → ListKnown rules before names → unknown_told names u ≡ use_told rules before u
-known-told rules before names u known =
+pub known-reported : (rules : List RuleGiven) (before : List UsedName) (names : table.Rules (Vec ℕ Global))
+    (u : UsedName)
+    → ListKnown rules before names → unknown_reported names u ≡ use_reported rules before u
+known-reported rules before names u known =
     let given = list_any (λ rule. same_name Fold u.name rule.name) rules in
     let used = list_any (λ other. same_name Fold u.name other.name) before in
     let core = list_any (same_name Fold u.name) core_names in
@@ -228,7 +229,7 @@ module _ (places : List RuleLines) (order : List ℕ) (i : ℕ) where
   place-used place old new more lt is added before rest =
       let rows = ordered_rules places (drop (i + 1) order) in
       let front : ordered_rules places (drop i order) ≡ ordered_rules places (get_or order i 0 ∷ drop (i + 1) order) =
-      ap (λ (ns : List ℕ). ordered_rules places ns) (one-behind order i 0 lt) in
+      ap (λ (ns : List ℕ). ordered_rules places ns) (one-after order i 0 lt) in
       let here : ordered_rules places (get_or order i 0 ∷ drop (i + 1) order) ≡ place ∷ rows = rw is refl in
       let whole : AreNameUses (ordered_rules places (drop i order)) (added.0 ++ more) =
       subst (λ (ps : List RuleLines). AreNameUses ps (added.0 ++ more)) (sym (front ∙ here)) (next_uses added.1 rest) in
@@ -245,7 +246,7 @@ module _ (places : List RuleLines) (order : List ℕ) (i : ℕ) where
   no_place-used old new more lt is same before rest =
       let rows = ordered_rules places (drop (i + 1) order) in
       let front : ordered_rules places (drop i order) ≡ ordered_rules places (get_or order i 0 ∷ drop (i + 1) order) =
-      ap (λ (ns : List ℕ). ordered_rules places ns) (one-behind order i 0 lt) in
+      ap (λ (ns : List ℕ). ordered_rules places ns) (one-after order i 0 lt) in
       let here : ordered_rules places (get_or order i 0 ∷ drop (i + 1) order) ≡ rows = rw is refl in
       subst (λ (us : List UsedName). AreNameUses (ordered_rules places order) (us ++ more)) (sym same)
       (before more (subst (λ (ps : List RuleLines). AreNameUses ps more) (sym (front ∙ here)) rest))
@@ -260,8 +261,8 @@ module _ (places : List RuleLines) (order : List ℕ) (i : ℕ) where
       subst (λ (us : List UsedName). AreNameUses (ordered_rules places order) us) (append-nil old) (before [] none)
 
 -- four pieces, one after another
-pub four-behind : (out a b c d one two three four : List ℕ) → one ≡ out ++ a → two ≡ one ++ b → three ≡ two ++ c
+pub four-after : (out a b c d one two three four : List ℕ) → one ≡ out ++ a → two ≡ one ++ b → three ≡ two ++ c
     → four ≡ three ++ d → four ≡ out ++ (a ++ (b ++ (c ++ d)))
-four-behind out a b c d one two three four h i j k =
+four-after out a b c d one two three four h i j k =
     k ∙ ap (λ (z : List ℕ). z ++ d) (j ∙ ap (λ (z : List ℕ). z ++ c) (i ∙ ap (λ (z : List ℕ). z ++ b) h))
     ∙ append_assoc ((out ++ a) ++ b) c d ∙ append_assoc (out ++ a) b (c ++ d) ∙ append_assoc out a (b ++ (c ++ d))

@@ -9,7 +9,7 @@ use Rattle.abnfblocks.specs.RuleLines.{margin_of}
 use Rattle.abnfblocks.specs.TextLines.{NumberedLine}
 use Rattle.abnftexts.specs.GivenRules.{RuleGiven}
 use Rattle.abnftexts.specs.JoinedGrammar.{has_stayed, standing}
-use Rattle.abnfblocks.specs.LinkedLines.{EndsLine, lf, behind_byte}
+use Rattle.abnfblocks.specs.LinkedLines.{EndsLine, lf, after_byte}
 use Rattle.abnftexts.specs.NamedRules.{AreLinesNamed, no_lines, next_line, ArePlacesNamed, rules_end, places_end}
 use Rattle.abnftexts.specs.NamedRules.{one_place, IsPlaceNamed, is_named, stays, IsRuleNamed, same_rule, read_again}
 use Rattle.abnftexts.specs.NamedRules.{AreRulesNamed, no_more_places, no_more_rules, one_rule, bare_line, with_prose}
@@ -20,7 +20,7 @@ use Rattle.abnftexts.specs.declared.join.fate.Fate.{Fate}
 use Rattle.abnftexts.proofs.ClearLinesLemmas.{AreInside, IsClear}
 use Rattle.abnftexts.proofs.EachLemmas.{Each, each_none, each_next, each-both, each-drop}
 use Rattle.abnftexts.proofs.PlacedRulesLemmas.{ArePlaced, IsPlaced, none_placed, next_placed}
-use Rattle.abnftexts.proofs.RuleTextLemmas.{LetterFirst, letter-first, line-behind, rule-text}
+use Rattle.abnftexts.proofs.RuleTextLemmas.{LetterFirst, letter-first, line-after, rule-text}
 
 -- comments of one line each
 pub data AreComments : List ℕ → Type 0 where
@@ -61,9 +61,9 @@ placed-written {place} {given} is =
 module _ {known : List ℕ → Bool} {own : List ℕ} {m : ℕ} where
   named-end : {line : NumberedLine} {lines : List NumberedLine} {comments text : List ℕ}
       → AreLinesNamed known own m (line ∷ lines) comments text → EndsLine text
-  named-end (next_line {new} h no_lines) = line-behind new lf
+  named-end (next_line {new} h no_lines) = line-after new lf
   named-end (next_line {new} h (next_line {line} {lines} k more)) =
-      line-behind new (behind_byte (named-end {line = line} {lines = lines} (next_line {line = line} k more)))
+      line-after new (after_byte (named-end {line = line} {lines = lines} (next_line {line = line} k more)))
 
   named-comments : {lines : List NumberedLine} {comments text : List ℕ} → Each IsClear lines
       → AreLinesNamed known own m lines comments text → AreComments comments

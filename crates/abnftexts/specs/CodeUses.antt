@@ -37,5 +37,5 @@ abbrev pub is_unknown : Rules (Vec ℕ Global) → List ℕ → Bool
 is_unknown names name = not (is_defined names name)
 
 -- the line of a use whose name is such
-abbrev pub unknown_told : Rules (Vec ℕ Global) → UsedName → List ℕ
-unknown_told names u = if is_unknown names u.name then undefined_line u else []
+abbrev pub unknown_reported : Rules (Vec ℕ Global) → UsedName → List ℕ
+unknown_reported names u = if is_unknown names u.name then undefined_line u else []

@@ -60,5 +60,5 @@ pub data TriedReply (form : JoinForm) (j : GrammarJoined) : Reply → Type 0 whe
 -- What is stated for texts and a form: the reports on the texts first, and the reply. There is no input.
 pub data JoinStates (texts : List NamedText) (form : JoinForm) (input : Input) : List ℕ → Reply → Type 0 where
   joins : {j : GrammarJoined} {reply : Reply} → AreTextsJoined texts j → JoinedReply form j reply
-      → JoinStates texts form input j.told reply
+      → JoinStates texts form input j.reported reply
   no_room : JoinStates texts form input [] (stopped NoMemory)

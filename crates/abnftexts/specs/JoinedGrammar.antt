@@ -11,7 +11,7 @@ use Rattle.abnftexts.specs.declared.join.order.Clash.{Clash}
 use Rattle.abnftexts.specs.RulesGathered.{NamedText, RuleLines, RulesGathered}
 use Rattle.abnftexts.specs.NamedRules.{AreRenamed}
 use Rattle.abnftexts.specs.TextRules.{GiveTexts}
-use Rattle.abnftexts.specs.UsedNames.{AreNameUses, UsedName, undefined_told}
+use Rattle.abnftexts.specs.UsedNames.{AreNameUses, UsedName, undefined_reported}
 use Rattle.abnftexts.specs.TextPlaces.{number_at, place_shown}
 
 abbrev pub has_stayed : Fate → Bool
@@ -33,8 +33,8 @@ abbrev pub last_number : RuleLines → ℕ
 last_number place = number_at place.lines (length place.lines)
 
 -- only blank lines stand between a rule and the one before it in its text
-abbrev pub goes_behind_it : RuleLines → RuleLines → Bool
-goes_behind_it before place = bytes_eq before.name place.name
+abbrev pub goes_after_it : RuleLines → RuleLines → Bool
+goes_after_it before place = bytes_eq before.name place.name
     && (last_number before + before.blanks + 1 == first_number place)
 
 -- a comment that names the position of a rule
@@ -45,7 +45,7 @@ comment_before place = codes "; " ++ (place_shown place.name (first_number place
 abbrev pub gap_before : Option RuleLines → RuleLines → List ℕ
 gap_before None place = comment_before place
 gap_before (Some before) place =
-    if goes_behind_it before place then replicate before.blanks (code "\n") else comment_before place
+    if goes_after_it before place then replicate before.blanks (code "\n") else comment_before place
 
 -- the rule as it is printed: what is written for it
 abbrev pub rule_printed : Option RuleLines → RuleLines → List ℕ
@@ -60,8 +60,8 @@ abbrev pub beside_last : Option RuleLines → List RuleLines → List (Option Ru
 beside_last before rows = zip (before ∷ map Some rows) rows
 
 -- the rules as they are printed one after another, where that one is printed before them
-abbrev pub printed_behind : Option RuleLines → List RuleLines → List ℕ
-printed_behind before rows = flat_map (λ p. rule_printed p.0 p.1) (beside_last before rows)
+abbrev pub printed_after : Option RuleLines → List RuleLines → List ℕ
+printed_after before rows = flat_map (λ p. rule_printed p.0 p.1) (beside_last before rows)
 
 -- the position of the rule with that number
 abbrev pub numbered_place : List RuleLines → ℕ → List ℕ
@@ -75,47 +75,48 @@ abbrev pub numbered_name : List RuleGiven → ℕ → List ℕ
 numbered_name rules n = elim (slice_get rules n) [ None ↦ [] | Some rule ↦ rule.name ]
 
 -- the report of two definitions of one name
-abbrev pub clash_told : List RuleLines → List RuleGiven → Clash → List ℕ
-clash_told places rules clash = numbered_place places clash.second ++ (codes ": '"
+abbrev pub clash_reported : List RuleLines → List RuleGiven → Clash → List ℕ
+clash_reported places rules clash = numbered_place places clash.second ++ (codes ": '"
     ++ (numbered_name rules clash.second ++ (codes "' is defined otherwise at "
     ++ (numbered_place places clash.first ++ codes "\n"))))
 
 -- what becomes of a rule
-abbrev pub fate_told : List RuleLines → Fate → List ℕ
-fate_told places Stands = codes "stands"
-fate_told places (Again n) = codes "is given at " ++ numbered_place places n
-fate_told places (Yields n) = codes "yields to " ++ numbered_place places n
+abbrev pub fate_reported : List RuleLines → Fate → List ℕ
+fate_reported places Stands = codes "stands"
+fate_reported places (Again n) = codes "is given at " ++ numbered_place places n
+fate_reported places (Yields n) = codes "yields to " ++ numbered_place places n
 
 -- the line of the rule with that number
 abbrev pub rule_listed : List RuleLines → List RuleGiven → ℕ → Fate → List ℕ
 rule_listed places rules n fate = numbered_place places n ++ (codes ": '" ++ (numbered_name rules n
-    ++ (codes "' " ++ (fate_told places fate ++ codes "\n"))))
+    ++ (codes "' " ++ (fate_reported places fate ++ codes "\n"))))
 
 -- the lines of the rules, where these are their fates
 abbrev pub rules_listed : List RuleLines → List RuleGiven → List Fate → List ℕ
 rules_listed places rules fates = flat_map (λ p. rule_listed places rules p.0 p.1) (enumerate_from 0 fates)
 
 -- the report where there is no rule
-abbrev pub none_told : List RuleGiven → List ℕ
-none_told [] = codes "no rules found\n"
-none_told (rule ∷ rules) = []
+abbrev pub none_reported : List RuleGiven → List ℕ
+none_reported [] = codes "no rules found\n"
+none_reported (rule ∷ rules) = []
 
 -- the grammar, the reports, a line for each rule that is given, and whether a rule is no ABNF or a name has two
 -- definitions
 pub record GrammarJoined : Type 0 where
   pub grammar : List ℕ
-  pub told : List ℕ
+  pub reported : List ℕ
   pub listed : List ℕ
   pub is_faulty : Bool
 
 -- of the rules that stand, where these are their lines, the names that they use, the reports of lines that are no ABNF,
 -- and the list
 abbrev pub joined_of : List RuleLines → List RuleGiven → List UsedName → List ℕ → List ℕ → GrammarJoined
-joined_of places rules uses told listed = record {
-  grammar = printed_behind None (ordered_rules places (joined_order rules));
-  told = told ++ flat_map (clash_told places rules) (clashes_of rules) ++ undefined_told rules uses ++ none_told rules;
+joined_of places rules uses reported listed = record {
+  grammar = printed_after None (ordered_rules places (joined_order rules));
+  reported = reported ++ flat_map (clash_reported places rules) (clashes_of rules) ++ undefined_reported rules uses
+      ++ none_reported rules;
   listed = listed;
-  is_faulty = nat_lt 0 (length told) || nat_lt 0 (length (clashes_of rules));
+  is_faulty = nat_lt 0 (length reported) || nat_lt 0 (length (clashes_of rules));
 }
 
 -- the rules that stand of what was gathered
@@ -132,7 +133,7 @@ UsesPrinted places rules uses = AreNameUses (ordered_rules places (joined_order 
 
 -- of what was gathered: the rules are joined that stand
 abbrev pub gathered_joined : RulesGathered → List UsedName → GrammarJoined
-gathered_joined g uses = joined_of (standing_places g) (standing_rules g) uses g.told
+gathered_joined g uses = joined_of (standing_places g) (standing_rules g) uses g.reported
     (rules_listed g.places g.rules (fates_of g.rules))
 
 -- that of all texts: what they give, where names lose angle brackets

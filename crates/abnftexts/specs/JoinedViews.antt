@@ -10,15 +10,15 @@ use Rattle.abnftexts.specs.declared.joined.JoinedTexts.{JoinedTexts}
 abbrev pub grammar_joined : JoinedTexts → GrammarJoined
 grammar_joined joined = record {
   grammar = joined.grammar.items;
-  told = joined.told.items;
+  reported = joined.reported.items;
   listed = joined.listed.items;
   is_faulty = joined.is_faulty;
 }
 
 -- it is that of these rules, which stand; and that of what was gathered
 abbrev pub IsStandingJoined : List RuleLines → List RuleGiven → List ℕ → List ℕ → GrammarJoined → Type 0
-IsStandingJoined places rules told listed joined = (uses : List UsedName) × UsesPrinted places rules uses
-    × (joined ≡ joined_of places rules uses told listed)
+IsStandingJoined places rules reported listed joined = (uses : List UsedName) × UsesPrinted places rules uses
+    × (joined ≡ joined_of places rules uses reported listed)
 
 abbrev pub IsGatheredJoined : RulesGathered → GrammarJoined → Type 0
 IsGatheredJoined g joined = (uses : List UsedName) × UsesPrinted (standing_places g) (standing_rules g) uses

@@ -110,4 +110,4 @@ pub data AreRulesNamed : List RuleLines → List RuleGiven → List RuleGiven �
 pub record AreRenamed (given named : RulesGathered) : Type 0 where
   pub places : ArePlacesNamed (is_known_name given.rules) given.rules given.places named.places
   pub rules : AreRulesNamed named.places given.rules named.rules
-  pub told : named.told ≡ given.told
+  pub reported : named.reported ≡ given.reported

@@ -25,7 +25,7 @@ pub record RuleLines : Type 0 where
 pub record RulesGathered : Type 0 where
   pub places : List RuleLines
   pub rules : List RuleGiven
-  pub told : List ℕ
+  pub reported : List ℕ
 
 -- what the code's values stand for
 abbrev pub named_text : SourceText → NamedText
@@ -45,21 +45,26 @@ abbrev pub rules_gathered : Gathered → RulesGathered
 rules_gathered gathered = record {
   places = map lines_placed gathered.places.items;
   rules = map text_rule gathered.rules.items;
-  told = gathered.told.items;
+  reported = gathered.reported.items;
 }
 
 -- nothing is given
 abbrev pub none_given : RulesGathered
-none_given = record { places = []; rules = []; told = [] }
+none_given = record { places = []; rules = []; reported = [] }
 
 -- one rule
 abbrev pub one_rule : RuleLines → RuleGiven → RulesGathered
-one_rule place rule = record { places = place ∷ []; rules = rule ∷ []; told = [] }
+one_rule place rule = record { places = place ∷ []; rules = rule ∷ []; reported = [] }
 
 -- no rule, and a report
-abbrev pub told_alone : List ℕ → RulesGathered
-told_alone told = record { places = []; rules = []; told = told }
+abbrev pub reported_alone : List ℕ → RulesGathered
+reported_alone reported = record { places = []; rules = []; reported = reported }
 
 -- both, one after the other
 abbrev pub both_given : RulesGathered → RulesGathered → RulesGathered
-both_given a b = record { places = a.places ++ b.places; rules = a.rules ++ b.rules; told = a.told ++ b.told }
+both_given a b = record {
+  places = a.places ++ b.places;
+  rules = a.rules ++ b.rules;
+  reported = a.reported
+      ++ b.reported;
+}

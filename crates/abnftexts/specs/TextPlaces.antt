@@ -25,6 +25,6 @@ fault_in lines Memory = Memory
 fault_in lines (NumberTooLarge line) = NumberTooLarge (number_at lines line)
 
 -- the report of a rule that is no ABNF, where it has these lines and they have that fault
-abbrev pub not_abnf_told : List ℕ → List NumberedLine → ReadFault → List ℕ
-not_abnf_told name lines fault = place_shown name (number_at lines 1) ++ (codes ": not ABNF: "
+abbrev pub not_abnf_reported : List ℕ → List NumberedLine → ReadFault → List ℕ
+not_abnf_reported name lines fault = place_shown name (number_at lines 1) ++ (codes ": not ABNF: "
     ++ fault_text (fault_in lines fault))

@@ -8,14 +8,14 @@ use Rattle.abnfread.specs.Element.{Definition, body_of}
 use Rattle.abnftexts.specs.GivenRules.{RuleGiven}
 use Rattle.abnftexts.specs.OnlyProse.{only_prose}
 use Rattle.abnfblocks.specs.MaskedLines.{AreRead}
-use Rattle.abnfblocks.specs.TextLines.{NumberedLine, behind_mark}
+use Rattle.abnfblocks.specs.TextLines.{NumberedLine, after_mark}
 use Rattle.abnfblocks.specs.FoundRules.{AreFound}
 use Rattle.abnfblocks.specs.RuleCuts.{blanks_first, lines_text, margin_at}
 use Rattle.abnfblocks.specs.declared.found.RuleSearch.{RuleSearch}
 use Rattle.abnfblocks.specs.declared.found.RuleSearch.TheVariants as found
 use Rattle.abnftexts.specs.RulesGathered.{NamedText, RuleLines, RulesGathered, both_given, none_given, one_rule}
-use Rattle.abnftexts.specs.RulesGathered.{told_alone}
-use Rattle.abnftexts.specs.TextPlaces.{not_abnf_told}
+use Rattle.abnftexts.specs.RulesGathered.{reported_alone}
+use Rattle.abnftexts.specs.TextPlaces.{not_abnf_reported}
 
 -- The rule that a definition is, wherever its name stands: what adds to a core rule (RFC 5234, appendix B.1) has that
 -- rule's alternatives before its own.
@@ -48,20 +48,20 @@ place_in name rest count = record {
 -- that begins no ABNF a report.
 pub data GivesFound (name : List ℕ) (kept : List NumberedLine) : List RuleSearch → RulesGathered → Type 0 where
   none_found : GivesFound name kept [] none_given
-  next_rule : {first count : ℕ} {others : List RuleSearch} {given : RuleGiven} {behind : RulesGathered}
+  next_rule : {first count : ℕ} {others : List RuleSearch} {given : RuleGiven} {after : RulesGathered}
       → SpellRule (lines_text (margin_at (take count (drop first kept))) (take count (drop first kept))) given
-      → GivesFound name kept others behind
+      → GivesFound name kept others after
       → GivesFound name kept (found.Rule first count ∷ others)
-      (both_given (one_rule (place_in name (drop first kept) count) given) behind)
-  no_rule : {first count : ℕ} {fault : ReadFault} {others : List RuleSearch} {behind : RulesGathered}
-      → GivesFound name kept others behind
+      (both_given (one_rule (place_in name (drop first kept) count) given) after)
+  no_rule : {first count : ℕ} {fault : ReadFault} {others : List RuleSearch} {after : RulesGathered}
+      → GivesFound name kept others after
       → GivesFound name kept (found.NotAbnf first count fault ∷ others)
-      (both_given (told_alone (not_abnf_told name (take count (drop first kept)) fault)) behind)
+      (both_given (reported_alone (not_abnf_reported name (take count (drop first kept)) fault)) after)
 
 -- what a text gives
 pub record GivesText (text : NamedText) (given : RulesGathered) : Type 0 where
   pub kept : List NumberedLine
-  pub keeps : AreRead (behind_mark text.bytes) kept
+  pub keeps : AreRead (after_mark text.bytes) kept
   pub all_found : List RuleSearch
   pub are_found : AreFound 0 kept all_found
   pub gives : GivesFound text.name kept all_found given
@@ -69,5 +69,5 @@ pub record GivesText (text : NamedText) (given : RulesGathered) : Type 0 where
 -- what texts give, one after another
 pub data GiveTexts : List NamedText → RulesGathered → Type 0 where
   no_texts : GiveTexts [] none_given
-  next_text : {text : NamedText} {texts : List NamedText} {here behind : RulesGathered} → GivesText text here
-      → GiveTexts texts behind → GiveTexts (text ∷ texts) (both_given here behind)
+  next_text : {text : NamedText} {texts : List NamedText} {here after : RulesGathered} → GivesText text here
+      → GiveTexts texts after → GiveTexts (text ∷ texts) (both_given here after)

@@ -39,8 +39,8 @@ pub record AreRuleUses (place : RuleLines) (uses : List UsedName) : Type 0 where
 -- those that rules use, one after another
 pub data AreNameUses : List RuleLines → List UsedName → Type 0 where
   no_rules : AreNameUses [] []
-  next_uses : {place : RuleLines} {places : List RuleLines} {here behind : List UsedName} → AreRuleUses place here
-      → AreNameUses places behind → AreNameUses (place ∷ places) (here ++ behind)
+  next_uses : {place : RuleLines} {places : List RuleLines} {here after : List UsedName} → AreRuleUses place here
+      → AreNameUses places after → AreNameUses (place ∷ places) (here ++ after)
 
 -- a rule has the name, or a core rule (RFC 5234, appendix B.1)
 abbrev pub is_known_name : List RuleGiven → List ℕ → Bool
@@ -48,17 +48,17 @@ is_known_name rules name = list_any (λ rule. same_name Fold name rule.name) rul
     || list_any (same_name Fold name) core_names
 
 -- a use reports that the name is not defined, if no use before it has the name
-abbrev pub tells_undefined : List RuleGiven → List UsedName → UsedName → Bool
-tells_undefined rules before u = not (is_known_name rules u.name)
+abbrev pub reports_undefined : List RuleGiven → List UsedName → UsedName → Bool
+reports_undefined rules before u = not (is_known_name rules u.name)
     && not (list_any (λ other. same_name Fold u.name other.name) before)
 
 abbrev pub undefined_line : UsedName → List ℕ
 undefined_line u = place_shown u.text u.line ++ (codes ": '" ++ (u.name ++ codes "' is not defined\n"))
 
 -- the line of a use that reports so
-abbrev pub use_told : List RuleGiven → List UsedName → UsedName → List ℕ
-use_told rules before u = if tells_undefined rules before u then undefined_line u else []
+abbrev pub use_reported : List RuleGiven → List UsedName → UsedName → List ℕ
+use_reported rules before u = if reports_undefined rules before u then undefined_line u else []
 
 -- the reports of names that are not defined: the first use of each, in the order of the uses
-abbrev pub undefined_told : List RuleGiven → List UsedName → List ℕ
-undefined_told rules uses = flat_map (λ p. use_told rules (take p.0 uses) p.1) (enumerate_from 0 uses)
+abbrev pub undefined_reported : List RuleGiven → List UsedName → List ℕ
+undefined_reported rules uses = flat_map (λ p. use_reported rules (take p.0 uses) p.1) (enumerate_from 0 uses)

@@ -48,5 +48,5 @@ pub(crate) struct Gathered<'a> {
     /// The rules.
     pub(crate) rules: Vec<GivenRule>,
     /// The reports on the error output.
-    pub(crate) told: Vec<u8>,
+    pub(crate) reported: Vec<u8>,
 }

@@ -24,7 +24,7 @@ pub struct JoinedTexts {
     /// The rules that stand, as their texts have them, in the order in which they are printed.
     pub grammar: Vec<u8>,
     /// The reports on the error output.
-    pub told: Vec<u8>,
+    pub reported: Vec<u8>,
     /// A line for each rule that the texts give, with what becomes of it.
     pub listed: Vec<u8>,
     /// Whether a rule is no ABNF, or a name has two definitions.
@@ -36,24 +36,24 @@ fn join_standing(
     alloc: Global,
     places: &[RulePlace<'_>],
     rules: &[GivenRule],
-    told: Vec<u8>,
+    reported: Vec<u8>,
     listed: Vec<u8>,
 ) -> Result<JoinedTexts, Memory>
     ensures { IfOk result (λ joined. IsStandingJoined (map lines_placed places.now) (map text_rule rules.now)
-        told.items listed.items (grammar_joined joined)) }
+        reported.items listed.items (grammar_joined joined)) }
 {
-    let is_abnf = told.is_empty();
-    let mut told = told;
+    let is_abnf = reported.is_empty();
+    let mut reported = reported;
     let order = find_order(alloc, rules)?;
     let grammar = printed_text(alloc, places, &order)?;
     let clashes = find_clashes(alloc, rules)?;
-    push_clashes(&mut told, places, rules, &clashes)?;
+    push_clashes(&mut reported, places, rules, &clashes)?;
     let uses = uses_in(alloc, places, &order)?;
-    push_undefined(alloc, &mut told, rules, &uses)?;
-    push_none(&mut told, rules)?;
+    push_undefined(alloc, &mut reported, rules, &uses)?;
+    push_none(&mut reported, rules)?;
     Ok(JoinedTexts {
         grammar,
-        told,
+        reported,
         listed,
         is_faulty: !is_abnf || !clashes.is_empty(),
     })
@@ -66,13 +66,13 @@ fn join_gathered(alloc: Global, gathered: Gathered<'_>) -> Result<JoinedTexts, M
     let Gathered {
         places,
         rules,
-        told,
+        reported,
     } = gathered;
     let fates = find_fates(alloc, &rules)?;
     let listed = listed_text(alloc, &places, &rules, &fates)?;
     let standing_places = kept_standing(alloc, &fates, places)?;
     let standing_rules = kept_standing(alloc, &fates, rules)?;
-    join_standing(alloc, &standing_places, &standing_rules, told, listed)
+    join_standing(alloc, &standing_places, &standing_rules, reported, listed)
 }
 
 /// Returns the grammar that texts make up, one after another, and the reports on them.

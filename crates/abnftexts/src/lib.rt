@@ -10,11 +10,11 @@ mod named;
 mod own;
 mod printed;
 mod renamed;
+mod reported;
 mod run;
 mod shown;
 mod stands;
 mod taken;
-mod told;
 mod undefined;
 mod uses;
 

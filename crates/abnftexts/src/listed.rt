@@ -1,7 +1,7 @@
 //! The list of the rules that texts give.
 ghost use Rattle.std.specs.Prelude.{◌≡◌, ◌++◌, map, IfOk, OnOk};
 ghost use Rattle.abnftexts.specs.GivenRules.{text_rule};
-ghost use Rattle.abnftexts.specs.JoinedGrammar.{fate_told, rule_listed, rules_listed};
+ghost use Rattle.abnftexts.specs.JoinedGrammar.{fate_reported, rule_listed, rules_listed};
 ghost use Rattle.abnftexts.specs.RulesGathered.{lines_placed};
 
 use crate::gathered::RulePlace;
@@ -12,7 +12,7 @@ use std::alloc::Global;
 
 // Adds what becomes of a rule.
 fn push_fate(out: &mut Vec<u8>, places: &[RulePlace<'_>], fate: Fate) -> Result<(), Memory>
-    ensures { OnOk result (out.new.items ≡ out.old.items ++ fate_told (map lines_placed places.now) fate) }
+    ensures { OnOk result (out.new.items ≡ out.old.items ++ fate_reported (map lines_placed places.now) fate) }
 {
     match fate {
         Fate::Stands => Ok(out.extend_from_slice(b"stands")?),

@@ -12,7 +12,7 @@ use crate::undefined::is_known;
 use abnfblocks::margin;
 use abnfread::{AbnfKind, Elem};
 use lexer::{Token, tokens};
-use rfcforms::{items_before, items_behind};
+use rfcforms::{items_after, items_before};
 use ruletable::{Memory, RuleTable};
 use std::alloc::Global;
 
@@ -39,7 +39,7 @@ fn token_text<'a>(
         return Ok(token.slice);
     }
     let front = items_before(token.slice, token.slice.len().saturating_sub(1));
-    let name = items_behind(front, 1);
+    let name = items_after(front, 1);
     if is_known(core, names, name)? && !is_same_folded(own, name) {
         return Ok(name);
     }
@@ -60,7 +60,7 @@ fn named_line(
     let mut new = Vec::new(alloc);
     let mut at = 0;
     for token in tokens::<AbnfKind>(line) {
-        let gap = items_behind(items_before(line, token.span.start), at);
+        let gap = items_after(items_before(line, token.span.start), at);
         new.extend_from_slice(gap)?;
         let text = token_text(core, names, own, token)?;
         new.extend_from_slice(text)?;
@@ -106,7 +106,7 @@ pub(crate) fn named_lines(
         text: Vec::new(alloc),
     };
     for line in &place.lines {
-        let bare = items_behind(line.bytes, place.margin.min(margin(line.bytes)));
+        let bare = items_after(line.bytes, place.margin.min(margin(line.bytes)));
         let new = named_line(alloc, core, names, own, bare)?;
         push_line(&mut lines, bare, &new)?;
     }

@@ -2,15 +2,15 @@
 ghost use Rattle.std.specs.Prelude.{◌≡◌, ◌++◌, None, Some, map, option_map, replicate, IfOk, OnOk};
 ghost use Rattle.std.specs.List.{flat_map};
 ghost use Rattle.abnftexts.specs.GivenRules.{text_rule};
-ghost use Rattle.abnftexts.specs.JoinedGrammar.{clash_told, comment_before, first_number as first_in, gap_before};
-ghost use Rattle.abnftexts.specs.JoinedGrammar.{goes_behind_it};
-ghost use Rattle.abnftexts.specs.JoinedGrammar.{last_number as last_in, none_told, numbered_name, numbered_place};
-ghost use Rattle.abnftexts.specs.JoinedGrammar.{ordered_rules, printed_behind, rule_printed};
+ghost use Rattle.abnftexts.specs.JoinedGrammar.{clash_reported, comment_before, first_number as first_in, gap_before};
+ghost use Rattle.abnftexts.specs.JoinedGrammar.{goes_after_it};
+ghost use Rattle.abnftexts.specs.JoinedGrammar.{last_number as last_in, none_reported, numbered_name, numbered_place};
+ghost use Rattle.abnftexts.specs.JoinedGrammar.{ordered_rules, printed_after, rule_printed};
 ghost use Rattle.abnftexts.specs.RulesGathered.{lines_placed};
 
 use crate::gathered::RulePlace;
 use crate::join::{Clash, GivenRule};
-use crate::told::{number_at, push_place};
+use crate::reported::{number_at, push_place};
 use ruletable::Memory;
 use std::alloc::Global;
 
@@ -29,8 +29,8 @@ fn last_number(place: &RulePlace<'_>) -> usize
 }
 
 // Returns whether only blank lines stand between a rule and the one before it in its text.
-fn goes_behind(before: &RulePlace<'_>, place: &RulePlace<'_>) -> bool
-    ensures { result ≡ goes_behind_it (lines_placed before.now) (lines_placed place.now) }
+fn goes_after(before: &RulePlace<'_>, place: &RulePlace<'_>) -> bool
+    ensures { result ≡ goes_after_it (lines_placed before.now) (lines_placed place.now) }
 {
     let last = last_number(before);
     let first = first_number(place);
@@ -64,7 +64,7 @@ fn push_gap(out: &mut Vec<u8>, before: &RulePlace<'_>, place: &RulePlace<'_>) ->
     ensures { OnOk result (out.new.items
         ≡ out.old.items ++ gap_before (Some (lines_placed before.now)) (lines_placed place.now)) }
 {
-    if goes_behind(before, place) {
+    if goes_after(before, place) {
         return push_empty(out, before.blanks);
     }
     push_comment(out, place)
@@ -110,7 +110,7 @@ pub(crate) fn printed_text(
     order: &[usize],
 ) -> Result<Vec<u8>, Memory>
     ensures { IfOk result (λ text. text.items
-        ≡ printed_behind None (ordered_rules (map lines_placed places.now) order.now)) }
+        ≡ printed_after None (ordered_rules (map lines_placed places.now) order.now)) }
 {
     let mut out = Vec::new(alloc);
     let mut before: Option<&RulePlace<'_>> = None;
@@ -159,7 +159,7 @@ fn push_clash(
     clash: Clash,
 ) -> Result<(), Memory>
     ensures { OnOk result (out.new.items ≡ out.old.items
-        ++ clash_told (map lines_placed places.now) (map text_rule rules.now) clash) }
+        ++ clash_reported (map lines_placed places.now) (map text_rule rules.now) clash) }
 {
     push_rule_place(out, places, clash.second)?;
     out.extend_from_slice(b": '")?;
@@ -178,7 +178,7 @@ pub(crate) fn push_clashes(
     clashes: &[Clash],
 ) -> Result<(), Memory>
     ensures { OnOk result (out.new.items ≡ out.old.items
-        ++ flat_map (clash_told (map lines_placed places.now) (map text_rule rules.now)) clashes.now) }
+        ++ flat_map (clash_reported (map lines_placed places.now) (map text_rule rules.now)) clashes.now) }
 {
     for clash in clashes {
         push_clash(out, places, rules, *clash)?;
@@ -188,7 +188,7 @@ pub(crate) fn push_clashes(
 
 /// Adds the report where there is no rule.
 pub(crate) fn push_none(out: &mut Vec<u8>, rules: &[GivenRule]) -> Result<(), Memory>
-    ensures { OnOk result (out.new.items ≡ out.old.items ++ none_told (map text_rule rules.now)) }
+    ensures { OnOk result (out.new.items ≡ out.old.items ++ none_reported (map text_rule rules.now)) }
 {
     if rules.is_empty() {
         out.extend_from_slice(b"no rules found\n")?;

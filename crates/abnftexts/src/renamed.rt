@@ -74,10 +74,10 @@ fn named_places<'a>(
     let mut named = Vec::new(alloc);
     let mut left = rules;
     for place in places {
-        let Some((rule, behind)) = left.split_first() else {
+        let Some((rule, after)) = left.split_first() else {
             break;
         };
-        left = behind;
+        left = after;
         let it = named_place(alloc, core, names, rule, place)?;
         named.push(it)?;
     }
@@ -135,7 +135,7 @@ pub(crate) fn name_rules<'a>(alloc: Global, gathered: Gathered<'a>) -> Result<Ga
     let Gathered {
         places,
         rules,
-        told,
+        reported,
     } = gathered;
     let core = core_rules(alloc)?;
     let names = numbers_by_name(alloc, Listed::Rules, &rules)?;
@@ -144,6 +144,6 @@ pub(crate) fn name_rules<'a>(alloc: Global, gathered: Gathered<'a>) -> Result<Ga
     Ok(Gathered {
         places,
         rules,
-        told,
+        reported,
     })
 }

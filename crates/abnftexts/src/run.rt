@@ -184,7 +184,7 @@ pub fn run_join<O: Sink, E: Sink>(
         Ok(joined) => joined,
         Err(_) => return end_run(Ok(Stop::NoMemory), out, err),
     };
-    if write_whole(err, &joined.told).is_err() {
+    if write_whole(err, &joined.reported).is_err() {
         return close_run(out, err);
     }
     let stop = write_joined(alloc, &joined, form, out);

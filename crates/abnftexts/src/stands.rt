@@ -20,10 +20,10 @@ pub(crate) fn kept_standing<T: Drop>(
     let mut kept = Vec::new(alloc);
     let mut left = fates;
     for it in all {
-        let Some((fate, behind)) = left.split_first() else {
+        let Some((fate, after)) = left.split_first() else {
             break;
         };
-        left = behind;
+        left = after;
         if matches!(*fate, Fate::Stands) {
             kept.push(it)?;
         }

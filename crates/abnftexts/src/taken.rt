@@ -11,9 +11,9 @@ ghost use Rattle.abnftexts.specs.TextRules.{GivesText, GiveTexts, place_in};
 use crate::gathered::{Gathered, RulePlace, ShownText};
 use crate::join::GivenRule;
 use crate::own::read_rule;
-use crate::told::push_not_abnf;
+use crate::reported::push_not_abnf;
 use abnfblocks::{RuleSearch, TextLine, blank_count, find_rules, joined_text, margin, read_lines};
-use rfcforms::{items_before, items_behind};
+use rfcforms::{items_after, items_before};
 use ruletable::Memory;
 use std::alloc::Global;
 
@@ -58,7 +58,7 @@ fn place_of<'a>(
         name,
         margin,
         lines,
-        blanks: blank_count(items_behind(rest, count)),
+        blanks: blank_count(items_after(rest, count)),
         comments: Vec::new(alloc),
         text,
     })
@@ -98,15 +98,15 @@ fn take_found<'a>(
     for it in found {
         match *it {
             RuleSearch::Rule { first, count } => {
-                take_rule(alloc, gathered, name, items_behind(kept, first), count)?;
+                take_rule(alloc, gathered, name, items_after(kept, first), count)?;
             }
             RuleSearch::NotAbnf {
                 first,
                 count,
                 fault,
             } => {
-                let lines = items_before(items_behind(kept, first), count);
-                push_not_abnf(&mut gathered.told, name, lines, fault)?;
+                let lines = items_before(items_after(kept, first), count);
+                push_not_abnf(&mut gathered.reported, name, lines, fault)?;
             }
         }
     }
@@ -142,7 +142,7 @@ pub(crate) fn take_texts<'a>(
     let mut gathered = Gathered {
         places: Vec::new(alloc),
         rules: Vec::new(alloc),
-        told: Vec::new(alloc),
+        reported: Vec::new(alloc),
     };
     for text in texts {
         take_text(alloc, &mut gathered, text)?;

@@ -3,11 +3,11 @@ ghost use Rattle.std.specs.Prelude.{◌≡◌, ◌++◌, map, IfOk, OnOk};
 ghost use Rattle.ruletable.specs.declared.table.NameCase.TheVariants.{Fold};
 ghost use Rattle.abnfread.specs.AbnfTable.{IsCoreTable};
 ghost use Rattle.abnftexts.specs.GivenRules.{text_rule};
-ghost use Rattle.abnftexts.specs.CodeUses.{ListsMore, is_defined as knows, is_unknown, name_used, unknown_told};
-ghost use Rattle.abnftexts.specs.UsedNames.{undefined_line, undefined_told};
+ghost use Rattle.abnftexts.specs.CodeUses.{ListsMore, is_defined as knows, is_unknown, name_used, unknown_reported};
+ghost use Rattle.abnftexts.specs.UsedNames.{undefined_line, undefined_reported};
 
 use crate::join::{GivenRule, Listed, numbers_by_name};
-use crate::told::push_place;
+use crate::reported::push_place;
 use crate::uses::NameUse;
 use abnfread::{Elem, core_rules};
 use diagnostics::{add_number, numbers_of};
@@ -33,7 +33,7 @@ pub(crate) fn is_known(
 
 // Lists the name of a use, and returns whether the use reports that it is not defined: neither rules nor uses before
 // it have listed the name.
-fn is_told(
+fn is_reported(
     alloc: Global,
     core: &RuleTable<Elem>,
     names: &mut RuleTable<Vec<usize>>,
@@ -41,7 +41,7 @@ fn is_told(
 ) -> Result<bool, Memory>
     requires core { IsCoreTable core.now }
     requires names { names.old.names ≡ Fold }
-    ensures told { IfOk result (λ is. is ≡ is_unknown names.old name.now) }
+    ensures reported { IfOk result (λ is. is ≡ is_unknown names.old name.now) }
     ensures listed { OnOk result (ListsMore name.now names.old names.new) }
 {
     let known = is_known(core, names, name)?;
@@ -61,7 +61,7 @@ fn push_line(out: &mut Vec<u8>, it: &NameUse<'_>) -> Result<(), Memory>
 }
 
 // Adds the report of a use, and lists its name. Names of rules and of uses before it are listed.
-fn push_use_told(
+fn push_use_reported(
     alloc: Global,
     out: &mut Vec<u8>,
     core: &RuleTable<Elem>,
@@ -70,10 +70,10 @@ fn push_use_told(
 ) -> Result<(), Memory>
     requires core { IsCoreTable core.now }
     requires names { names.old.names ≡ Fold }
-    ensures told { OnOk result (out.new.items ≡ out.old.items ++ unknown_told names.old (name_used it.now)) }
+    ensures reported { OnOk result (out.new.items ≡ out.old.items ++ unknown_reported names.old (name_used it.now)) }
     ensures listed { OnOk result (ListsMore it.now.name.items names.old names.new) }
 {
-    if is_told(alloc, core, names, &it.name)? {
+    if is_reported(alloc, core, names, &it.name)? {
         push_line(out, it)?;
     }
     Ok(())
@@ -87,12 +87,12 @@ pub(crate) fn push_undefined(
     uses: &[NameUse<'_>],
 ) -> Result<(), Memory>
     ensures { OnOk result (out.new.items
-        ≡ out.old.items ++ undefined_told (map text_rule rules.now) (map name_used uses.now)) }
+        ≡ out.old.items ++ undefined_reported (map text_rule rules.now) (map name_used uses.now)) }
 {
     let core = core_rules(alloc)?;
     let mut names = numbers_by_name(alloc, Listed::Rules, rules)?;
     for number in 0..uses.len() {
-        push_use_told(alloc, out, &core, &mut names, &uses[number])?;
+        push_use_reported(alloc, out, &core, &mut names, &uses[number])?;
     }
     Ok(())
 }

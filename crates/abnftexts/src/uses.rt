@@ -8,7 +8,7 @@ ghost use Rattle.abnftexts.specs.RulesGathered.{lines_placed};
 ghost use Rattle.abnftexts.specs.UsedNames.{AreNameUses, used_at};
 
 use crate::gathered::RulePlace;
-use crate::told::number_at;
+use crate::reported::number_at;
 use abnfexplain::abnf_places;
 use diagnostics::{Mention, MentionKind};
 use ruletable::Memory;

@@ -5,7 +5,7 @@ ghost use Rattle.abnfx.specs.JoinAnswers.{FilesJoined, JoinAnswers, both_forms, 
 ghost use Rattle.abnfx.specs.JoinWords.{AreFlagTexts, abnfx_app, paths_asked};
 ghost use Rattle.clap.specs.Words.{fault_of, found_of, matches_of, rows_of};
 ghost use Rattle.cli.specs.Parsing.{WordsState};
-ghost use Rattle.toolrun.specs.Plan.{IsToldAnd};
+ghost use Rattle.toolrun.specs.Plan.{IsReportedAnd};
 ghost use Rattle.toolrun.specs.Right.{Comes};
 ghost use Rattle.toolrun.specs.Status.{code_of};
 ghost use Rattle.toolrun.specs.Stream.{no_input, passed};
@@ -20,10 +20,15 @@ use std::rt::Files;
 use toolrun::{Status, Stop, close_run, end_run};
 
 // Reports why nothing is joined, and ends.
-fn end_told<O: Sink, E: Sink>(pieces: &[&[u8]], status: Status, out: &mut O, err: &mut E) -> Status
+fn end_reported<O: Sink, E: Sink>(
+    pieces: &[&[u8]],
+    status: Status,
+    out: &mut O,
+    err: &mut E,
+) -> Status
     requires out_is_fresh { O.failed out.old ≡ false }
     requires err_is_fresh { E.failed err.old ≡ false }
-    ensures right { Comes (IsToldAnd (flat_map (λ p. p.now) pieces.now) (Stop.Quiet status)) no_input
+    ensures right { Comes (IsReportedAnd (flat_map (λ p. p.now) pieces.now) (Stop.Quiet status)) no_input
         (passed O.contents O.failed out.old out.new) (passed E.contents E.failed err.old err.new) (code_of result) }
 {
     if write_pieces(err, pieces).is_err() {
@@ -36,17 +41,17 @@ fn end_told<O: Sink, E: Sink>(pieces: &[&[u8]], status: Status, out: &mut O, err
 fn end_unread<O: Sink, E: Sink>(why: &Unread<'_>, out: &mut O, err: &mut E) -> Status
     requires out_is_fresh { O.failed out.old ≡ false }
     requires err_is_fresh { E.failed err.old ≡ false }
-    ensures right { Comes (IsToldAnd (unread_text why.now) (unread_stop why.now)) no_input
+    ensures right { Comes (IsReportedAnd (unread_text why.now) (unread_stop why.now)) no_input
         (passed O.contents O.failed out.old out.new) (passed E.contents E.failed err.old err.new) (code_of result) }
 {
     match why {
-        Unread::Unreadable(path) => end_told(
+        Unread::Unreadable(path) => end_reported(
             &[b"cannot read ", path.as_bytes(), b"\n"],
             Status::Fault,
             out,
             err,
         ),
-        Unread::TooLong(path) => end_told(
+        Unread::TooLong(path) => end_reported(
             &[path.as_bytes(), b" longer than 16777216 bytes\n"],
             Status::Overlong,
             out,
@@ -83,14 +88,14 @@ fn join_files<R: Files + AllocGlobal, O: Sink, E: Sink>(
 fn end_clash<O: Sink, E: Sink>(out: &mut O, err: &mut E) -> Status
     requires out_is_fresh { O.failed out.old ≡ false }
     requires err_is_fresh { E.failed err.old ≡ false }
-    ensures right { Comes (IsToldAnd both_forms (Stop.Quiet Status.Refused)) no_input
+    ensures right { Comes (IsReportedAnd both_forms (Stop.Quiet Status.Refused)) no_input
         (passed O.contents O.failed out.old out.new) (passed E.contents E.failed err.old err.new) (code_of result) }
 {
-    let told: [&[u8]; 2] = [
+    let reported: [&[u8]; 2] = [
         b"error: the argument '-l' cannot be used with '-c'\n\nUsage: abnfx [OPTIONS] <TEXT>...\n\n",
         b"For more information, try '--help'.\n",
     ];
-    end_told(&told, Status::Refused, out, err)
+    end_reported(&reported, Status::Refused, out, err)
 }
 
 // Joins the texts that the words name, in that form.

@@ -14,7 +14,7 @@ use Rattle.pegrun.specs.Units.{no_match, no_unit, none, one_more, over_at_end, o
 use Rattle.toolrun.specs.Explained.{ExplainedIf}
 use Rattle.toolrun.specs.Input.{Input, bounded}
 use Rattle.toolrun.specs.Reply.{Reply}
-use Rattle.toolrun.specs.RunSteps.{cut_short, replied_told, unexplained}
+use Rattle.toolrun.specs.RunSteps.{cut_short, replied_reported, unexplained}
 use Rattle.pegrun.specs.PegSettings.{PegSettings}
 use Rattle.toolrun.specs.declared.stop.Stop.{Stop}
 use Rattle.toolrun.specs.declared.stop.Stop.TheVariants.{Quiet, NoMatch, LongUnit, LongLine, Broken, NoMemory, Refused}
@@ -102,25 +102,25 @@ module _ (rules : List Rule) (start : ℕ) (a b : PegSettings) (input : Input) (
     taken = r.taken ∙ taken_by r.point;
   }
 
-  told_by : (reply : Reply) → Replies rules start a input reply → Replies rules start b input reply
+  reported_by : (reply : Reply) → Replies rules start a input reply → Replies rules start b input reply
   unfolding plain_by
-  told_by reply r = record {
+  reported_by reply r = record {
     plain = r.plain;
     replies = plain_by r.plain r.replies;
     before = r.before;
-    tells = r.tells;
+    reports = r.reports;
     why = r.why;
     explains = why_by r.replies.point r.replies.stop r.why r.explains;
-    told = r.told;
+    reported = r.reported;
   }
 
   states_by_four : (reply : Reply) → RunStates rules start a input reply → RunStates rules start b input reply
   unfolding plain_by
-  states_by_four reply (replied_told same r) = replied_told same (told_by same r)
-  states_by_four reply (unexplained plain r told tells may) =
-      unexplained plain (plain_by plain r) told tells (lack_by r.point r.stop may)
-  states_by_four reply (cut_short point out told whole before tells r begins) =
-      cut_short point out told whole (units_by point out before) tells (plain_by whole r) begins
+  states_by_four reply (replied_reported same r) = replied_reported same (reported_by same r)
+  states_by_four reply (unexplained plain r reported reports may) =
+      unexplained plain (plain_by plain r) reported reports (lack_by r.point r.stop may)
+  states_by_four reply (cut_short point out reported whole before reports r begins) =
+      cut_short point out reported whole (units_by point out before) reports (plain_by whole r) begins
 
 -- so does what a run over memory gives
 pub planned_by_four : (rules : List Rule) (start : ℕ) (a b : PegSettings) → b.limit ≡ a.limit

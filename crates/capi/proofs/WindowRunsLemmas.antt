@@ -8,14 +8,14 @@ use Rattle.std.specs.List.{flat_map}
 use Rattle.std.specs.Result.{is_err, is_ok}
 use Rattle.capi.specs.WindowRuns.{AreWindowRuns, HaveRun, IsWindowRun, KeptRun, WindowRun, more, none, outside}
 use Rattle.capi.specs.WindowRuns.{window_bytes, ran, result_of}
-use Rattle.capi.specs.WindowsRun.{IsRunBehind, StandsWhole, goes_on}
+use Rattle.capi.specs.WindowsRun.{IsRunAfter, StandsWhole, goes_on}
 use Rattle.capi.specs.declared.result.CResult.{CResult}
 use Rattle.capi.specs.declared.windows.CWindow.{CWindow}
 use Rattle.memoryrun.specs.PlannedRun.{IsPlannedRun}
-use Rattle.ruletable.proofs.AppendsLemmas.{IsBeginning-nil}
+use Rattle.ruletable.proofs.AppendsLemmas.{IsPrefixOf-nil}
 use Rattle.toolrun.specs.Input.{Input, bounded}
 use Rattle.toolrun.proofs.DeliversLemmas.{delivers_after}
-use Rattle.toolrun.specs.Plan.{Behind, behind_notes, in_reply, told_behind}
+use Rattle.toolrun.specs.Plan.{Follows, after_notes, in_reply, reported_after}
 use Rattle.toolrun.specs.Reply.{Reply}
 
 module _ {A E : Type 0} (old other new : List ℕ) where
@@ -67,35 +67,36 @@ module _ (Ran : List ℕ → WindowRun → Type 0) (input : List ℕ) where
   no_window = record { runs = []; are_runs = none; out_is = refl; err_is = refl; results_are = refl }
 
 module _ (Ran Seen : List ℕ → WindowRun → Type 0) (input : List ℕ)
-    (tells : (bytes : List ℕ) (run : WindowRun) → Ran bytes run → Seen bytes run) where
-  one_told : (window : CWindow) (run : WindowRun) → IsWindowRun Ran input window run → IsWindowRun Seen input window run
-  one_told window run (ran within r) = ran within (tells (window_bytes input window) run r)
-  one_told window run (outside beyond is) = outside beyond is
+    (reports : (bytes : List ℕ) (run : WindowRun) → Ran bytes run → Seen bytes run) where
+  one_reported : (window : CWindow) (run : WindowRun) → IsWindowRun Ran input window run
+      → IsWindowRun Seen input window run
+  one_reported window run (ran within r) = ran within (reports (window_bytes input window) run r)
+  one_reported window run (outside beyond is) = outside beyond is
 
-  all_told : (windows : List CWindow) (runs : List WindowRun) → AreWindowRuns Ran input windows runs
+  all_reported : (windows : List CWindow) (runs : List WindowRun) → AreWindowRuns Ran input windows runs
       → AreWindowRuns Seen input windows runs
-  all_told windows runs none = none
-  all_told windows runs (more before first window run are w) =
-      more before first window run (all_told before first are) (one_told window run w)
+  all_reported windows runs none = none
+  all_reported windows runs (more before first window run are w) =
+      more before first window run (all_reported before first are) (one_reported window run w)
 
   -- the runs seen in another way
-  pub runs_told : (windows : List CWindow) (out err : List ℕ) (results : List CResult)
+  pub runs_reported : (windows : List CWindow) (out err : List ℕ) (results : List CResult)
       → HaveRun Ran input windows out err results → HaveRun Seen input windows out err results
-  runs_told windows out err results h = record {
+  runs_reported windows out err results h = record {
     runs = h.runs;
-    are_runs = all_told windows h.runs h.are_runs;
+    are_runs = all_reported windows h.runs h.are_runs;
     out_is = h.out_is;
     err_is = h.err_is;
     results_are = h.results_are;
   }
 
 -- a planned run delivers its reply after the first messages
-pub behind_as : (States : Input → List ℕ → Reply → Type 0) (first notes bytes : List ℕ) (run : WindowRun)
+pub after_as : (States : Input → List ℕ → Reply → Type 0) (first notes bytes : List ℕ) (run : WindowRun)
     (plain whole : Reply) (Does : Input → Reply → Type 0) (p : IsPlannedRun Does bytes run.out run.err run.code)
     → whole.out ≡ plain.out → whole.status ≡ plain.status → first ++ plain.err ≡ notes ++ whole.err
     → StandsWhole first notes whole → p.stated ≡ plain → States (bounded bytes) notes whole
-    → IsRunBehind States first bytes run
-behind_as States first notes bytes run plain whole Does p out status err stands is states =
+    → IsRunAfter States first bytes run
+after_as States first notes bytes run plain whole Does p out status err stands is states =
     goes_on (record {
       notes = notes;
       stated = whole;
@@ -107,19 +108,19 @@ behind_as States first notes bytes run plain whole Does p out status err stands 
     }) stands
 
 -- what is kept of runs that are seen in another way
-pub kept_told : (Ran Seen : List ℕ → WindowRun → Type 0)
+pub kept_reported : (Ran Seen : List ℕ → WindowRun → Type 0)
     → ((bytes : List ℕ) (run : WindowRun) → Ran bytes run → Seen bytes run)
     → (bytes : List ℕ) (kept : WindowRun) → KeptRun Ran bytes kept → KeptRun Seen bytes kept
-kept_told Ran Seen tells bytes kept (run, was, saved) = (run, tells bytes run was, saved)
+kept_reported Ran Seen reports bytes kept (run, was, saved) = (run, reports bytes run was, saved)
 
 -- a planned run is one after the first messages
-pub planned_is_behind : (States : Input → List ℕ → Reply → Type 0) (first : List ℕ) (Does : Input → Reply → Type 0)
-    → ((input : Input) (reply : Reply) → Does input reply → Behind States input first reply) → (bytes : List ℕ)
-    (run : WindowRun) → IsPlannedRun Does bytes run.out run.err run.code → IsRunBehind States first bytes run
-planned_is_behind States first Does stated bytes run p = by (stated (bounded bytes) p.stated p.states.1)
+pub planned_is_after : (States : Input → List ℕ → Reply → Type 0) (first : List ℕ) (Does : Input → Reply → Type 0)
+    → ((input : Input) (reply : Reply) → Does input reply → Follows States input first reply) → (bytes : List ℕ)
+    (run : WindowRun) → IsPlannedRun Does bytes run.out run.err run.code → IsRunAfter States first bytes run
+planned_is_after States first Does stated bytes run p = by (stated (bounded bytes) p.stated p.states.1)
   where
-    by : Behind States (bounded bytes) first p.stated → IsRunBehind States first bytes run
-    by (behind_notes s) = behind_as States first first bytes run p.stated p.stated Does p refl refl refl (inl refl)
+    by : Follows States (bounded bytes) first p.stated → IsRunAfter States first bytes run
+    by (after_notes s) = after_as States first first bytes run p.stated p.stated Does p refl refl refl (inl refl)
         refl s
-    by (in_reply empty s) = behind_as States first [] bytes run p.stated (told_behind first p.stated) Does p refl refl
-        refl (inr (IsBeginning-nil first, empty)) refl s
+    by (in_reply empty s) = after_as States first [] bytes run p.stated (reported_after first p.stated) Does p refl refl
+        refl (inr (IsPrefixOf-nil first, empty)) refl s

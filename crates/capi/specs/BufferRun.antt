@@ -30,8 +30,8 @@ IsUntouched buffer = (buffer.new ≡ buffer.old) × (buffer.len ≡ 0)
 pub data IsBufferRun {O : Type 0} (AreMeant : CSettings → O → Type 0)
     (States : Settings O → Input → List ℕ → Reply → Type 0) (asked : CSettings) (name input : List ℕ)
     (out err : Filled) (code : ℕ) : Type 0 where
-  ran : (settings : Settings O) (printed told : List ℕ) → IsMeant AreMeant asked name settings
-      → IsMemoryRun (States settings) input printed told code
-      → IsLaid printed out → IsLaid told err → IsBufferRun AreMeant States asked name input out err code
+  ran : (settings : Settings O) (printed reported : List ℕ) → IsMeant AreMeant asked name settings
+      → IsMemoryRun (States settings) input printed reported code
+      → IsLaid printed out → IsLaid reported err → IsBufferRun AreMeant States asked name input out err code
   invalid : IsInvalid asked name → IsUntouched out → IsUntouched err → code ≡ 6
       → IsBufferRun AreMeant States asked name input out err code

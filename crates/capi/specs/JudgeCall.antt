@@ -18,10 +18,11 @@ abbrev pub c_status : ℕ → CAnswer
 c_status code = record { reached = 0; status = code }
 
 -- The call returns the line's answer; or the line is longer than the limit, an allocation failed, or there is no judge.
-pub data IsJudgeCall (line : List ℕ) (told : CAnswer) : Option OpenJudge → Type 0 where
+pub data IsJudgeCall (line : List ℕ) (reported : CAnswer) : Option OpenJudge → Type 0 where
   answers : (judge : OpenJudge) (said : Answer) → length line ≤ judge.limit
       → IsAnswerTo judge.letters judge.viable (rules_of judge.grammar.rules) judge.grammar.judged line said
-      → told ≡ c_answer said → IsJudgeCall line told (Some judge)
-  overlong : (judge : OpenJudge) → judge.limit < length line → told ≡ c_status 3 → IsJudgeCall line told (Some judge)
-  no_memory : (judge : OpenJudge) → told ≡ c_status 5 → IsJudgeCall line told (Some judge)
-  not_open : told ≡ c_status 6 → IsJudgeCall line told None
+      → reported ≡ c_answer said → IsJudgeCall line reported (Some judge)
+  overlong : (judge : OpenJudge) → judge.limit < length line → reported ≡ c_status 3
+      → IsJudgeCall line reported (Some judge)
+  no_memory : (judge : OpenJudge) → reported ≡ c_status 5 → IsJudgeCall line reported (Some judge)
+  not_open : reported ≡ c_status 6 → IsJudgeCall line reported None

@@ -10,26 +10,26 @@ use Rattle.ruletable.specs.Notes.{Said}
 use Rattle.ruletable.specs.declared.fault.ReadFault.{ReadFault}
 use Rattle.ruletable.specs.declared.fault.ReadFault.TheVariants.{Memory}
 use Rattle.toolrun.specs.Explained.{Explained}
-use Rattle.toolrun.specs.ToldNotes.{HintedNotes}
+use Rattle.toolrun.specs.ReportedNotes.{HintedNotes}
 use Rattle.toolrun.specs.declared.settings.Settings.{Settings}
 
 -- The diagnostics that opening a grammar gives: no text if an allocation failed. Private functions alone cite it.
-abbrev pub text_told : {E : Type 0} → Result (Vec ℕ Global) E → List ℕ
-text_told (Ok text) = text.items
-text_told (Err fault) = []
+abbrev pub text_reported : {E : Type 0} → Result (Vec ℕ Global) E → List ℕ
+text_reported (Ok text) = text.items
+text_reported (Err fault) = []
 
 -- The exit status of opening, by whether the grammar is open. Private functions alone cite it.
-abbrev pub code_told : {T E : Type 0} → Result T E → Bool → ℕ
-code_told (Ok text) is_open = if is_open then 0 else 2
-code_told (Err fault) is_open = 5
+abbrev pub code_reported : {T E : Type 0} → Result T E → Bool → ℕ
+code_reported (Ok text) is_open = if is_open then 0 else 2
+code_reported (Err fault) is_open = 5
 
 -- The messages on a text that is not read, and the status: its fault, explained if the settings ask for that; or an
 -- allocation failed. HasFault says what is wrong with the text, and Why which lines explain it.
-pub data IsFaultTold {O : Type 0} (HasFault : ReadFault → Type 0) (Why : ReadFault → List ℕ → Type 0)
+pub data IsFaultReported {O : Type 0} (HasFault : ReadFault → Type 0) (Why : ReadFault → List ℕ → Type 0)
     (settings : Settings O) : List ℕ → ℕ → Type 0 where
   has_fault : (fault : ReadFault) (why : List ℕ) → HasFault fault → fault ≢ Memory
-      → Explained settings (Why fault) why → IsFaultTold HasFault Why settings (fault_text fault ++ why) 2
-  has_no_memory : IsFaultTold HasFault Why settings [] 5
+      → Explained settings (Why fault) why → IsFaultReported HasFault Why settings (fault_text fault ++ why) 2
+  has_no_memory : IsFaultReported HasFault Why settings [] 5
 
 -- The messages on a grammar's text, what it is opened as, and the status: it is opened; or its notes reject it. The
 -- notes are those of a run. If the settings ask for that, WhyNoted explains each, and hints follow. Or the text is not
@@ -38,13 +38,14 @@ pub data IsOpening {O Open : Type 0} (HasFault : ReadFault → Type 0) (Why : Re
     (WhyNoted : Option (List ℕ) → Said → List ℕ → Type 0) (AreHints : List ℕ → Type 0)
     (IsOpen : List Said → Option Open → Type 0)
     (settings : Settings O) : List ℕ → Option Open → ℕ → Type 0 where
-  opens : (notes : List Said) (told : List ℕ) (opened : Open) → IsOpen notes (Some opened)
-      → HintedNotes settings WhyNoted AreHints notes told
-      → IsOpening HasFault Why WhyNoted AreHints IsOpen settings told (Some opened) 0
-  refuses : (notes : List Said) (told : List ℕ) → IsOpen notes None → HintedNotes settings WhyNoted AreHints notes told
-      → IsOpening HasFault Why WhyNoted AreHints IsOpen settings told None 2
-  not_read : (told : List ℕ) (code : ℕ) → IsFaultTold HasFault Why settings told code
-      → IsOpening HasFault Why WhyNoted AreHints IsOpen settings told None code
+  opens : (notes : List Said) (reported : List ℕ) (opened : Open) → IsOpen notes (Some opened)
+      → HintedNotes settings WhyNoted AreHints notes reported
+      → IsOpening HasFault Why WhyNoted AreHints IsOpen settings reported (Some opened) 0
+  refuses : (notes : List Said) (reported : List ℕ) → IsOpen notes None
+      → HintedNotes settings WhyNoted AreHints notes reported
+      → IsOpening HasFault Why WhyNoted AreHints IsOpen settings reported None 2
+  not_read : (reported : List ℕ) (code : ℕ) → IsFaultReported HasFault Why settings reported code
+      → IsOpening HasFault Why WhyNoted AreHints IsOpen settings reported None code
 
 -- what C's place holds before and after
 pub record Place (Open : Type 0) : Type 0 where
@@ -57,8 +58,9 @@ pub record Place (Open : Type 0) : Type 0 where
 pub data IsOpenCall {O Open : Type 0} (AreMeant : CSettings → O → Type 0)
     (Opening : Settings O → List ℕ → Option Open → ℕ → Type 0) (asked : CSettings)
     (name : List ℕ) (place : Place Open) (err : Filled) (code : ℕ) : Type 0 where
-  tried : (settings : Settings O) (told : List ℕ) → place.old ≡ None → IsMeant AreMeant asked name settings
-      → Opening settings told place.new code → IsLaid told err → IsOpenCall AreMeant Opening asked name place err code
+  tried : (settings : Settings O) (reported : List ℕ) → place.old ≡ None → IsMeant AreMeant asked name settings
+      → Opening settings reported place.new code → IsLaid reported err
+      → IsOpenCall AreMeant Opening asked name place err code
   not_asked : IsInvalid asked name → place.new ≡ place.old → IsUntouched err → code ≡ 6
       → IsOpenCall AreMeant Opening asked name place err code
   not_empty : IsSome place.old → place.new ≡ place.old → IsUntouched err → code ≡ 6

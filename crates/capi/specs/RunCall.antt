@@ -11,12 +11,13 @@ use Rattle.pegrun.specs.PegSettings.{PegSettings}
 -- Both outputs and the status are those of a run of the grammar on the input, after the messages on the grammar, with
 -- any settings that ask for such a run.
 abbrev pub HasRunOn : Runner → List ℕ → List ℕ → List ℕ → ℕ → Type 0
-HasRunOn runner input printed told code = (settings : PegSettings) → RunsBy runner settings
-    → IsPlannedRun (RunStates (rules_of runner.peg.rules) runner.peg.start settings) input printed told code
+HasRunOn runner input printed reported code = (settings : PegSettings) → RunsBy runner settings
+    → IsPlannedRun (RunStates (rules_of runner.peg.rules) runner.peg.start settings) input printed reported code
 
 -- The open grammar was run on the input, and as much of both outputs as there is room for was laid into the buffers; or
 -- no grammar is open, and nothing was done.
 pub data IsRunCall (input : List ℕ) (out err : Filled) (code : ℕ) : Option Runner → Type 0 where
-  runs : (runner : Runner) (printed told : List ℕ) → HasRunOn runner input printed told code → IsLaid printed out
-      → IsLaid told err → IsRunCall input out err code (Some runner)
+  runs : (runner : Runner) (printed reported : List ℕ) → HasRunOn runner input printed reported code
+      → IsLaid printed out
+      → IsLaid reported err → IsRunCall input out err code (Some runner)
   not_open : IsUntouched out → IsUntouched err → code ≡ 6 → IsRunCall input out err code None

@@ -47,7 +47,7 @@ fn answer_of(said: Answer) -> CAnswer
 /// Judges a line.
 pub fn judge_line(judge: &mut AbnfJudge, line: &[u8]) -> CAnswer
     ensures same { judge.new ≡ judge.old }
-    ensures told { IsJudgeCall line.now result (Some judge.old) }
+    ensures reported { IsJudgeCall line.now result (Some judge.old) }
 {
     if line.len() > judge.limit() {
         return without_answer(Status::Overlong.code());

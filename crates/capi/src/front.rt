@@ -14,7 +14,7 @@ use toolrun::{First, Plan, Status, Stop, write_first};
 #[derive(Drop)]
 pub struct Front<G, S> {
     /// The messages that are written once.
-    pub told: Vec<u8>,
+    pub reported: Vec<u8>,
     /// The plan for each window.
     pub plan: Plan<G, S>,
 }
@@ -56,23 +56,23 @@ fn refused_by<T>(task: &Result<T, Stop>) -> Option<ReadFault>
 /// notes on the grammar or the fault of its text. If an allocation fails there are none, and each run stops with
 /// `NoMemory`.
 pub fn front_of<G: Drop, S: Drop>(alloc: Global, plan: Plan<G, S>) -> Front<G, S>
-    ensures { IsFrontOf (first_text plan.first) plan.task result.told.items result.plan.task }
+    ensures { IsFrontOf (first_text plan.first) plan.task result.reported.items result.plan.task }
 {
     let Plan { first, task } = plan;
-    let (told, task) = match refused_by(&task) {
+    let (reported, task) = match refused_by(&task) {
         Some(fault) => {
-            let told = text_of_refusal(alloc, &first, &fault);
-            (told, Err(Stop::Quiet(Status::Refused)))
+            let reported = text_of_refusal(alloc, &first, &fault);
+            (reported, Err(Stop::Quiet(Status::Refused)))
         }
         None => (text_of_first(alloc, &first), task),
     };
-    match told {
-        Ok(told) => Front {
-            told,
+    match reported {
+        Ok(reported) => Front {
+            reported,
             plan: Plan { first, task },
         },
         Err(Memory) => Front {
-            told: Vec::new(alloc),
+            reported: Vec::new(alloc),
             plan: Plan {
                 first,
                 task: Err(Stop::NoMemory),

@@ -9,8 +9,8 @@ use crate::answer::{CAnswer, judge_line, without_answer};
 use crate::asked::{BAD_SETTINGS, CSettings, settings_of};
 use crate::judge::{CJudge, put_judge, take_judge};
 use crate::opening::open_judge;
+use crate::reported::lay_reported;
 use crate::result::{CResult, nothing_done};
-use crate::told::lay_told;
 use abnfrun::AbnfOptions;
 use std::alloc::Global;
 
@@ -40,23 +40,23 @@ pub fn abnf_open(
     let Some(settings) = settings_of::<AbnfOptions>(asked, name) else {
         return nothing_done();
     };
-    let told = open_judge(alloc, grammar, &settings, place);
-    lay_told(told, place.is_open, err)
+    let reported = open_judge(alloc, grammar, &settings, place);
+    lay_reported(reported, place.is_open, err)
 }
 
 /// Judges a line, which may hold any bytes. A line without the byte that ends lines gets the answer of `run_abnf` for
 /// the grammar and the settings of opening.
 pub fn abnf_judge(alloc: Global, place: &mut CJudge, line: &[u8]) -> CAnswer
     ensures same { place.new.judge.held ≡ place.old.judge.held }
-    ensures told { IsJudgeCall line.now result place.old.judge.held }
+    ensures reported { IsJudgeCall line.now result place.old.judge.held }
 {
     if !place.is_open {
         return without_answer(BAD_SETTINGS);
     }
     let mut judge = take_judge(alloc, place);
-    let told = judge_line(&mut judge, line);
+    let reported = judge_line(&mut judge, line);
     put_judge(judge, place);
-    told
+    reported
 }
 
 /// Frees the judge, if the handle is not empty, and leaves the handle empty.

@@ -13,12 +13,12 @@ mod judge_calls;
 mod loose;
 mod opening;
 mod place;
+mod reported;
 mod result;
 mod runner;
 mod runner_box;
 mod runner_calls;
 mod runs;
-mod told;
 mod window_texts;
 mod windows;
 

@@ -1,12 +1,12 @@
 //! Opens a grammar for C.
 ghost use Rattle.std.specs.Prelude.{◌≡◌, is_some, None};
 ghost use Rattle.capi.specs.GrammarOpenings.{IsAbnfOpening, IsPegOpening};
-ghost use Rattle.capi.specs.OpenCall.{code_told, text_told};
+ghost use Rattle.capi.specs.OpenCall.{code_reported, text_reported};
 
 use crate::judge::{CJudge, put_judge};
 use crate::place::{CRunner, put_runner};
+use crate::reported::text_of_fault;
 use crate::runs::runner_by;
-use crate::told::text_of_fault;
 use abnfrun::{AbnfLanguage, AbnfSettings, OpenedAbnf, open_abnf};
 use pegrun::{OpenedPeg, PegLanguage, PegSettings, open_peg};
 use ruletable::Memory;
@@ -21,8 +21,8 @@ pub(crate) fn open_judge(
     place: &mut CJudge,
 ) -> Result<Vec<u8>, Memory>
     requires { place.old.judge.held ≡ None }
-    ensures { IsAbnfOpening grammar.now settings.now (text_told result) place.new.judge.held
-        (code_told result (is_some place.new.judge.held)) }
+    ensures { IsAbnfOpening grammar.now settings.now (text_reported result) place.new.judge.held
+        (code_reported result (is_some place.new.judge.held)) }
 {
     let OpenedAbnf {
         diagnostics,
@@ -48,8 +48,8 @@ pub(crate) fn open_runner(
     place: &mut CRunner,
 ) -> Result<Vec<u8>, Memory>
     requires { place.old.runner.held ≡ None }
-    ensures { IsPegOpening grammar.now settings.now (text_told result) place.new.runner.held
-        (code_told result (is_some place.new.runner.held)) }
+    ensures { IsPegOpening grammar.now settings.now (text_reported result) place.new.runner.held
+        (code_reported result (is_some place.new.runner.held)) }
 {
     let OpenedPeg {
         diagnostics,

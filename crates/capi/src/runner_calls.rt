@@ -9,9 +9,9 @@ use crate::asked::{CSettings, settings_of};
 use crate::calls::hand_out;
 use crate::opening::open_runner;
 use crate::place::{CRunner, put_runner, take_runner};
+use crate::reported::lay_reported;
 use crate::result::{CResult, nothing_done};
 use crate::runs::run_input;
-use crate::told::lay_told;
 use pegrun::PegOptions;
 use std::alloc::Global;
 
@@ -41,8 +41,8 @@ pub fn peg_open(
     let Some(settings) = settings_of::<PegOptions>(asked, name) else {
         return nothing_done();
     };
-    let told = open_runner(alloc, grammar, &settings, place);
-    lay_told(told, place.is_open, err)
+    let reported = open_runner(alloc, grammar, &settings, place);
+    lay_reported(reported, place.is_open, err)
 }
 
 /// Runs the open grammar on an input, as `run_peg` does with the settings of opening. Lays both outputs into the

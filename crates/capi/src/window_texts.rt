@@ -27,7 +27,7 @@ pub fn append_run(ran: &Outputs, texts: &mut WindowTexts) -> CResult
         × (texts.new.err.items ≡ texts.old.err.items ++ kept.err) × (result ≡ result_of kept) }
 {
     let printed = ran.out.as_slice();
-    let told = ran.err.as_slice();
+    let reported = ran.err.as_slice();
     if texts.out.extend_from_slice(printed).is_err() {
         return CResult {
             out_len: 0,
@@ -35,7 +35,7 @@ pub fn append_run(ran: &Outputs, texts: &mut WindowTexts) -> CResult
             status: Status::NoMemory.code(),
         };
     }
-    if texts.err.extend_from_slice(told).is_err() {
+    if texts.err.extend_from_slice(reported).is_err() {
         return CResult {
             out_len: printed.len(),
             err_len: 0,
@@ -44,7 +44,7 @@ pub fn append_run(ran: &Outputs, texts: &mut WindowTexts) -> CResult
     }
     CResult {
         out_len: printed.len(),
-        err_len: told.len(),
+        err_len: reported.len(),
         status: ran.status.code(),
     }
 }

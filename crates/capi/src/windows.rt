@@ -68,14 +68,15 @@ pub fn run_windows<L: Language>(
     results: &mut [CResult],
 ) -> WindowTexts
     requires count { length results.old ≡ length windows.now }
-    ensures { (told : List ℕ)
+    ensures { (reported : List ℕ)
         × HaveRun (KeptRun (planned (does_of (λ t. task_does L.canonical L.runs t settings.now) front.plan.task)))
-        input.now windows.now result.out.items told results.new × (result.err.items ≡ front.told.items ++ told) }
+        input.now windows.now result.out.items reported results.new
+        × (result.err.items ≡ front.reported.items ++ reported) }
 {
-    let Front { told, plan } = front;
+    let Front { reported, plan } = front;
     let mut texts = WindowTexts {
         out: Vec::new(alloc),
-        err: told,
+        err: reported,
     };
     for n in 0..windows.len() {
         results[n] = run_window::<L>(alloc, &plan, settings, input, windows[n], &mut texts);

@@ -6,14 +6,14 @@ use Rattle.clap.specs.declared.error.Error.{Error}
 use Rattle.clap.specs.declared.error.kind.ErrorKind.{ErrorKind}
 use Rattle.clap.specs.declared.error.kind.ErrorKind.TheVariants.{OutOfMemory}
 use Rattle.cli.specs.Asked.{Ask}
-use Rattle.cli.specs.Jobs.{IsStopOf, JobStates, TellsOf, no_memory, runs, unreadable}
+use Rattle.cli.specs.Jobs.{IsStopOf, JobStates, ReportsOf, no_memory, runs, unreadable}
 use Rattle.cli.specs.Parsing.{IsNoHelp, IsTextAlone, IsUnready, WordsState, has_no_room, says_fault, shows_help}
 use Rattle.cli.specs.declared.reading.Unready.{Unready}
 use Rattle.cli.specs.declared.reading.Unready.TheVariants as unready
 use Rattle.cli.specs.declared.settings.Asked.{Asked}
 use Rattle.ruletable.proofs.AppendsLemmas.{Appends-same}
 use Rattle.toolrun.specs.Input.{Input}
-use Rattle.toolrun.specs.Plan.{IsToldAnd, stopped}
+use Rattle.toolrun.specs.Plan.{IsReportedAnd, stopped}
 use Rattle.toolrun.specs.Reply.{Reply}
 use Rattle.toolrun.specs.Right.{Comes}
 use Rattle.toolrun.specs.Stream.{Stream, no_input}
@@ -21,17 +21,17 @@ use Rattle.toolrun.specs.declared.settings.Settings.{Settings}
 use Rattle.toolrun.specs.declared.status.Status.TheVariants.{Refused}
 use Rattle.toolrun.specs.declared.stop.Stop.{Stop}
 use Rattle.toolrun.specs.declared.stop.Stop.TheVariants.{NoMemory, Quiet, Unreadable}
-use Rattle.toolrun.proofs.IsRightLemmas.{comes_as, told_stops}
+use Rattle.toolrun.proofs.IsRightLemmas.{comes_as, reported_stops}
 
 -- a stop that is stated
 pub stop_comes : (States : Input → List ℕ → Reply → Type 0) (stop : Stop)
     → ((input : Input) → States input [] (stopped stop)) → (r0 : Option (List ℕ)) (r_was r_failed : Bool)
-    (out err : Stream) (code : ℕ) → TellsOf stop out.old out.new out.failed err.old err.new err.failed code →
+    (out err : Stream) (code : ℕ) → ReportsOf stop out.old out.new out.failed err.old err.new err.failed code →
     Comes States (record { old = r0; new = r0; was = r_was; failed = r_failed }) out err code
-stop_comes States stop stated r0 r_was r_failed out err code tells =
-    comes_as (IsToldAnd [] stop) States (λ input notes reply is. rw (is.0, is.1) (stated input))
+stop_comes States stop stated r0 r_was r_failed out err code reports =
+    comes_as (IsReportedAnd [] stop) States (λ input notes reply is. rw (is.0, is.1) (stated input))
     (record { old = r0; new = r0; was = r_was; failed = r_failed }) out err code
-    (told_stops [] stop r0 r_was r_failed out err err.old code tells.0 (Appends-same err.old) tells.1)
+    (reported_stops [] stop r0 r_was r_failed out err err.old code reports.0 (Appends-same err.old) reports.1)
 
 module _ {O : Type 0} (Asks : List Row → O → Type 0) (States : List ℕ → Settings O → Input → List ℕ → Reply → Type 0)
     (rows : List Row)
@@ -47,36 +47,37 @@ module _ {O : Type 0} (Asks : List Row → O → Type 0) (States : List ℕ → 
     -- the end of a run that has no job
     module _ (r0 : Option (List ℕ)) (r_was r_failed : Bool) (out err : Stream) (code : ℕ) where
       pub unready_comes : (why : Unready) (kinds : Kinds) → kinds ≡ [] → IsUnready kinds why →
-          ((stop : Stop) → IsStopOf why stop → TellsOf stop out.old out.new out.failed err.old err.new err.failed code)
+          ((stop : Stop) → IsStopOf why stop → ReportsOf stop out.old out.new out.failed err.old err.new err.failed
+          code)
           →
           Comes (JobStates Asks States rows)
           (record { old = r0; new = r0; was = r_was; failed = r_failed }) out err code
-      unready_comes (unready.Words error) kinds none (inl memory) tells =
+      unready_comes (unready.Words error) kinds none (inl memory) reports =
           stop_comes (JobStates Asks States rows) NoMemory (λ input. no_memory) r0 r_was r_failed out err code
-          (tells NoMemory (memory, refl))
-      unready_comes (unready.Words error) kinds none (inr other) tells = absurd (rw none at other)
-      unready_comes unready.Unreadable kinds none is tells =
+          (reports NoMemory (memory, refl))
+      unready_comes (unready.Words error) kinds none (inr other) reports = absurd (rw none at other)
+      unready_comes unready.Unreadable kinds none is reports =
           stop_comes (JobStates Asks States rows) Unreadable (λ input. unreadable) r0 r_was r_failed out err code
-          (tells Unreadable refl)
-      unready_comes unready.NoMemory kinds none is tells =
+          (reports Unreadable refl)
+      unready_comes unready.NoMemory kinds none is reports =
           stop_comes (JobStates Asks States rows) NoMemory (λ input. no_memory) r0 r_was r_failed out err code
-          (tells NoMemory refl)
+          (reports NoMemory refl)
 
 -- words with some fault
 module _ (out err : Stream) (code : ℕ) where
   abbrev Words : Kinds → Type 0
   Words kinds = Comes (WordsState kinds) no_input out err code
 
-  abbrev Tells : Stop → Type 0
-  Tells stop = TellsOf stop out.old out.new out.failed err.old err.new err.failed code
+  abbrev Reports : Stop → Type 0
+  Reports stop = ReportsOf stop out.old out.new out.failed err.old err.new err.failed code
 
-  pub without_room : (kinds : Kinds) → Tells NoMemory → Words kinds
+  pub without_room : (kinds : Kinds) → Reports NoMemory → Words kinds
   without_room kinds = stop_comes (WordsState kinds) NoMemory (λ input. has_no_room) (Some []) false false out err code
 
   pub fault_said : (kind : ErrorKind) (text : List ℕ) → IsNoHelp kind
-      → Comes (IsToldAnd text (Quiet Refused)) no_input out err code → Words (kind ∷ [])
+      → Comes (IsReportedAnd text (Quiet Refused)) no_input out err code → Words (kind ∷ [])
   fault_said kind text no_help =
-      comes_as (IsToldAnd text (Quiet Refused)) (WordsState (kind ∷ []))
+      comes_as (IsReportedAnd text (Quiet Refused)) (WordsState (kind ∷ []))
       (λ input notes reply is. rw (is.0, is.1) (says_fault kind text (inl refl) no_help)) no_input out err code
 
   pub help_shown : (kind : ErrorKind) (text : List ℕ) → (IsNoHelp kind → ⊥)
@@ -96,8 +97,8 @@ module _ (out err : Stream) (code : ℕ) where
   one_among kind kinds among input notes reply has_no_room = has_no_room
 
   pub words_come : (error : Error) (kinds : Kinds) → HasKind kinds error → Words (kind_of error ∷ [])
-      → (kind_of error ≡ OutOfMemory → Tells NoMemory) → Words kinds
-  words_come error kinds (inl memory) words tells = without_room kinds (tells memory)
-  words_come error kinds (inr among) words tells =
+      → (kind_of error ≡ OutOfMemory → Reports NoMemory) → Words kinds
+  words_come error kinds (inl memory) words reports = without_room kinds (reports memory)
+  words_come error kinds (inr among) words reports =
       comes_as (WordsState (kind_of error ∷ [])) (WordsState kinds) (one_among (kind_of error) kinds among) no_input out
       err code words

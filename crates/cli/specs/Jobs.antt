@@ -34,8 +34,9 @@ IsStopOf unready.Unreadable stop = stop ≡ Unreadable
 IsStopOf unready.NoMemory stop = stop ≡ NoMemory
 
 -- the output is as it was, and the error output tells of the stop
-abbrev pub TellsOf : Stop → Option (List ℕ) → Option (List ℕ) → Bool → Option (List ℕ) → Option (List ℕ) → Bool → ℕ
+abbrev pub ReportsOf : Stop → Option (List ℕ) → Option (List ℕ) → Bool → Option (List ℕ) → Option (List ℕ) → Bool → ℕ
     → Type 0
-TellsOf stop out_old out_new out_failed err_old err_new err_failed code =
-    Keeps out_old out_new × ((told : List ℕ) × Appends err_old err_new told × Finishes (Ok stop) out_failed err_failed
-    told code)
+ReportsOf stop out_old out_new out_failed err_old err_new err_failed code =
+    Keeps out_old out_new × ((reported : List ℕ) × Appends err_old err_new reported
+    × Finishes (Ok stop) out_failed err_failed
+    reported code)

@@ -3,9 +3,9 @@ ghost use Rattle.std.specs.Prelude.{◌≡◌, ◌∷◌, ◌++◌, ℕ, List, [
 ghost use Rattle.clap.specs.Words.{kind_of};
 ghost use Rattle.clap.specs.declared.error.kind.ErrorKind.{ErrorKind as Kind};
 ghost use Rattle.cli.specs.Inputs.{InputlessStates};
-ghost use Rattle.cli.specs.Jobs.{TellsOf};
+ghost use Rattle.cli.specs.Jobs.{ReportsOf};
 ghost use Rattle.cli.specs.Parsing.{IsTextAlone, WordsState};
-ghost use Rattle.toolrun.specs.Plan.{IsToldAnd};
+ghost use Rattle.toolrun.specs.Plan.{IsReportedAnd};
 ghost use Rattle.toolrun.specs.Right.{Comes};
 ghost use Rattle.toolrun.specs.Status.{code_of};
 ghost use Rattle.toolrun.specs.Stream.{no_input, passed};
@@ -25,10 +25,10 @@ const INVALID_UTF8: &str = "invalid UTF-8 was detected in one or more arguments"
 const UNASKED: &str = "FILE is read only with -m run";
 
 /// Writes a text on the error output, and ends with this status.
-fn tell_fault<O: Sink, E: Sink>(text: &str, status: Status, out: &mut O, err: &mut E) -> Status
+fn report_fault<O: Sink, E: Sink>(text: &str, status: Status, out: &mut O, err: &mut E) -> Status
     requires out_is_fresh { O.failed out.old ≡ false }
     requires err_is_fresh { E.failed err.old ≡ false }
-    ensures right { Comes (IsToldAnd text.now (Stop.Quiet status)) no_input
+    ensures right { Comes (IsReportedAnd text.now (Stop.Quiet status)) no_input
         (passed O.contents O.failed out.old out.new) (passed E.contents E.failed err.old err.new) (code_of result) }
 {
     if write_whole(err, text.as_bytes()).is_err() {
@@ -63,7 +63,7 @@ pub fn end_unparsed<O: Sink, E: Sink>(
     requires err_is_fresh { E.failed err.old ≡ false }
     ensures right { Comes (WordsState (kind_of error.now ∷ [])) no_input
         (passed O.contents O.failed out.old out.new) (passed E.contents E.failed err.old err.new) (code_of result) }
-    ensures stopped { kind_of error.now ≡ ErrorKind.OutOfMemory → TellsOf Stop.NoMemory (O.contents out.old)
+    ensures stopped { kind_of error.now ≡ ErrorKind.OutOfMemory → ReportsOf Stop.NoMemory (O.contents out.old)
         (O.contents out.new) (O.failed out.new) (E.contents err.old) (E.contents err.new) (E.failed err.new)
         (code_of result) }
 {
@@ -74,7 +74,7 @@ pub fn end_unparsed<O: Sink, E: Sink>(
         return end_run(Ok(Stop::NoMemory), out, err);
     };
     if error.use_stderr() {
-        tell_fault(text.as_str(), Status::Refused, out, err)
+        report_fault(text.as_str(), Status::Refused, out, err)
     } else {
         show_help(text.as_str(), out, err)
     }
@@ -164,7 +164,7 @@ pub(crate) fn end_inputless<O: Sink, E: Sink>(
             end_error(alloc, error, out, err)
         }
         Inputless::Unopened(name, fault) => match unopened_text(alloc, name, &fault) {
-            Some(text) => tell_fault(text.as_str(), Status::Fault, out, err),
+            Some(text) => report_fault(text.as_str(), Status::Fault, out, err),
             None => end_run(Ok(Stop::NoMemory), out, err),
         },
         Inputless::NoMemory => end_run(Ok(Stop::NoMemory), out, err),

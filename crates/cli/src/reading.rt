@@ -2,7 +2,7 @@
 ghost use Rattle.std.specs.Prelude.{◌≡◌, ◌≢◌, MatchResult, [], false, map, string_bytes};
 ghost use Rattle.clap.specs.Words.{App, Kinds, fault_of, matches_of};
 ghost use Rattle.cli.specs.Asked.{Ask};
-ghost use Rattle.cli.specs.Jobs.{IsStopOf, TellsOf};
+ghost use Rattle.cli.specs.Jobs.{IsStopOf, ReportsOf};
 ghost use Rattle.cli.specs.Parsing.{IsUnready, WordsState};
 ghost use Rattle.toolrun.specs.Right.{Comes};
 ghost use Rattle.toolrun.specs.Status.{code_of};
@@ -86,7 +86,7 @@ pub fn end_unready<O: Sink, E: Sink>(
     requires err_is_fresh { E.failed err.old ≡ false }
     ensures words { (kinds : Kinds) → IsUnready kinds why.now → kinds ≢ [] → Comes (WordsState kinds) no_input
         (passed O.contents O.failed out.old out.new) (passed E.contents E.failed err.old err.new) (code_of result) }
-    ensures stopped { (stop : _) → IsStopOf why.now stop → TellsOf stop (O.contents out.old) (O.contents out.new)
+    ensures stopped { (stop : _) → IsStopOf why.now stop → ReportsOf stop (O.contents out.old) (O.contents out.new)
         (O.failed out.new) (E.contents err.old) (E.contents err.new) (E.failed err.new) (code_of result) }
 {
     match why {

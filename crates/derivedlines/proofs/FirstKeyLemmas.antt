@@ -36,22 +36,24 @@ module _ (table : Table) where
       (subst (λ v. IsNext (grammar_of table.states) (last_in table.states) (Contains v.stacks) c
       (Contains step.next.to.stacks) step.next.to.ended) from step.next.next)
 
-  pub taken_told : (n t c key k : ℕ) (can : Bool) → c ≡ symbol_of key → sort_key c ≡ key → IsStep table n c t
+  pub taken_reported : (n t c key k : ℕ) (can : Bool) → c ≡ symbol_of key → sort_key c ≡ key → IsStep table n c t
       → IsCan table t k can → (s : StateSet) → IsState n s → IsTrue can ↔ TakesKeyIn table s key k
-  taken_told n t c key k can is same step told s s_is =
-      let l = step_leads n c t s told.state step s_is told.is in (
-        λ h. key_taken (grammar_of table.states) (last_in table.states) (line_symbols table.inner) s told.state c key k
-            same step.symbol l (told.says.0 h),
-        λ h. told.says.1
-            (taken_key (grammar_of table.states) (last_in table.states) (line_symbols table.inner) s told.state c key k
+  taken_reported n t c key k can is same step reported s s_is =
+      let l = step_leads n c t s reported.state step s_is reported.is in (
+        λ h. key_taken (grammar_of table.states) (last_in table.states)
+            (line_symbols table.inner) s reported.state c key k
+            same step.symbol l (reported.says.0 h),
+        λ h. reported.says.1
+            (taken_key (grammar_of table.states) (last_in table.states)
+            (line_symbols table.inner) s reported.state c key k
             is l h),
       )
 
   -- a key of no symbol
-  pub never_told : (c key k : ℕ) → c ≡ symbol_of key
+  pub never_reported : (c key k : ℕ) → c ≡ symbol_of key
       → (line_symbols table.inner c ≡ true → sort_key c ≡ key → ⊥) → (s : StateSet)
       → IsTrue false ↔ TakesKeyIn table s key k
-  never_told c key k is out s = (
+  never_reported c key k is out s = (
     λ h. absurd (cc h),
     λ h. absurd
         (let g = taken_symbol (grammar_of table.states) (last_in table.states) (line_symbols table.inner) s key k h in
@@ -79,17 +81,17 @@ module _ (table : Table) where
 
   module _ (is : IsStateTable table) (n from k : ℕ) (s : StateSet) (s_is : IsState n s)
       (never : TakesKeyIn table s from k → ⊥) where
-    pub none_told : (i : ℕ) → length table.starts.items ≤ i → AreNotTaken n from k i
+    pub none_reported : (i : ℕ) → length table.starts.items ≤ i → AreNotTaken n from k i
         → IsFirstKeyIn table s from k None
-    none_told i le none =
+    none_reported i le none =
         none_from (grammar_of table.states) (last_in table.states) (line_symbols table.inner) table.starts.items
         is.starts_are s k from never
         (λ b h more taken. none s s_is h.0 b (let lt = h.1 in omega (arith, lt, le)) (got_at table.starts.items b h)
         more taken)
 
-    pub found_told : (i b : ℕ) → slice_get table.starts.items i ≡ Some b → from < b → TakesKeyIn table s b k
+    pub found_reported : (i b : ℕ) → slice_get table.starts.items i ≡ Some b → from < b → TakesKeyIn table s b k
         → AreNotTaken n from k i → IsFirstKeyIn table s from k (Some b)
-    found_told i b at_i more taken none =
+    found_reported i b at_i more taken none =
         first_from (grammar_of table.states) (last_in table.states) (line_symbols table.inner) table.starts.items
         is.starts_are s k from b more taken never (λ a h lo hi t. by a h lo hi t (cases_lt h.0 i))
       where
@@ -103,25 +105,25 @@ module _ (table : Table) where
             let same = h.2 in
             omega (arith, up, one, other, same, hi)
 
-  pub from_told : (from k : ℕ) (s : StateSet) → TakesKeyIn table s from k → IsFirstKeyIn table s from k (Some from)
-  from_told from k s taken = (omega arith, taken, λ j le lt h. absurd (omega (arith, le, lt)))
+  pub from_reported : (from k : ℕ) (s : StateSet) → TakesKeyIn table s from k → IsFirstKeyIn table s from k (Some from)
+  from_reported from k s taken = (omega arith, taken, λ j le lt h. absurd (omega (arith, le, lt)))
 
   -- the entries of a level
-  pub ended_told : (n : ℕ) (s : StateSet) (ended : Bool) → ended ≡ s.ended → IsTrue ended ↔ HasRestIn table s 0
-  ended_told n s ended is = (
+  pub ended_reported : (n : ℕ) (s : StateSet) (ended : Bool) → ended ≡ s.ended → IsTrue ended ↔ HasRestIn table s 0
+  ended_reported n s ended is = (
     λ h. ended_rest (grammar_of table.states) (last_in table.states) (line_symbols table.inner) s (sym is ∙ h),
     λ h. is ∙ rest_ended (grammar_of table.states) (last_in table.states) (line_symbols table.inner) s h,
   )
 
-  pub some_told : (k count : ℕ) (s : StateSet) (found : Option ℕ) (can : Bool) → count ≡ k + 1
+  pub some_reported : (k count : ℕ) (s : StateSet) (found : Option ℕ) (can : Bool) → count ≡ k + 1
       → IsFirstKeyIn table s 0 k found → can ≡ is_some found → IsTrue can ↔ HasRestIn table s count
-  some_told k count s None can is none told = (
-    λ h. absurd (cc (told, h)),
+  some_reported k count s None can is none reported = (
+    λ h. absurd (cc (reported, h)),
     λ h. absurd (no_key (grammar_of table.states) (last_in table.states) (line_symbols table.inner) s k none
         (subst (λ v. HasRestIn table s v) is h)),
   )
-  some_told k count s (Some key) can is found told = (
+  some_reported k count s (Some key) can is found reported = (
     λ h. subst (λ v. HasRestIn table s v) (sym is)
         (some_key (grammar_of table.states) (last_in table.states) (line_symbols table.inner) s k key found.1),
-    λ h. told,
+    λ h. reported,
   )

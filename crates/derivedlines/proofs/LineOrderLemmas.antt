@@ -102,12 +102,12 @@ module _ (table : Table) (is : IsStateTable table) (limit : ℕ) where
       by (inr ge) =
           let same : Start ≡ can.state =
           one_element table.states.states table.start Start can.state is.begins.is can.is in
-          let told : false ≡ true = can.says.1 (
+          let reported : false ≡ true = can.says.1 (
             v,
             subst (λ s. IsRest (grammar_of table.states) (last_in table.states) (line_symbols table.inner) s count v)
                 same (line_rest v count (omega (arith, lt, ge)) l),
           ) in
-          cc told
+          cc reported
 
   pub no_line_from : (least count : ℕ) → limit < count → AreNoLines least count → (v : List ℕ) → Lines v
       → least ≤ length v → ⊥

@@ -12,7 +12,7 @@ use Rattle.flatgrammar.specs.FlatVerdicts.{DerivesLine}
 use Rattle.flatgrammar.specs.NodeSteps.{flat_of}
 use Rattle.letters.specs.Letters.{has as has_letter}
 use Rattle.letters.specs.declared.alphabet.Alphabet.{Alphabet}
-use Rattle.letterclasses.specs.Stacks.{AreUncounted, TellsLast}
+use Rattle.letterclasses.specs.Stacks.{AreUncounted, MarksLast}
 use Rattle.lazydfa.specs.Conts.{last_of}
 use Rattle.lazydfa.specs.RunVerdicts.{IsOne}
 use Rattle.lazydfa.specs.StateSets.{AreMoreStates, AreStatesOf, grammar_of, IsStartState, last_in, StateSets}
@@ -37,8 +37,8 @@ table_begun flat none table inner s more begins seen starts rise rows levels sym
       is = refl;
       one = subst (λ v. IsOne v) (sym same) s.one;
       uncounted = subst (λ v. AreUncounted v) (sym same) s.uncounted;
-      tail_places = subst (λ v. TellsLast (flat_of v) (last_of v)) (sym more.same)
-          (subst (λ v. TellsLast v (last_in none)) (sym s.is) s.tail_places);
+      tail_places = subst (λ v. MarksLast (flat_of v) (last_of v)) (sym more.same)
+          (subst (λ v. MarksLast v (last_in none)) (sym s.is) s.tail_places);
     };
     begins = begins;
     seen = (let lt = slice_get_within table.states.states table.start begins.state begins.is in
@@ -79,9 +79,9 @@ pub set_is : (flat : Flat) (inner : LineSymbols) (table : Table) (limit : ℕ) �
 set_is flat inner table limit t =
     ap (λ v. lines_in v table.inner limit) t.grammar ∙ ap (λ v. lines_in flat v limit) t.symbols
 
-pub beginning_of : (lines : List ℕ → Type 0) (step : NextLine) → IsFirstFrom lines 0 step → IsFirstStep lines step
-beginning_of lines (Line w) f = (f.0, λ v l. f.2 v l (omega arith))
-beginning_of lines Done f = λ v l. f v l (omega arith)
+pub prefix_of : (lines : List ℕ → Type 0) (step : NextLine) → IsFirstFrom lines 0 step → IsFirstStep lines step
+prefix_of lines (Line w) f = (f.0, λ v l. f.2 v l (omega arith))
+prefix_of lines Done f = λ v l. f v l (omega arith)
 
 -- the lines of a rule
 pub rule_lines : (flat : Flat) (alphabet : Alphabet) (terminator limit : ℕ) (rules : List Rule) (id : ℕ)

@@ -158,11 +158,11 @@ last_start starts key above j within point next ordered = record {
         let is = h.2 in
         absurd (omega (arith, beyond, is, le))
 
-pub start_told : (starts : List ℕ) (key above : ℕ) (told : Option ℕ) → above ≤ length starts
+pub start_reported : (starts : List ℕ) (key above : ℕ) (reported : Option ℕ) → above ≤ length starts
     → IsPartitionPoint (λ y. leb y key ≡ true) (λ y. leb y key ≡ false) starts above → IsNonDecreasing starts
-    → SomeIff told (1 ≤ above) (above - 1) → IfSome told (IsLastUpTo starts key)
-start_told starts key above None within point ordered is = tt
-start_told starts key above (Some j) within point ordered is =
+    → SomeIff reported (1 ≤ above) (above - 1) → IfSome reported (IsLastUpTo starts key)
+start_reported starts key above None within point ordered is = tt
+start_reported starts key above (Some j) within point ordered is =
     let some = is.0 in
     let e = is.1 in
     last_start starts key above j within point (omega (arith, some, e)) ordered

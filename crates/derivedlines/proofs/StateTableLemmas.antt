@@ -8,7 +8,7 @@ use Rattle.std.specs.List.Sorted.{IsStrictlyIncreasing}
 use Rattle.std.specs.Prelude.{Bool, true, slice_get, Some, Contains, IsTrue}
 use Rattle.flatgrammar.specs.NodeSteps.{flat_of}
 use Rattle.flatgrammar.proofs.SliceGetLemmas.{push_cases}
-use Rattle.letterclasses.specs.Stacks.{AreUncounted, IsFront, IsNext, TellsLast}
+use Rattle.letterclasses.specs.Stacks.{AreUncounted, IsFront, IsNext, MarksLast}
 use Rattle.lazydfa.specs.Conts.{last_of}
 use Rattle.lazydfa.specs.RunVerdicts.{IsOne}
 use Rattle.lazydfa.specs.StateSets.{AreMoreStates, grammar_of, IsNextState, IsStartState, last_in}
@@ -75,7 +75,7 @@ module _ (old new : StateSets) (more : AreMoreStates old new) where
     is = refl;
     one = subst (λ v. IsOne (flat_of v)) (sym more.same) a.one;
     uncounted = subst (λ v. AreUncounted (flat_of v)) (sym more.same) a.uncounted;
-    tail_places = subst (λ v. TellsLast (flat_of v) (last_of v)) (sym more.same) a.tail_places;
+    tail_places = subst (λ v. MarksLast (flat_of v) (last_of v)) (sym more.same) a.tail_places;
   }
 
   pub row_kept : (starts : List ℕ) (s : ℕ) (row : List ℕ) → IsRowOf old starts s row → IsRowOf new starts s row
@@ -281,10 +281,10 @@ entry_added old count can was now at_count grown k level at_k = by (set_cases ol
     )
 
 -- the state that a symbol leads to
-pub step_told : (table : Table) → IsStateTable table → (c s j t : ℕ) (row : Vec ℕ Global)
+pub step_reported : (table : Table) → IsStateTable table → (c s j t : ℕ) (row : Vec ℕ Global)
     → line_symbols table.inner c ≡ true → IsLastUpTo table.starts.items (sort_key c) j
     → slice_get table.rows.items s ≡ Some row → slice_get row.items j ≡ Some t → IsStep table s c t
-step_told table is c s j t row symbol last at_s at_j = record { symbol = symbol; next = led }
+step_reported table is c s j t row symbol last at_s at_j = record { symbol = symbol; next = led }
   where
     led : IsNextState table.states c s t
     led =

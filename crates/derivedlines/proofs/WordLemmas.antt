@@ -81,12 +81,12 @@ module _ (table : Table) where
       → IsFilling first count done at old word → (ended : Bool)
       → ((s : StateSet) → IsState table at s → ended ≡ s.ended) → ended ≡ true
       → (u : List ℕ) × IsFirstRestIn table first count u × (word ≡ old ++ u)
-  filling_done first count done at old word size f ended told is = (
+  filling_done first count done at old word size f ended reported is = (
     f.taken,
     subst (λ v. IsFirstRestIn table first count v) (append-nil f.taken)
         (f.on 0 (omega (arith, size)) []
         (first_ended (grammar_of table.states) (last_in table.states) (line_symbols table.inner) f.here
-        (sym (told f.here f.is) ∙ is))),
+        (sym (reported f.here f.is) ∙ is))),
     f.word_is,
   )
 
@@ -135,7 +135,7 @@ module _ (table : Table) where
     next_walk : (new : Option Change)
         → (HasNoNextRestIn table step.next.to Left → IsLastChange table first line new)
         → IsWalk first line (at + 1) next new
-    next_walk new told = record {
+    next_walk new reported = record {
       here = step.next.to;
       is = step.next.to_is;
       on = λ v h. subst (λ x. IsNextRestIn table first line x)
@@ -143,7 +143,7 @@ module _ (table : Table) where
           (walk_on (c ∷ v)
           (next_on (grammar_of table.states) (last_in table.states) (line_symbols table.inner) w.here step.next.to c
           Left step_on step.symbol v h));
-      best_is = told;
+      best_is = reported;
     }
 
     same_best : ((s : StateSet) → IsState table state s → IsFirstKeyIn table s (sort_key c + 1) rest None)
@@ -156,11 +156,11 @@ module _ (table : Table) where
 
     new_best : (change : Change) → IsChange table state w.here (sort_key c + 1) rest at (Some change)
         → HasNoNextRestIn table step.next.to Left → IsNextBy table first line change
-    new_best change told none =
-        let here = told.0 in
-        let on = told.1 in
-        let key = told.2 in
-        let same = told.4 in
+    new_best change reported none =
+        let here = reported.0 in
+        let on = reported.1 in
+        let key = reported.2 in
+        let same = reported.4 in
         record {
           within = subst (λ x. x < length line) (sym here) within;
           to = on.next.to;
@@ -171,7 +171,7 @@ module _ (table : Table) where
               (walk_on (symbol_of key ∷ u)
               (changed_next (grammar_of table.states) (last_in table.states) (line_symbols table.inner) w.here
               step.next.to c Left step_on step.symbol key on.next.to u none
-              (subst (λ x. IsFirstKeyIn table w.here (sort_key c + 1) x (Some key)) rest_is told.3)
+              (subst (λ x. IsFirstKeyIn table w.here (sort_key c + 1) x (Some key)) rest_is reported.3)
               (subst (λ v. Leads w.here v on.next.to) same
               (step_leads table state change.symbol change.state w.here on.next.to on w.is on.next.to_is))
               (subst (λ x. IsFirstRestIn table on.next.to x u) (ap (λ x. length line - 1 - x) here ∙ sym size ∙ rest_is)
@@ -182,11 +182,11 @@ module _ (table : Table) where
         → ((s : StateSet) → IsState table state s → IsChange table state s (sort_key c + 1) rest at change)
         → (is_some change ≡ true → new ≡ change) → (is_some change ≡ false → new ≡ best)
         → IsWalk first line (at + 1) next new
-    walk_more None new told here there =
-        subst (λ x. IsWalk first line (at + 1) next x) (sym (there refl)) (next_walk best (same_best told))
-    walk_more (Some change) new told here there =
+    walk_more None new reported here there =
+        subst (λ x. IsWalk first line (at + 1) next x) (sym (there refl)) (next_walk best (same_best reported))
+    walk_more (Some change) new reported here there =
         subst (λ x. IsWalk first line (at + 1) next x) (sym (here refl))
-        (next_walk (Some change) (new_best change (told w.here w.is)))
+        (next_walk (Some change) (new_best change (reported w.here w.is)))
 
   -- the first line of a change
   pub changed_made : (line first second word : List ℕ) (change : Change) (count : ℕ)

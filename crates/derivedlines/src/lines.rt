@@ -67,7 +67,7 @@ fn begin_table(
     inner: LineSymbols,
     room: usize,
 ) -> Result<Option<Table>, Memory>
-    ensures { IfOk result (λ told. IfSome told (IsTableFor flat.now inner)) }
+    ensures { IfOk result (λ reported. IfSome reported (IsTableFor flat.now inner)) }
 {
     let starts = find_starts(alloc, inner, flat)?;
     let Some(mut states) = States::new(alloc, flat, room)? else {
@@ -101,7 +101,8 @@ impl Lines {
         limit: u32,
         room: usize,
     ) -> Result<Option<Lines>, Memory>
-        ensures { IfOk result (λ told. IfSome told (AreRuleLines alphabet terminator limit (rules_of grammar.now.rules)
+        ensures { IfOk result (λ reported. IfSome reported (AreRuleLines alphabet terminator limit
+            (rules_of grammar.now.rules)
             grammar.now.judged)) }
     {
         let flat = lower(alloc, grammar, limit as usize)?;
@@ -125,7 +126,7 @@ impl Lines {
     /// from then on.
     pub fn first(&mut self) -> Result<Option<NextLine>, Memory>
         ensures same { self.new ≡ self.old }
-        ensures first { IfOk result (λ told. IfSome told (IsFirstStep (IsLineIn self.old))) }
+        ensures first { IfOk result (λ reported. IfSome reported (IsFirstStep (IsLineIn self.old))) }
     {
         let Some(mut table) = self.table.take() else {
             return Ok(None);
@@ -139,7 +140,7 @@ impl Lines {
     /// other is no line. `Memory` if an allocation fails, and `None` from then on.
     pub fn after(&mut self, line: &[u32]) -> Result<Option<NextLine>, Memory>
         ensures same { self.new ≡ self.old }
-        ensures after { IfOk result (λ told. IfSome told (IsLineAfter (IsLineIn self.old) line.now)) }
+        ensures after { IfOk result (λ reported. IfSome reported (IsLineAfter (IsLineIn self.old) line.now)) }
     {
         let Some(mut table) = self.table.take() else {
             return Ok(None);

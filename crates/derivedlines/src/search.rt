@@ -99,7 +99,7 @@ fn changed_line(
 ) -> Result<Option<Vec<u32>>, Memory>
     requires table { IsStateTable table.now }
     requires within { change.at < length line.now }
-    ensures { IfOk result (λ told. IfSome told (λ word. IsChangedTo table.now line.now change word.items)) }
+    ensures { IfOk result (λ reported. IfSome reported (λ word. IsChangedTo table.now line.now change word.items)) }
 {
     let mut word = Vec::new(alloc);
     word.extend_from_slice(&line[..change.at])?;
@@ -113,7 +113,8 @@ fn changed_line(
 // Returns the first line of that many symbols; `None` if the table lacks an entry. `Memory` if an allocation fails.
 fn line_of(alloc: Global, table: &Table, count: usize) -> Result<Option<Vec<u32>>, Memory>
     requires table { IsStateTable table.now }
-    ensures { IfOk result (λ told. IfSome told (λ word. IsFilledBy table.now table.now.start count [] word.items)) }
+    ensures { IfOk result (λ reported. IfSome reported (λ word. IsFilledBy table.now table.now.start count []
+        word.items)) }
 {
     let mut word = Vec::new(alloc);
     if !fill_word(table, &mut word, table.start, count)? {
@@ -131,8 +132,8 @@ pub(crate) fn line_from(
     limit: u32,
 ) -> Result<Option<NextLine>, Memory>
     requires table { IsStateTable table.old }
-    ensures kept { IfOk result (λ told. IsTableGrown table.old table.new) }
-    ensures is { IfOk result (λ told. IfSome told (IsFirstFrom (IsLineIn (table_lines table.old limit)) least)) }
+    ensures kept { IfOk result (λ reported. IsTableGrown table.old table.new) }
+    ensures is { IfOk result (λ line. IfSome line (IsFirstFrom (IsLineIn (table_lines table.old limit)) least)) }
 {
     for count in least..limit as usize + 1 {
         add_levels(alloc, table, count + 1)?;
@@ -158,8 +159,9 @@ pub(crate) fn line_after(
     limit: u32,
 ) -> Result<Option<NextLine>, Memory>
     requires table { IsStateTable table.old }
-    ensures kept { IfOk result (λ told. IsTableGrown table.old table.new) }
-    ensures is { IfOk result (λ told. IfSome told (IsLineAfter (IsLineIn (table_lines table.old limit)) line.now)) }
+    ensures kept { IfOk result (λ reported. IsTableGrown table.old table.new) }
+    ensures is { IfOk result (λ reported. IfSome reported (IsLineAfter
+        (IsLineIn (table_lines table.old limit)) line.now)) }
 {
     if line.len() > limit as usize {
         return Ok(None);

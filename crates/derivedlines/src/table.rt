@@ -171,8 +171,8 @@ fn lead_row(
     starts: &[u32],
     state: usize,
 ) -> Result<Option<Vec<usize>>, Memory>
-    ensures more { IfOk result (λ told. AreMoreStates states.old states.new) }
-    ensures row { IfOk result (λ told. IfSome told (λ row. IsWholeRow states.new starts.now state row.items)) }
+    ensures more { IfOk result (λ reported. AreMoreStates states.old states.new) }
+    ensures row { IfOk result (λ reported. IfSome reported (λ row. IsWholeRow states.new starts.now state row.items)) }
 {
     let mut row = Vec::new(alloc);
     for start in starts {

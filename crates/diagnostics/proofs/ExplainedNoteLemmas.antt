@@ -7,36 +7,36 @@ use Rattle.ruletable.specs.Notes.{Said}
 use Rattle.ruletable.specs.declared.lines.LineRule.{LineRule}
 use Rattle.ruletable.specs.declared.table.NameCase.{NameCase}
 use Rattle.diagnostics.specs.DefinitionHeads.{DefinedAt, definitions_in, sign_at}
-use Rattle.diagnostics.specs.ExplainedNotes.{ArePlaces, IsNoteExplained, AreNoteLines, AreToldBy}
+use Rattle.diagnostics.specs.ExplainedNotes.{ArePlaces, IsNoteExplained, AreNoteLines, AreReportedBy}
 use Rattle.diagnostics.specs.FirstMentions.{rule_named, uses_of}
 use Rattle.diagnostics.specs.MentionLines.{lines_mentioned, mention_lines_by, mention_lines_of}
-use Rattle.diagnostics.specs.UseLines.{AreLinesBehind, lines_by}
+use Rattle.diagnostics.specs.UseLines.{AreLinesAfter, lines_by}
 use Rattle.diagnostics.specs.declared.noteplaces.mentions.MentionKind.{MentionKind}
 use Rattle.diagnostics.specs.declared.noteplaces.places.Places.{Places}
 use Rattle.diagnostics.specs.declared.noteplaces.sign.Sign.{Sign}
 use Rattle.diagnostics.proofs.FirstMentionLemmas.{first-one}
 
 -- one text follows a note
-behind-one : (names : NameCase) (definitions : List DefinedAt) (mentions : List MentionedAt) (start : Option (List ℕ))
-    (note : Said) (a b : List ℕ) → AreLinesBehind names definitions mentions start note a
-    → AreLinesBehind names definitions mentions start note b → a ≡ b
-behind-one names definitions mentions start note a b g h =
+after-one : (names : NameCase) (definitions : List DefinedAt) (mentions : List MentionedAt) (start : Option (List ℕ))
+    (note : Said) (a b : List ℕ) → AreLinesAfter names definitions mentions start note a
+    → AreLinesAfter names definitions mentions start note b → a ≡ b
+after-one names definitions mentions start note a b g h =
     g.is ∙ ap (λ first. lines_by names definitions mentions start first note.kind note.name)
     (first-one names definitions (uses_of names note.name mentions) g.first h.first g.is_first h.is_first) ∙ sym h.is
 
 module _ {K : Type 0} (White : List ℕ → List ℕ → Type 0) (First : K → List ℕ → List ℕ → Type 0) (is_end : K → Bool)
     (sign_of : K → Sign) (rule : LineRule) (names : NameCase) (text : List ℕ) where
   pub places-explain : (places : Places) (start : Option (List ℕ)) (note : Said) (why : List ℕ)
-      → ArePlaces White First is_end sign_of rule names text places → AreToldBy places start note why
+      → ArePlaces White First is_end sign_of rule names text places → AreReportedBy places start note why
       → IsNoteExplained White First is_end sign_of rule names text start note why
   places-explain places start note why are by = record {
     tokens = are.tokens;
     are_tokens = are.are_tokens;
-    are = subst (λ (c : NameCase). AreLinesBehind c (definitions_in rule text (map (sign_at sign_of) are.tokens))
+    are = subst (λ (c : NameCase). AreLinesAfter c (definitions_in rule text (map (sign_at sign_of) are.tokens))
         (mentions_in rule text None (map (sign_at sign_of) are.tokens)) start note why) are.names_are
-        (subst (λ ms. AreLinesBehind places.names (definitions_in rule text (map (sign_at sign_of) are.tokens)) ms start
+        (subst (λ ms. AreLinesAfter places.names (definitions_in rule text (map (sign_at sign_of) are.tokens)) ms start
         note why) are.mentions_are
-        (subst (λ ds. AreLinesBehind places.names ds (map mentioned_at places.mentions.items) start note why)
+        (subst (λ ds. AreLinesAfter places.names ds (map mentioned_at places.mentions.items) start note why)
         are.heads_are by));
   }
 
@@ -47,7 +47,7 @@ module _ {K : Type 0} (White : List ℕ → List ℕ → Type 0) (First : K → 
       → IsNoteExplained White First is_end sign_of rule names text start note a
       → IsNoteExplained White First is_end sign_of rule names text start note b → a ≡ b
   explained-one one start note a b g h =
-      behind-one names (definitions_in rule text (map (sign_at sign_of) h.tokens))
+      after-one names (definitions_in rule text (map (sign_at sign_of) h.tokens))
       (mentions_in rule text None (map (sign_at sign_of) h.tokens)) start note a b
       (subst (λ ts. AreNoteLines rule names text (map (sign_at sign_of) ts) start note a)
       (one g.tokens h.tokens g.are_tokens h.are_tokens) g.are) h.are

@@ -25,23 +25,23 @@ module _ (names : NameCase) (definitions : List DefinedAt) where
     none-more is h (suc k) n r at stands = h k n r at stands
 
     -- one that is after the first mention
-    behind-first : (o : RuleMention) (h : IsFirstMention names definitions ms o)
+    after-first : (o : RuleMention) (h : IsFirstMention names definitions ms o)
         → ((r : DefinedAt) → stands-in m ≡ Some r → o.rule.start < r.start) → (k : ℕ) (n : MentionedAt) (r : DefinedAt)
         → slice_get (m ∷ ms) k ≡ Some n → stands-in n ≡ Some r → Earlier o.rule (suc h.place) r k
-    behind-first o h less zero n r at stands =
+    after-first o h less zero n r at stands =
         let same : m ≡ n = cc at in
         inl (less r (ap stands-in same ∙ stands))
-    behind-first o h less (suc k) n r at stands =
+    after-first o h less (suc k) n r at stands =
         ⊎_elim (λ lt. inl lt) (λ e. inr (e.0, (let le = e.1 in omega (arith, le)))) (h.first k n r at stands)
 
-    first-behind : (o : RuleMention) → IsFirstMention names definitions ms o
+    first-after : (o : RuleMention) → IsFirstMention names definitions ms o
         → ((r : DefinedAt) → stands-in m ≡ Some r → o.rule.start < r.start)
         → IsFirstMention names definitions (m ∷ ms) o
-    first-behind o h less = record {
+    first-after o h less = record {
       place = suc h.place;
       there = h.there;
       stands = h.stands;
-      first = behind-first o h less;
+      first = after-first o h less;
     }
 
     -- the first mention of all, where those after it stand in no rule before its own
@@ -74,12 +74,12 @@ module _ (names : NameCase) (definitions : List DefinedAt) where
     pub pass-other : stands-in m ≡ None → (o : Option RuleMention) → IsFirstIfAny names definitions ms o
         → IsFirstIfAny names definitions (m ∷ ms) o
     pass-other is None h = none-more is h
-    pass-other is (Some o) h = first-behind o h (λ r stands. absurd (let both = sym stands ∙ is in cc both))
+    pass-other is (Some o) h = first-after o h (λ r stands. absurd (let both = sym stands ∙ is in cc both))
 
     -- it is in a rule after that of the first of the others
     pub pass-later : (own : DefinedAt) (o : RuleMention) → stands-in m ≡ Some own → o.rule.start < own.start
         → IsFirstMention names definitions ms o → IsFirstMention names definitions (m ∷ ms) o
-    pass-later own o is lt h = first-behind o h (λ r stands.
+    pass-later own o is lt h = first-after o h (λ r stands.
         let both : Some own ≡ Some r = sym is ∙ stands in
         let one : own ≡ r = cc both in
         let start : own.start ≡ r.start = ap (λ (d : DefinedAt). d.start) one in

@@ -143,8 +143,8 @@ module _ {K : Type 0} (White : List ℕ → List ℕ → Type 0) (First : K → 
       named-so = is-named h.last refl h.last_is
 
       -- where its name stands
-      pub opens-behind : (at ≤ start) × (start ≤ length text)
-      opens-behind =
+      pub opens-after : (at ≤ start) × (start ≤ length text)
+      opens-after =
           let n = named-so in
           let lie : All (LiesIn text) (n.word ∷ t ∷ others) = (let w = lie-given in let e = n.there in rw e at w) in
           let order : AreInOrder at (n.word ∷ t ∷ others) = (let w = order-given in let e = n.there in rw e at w) in

@@ -1,8 +1,8 @@
 pub mod TakenPartLemmas
 pub mod PictureLemmas
 pub mod PhraseLemmas
-pub mod OneToldLemmas
-pub mod TellAllLemmas
+pub mod OneReportedLemmas
+pub mod ReportAllLemmas
 pub mod ReportTreeLemmas
 mod LineEndsLemmas
 mod KeptTokenLemmas

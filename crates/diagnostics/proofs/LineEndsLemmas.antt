@@ -18,9 +18,9 @@ ends-few rule [] n = grind arith
 ends-few rule (x ∷ text) zero = grind arith
 ends-few rule (x ∷ text) (suc n) = grind (arith, ends-few rule text n)
 
-pub line-behind : (rule : LineRule) (text : List ℕ) (at offset : ℕ) → at ≤ offset → line_at rule text at
+pub line-after : (rule : LineRule) (text : List ℕ) (at offset : ℕ) → at ≤ offset → line_at rule text at
     + (line_at rule (take (length text - at) (drop at text)) (offset - at) - 1) ≡ line_at rule text offset
-line-behind rule text at offset le =
+line-after rule text at offset le =
     let all : take (length text - at) (drop at text) ≡ drop at text = take_all (length text - at) (drop at text)
     (omega (arith, length-drop at text)) in
     let e : at + (offset - at) ≡ offset = omega (arith, le) in

@@ -7,7 +7,7 @@ use Rattle.ruletable.specs.Lines.{line_at}
 use Rattle.ruletable.specs.declared.lines.LineRule.{LineRule}
 use Rattle.lexer.specs.Pieces.{AreInOrder, LiesIn}
 use Rattle.lexer.specs.TokenLists.{AreTokens, Tok, kind_of, start_of}
-use Rattle.diagnostics.specs.BodyMentions.{AreMentions, MentionedAt, body_behind, mention_of, mention_unless}
+use Rattle.diagnostics.specs.BodyMentions.{AreMentions, MentionedAt, body_after, mention_of, mention_unless}
 use Rattle.diagnostics.specs.BodyMentions.{mentions_in}
 use Rattle.diagnostics.specs.DefinitionHeads.{SignAt, begun_by, sign_at}
 use Rattle.diagnostics.specs.Openings.{BeginsHead, opens}
@@ -102,8 +102,8 @@ module _ {K : Type 0} (White : List ℕ → List ℕ → Type 0) (First : K → 
       whole-so word e = (let w = h.whole in rw (e, given) at w)
 
       -- where it stands
-      pub last-behind : (at ≤ s.start) × (s.start ≤ length text)
-      last-behind =
+      pub last-after : (at ≤ s.start) × (s.start ≤ length text)
+      last-after =
           let l = last-so in
           let here = All-head (LiesIn text) l.word (t ∷ others) (lie-so l.word l.there) in
           let rises = here.rises in
@@ -115,7 +115,7 @@ module _ {K : Type 0} (White : List ℕ → List ℕ → Type 0) (First : K → 
 
       pub next-mentioned : (to : ℕ) (more : List MentionedAt) (inside : Option ℕ) → to ≡ line_at rule text s.start
           → more ≡ mention_unless (begun_by s.sign (sign_of (kind_of t))) within to s
-          → inside ≡ body_behind (begun_by s.sign (sign_of (kind_of t))) within s
+          → inside ≡ body_after (begun_by s.sign (sign_of (kind_of t))) within s
           → HasMentioned next (Some (sign_at sign_of t)) inside s.start to (found ++ more)
       next-mentioned to more inside e m i =
           let l = last-so in
@@ -134,9 +134,9 @@ module _ {K : Type 0} (White : List ℕ → List ℕ → Type 0) (First : K → 
             are_tokens = h.are_tokens;
             whole = ap (λ (b : Option ℕ). (found ++ more) ++ among b (t ∷ others)) i
                 ∙ append_assoc found more _ ∙ ap (λ (x : List MentionedAt). found ++ (x
-                ++ among (body_behind (begun_by s.sign (sign_of (kind_of t))) within s) (t ∷ others))) m
+                ++ among (body_after (begun_by s.sign (sign_of (kind_of t))) within s) (t ∷ others))) m
                 ∙ ap (λ (n : ℕ). found ++ (mention_unless (begun_by s.sign (sign_of (kind_of t))) within n s
-                ++ among (body_behind (begun_by s.sign (sign_of (kind_of t))) within s) (t ∷ others))) e
+                ++ among (body_after (begun_by s.sign (sign_of (kind_of t))) within s) (t ∷ others))) e
                 ∙ sym (ap (λ (x : SignAt). found ++ mentions_in rule text within
                 (x ∷ map (sign_at sign_of) (t ∷ others))) l.same) ∙ whole-so l.word l.there;
             lie = All-tail (LiesIn text) l.word (t ∷ others) lie;
@@ -152,7 +152,7 @@ module _ {K : Type 0} (White : List ℕ → List ℕ → Type 0) (First : K → 
           let begun : begun_by s.sign (sign_of (kind_of t)) ≡ None =
           sym (ap (λ b. opens b (sign_at sign_of t)) some) ∙ none in
           next-mentioned to more within e (m ∙ sym (ap (λ b. mention_unless b within to s) begun))
-          (sym (ap (λ b. body_behind b within s) begun))
+          (sym (ap (λ b. body_after b within s) begun))
 
       -- with the token it begins a definition
       pub name-mentioned : (name : List ℕ) (start : ℕ) (adds : Bool) (to : ℕ)
@@ -165,7 +165,7 @@ module _ {K : Type 0} (White : List ℕ → List ℕ → Type 0) (First : K → 
           let place : start ≡ s.start = o.start_is ∙ ap (λ (x : SignAt). x.start) same in
           subst (λ ms. HasMentioned next (Some (sign_at sign_of t)) (Some start) s.start to ms) (append-nil found)
           (next-mentioned to [] (Some start) e (sym (ap (λ b. mention_unless b within to s) begun))
-          (ap Some place ∙ sym (ap (λ b. body_behind b within s) begun)))
+          (ap Some place ∙ sym (ap (λ b. body_after b within s) begun)))
 
   last-none : (within : Option ℕ) (last : Option (Tok K)) → among within (joined last []) ≡ []
   last-none within None = refl

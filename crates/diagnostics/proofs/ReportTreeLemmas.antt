@@ -47,9 +47,9 @@ module _ {W : Type 0} (uses : ℕ → List W → List (ℕ × List ℕ)) (heads 
   }
 
   -- one more word after s
-  pub keeps-behind : (w : W) {s r : List W} {names : List (List ℕ)} → ((d : ℕ) → uses d (w ∷ r) ≡ uses d r)
+  pub keeps-after : (w : W) {s r : List W} {names : List (List ℕ)} → ((d : ℕ) → uses d (w ∷ r) ≡ uses d r)
       → heads (w ∷ r) ≡ heads r → Keeps s (w ∷ r) names → Keeps s r names
-  keeps-behind w {names = names} same like h = record {
+  keeps-after w {names = names} same like h = record {
     uses_are = λ d. h.uses_are d ∙ ap (λ (us : List (ℕ × List ℕ)). placed d names ++ us) (same d);
     heads_are = h.heads_are ∙ like;
     onward = h.onward;

@@ -50,9 +50,9 @@ mention_unless None within line t = mention_of within line t
 mention_unless (Some adds) within line t = []
 
 -- the definition in whose body stands what is after a token
-abbrev pub body_behind : Option Bool → Option ℕ → SignAt → Option ℕ
-body_behind None within t = within
-body_behind (Some adds) within t = Some t.start
+abbrev pub body_after : Option Bool → Option ℕ → SignAt → Option ℕ
+body_after None within t = within
+body_after (Some adds) within t = Some t.start
 
 -- What the tokens of a text mention, in order, after a definition at that place: each name without the sign of a
 -- definition right after it, prose, the marks of repetitions, numbers and literals.
@@ -61,7 +61,7 @@ mentions_in rule text within [] = []
 mentions_in rule text within (t ∷ []) = []
 mentions_in rule text within (t ∷ u ∷ ts) =
     mention_unless (begun_by t.sign u.sign) within (line_at rule text t.start) t
-    ++ mentions_in rule text (body_behind (begun_by t.sign u.sign) within t) (u ∷ ts)
+    ++ mentions_in rule text (body_after (begun_by t.sign u.sign) within t) (u ∷ ts)
 
 -- what the tokens of a text mention
 pub record AreMentions {K : Type 0} (White : List ℕ → List ℕ → Type 0) (First : K → List ℕ → List ℕ → Type 0)

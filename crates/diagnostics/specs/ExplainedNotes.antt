@@ -6,19 +6,19 @@ use Rattle.ruletable.specs.declared.lines.LineRule.{LineRule}
 use Rattle.ruletable.specs.declared.table.NameCase.{NameCase}
 use Rattle.diagnostics.specs.BodyMentions.{mentioned_at, mentions_in}
 use Rattle.diagnostics.specs.DefinitionHeads.{SignAt, defined_at, definitions_in, sign_at}
-use Rattle.diagnostics.specs.UseLines.{AreLinesBehind}
+use Rattle.diagnostics.specs.UseLines.{AreLinesAfter}
 use Rattle.diagnostics.specs.declared.noteplaces.places.Places.{Places}
 use Rattle.diagnostics.specs.declared.noteplaces.sign.Sign.{Sign}
 
 -- the lines after a note on the grammar of these tokens of a text, where that name is given for the start rule
 abbrev pub AreNoteLines : LineRule → NameCase → List ℕ → List SignAt → Option (List ℕ) → Said → List ℕ → Type 0
 AreNoteLines rule names text signs =
-    AreLinesBehind names (definitions_in rule text signs) (mentions_in rule text None signs)
+    AreLinesAfter names (definitions_in rule text signs) (mentions_in rule text None signs)
 
 -- the lines that such positions report
-abbrev pub AreToldBy : Places → Option (List ℕ) → Said → List ℕ → Type 0
-AreToldBy places =
-    AreLinesBehind places.names (map defined_at places.heads.items) (map mentioned_at places.mentions.items)
+abbrev pub AreReportedBy : Places → Option (List ℕ) → Said → List ℕ → Type 0
+AreReportedBy places =
+    AreLinesAfter places.names (map defined_at places.heads.items) (map mentioned_at places.mentions.items)
 
 module _ {K : Type 0} (White : List ℕ → List ℕ → Type 0) (First : K → List ℕ → List ℕ → Type 0) (is_end : K → Bool)
     (sign_of : K → Sign) (rule : LineRule) (names : NameCase) (text : List ℕ) where

@@ -4,4 +4,4 @@ use Rattle.diagnostics.specs.FirstBytes.{Row}
 
 -- what the code's row stands for
 abbrev pub row_of : Fact → Row
-row_of f = record { begins = f.begins.now; told = f.told.now }
+row_of f = record { begins = f.begins.now; reported = f.reported.now }

@@ -2,7 +2,7 @@ pub mod LinesAround
 pub mod PhraseLists
 pub mod Pictures
 pub mod ShownBytes
-pub mod ToldPhrases
+pub mod ReportedPhrases
 pub mod FactRows
 pub mod FirstBytes
 pub mod CodePoints

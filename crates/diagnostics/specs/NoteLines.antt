@@ -18,28 +18,28 @@ not_adding definitions = filter (λ d. not d.adds) definitions
 
 -- the line of a definition
 abbrev pub name_line : List ℕ → DefinedAt → List ℕ
-name_line told d = codes "  line " ++ (decimal d.line ++ (codes ": '" ++ (cut d.name ++ (codes "' " ++ (told
+name_line reported d = codes "  line " ++ (decimal d.line ++ (codes ": '" ++ (cut d.name ++ (codes "' " ++ (reported
     ++ codes "\n")))))
 
 -- how many more there are, if there are any
-abbrev pub more_told : ℕ → List ℕ
-more_told zero = []
-more_told (suc n) = codes "  and " ++ (decimal (suc n) ++ codes " more\n")
+abbrev pub more_reported : ℕ → List ℕ
+more_reported zero = []
+more_reported (suc n) = codes "  and " ++ (decimal (suc n) ++ codes " more\n")
 
 -- the definitions that do not stand: a line of each of the first eight, and how many more there are
-abbrev pub agains_told : List DefinedAt → List ℕ
-agains_told definitions = flat_map (name_line (codes "is defined again")) (take 8 definitions)
-    ++ more_told (length definitions - 8)
+abbrev pub agains_reported : List DefinedAt → List ℕ
+agains_reported definitions = flat_map (name_line (codes "is defined again")) (take 8 definitions)
+    ++ more_reported (length definitions - 8)
 
 -- the first definition of a rule
 abbrev pub first_line : List ℕ → List DefinedAt → List ℕ
-first_line told [] = []
-first_line told (d ∷ ds) = name_line told d
+first_line reported [] = []
+first_line reported (d ∷ ds) = name_line reported d
 
 -- the first definition of a rule, and after it those that do not stand: all that do not add to it
 abbrev pub redefined_lines : List DefinedAt → List ℕ
 redefined_lines [] = []
-redefined_lines (d ∷ ds) = name_line (codes "is defined") d ++ agains_told (not_adding ds)
+redefined_lines (d ∷ ds) = name_line (codes "is defined") d ++ agains_reported (not_adding ds)
 
 -- what the definitions of the rule report after a note of the kind
 abbrev pub lines_of : NoteKind → List DefinedAt → List ℕ

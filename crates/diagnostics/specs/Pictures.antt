@@ -29,7 +29,7 @@ picture line place =
     ++ (codes "\n  " ++ (replicate (length (left_part line place)) (code " ") ++ codes "^\n"))))
 
 -- the place at an offset of a text: its picture, and its column, which counts bytes from 1
-abbrev pub place_told : LineRule → List ℕ → ℕ → List ℕ
-place_told rule text offset =
+abbrev pub place_reported : LineRule → List ℕ → ℕ → List ℕ
+place_reported rule text offset =
     let before = bytes_before rule (take offset text) in
     picture (line_text rule text offset) before ++ (codes "  column " ++ (decimal (before + 1) ++ codes ": "))

@@ -43,7 +43,7 @@ module _ (names : NameCase) (definitions : List DefinedAt) (mentions : List Ment
   lines_by first kind name = lines_of kind (named names name definitions)
 
   -- what they report after a note, by the first use of its name
-  pub record AreLinesBehind (note : Said) (why : List ℕ) : Type 0 where
+  pub record AreLinesAfter (note : Said) (why : List ℕ) : Type 0 where
     pub first : Option RuleMention
     pub is_first : IsFirstIfAny names definitions (uses_of names note.name mentions) first
     pub is : why ≡ lines_by first note.kind note.name

@@ -5,7 +5,7 @@ pub mod PlaceTableLemmas
 pub mod RowChartLemmas
 pub mod RowIndexesLemmas
 pub mod RowItemsLemmas
-pub mod RowSpotsLemmas
+pub mod RowDotsLemmas
 pub mod RowStepLemmas
 pub mod RowWorklistLemmas
 pub mod LenLemmas

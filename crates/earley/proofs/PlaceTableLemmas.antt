@@ -7,7 +7,7 @@ use Rattle.std.proofs.lemmas.Bool.{cases_lt}
 use Rattle.flatgrammar.proofs.CallOfLemmas.{some_same}
 use Rattle.flatgrammar.proofs.SliceGetLemmas.{push_cases}
 use Rattle.flatgrammar.proofs.InLemmas.{in_left, at_end, before_end, different_end}
-use Rattle.flatgrammar.specs.Blocks.{spot}
+use Rattle.flatgrammar.specs.Blocks.{dot}
 use Rattle.flatgrammar.specs.Places.{In, AreDifferent}
 use Rattle.flatgrammar.specs.declared.block.DottedRule.{DottedRule}
 use Rattle.flatgrammar.specs.declared.tables.Tables as code_flat
@@ -19,35 +19,35 @@ use Rattle.earley.specs.declared.place_table.RootPlaces.{RootPlaces}
 use Rattle.earley.specs.declared.place_table.DottedActions.{DottedActions}
 
 -- different places, below a step of a node
-pub record AreBelowStep (node step : ℕ) (spots : List DottedRule) : Type 0 where
-  pub below : (p : DottedRule) → In p spots → (p.node < node) ⊎ ((p.node ≡ node) × (p.step < step))
-  pub different : AreDifferent spots
+pub record AreBelowStep (node step : ℕ) (dots : List DottedRule) : Type 0 where
+  pub below : (p : DottedRule) → In p dots → (p.node < node) ⊎ ((p.node ≡ node) × (p.step < step))
+  pub different : AreDifferent dots
 
-pub below_step : (node : ℕ) (spots : List DottedRule) → AreBelow node spots → AreBelowStep node 0 spots
-below_step node spots b = record { below = λ p h. inl (b.below p h); different = b.different }
+pub below_step : (node : ℕ) (dots : List DottedRule) → AreBelow node dots → AreBelowStep node 0 dots
+below_step node dots b = record { below = λ p h. inl (b.below p h); different = b.different }
 
-pub below_next : (node step : ℕ) (spots : List DottedRule) → AreBelowStep node step spots
-    → AreBelowStep node (step + 1) (spots ++ spot node step ∷ [])
-below_next node step spots b = record {
+pub below_next : (node step : ℕ) (dots : List DottedRule) → AreBelowStep node step dots
+    → AreBelowStep node (step + 1) (dots ++ dot node step ∷ [])
+below_next node step dots b = record {
   below = λ p h. ⊎_elim
       (λ g. ⊎_elim (λ f. inl f) (λ f. inr (f.0, (let lt = f.1 in omega (arith, lt)))) (b.below p g))
       (λ same. inr (ap (λ v. v.node) same, (let is : p.step ≡ step = ap (λ v. v.step) same in omega (arith, is))))
-      (before_end p (spot node step) spots h);
-  different = different_end (spot node step) spots
-      (λ h. ⊎_elim {C = ⊥} (λ f. omega (arith, f)) (λ f. let lt = f.1 in omega (arith, lt)) (b.below (spot node step)
+      (before_end p (dot node step) dots h);
+  different = different_end (dot node step) dots
+      (λ h. ⊎_elim {C = ⊥} (λ f. omega (arith, f)) (λ f. let lt = f.1 in omega (arith, lt)) (b.below (dot node step)
       h))
       b.different;
 }
 
-pub below_done : (node step : ℕ) (spots : List DottedRule) → AreBelowStep node step spots → AreBelow (node + 1) spots
-below_done node step spots b = record {
+pub below_done : (node step : ℕ) (dots : List DottedRule) → AreBelowStep node step dots → AreBelow (node + 1) dots
+below_done node step dots b = record {
   below = λ p h. ⊎_elim (λ f. omega (arith, f)) (λ f. let is = f.0 in omega (arith, is)) (b.below p h);
   different = b.different;
 }
 
 -- the places of one step more
-pub first_none : (spots : List DottedRule) (node : ℕ) → AreFirstPlaces spots node 0 []
-first_none spots node = record {
+pub first_none : (dots : List DottedRule) (node : ℕ) → AreFirstPlaces dots node 0 []
+first_none dots node = record {
   only = λ p h. nothing p h;
   all = λ k lt. absurd (omega (arith, lt));
 }
@@ -55,43 +55,43 @@ first_none spots node = record {
     nothing : {A : Type 0} (p : ℕ) → In p [] → A
     nothing p h = elim h [ ]
 
-pub first_next : (spots : List DottedRule) (node k p : ℕ) (places : List ℕ) → AreFirstPlaces spots node k places
-    → slice_get spots p ≡ Some (spot node k) → AreFirstPlaces spots node (k + 1) (places ++ p ∷ [])
-first_next spots node k p places are is = record {
+pub first_next : (dots : List DottedRule) (node k p : ℕ) (places : List ℕ) → AreFirstPlaces dots node k places
+    → slice_get dots p ≡ Some (dot node k) → AreFirstPlaces dots node (k + 1) (places ++ p ∷ [])
+first_next dots node k p places are is = record {
   only = λ q h. ⊎_elim (λ g. let o = are.only q g in let lt = o.1 in (o.0, omega (arith, lt), o.2))
-      (λ same. (k, omega arith, ap (λ v. slice_get spots v) same ∙ is)) (before_end q p places h);
+      (λ same. (k, omega arith, ap (λ v. slice_get dots v) same ∙ is)) (before_end q p places h);
   all = λ m lt. ⊎_elim (λ less. let o = are.all m less in (o.0, in_left (p ∷ []) o.1, o.2))
       (λ past. let same : m ≡ k = omega (arith, lt, past) in
-      (p, at_end p places, is ∙ ap (λ v. Some (spot node v)) (sym same)))
+      (p, at_end p places, is ∙ ap (λ v. Some (dot node v)) (sym same)))
       (cases_lt m k);
 }
 
 -- one step more
-pub steps_next : (flat : code_flat.Tables) (spots : List DottedRule) (steps : List DottedActions)
+pub steps_next : (flat : code_flat.Tables) (dots : List DottedRule) (steps : List DottedActions)
     (step : DottedActions) (now : DottedRule)
-    → ((p : ℕ) (at : DottedRule) (s : DottedActions) → slice_get spots p ≡ Some at → slice_get steps p ≡ Some s
-    → IsStep flat spots at s)
-    → slice_get spots (length steps) ≡ Some now → IsStep flat spots now step
-    → (p : ℕ) (at : DottedRule) (s : DottedActions) → slice_get spots p ≡ Some at
+    → ((p : ℕ) (at : DottedRule) (s : DottedActions) → slice_get dots p ≡ Some at → slice_get steps p ≡ Some s
+    → IsStep flat dots at s)
+    → slice_get dots (length steps) ≡ Some now → IsStep flat dots now step
+    → (p : ℕ) (at : DottedRule) (s : DottedActions) → slice_get dots p ≡ Some at
     → slice_get (steps ++ step ∷ []) p ≡ Some s
-    → IsStep flat spots at s
-steps_next flat spots steps step now each now_is tells p at s at_is is =
+    → IsStep flat dots at s
+steps_next flat dots steps step now each now_is reports p at s at_is is =
     ⊎_elim (λ was. each p at s at_is was)
-    (λ h. let same : now ≡ at = some_same (sym now_is ∙ (ap (λ v. slice_get spots v) (sym h.0) ∙ at_is)) in
-    subst (λ v. IsStep flat spots at v) h.1 (subst (λ v. IsStep flat spots v step) same tells))
+    (λ h. let same : now ≡ at = some_same (sym now_is ∙ (ap (λ v. slice_get dots v) (sym h.0) ∙ at_is)) in
+    subst (λ v. IsStep flat dots at v) h.1 (subst (λ v. IsStep flat dots v step) same reports))
     (push_cases steps step p s is)
 
 -- one root more
-pub roots_next : (flat : code_flat.Tables) (spots : List DottedRule) (steps : List DottedActions)
+pub roots_next : (flat : code_flat.Tables) (dots : List DottedRule) (steps : List DottedActions)
     (roots : List RootPlaces)
     (root : RootPlaces)
-    → ((t : ℕ) (r : RootPlaces) → slice_get roots t ≡ Some r → IsRootAt flat spots steps t r)
-    → IsRootAt flat spots steps (length roots) root
-    → (t : ℕ) (r : RootPlaces) → slice_get (roots ++ root ∷ []) t ≡ Some r → IsRootAt flat spots steps t r
-roots_next flat spots steps roots root each tells t r is =
+    → ((t : ℕ) (r : RootPlaces) → slice_get roots t ≡ Some r → IsRootAt flat dots steps t r)
+    → IsRootAt flat dots steps (length roots) root
+    → (t : ℕ) (r : RootPlaces) → slice_get (roots ++ root ∷ []) t ≡ Some r → IsRootAt flat dots steps t r
+roots_next flat dots steps roots root each reports t r is =
     ⊎_elim (λ was. each t r was)
-    (λ h. subst (λ v. IsRootAt flat spots steps t v) h.1 (subst (λ v. IsRootAt flat spots steps v root) (sym h.0)
-    tells))
+    (λ h. subst (λ v. IsRootAt flat dots steps t v) h.1 (subst (λ v. IsRootAt flat dots steps v root) (sym h.0)
+    reports))
     (push_cases roots root t r is)
 
 -- one place more that may call
@@ -150,9 +150,9 @@ below_calls_none steps root = record {
     nothing c h = elim h [ ]
 
 -- the starts of a root that is reached
-pub reached_starts : (flat : code_flat.Tables) (spots : List DottedRule) (steps : List DottedActions)
+pub reached_starts : (flat : code_flat.Tables) (dots : List DottedRule) (steps : List DottedActions)
     (roots : List RootPlaces)
-    (root : ℕ) (r : RootPlaces) → IsRootAt flat spots steps root r → IsReached roots root
-    → slice_get roots root ≡ Some r → AreStarts flat spots root r.starts.items
-reached_starts flat spots steps roots root r tells reached is =
-    subst (λ b. AreStartsIf b flat spots root r.starts.items) (reached r is) tells.starts
+    (root : ℕ) (r : RootPlaces) → IsRootAt flat dots steps root r → IsReached roots root
+    → slice_get roots root ≡ Some r → AreStarts flat dots root r.starts.items
+reached_starts flat dots steps roots root r reports reached is =
+    subst (λ b. AreStartsIf b flat dots root r.starts.items) (reached r is) reports.starts

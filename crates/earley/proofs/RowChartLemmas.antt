@@ -23,16 +23,16 @@ use Rattle.earley.proofs.RowItemsLemmas.{row_item_in, in_row_item}
 
 -- the last set decides
 pub row_answer : (flat : code_flat.Tables) → GiveRoots (flat_of flat) flat.roots.items
-    → (x : List ℕ) (spots : List DottedRule)
-    (sets : List KeptRows) (kept : KeptRows) (n : ℕ) → IsBuilt flat x (row_views spots sets)
-    → slice_get (row_views spots sets) n ≡ Some (row_items spots kept.rows.items)
-    → IsRowItem spots kept.rows.items (record { node = flat.whole; step = 1; origin = 0 })
+    → (x : List ℕ) (dots : List DottedRule)
+    (sets : List KeptRows) (kept : KeptRows) (n : ℕ) → IsBuilt flat x (row_views dots sets)
+    → slice_get (row_views dots sets) n ≡ Some (row_items dots kept.rows.items)
+    → IsRowItem dots kept.rows.items (record { node = flat.whole; step = 1; origin = 0 })
     ↔ Holds (flat_of flat) x n (at flat.whole 1) 0
-row_answer flat roots x spots sets kept n built there =
-    let exact = built_exact flat roots x (row_views spots sets) built n (row_items spots kept.rows.items) there in
+row_answer flat roots x dots sets kept n built there =
+    let exact = built_exact flat roots x (row_views dots sets) built n (row_items dots kept.rows.items) there in
     let whole : Item = record { node = flat.whole; step = 1; origin = 0 } in (
-      (λ h. exact.held whole (row_item_in spots kept.rows.items whole h)),
-      (λ h. in_row_item spots kept.rows.items whole (exact.all (at flat.whole 1) 0 h)),
+      (λ h. exact.held whole (row_item_in dots kept.rows.items whole h)),
+      (λ h. in_row_item dots kept.rows.items whole (exact.all (at flat.whole 1) 0 h)),
     )
 
 -- sizes
@@ -40,15 +40,15 @@ pub no_rows : IsSizedChart None
 no_rows = record { size = λ r is. absurd (cc is) }
 
 pub row_size : (r : RowChart) (j : ℕ) (kept : KeptRows) → slice_get r.sets.items j ≡ Some kept
-    → kept.size ≡ length (row_items r.table.spots.items kept.rows.items) → kept.size ≡ length (set_at (rows_chart r) j)
+    → kept.size ≡ length (row_items r.table.dots.items kept.rows.items) → kept.size ≡ length (set_at (rows_chart r) j)
 row_size r j kept is size =
-    size ∙ (sym (length-map (row_items r.table.spots.items kept.rows.items) pair)
-    ∙ ap (λ v. length v) (sym (index_map (λ set. map pair set) (row_views r.table.spots.items r.sets.items) j
-    (row_items r.table.spots.items kept.rows.items) []
-    (get_map (λ s. row_items r.table.spots.items s.rows.items) r.sets.items j is))))
+    size ∙ (sym (length-map (row_items r.table.dots.items kept.rows.items) pair)
+    ∙ ap (λ v. length v) (sym (index_map (λ set. map pair set) (row_views r.table.dots.items r.sets.items) j
+    (row_items r.table.dots.items kept.rows.items) []
+    (get_map (λ s. row_items r.table.dots.items s.rows.items) r.sets.items j is))))
 
 pub row_size_past : (r : RowChart) (j : ℕ) → length r.sets.items ≤ j → length (set_at (rows_chart r) j) ≡ 0
 row_size_past r j le =
-    let count = length-map r.sets.items (λ s. row_items r.table.spots.items s.rows.items) in
-    ap (λ v. length v) (index_past (λ set. map pair set) (row_views r.table.spots.items r.sets.items) j []
+    let count = length-map r.sets.items (λ s. row_items r.table.dots.items s.rows.items) in
+    ap (λ v. length v) (index_past (λ set. map pair set) (row_views r.table.dots.items r.sets.items) j []
     (omega (arith, le, count)))

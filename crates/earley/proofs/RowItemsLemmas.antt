@@ -14,7 +14,7 @@ use Rattle.earley.specs.RowSets.{HasAt}
 use Rattle.earleyitems.proofs.BlockLemmas.{in_right, in_either, different_both}
 use Rattle.flatgrammar.proofs.CallOfLemmas.{some_same, equal_or}
 use Rattle.flatgrammar.proofs.InLemmas.{in_left}
-use Rattle.flatgrammar.specs.Blocks.{item_at, spot}
+use Rattle.flatgrammar.specs.Blocks.{item_at, dot}
 use Rattle.flatgrammar.specs.Places.{In, now, on, AreDifferent}
 use Rattle.flatgrammar.specs.declared.block.DottedRule.{DottedRule}
 use Rattle.flatgrammar.specs.declared.flat_item.Item.{Item}
@@ -70,53 +70,53 @@ in_numbers s (n ∷ row) a (now same) = record { number = n; stands = now refl; 
 in_numbers s (n ∷ row) a (on h) = let f = in_numbers s row a h in
     record { number = f.number; stands = on f.stands; is = f.is }
 
-at_row_in : (spots : List DottedRule) (rows : List (List ℕ)) (p : ℕ) (a : Item)
-    → slice_get spots p ≡ Some (spot a.node a.step) → HasAt rows p a.origin → In a (row_items spots rows)
+at_row_in : (dots : List DottedRule) (rows : List (List ℕ)) (p : ℕ) (a : Item)
+    → slice_get dots p ≡ Some (dot a.node a.step) → HasAt rows p a.origin → In a (row_items dots rows)
 at_row_in [] rows p a is has = absurd (cc is)
-at_row_in (s ∷ spots) [] p a is has = absurd (none_contains a.origin has)
-at_row_in (s ∷ spots) (row ∷ rows) zero a is has =
-    let same : s ≡ spot a.node a.step = some_same is in
-    in_left (row_items spots rows) (subst (λ v. In (item_at a.origin v) (map (λ n. item_at n s) row)) same
+at_row_in (s ∷ dots) [] p a is has = absurd (none_contains a.origin has)
+at_row_in (s ∷ dots) (row ∷ rows) zero a is has =
+    let same : s ≡ dot a.node a.step = some_same is in
+    in_left (row_items dots rows) (subst (λ v. In (item_at a.origin v) (map (λ n. item_at n s) row)) same
     (number_in s row a.origin (contains_in row a.origin has)))
-at_row_in (s ∷ spots) (row ∷ rows) (suc p) a is has =
-    in_right (map (λ n. item_at n s) row) (at_row_in spots rows p a is has)
+at_row_in (s ∷ dots) (row ∷ rows) (suc p) a is has =
+    in_right (map (λ n. item_at n s) row) (at_row_in dots rows p a is has)
 
-pub row_item_in : (spots : List DottedRule) (rows : List (List ℕ)) (a : Item) → IsRowItem spots rows a
-    → In a (row_items spots rows)
-row_item_in spots rows a h = at_row_in spots rows h.place a h.is h.has
+pub row_item_in : (dots : List DottedRule) (rows : List (List ℕ)) (a : Item) → IsRowItem dots rows a
+    → In a (row_items dots rows)
+row_item_in dots rows a h = at_row_in dots rows h.place a h.is h.has
 
-here_item : (s : DottedRule) (row : List ℕ) (spots : List DottedRule) (rows : List (List ℕ)) (a : Item)
+here_item : (s : DottedRule) (row : List ℕ) (dots : List DottedRule) (rows : List (List ℕ)) (a : Item)
     → Numbered s row a
-    → IsRowItem (s ∷ spots) (row ∷ rows) a
-here_item s row spots rows a f = record {
+    → IsRowItem (s ∷ dots) (row ∷ rows) a
+here_item s row dots rows a f = record {
   place = zero;
-  is = ap (λ v. Some (spot v.node v.step)) (sym f.is);
+  is = ap (λ v. Some (dot v.node v.step)) (sym f.is);
   has = in_contains row a.origin (subst (λ v. In v row) (sym (ap (λ v. v.origin) f.is)) f.stands);
 }
 
-there_item : (s : DottedRule) (row : List ℕ) (spots : List DottedRule) (rows : List (List ℕ)) (a : Item)
-    → IsRowItem spots rows a
-    → IsRowItem (s ∷ spots) (row ∷ rows) a
-there_item s row spots rows a h = record { place = suc h.place; is = h.is; has = h.has }
+there_item : (s : DottedRule) (row : List ℕ) (dots : List DottedRule) (rows : List (List ℕ)) (a : Item)
+    → IsRowItem dots rows a
+    → IsRowItem (s ∷ dots) (row ∷ rows) a
+there_item s row dots rows a h = record { place = suc h.place; is = h.is; has = h.has }
 
-pub in_row_item : (spots : List DottedRule) (rows : List (List ℕ)) (a : Item) → In a (row_items spots rows)
-    → IsRowItem spots rows a
+pub in_row_item : (dots : List DottedRule) (rows : List (List ℕ)) (a : Item) → In a (row_items dots rows)
+    → IsRowItem dots rows a
 in_row_item [] rows a h = elim h [ ]
-in_row_item (s ∷ spots) [] a h = elim h [ ]
-in_row_item (s ∷ spots) (row ∷ rows) a h =
-    ⊎_elim (λ m. here_item s row spots rows a (in_numbers s row a m))
-    (λ r. there_item s row spots rows a (in_row_item spots rows a r)) (in_either (map (λ n. item_at n s) row) h)
+in_row_item (s ∷ dots) [] a h = elim h [ ]
+in_row_item (s ∷ dots) (row ∷ rows) a h =
+    ⊎_elim (λ m. here_item s row dots rows a (in_numbers s row a m))
+    (λ r. there_item s row dots rows a (in_row_item dots rows a r)) (in_either (map (λ n. item_at n s) row) h)
 
 -- how many they are
-pub length_row_items : (spots : List DottedRule) (rows : List (List ℕ)) → length spots ≡ length rows
-    → length (row_items spots rows) ≡ sum_by (λ row. length row) rows
+pub length_row_items : (dots : List DottedRule) (rows : List (List ℕ)) → length dots ≡ length rows
+    → length (row_items dots rows) ≡ sum_by (λ row. length row) rows
 length_row_items [] [] same = refl
 length_row_items [] (row ∷ rows) same = absurd (omega (arith, same))
-length_row_items (s ∷ spots) [] same = absurd (omega (arith, same))
-length_row_items (s ∷ spots) (row ∷ rows) same =
-    length-append (map (λ n. item_at n s) row) (row_items spots rows)
-    ∙ (ap (λ v. v + length (row_items spots rows)) (length-map row (λ n. item_at n s))
-    ∙ (ap (λ v. length row + v) (length_row_items spots rows (omega (arith, same)))
+length_row_items (s ∷ dots) [] same = absurd (omega (arith, same))
+length_row_items (s ∷ dots) (row ∷ rows) same =
+    length-append (map (λ n. item_at n s) row) (row_items dots rows)
+    ∙ (ap (λ v. v + length (row_items dots rows)) (length-map row (λ n. item_at n s))
+    ∙ (ap (λ v. length row + v) (length_row_items dots rows (omega (arith, same)))
     ∙ sym (sum_by-cons (λ r. length r) row rows)))
 
 -- each once
@@ -137,22 +137,22 @@ numbers_different s (n ∷ row) d = (
   numbers_different s row d.1,
 )
 
-in_spots : (spots : List DottedRule) (p : ℕ) (s : DottedRule) → slice_get spots p ≡ Some s → In s spots
-in_spots [] p s is = absurd (cc is)
-in_spots (t ∷ spots) zero s is = now (sym (some_same is))
-in_spots (t ∷ spots) (suc p) s is = on (in_spots spots p s is)
+in_dots : (dots : List DottedRule) (p : ℕ) (s : DottedRule) → slice_get dots p ≡ Some s → In s dots
+in_dots [] p s is = absurd (cc is)
+in_dots (t ∷ dots) zero s is = now (sym (some_same is))
+in_dots (t ∷ dots) (suc p) s is = on (in_dots dots p s is)
 
-pub row_items_different : (spots : List DottedRule) (rows : List (List ℕ)) → AreDifferent spots
-    → ((p : ℕ) → IsStrictlyIncreasing (slice_index_or rows p [])) → AreDifferent (row_items spots rows)
+pub row_items_different : (dots : List DottedRule) (rows : List (List ℕ)) → AreDifferent dots
+    → ((p : ℕ) → IsStrictlyIncreasing (slice_index_or rows p [])) → AreDifferent (row_items dots rows)
 row_items_different [] rows d up = tt
-row_items_different (s ∷ spots) [] d up = tt
-row_items_different (s ∷ spots) (row ∷ rows) d up =
-    different_both (map (λ n. item_at n s) row) (row_items spots rows)
+row_items_different (s ∷ dots) [] d up = tt
+row_items_different (s ∷ dots) (row ∷ rows) d up =
+    different_both (map (λ n. item_at n s) row) (row_items dots rows)
     (numbers_different s row (pairs_different row (AllPairs-from_increasing row (up zero))))
-    (row_items_different spots rows d.1 (λ p. up (suc p)))
-    (λ a m r. let f = in_numbers s row a m in let h = in_row_item spots rows a r in
-    let same : spot a.node a.step ≡ s = ap (λ v. spot v.node v.step) f.is in
-    d.0 (subst (λ v. In v spots) same (in_spots spots h.place (spot a.node a.step) h.is)))
+    (row_items_different dots rows d.1 (λ p. up (suc p)))
+    (λ a m r. let f = in_numbers s row a m in let h = in_row_item dots rows a r in
+    let same : dot a.node a.step ≡ s = ap (λ v. dot v.node v.step) f.is in
+    d.0 (subst (λ v. In v dots) same (in_dots dots h.place (dot a.node a.step) h.is)))
 
 same_index : (rows : List (List ℕ)) (i : ℕ) (d e : List ℕ) → i < length rows
     → slice_index_or rows i d ≡ slice_index_or rows i e

@@ -16,7 +16,7 @@ use Rattle.earleyitems.specs.ScannedItems.{IsScannedItem}
 use Rattle.earleyitems.specs.Worklist.{AdvancesNullable, IsWork}
 use Rattle.flatgrammar.proofs.CallOfLemmas.{some_same, get_below, get_map, past_get}
 use Rattle.flatgrammar.proofs.InLemmas.{in_left, at_end, before_end, at_index_in}
-use Rattle.flatgrammar.specs.Blocks.{item_at, spot, call_at, begin_count}
+use Rattle.flatgrammar.specs.Blocks.{item_at, dot, call_at, begin_count}
 use Rattle.flatgrammar.specs.Places.{In}
 use Rattle.flatgrammar.specs.NodeSteps.{IfSomeSet}
 use Rattle.flatgrammar.specs.TableViews.{call_of, count_in, done_of, null_of, takes_of, read_of, whole_root}
@@ -67,14 +67,14 @@ get_no_index (r ∷ rows) zero is = absurd (cc is)
 get_no_index (r ∷ rows) (suc p) is = get_no_index rows p is
 
 -- two ways to name a place
-node_same : (at : DottedRule) (n k : ℕ) → at ≡ spot n k → at.node ≡ n
+node_same : (at : DottedRule) (n k : ℕ) → at ≡ dot n k → at.node ≡ n
 node_same at n k same = ap (λ v. v.node) same
 
-step_same : (at : DottedRule) (n k : ℕ) → at ≡ spot n k → at.step ≡ k
+step_same : (at : DottedRule) (n k : ℕ) → at ≡ dot n k → at.step ≡ k
 step_same at n k same = ap (λ v. v.step) same
 
-pub one_spot : {o : Option DottedRule} {s t : DottedRule} → o ≡ Some s → o ≡ Some t → s ≡ t
-one_spot h g = some_same (sym h ∙ g)
+pub one_dot : {o : Option DottedRule} {s t : DottedRule} → o ≡ Some s → o ≡ Some t → s ≡ t
+one_dot h g = some_same (sym h ∙ g)
 
 pair_root : {r n s m : ℕ} → ◌≡◌ {A = Option (ℕ × ℕ)} (Some (r, n)) (Some (s, m)) → r ≡ s
 pair_root h = ap (λ v. v.0) (some_same h)
@@ -83,30 +83,30 @@ pair_next : {r n s m : ℕ} → ◌≡◌ {A = Option (ℕ × ℕ)} (Some (r, n)
 pair_next h = ap (λ v. v.1) (some_same h)
 
 -- these places, with the numbers of a row
-pub record StartsIn (spots : List DottedRule) (starts row : List ℕ) (a : Item) : Type 0 where
+pub record StartsIn (dots : List DottedRule) (starts row : List ℕ) (a : Item) : Type 0 where
   pub place : ℕ
   pub stands : In place starts
-  pub is : slice_get spots place ≡ Some (spot a.node a.step)
+  pub is : slice_get dots place ≡ Some (dot a.node a.step)
   pub has : Contains row a.origin
 
-module _ (spots : List DottedRule) (starts row : List ℕ) (old : Rows) where
-  pub starts_none : Gains spots (StartsIn spots (take 0 starts) row) old old
-  starts_none = gains_none spots (StartsIn spots (take 0 starts) row) old (λ a h. absurd (nothing a h.stands))
+module _ (dots : List DottedRule) (starts row : List ℕ) (old : Rows) where
+  pub starts_none : Gains dots (StartsIn dots (take 0 starts) row) old old
+  starts_none = gains_none dots (StartsIn dots (take 0 starts) row) old (λ a h. absurd (nothing a h.stands))
     where
       nothing : {A : Type 0} (a : Item) {p : ℕ} → In p (take 0 starts) → A
       nothing a h = elim h [ ]
 
-  pub starts_next : (i d : ℕ) (mid new : Rows) → i < length starts → Gains spots (StartsIn spots (take i starts) row)
+  pub starts_next : (i d : ℕ) (mid new : Rows) → i < length starts → Gains dots (StartsIn dots (take i starts) row)
       old mid
       → AddsAt (slice_index_or starts i d) (λ k. Contains row k) mid new
-      → Gains spots (StartsIn spots (take (i + 1) starts) row) old new
-  starts_next i d mid new lt was adds = gains_both spots (StartsIn spots (take i starts) row)
-      (λ a. (slice_get spots (slice_index_or starts i d) ≡ Some (spot a.node a.step)) × Contains row a.origin)
-      (StartsIn spots (take (i + 1) starts) row) old mid new was
-      (gains_at spots (slice_index_or starts i d) (λ k. Contains row k) mid new adds)
+      → Gains dots (StartsIn dots (take (i + 1) starts) row) old new
+  starts_next i d mid new lt was adds = gains_both dots (StartsIn dots (take i starts) row)
+      (λ a. (slice_get dots (slice_index_or starts i d) ≡ Some (dot a.node a.step)) × Contains row a.origin)
+      (StartsIn dots (take (i + 1) starts) row) old mid new was
+      (gains_at dots (slice_index_or starts i d) (λ k. Contains row k) mid new adds)
       (λ a h. ⊎_elim
       (λ g. inl (record { place = h.place; stands = g; is = h.is; has = h.has }))
-      (λ same. inr (subst (λ v. slice_get spots v ≡ Some (spot a.node a.step)) same h.is, h.has))
+      (λ same. inr (subst (λ v. slice_get dots v ≡ Some (dot a.node a.step)) same h.is, h.has))
       (front_cases h.place starts i d lt h.stands))
       (λ a h. record { place = h.place; stands = front_old h.place starts i d lt h.stands; is = h.is; has = h.has })
       (λ a h. record {
@@ -116,31 +116,31 @@ module _ (spots : List DottedRule) (starts row : List ℕ) (old : Rows) where
         has = h.1;
       })
 
-module _ (spots : List DottedRule) (call : Call) (rows : List (List ℕ)) (old new : Rows) where
+module _ (dots : List DottedRule) (call : Call) (rows : List (List ℕ)) (old new : Rows) where
   pub after_call : (row : List ℕ) → slice_get rows call.from ≡ Some row
       → AddsAt call.after (λ k. Contains row k) old new
-      → Gains spots (IsAfterCall spots call rows) old new
+      → Gains dots (IsAfterCall dots call rows) old new
   after_call row is adds =
       let same = get_index rows call.from row is in
-      gains_as spots (λ a. (slice_get spots call.after ≡ Some (spot a.node a.step)) × Contains row a.origin)
-      (IsAfterCall spots call rows) old new
+      gains_as dots (λ a. (slice_get dots call.after ≡ Some (dot a.node a.step)) × Contains row a.origin)
+      (IsAfterCall dots call rows) old new
       (λ a h. (h.0, subst (λ v. Contains v a.origin) (sym same) h.1))
       (λ a h. (h.0, subst (λ v. Contains v a.origin) same h.1))
-      (gains_at spots call.after (λ k. Contains row k) old new adds)
+      (gains_at dots call.after (λ k. Contains row k) old new adds)
 
-  pub no_call : slice_get rows call.from ≡ None → Gains spots (IsAfterCall spots call rows) old old
-  no_call is = gains_none spots (IsAfterCall spots call rows) old
+  pub no_call : slice_get rows call.from ≡ None → Gains dots (IsAfterCall dots call rows) old old
+  no_call is = gains_none dots (IsAfterCall dots call rows) old
       (λ a h. absurd (none_contains a.origin (subst (λ v. Contains v a.origin) (get_no_index rows call.from is) h.1)))
 
-module _ (flat : code_flat.Tables) (spots : List DottedRule) where
+module _ (flat : code_flat.Tables) (dots : List DottedRule) where
   abbrev Begun : ℕ → List ℕ → Item → Type 0
   Begun root row a = (a.node ≡ root) × (a.step < begin_count flat root) × Contains row a.origin
 
-  pub starts_all : (root : ℕ) (starts row : List ℕ) (old new : Rows) → AreStarts flat spots root starts
-      → Gains spots (StartsIn spots starts row) old new → Gains spots (Begun root row) old new
-  starts_all root starts row old new are gains = gains_as spots (StartsIn spots starts row) (Begun root row) old new
+  pub starts_all : (root : ℕ) (starts row : List ℕ) (old new : Rows) → AreStarts flat dots root starts
+      → Gains dots (StartsIn dots starts row) old new → Gains dots (Begun root row) old new
+  starts_all root starts row old new are gains = gains_as dots (StartsIn dots starts row) (Begun root row) old new
       (λ a h. let s = are.only h.place h.stands in
-      let same : spot root s.0 ≡ spot a.node a.step = one_spot s.2 h.is in
+      let same : dot root s.0 ≡ dot a.node a.step = one_dot s.2 h.is in
       let n : root ≡ a.node = ap (λ v. v.node) same in
       let k : s.0 ≡ a.step = ap (λ v. v.step) same in
       let lt = s.1 in
@@ -148,39 +148,39 @@ module _ (flat : code_flat.Tables) (spots : List DottedRule) where
       (λ a h. let s = are.all a.step h.1 in record {
         place = s.0;
         stands = s.1;
-        is = s.2 ∙ ap (λ v. Some (spot v a.step)) (sym h.0);
+        is = s.2 ∙ ap (λ v. Some (dot v a.step)) (sym h.0);
         has = h.2;
       })
       gains
 
   pub no_starts : (root : ℕ) (row : List ℕ) (old : Rows) → length flat.nodes.items ≤ root
-      → Gains spots (Begun root row) old old
-  no_starts root row old le = gains_none spots (Begun root row) old
+      → Gains dots (Begun root row) old old
+  no_starts root row old le = gains_none dots (Begun root row) old
       (λ a h. let none : begin_count flat root ≡ 0 = ap (λ v. count_in v) (past_get flat.nodes.items root le) in
       let lt = h.1 in absurd (omega (arith, none, lt)))
 
-  module _ (place : ℕ) (row : List ℕ) (at : DottedRule) (at_is : slice_get spots place ≡ Some at) (old new : Rows) where
-    by_place : (by : Item) → slice_get spots place ≡ Some (spot by.node by.step) → at ≡ spot by.node by.step
-    by_place by is = one_spot at_is is
+  module _ (place : ℕ) (row : List ℕ) (at : DottedRule) (at_is : slice_get dots place ≡ Some at) (old new : Rows) where
+    by_place : (by : Item) → slice_get dots place ≡ Some (dot by.node by.step) → at ≡ dot by.node by.step
+    by_place by is = one_dot at_is is
 
-    by_call : (by : Item) → slice_get spots place ≡ Some (spot by.node by.step) → call_at flat at ≡ call_of flat by
+    by_call : (by : Item) → slice_get dots place ≡ Some (dot by.node by.step) → call_at flat at ≡ call_of flat by
     by_call by is = ap (λ v. call_at flat v) (by_place by is)
 
     pub nothing_predicted : (j : ℕ) → call_at flat at ≡ None
-        → Gains spots (IsFor spots place row (IsPredicted flat j)) old old
-    nothing_predicted j none = gains_none spots (IsFor spots place row (IsPredicted flat j)) old
+        → Gains dots (IsFor dots place row (IsPredicted flat j)) old old
+    nothing_predicted j none = gains_none dots (IsFor dots place row (IsPredicted flat j)) old
         (λ a h. absurd (cc (none, by_call h.by h.is, h.work.call)))
 
     pub nothing_advanced : call_at flat at ≡ None
-        → Gains spots (IsFor spots place row (AdvancesNullable flat)) old old
-    nothing_advanced none = gains_none spots (IsFor spots place row (AdvancesNullable flat)) old
+        → Gains dots (IsFor dots place row (AdvancesNullable flat)) old old
+    nothing_advanced none = gains_none dots (IsFor dots place row (AdvancesNullable flat)) old
         (λ a h. absurd (cc (none, by_call h.by h.is, h.work.call)))
 
-    module _ (c : Called) (calls : IsCallAt flat spots at c) where
+    module _ (c : Called) (calls : IsCallAt flat dots at c) where
       pub call_predicts : (j k : ℕ) (here : List ℕ) → Contains row k → ((n : ℕ) → Contains here n ↔ (n ≡ j))
-          → Gains spots (Begun c.root here) old new → Gains spots (IsFor spots place row (IsPredicted flat j)) old new
+          → Gains dots (Begun c.root here) old new → Gains dots (IsFor dots place row (IsPredicted flat j)) old new
       call_predicts j k here some one gains =
-          gains_as spots (Begun c.root here) (IsFor spots place row (IsPredicted flat j)) old new
+          gains_as dots (Begun c.root here) (IsFor dots place row (IsPredicted flat j)) old new
           (λ a h. record {
             by = item_at k at;
             is = at_is;
@@ -203,11 +203,11 @@ module _ (flat : code_flat.Tables) (spots : List DottedRule) where
           gains
 
       pub free_advances : c.free ≡ true → AddsAt c.after (λ k. Contains row k) old new
-          → Gains spots (IsFor spots place row (AdvancesNullable flat)) old new
+          → Gains dots (IsFor dots place row (AdvancesNullable flat)) old new
       free_advances is_free adds =
-          gains_as spots (λ a. (slice_get spots c.after ≡ Some (spot a.node a.step)) × Contains row a.origin)
-          (IsFor spots place row (AdvancesNullable flat)) old new
-          (λ a h. let same : spot at.node calls.next ≡ spot a.node a.step = one_spot calls.after h.0 in
+          gains_as dots (λ a. (slice_get dots c.after ≡ Some (dot a.node a.step)) × Contains row a.origin)
+          (IsFor dots place row (AdvancesNullable flat)) old new
+          (λ a h. let same : dot at.node calls.next ≡ dot a.node a.step = one_dot calls.after h.0 in
           let n : at.node ≡ a.node = ap (λ v. v.node) same in
           let k : calls.next ≡ a.step = ap (λ v. v.step) same in
           record {
@@ -225,103 +225,103 @@ module _ (flat : code_flat.Tables) (spots : List DottedRule) where
           })
           (λ a h. let next = pair_next (sym calls.call ∙ (by_call h.by h.is ∙ h.work.call)) in
           let n = node_same at h.by.node h.by.step (by_place h.by h.is) in (
-            calls.after ∙ (ap (λ v. Some (spot at.node v)) next
-                ∙ ap (λ v. Some (spot v a.step)) (n ∙ sym h.work.node)),
+            calls.after ∙ (ap (λ v. Some (dot at.node v)) next
+                ∙ ap (λ v. Some (dot v a.step)) (n ∙ sym h.work.node)),
             subst (λ v. Contains row v) (sym h.work.origin) h.has,
           ))
-          (gains_at spots c.after (λ k. Contains row k) old new adds)
+          (gains_at dots c.after (λ k. Contains row k) old new adds)
 
-      pub not_free : (c.free ≡ true → ⊥) → Gains spots (IsFor spots place row (AdvancesNullable flat)) old old
-      not_free is_not = gains_none spots (IsFor spots place row (AdvancesNullable flat)) old
+      pub not_free : (c.free ≡ true → ⊥) → Gains dots (IsFor dots place row (AdvancesNullable flat)) old old
+      not_free is_not = gains_none dots (IsFor dots place row (AdvancesNullable flat)) old
           (λ a h. absurd (is_not (calls.free
           (ap (λ v. null_of flat v) (pair_root (sym calls.call ∙ (by_call h.by h.is ∙ h.work.call))) ∙ h.work.null)
           (ap (λ v. takes_of flat (item_at 0 v)) (by_place h.by h.is) ∙ h.work.free))))
 
-  module _ (steps : List DottedActions) (are : AreSteps flat spots steps) (root : ℕ) (rows : List (List ℕ)) where
-    record Told (p : ℕ) (step : DottedActions) : Type 0 where
+  module _ (steps : List DottedActions) (are : AreSteps flat dots steps) (root : ℕ) (rows : List (List ℕ)) where
+    record Reported (p : ℕ) (step : DottedActions) : Type 0 where
       at : DottedRule
-      is : slice_get spots p ≡ Some at
-      tells : IsStep flat spots at step
+      is : slice_get dots p ≡ Some at
+      reports : IsStep flat dots at step
 
-    told_at : (p : ℕ) (step : DottedActions) → slice_get steps p ≡ Some step → Told p step
-    told_at p step is =
+    reported_at : (p : ℕ) (step : DottedActions) → slice_get steps p ≡ Some step → Reported p step
+    reported_at p step is =
         let lt = get_below steps p is in
         let size = are.count in
-        let there = get_there spots p (omega (arith, lt, size)) in
-        record { at = there.0; is = there.1; tells = are.each p there.0 step there.1 is }
+        let there = get_there dots p (omega (arith, lt, size)) in
+        record { at = there.0; is = there.1; reports = are.each p there.0 step there.1 is }
 
-    step_at : (p : ℕ) (at : DottedRule) → slice_get spots p ≡ Some at
-        → (step : DottedActions) × (slice_get steps p ≡ Some step) × IsStep flat spots at step
+    step_at : (p : ℕ) (at : DottedRule) → slice_get dots p ≡ Some at
+        → (step : DottedActions) × (slice_get steps p ≡ Some step) × IsStep flat dots at step
     step_at p at is =
-        let lt = get_below spots p is in
+        let lt = get_below dots p is in
         let size = are.count in
         let there = get_there steps p (omega (arith, lt, size)) in
         (there.0, there.1, are.each p at there.0 is there.1)
 
-    called_in : (at : DottedRule) (o : Option Called) (c : Called) → o ≡ Some c → IsCalledAt flat spots at o
-        → IsCallAt flat spots at c
+    called_in : (at : DottedRule) (o : Option Called) (c : Called) → o ≡ Some c → IsCalledAt flat dots at o
+        → IsCallAt flat dots at c
     called_in at None c is h = absurd (cc is)
-    called_in at (Some d) c is h = subst (λ v. IsCallAt flat spots at v) (some_same is) h
+    called_in at (Some d) c is h = subst (λ v. IsCallAt flat dots at v) (some_same is) h
 
     record Calling (at : DottedRule) (o : Option Called) (next : ℕ) : Type 0 where
       called : Called
       is : o ≡ Some called
       root_is : called.root ≡ root
-      after : slice_get spots called.after ≡ Some (spot at.node next)
+      after : slice_get dots called.after ≡ Some (dot at.node next)
       within : called.root < length flat.nodes.items
 
-    calling_at : (at : DottedRule) (o : Option Called) (next : ℕ) → IsCalledAt flat spots at o
+    calling_at : (at : DottedRule) (o : Option Called) (next : ℕ) → IsCalledAt flat dots at o
         → call_at flat at ≡ Some (root, next) → Calling at o next
     calling_at at None next h call = absurd (cc (h, call))
     calling_at at (Some c) next h call = record {
       called = c;
       is = refl;
       root_is = pair_root (sym h.call ∙ call);
-      after = h.after ∙ ap (λ v. Some (spot at.node v)) (pair_next (sym h.call ∙ call));
+      after = h.after ∙ ap (λ v. Some (dot at.node v)) (pair_next (sym h.call ∙ call));
       within = h.within;
     }
 
-    pub none_advanced : (a : Item) → length flat.nodes.items ≤ root → IsAdvanced flat root (row_items spots rows) a → ⊥
+    pub none_advanced : (a : Item) → length flat.nodes.items ≤ root → IsAdvanced flat root (row_items dots rows) a → ⊥
     none_advanced a le h =
-        let f = in_row_item spots rows h.from h.stands in
-        let at : DottedRule = spot h.from.node h.from.step in
+        let f = in_row_item dots rows h.from h.stands in
+        let at : DottedRule = dot h.from.node h.from.step in
         let s = step_at f.place at f.is in
         let c = calling_at at s.0.called a.step s.2.called h.call in
         let lt = c.within in let same = c.root_is in absurd (omega (arith, lt, same, le))
 
     module _ (calls : List Call) (ones : AreCallsTo steps root calls) (a : Item) where
-      pub called_advanced : (call : Call) → In call calls → IsAfterCall spots call rows a
-          → IsAdvanced flat root (row_items spots rows) a
+      pub called_advanced : (call : Call) → In call calls → IsAfterCall dots call rows a
+          → IsAdvanced flat root (row_items dots rows) a
       called_advanced call stands after =
           let one = ones.only call stands in
-          let t = told_at call.from one.step one.is in
-          let c = called_in t.at one.step.called one.called one.called_is t.tells.called in
-          let same : spot t.at.node c.next ≡ spot a.node a.step =
-          one_spot (subst (λ v. slice_get spots v ≡ Some (spot t.at.node c.next)) one.after c.after) after.0 in
+          let t = reported_at call.from one.step one.is in
+          let c = called_in t.at one.step.called one.called one.called_is t.reports.called in
+          let same : dot t.at.node c.next ≡ dot a.node a.step =
+          one_dot (subst (λ v. slice_get dots v ≡ Some (dot t.at.node c.next)) one.after c.after) after.0 in
           let n : t.at.node ≡ a.node = ap (λ v. v.node) same in
           let k : c.next ≡ a.step = ap (λ v. v.step) same in
           record {
             from = item_at a.origin t.at;
-            stands = row_item_in spots rows (item_at a.origin t.at)
+            stands = row_item_in dots rows (item_at a.origin t.at)
                 (record { place = call.from; is = t.is; has = after.1 });
             call = c.call ∙ (ap (λ v. Some (v, c.next)) one.root_is ∙ ap (λ v. Some (root, v)) k);
             node = sym n;
             origin = refl;
           }
 
-      pub advanced_called : IsAdvanced flat root (row_items spots rows) a
-          → (call : Call) × In call calls × IsAfterCall spots call rows a
+      pub advanced_called : IsAdvanced flat root (row_items dots rows) a
+          → (call : Call) × In call calls × IsAfterCall dots call rows a
       advanced_called h =
-          let f = in_row_item spots rows h.from h.stands in
-          let at : DottedRule = spot h.from.node h.from.step in
+          let f = in_row_item dots rows h.from h.stands in
+          let at : DottedRule = dot h.from.node h.from.step in
           let s = step_at f.place at f.is in
           let c = calling_at at s.0.called a.step s.2.called h.call in
           let one = ones.all f.place s.0 c.called s.1 c.is c.root_is in (
             one.0,
             one.1,
             (
-              subst (λ v. slice_get spots v ≡ Some (spot a.node a.step)) (sym one.3)
-                  (c.after ∙ ap (λ v. Some (spot v a.step)) (sym h.node)),
+              subst (λ v. slice_get dots v ≡ Some (dot a.node a.step)) (sym one.3)
+                  (c.after ∙ ap (λ v. Some (dot v a.step)) (sym h.node)),
               subst (λ v. HasAt rows v a.origin) (sym one.2)
                   (subst (λ v. HasAt rows f.place v) (sym h.origin) f.has),
             ),
@@ -329,12 +329,12 @@ module _ (flat : code_flat.Tables) (spots : List DottedRule) where
 
   -- what is done at a place completes its node
   module _ (sets : List (List Item)) (root : ℕ) (row : List ℕ) (old : Rows) where
-    module _ (place : ℕ) (at : DottedRule) (at_is : slice_get spots place ≡ Some at) (root_is : at.node ≡ root) where
+    module _ (place : ℕ) (at : DottedRule) (at_is : slice_get dots place ≡ Some at) (root_is : at.node ≡ root) where
       pub row_completed : (count : ℕ) (new : Rows) → count ≡ length sets → done_of flat (item_at 0 at) ≡ true
-          → Gains spots (IsCompletedBy flat sets root row count) old new
-          → Gains spots (IsFor spots place row (IsCompleted flat sets [])) old new
-      row_completed count new size done gains = gains_as spots (IsCompletedBy flat sets root row count)
-          (IsFor spots place row (IsCompleted flat sets [])) old new
+          → Gains dots (IsCompletedBy flat sets root row count) old new
+          → Gains dots (IsFor dots place row (IsCompleted flat sets [])) old new
+      row_completed count new size done gains = gains_as dots (IsCompletedBy flat sets root row count)
+          (IsFor dots place row (IsCompleted flat sets [])) old new
           (λ a h. record {
             by = item_at h.origin at;
             is = at_is;
@@ -344,7 +344,7 @@ module _ (flat : code_flat.Tables) (spots : List DottedRule) where
               advanced = subst (λ v. IsAdvanced flat v (waiting_in sets [] h.origin) a) (sym root_is) h.advanced;
             };
           })
-          (λ a h. let same = one_spot at_is h.is in
+          (λ a h. let same = one_dot at_is h.is in
           let n : at.node ≡ h.by.node = ap (λ v. v.node) same in
           record {
             origin = h.by.origin;
@@ -362,21 +362,21 @@ module _ (flat : code_flat.Tables) (spots : List DottedRule) where
           waits_below o (Some set) is h = get_below sets o is
 
       pub not_completed : (done_of flat (item_at 0 at) ≡ true → ⊥)
-          → Gains spots (IsFor spots place row (IsCompleted flat sets [])) old old
-      not_completed not_done = gains_none spots (IsFor spots place row (IsCompleted flat sets [])) old
-          (λ a h. absurd (not_done (ap (λ v. done_of flat (item_at 0 v)) (one_spot at_is h.is) ∙ h.work.done)))
+          → Gains dots (IsFor dots place row (IsCompleted flat sets [])) old old
+      not_completed not_done = gains_none dots (IsFor dots place row (IsCompleted flat sets [])) old
+          (λ a h. absurd (not_done (ap (λ v. done_of flat (item_at 0 v)) (one_dot at_is h.is) ∙ h.work.done)))
 
   pub work_all : (place : ℕ) (row : List ℕ) (sets : List (List Item)) (count : ℕ) (a b c d : Rows)
-      → count ≡ length sets → Gains spots (IsFor spots place row (IsPredicted flat count)) a b
-      → Gains spots (IsFor spots place row (AdvancesNullable flat)) b c
-      → Gains spots (IsFor spots place row (IsCompleted flat sets [])) c d
-      → Gains spots (IsFor spots place row (IsWork flat sets)) a d
+      → count ≡ length sets → Gains dots (IsFor dots place row (IsPredicted flat count)) a b
+      → Gains dots (IsFor dots place row (AdvancesNullable flat)) b c
+      → Gains dots (IsFor dots place row (IsCompleted flat sets [])) c d
+      → Gains dots (IsFor dots place row (IsWork flat sets)) a d
   work_all place row sets count a b c d size p q r =
-      gains_both spots (IsFor spots place row (λ by i. IsPredicted flat count by i ⊎ AdvancesNullable flat by i))
-      (IsFor spots place row (IsCompleted flat sets [])) (IsFor spots place row (IsWork flat sets)) a c d
-      (gains_both spots (IsFor spots place row (IsPredicted flat count))
-      (IsFor spots place row (AdvancesNullable flat))
-      (IsFor spots place row (λ by i. IsPredicted flat count by i ⊎ AdvancesNullable flat by i)) a b c p q
+      gains_both dots (IsFor dots place row (λ by i. IsPredicted flat count by i ⊎ AdvancesNullable flat by i))
+      (IsFor dots place row (IsCompleted flat sets [])) (IsFor dots place row (IsWork flat sets)) a c d
+      (gains_both dots (IsFor dots place row (IsPredicted flat count))
+      (IsFor dots place row (AdvancesNullable flat))
+      (IsFor dots place row (λ by i. IsPredicted flat count by i ⊎ AdvancesNullable flat by i)) a b c p q
       (λ i h. ⊎_elim (λ w. inl (record { by = h.by; is = h.is; has = h.has; work = w }))
       (λ w. inr (record { by = h.by; is = h.is; has = h.has; work = w })) h.work)
       (λ i h. record { by = h.by; is = h.is; has = h.has; work = inl h.work })
@@ -399,45 +399,45 @@ module _ (flat : code_flat.Tables) (spots : List DottedRule) where
       (λ i h. record { by = h.by; is = h.is; has = h.has; work = inr h.work })
 
 -- what the rows of the places below one become by a letter
-pub record IsScannedBelow (flat : code_flat.Tables) (spots : List DottedRule) (c : ℕ) (rows : List (List ℕ)) (below : ℕ)
+pub record IsScannedBelow (flat : code_flat.Tables) (dots : List DottedRule) (c : ℕ) (rows : List (List ℕ)) (below : ℕ)
     (a : Item) : Type 0 where
   pub place : ℕ
   pub under : place < below
-  pub scanned : IsFor spots place (slice_index_or rows place []) (IsScannedFor flat c) a
+  pub scanned : IsFor dots place (slice_index_or rows place []) (IsScannedFor flat c) a
 
-module _ (flat : code_flat.Tables) (spots : List DottedRule) (c : ℕ) (rows : List (List ℕ)) where
-  pub scanned_none : (old : Rows) → Gains spots (IsScannedBelow flat spots c rows 0) old old
-  scanned_none old = gains_none spots (IsScannedBelow flat spots c rows 0) old
+module _ (flat : code_flat.Tables) (dots : List DottedRule) (c : ℕ) (rows : List (List ℕ)) where
+  pub scanned_none : (old : Rows) → Gains dots (IsScannedBelow flat dots c rows 0) old old
+  scanned_none old = gains_none dots (IsScannedBelow flat dots c rows 0) old
       (λ a h. let lt = h.under in absurd (omega (arith, lt)))
 
-  pub scanned_next : (place : ℕ) (old mid new : Rows) → Gains spots (IsScannedBelow flat spots c rows place) old mid
-      → Gains spots (IsFor spots place (slice_index_or rows place []) (IsScannedFor flat c)) mid new
-      → Gains spots (IsScannedBelow flat spots c rows (place + 1)) old new
-  scanned_next place old mid new was gains = gains_both spots (IsScannedBelow flat spots c rows place)
-      (IsFor spots place (slice_index_or rows place []) (IsScannedFor flat c))
-      (IsScannedBelow flat spots c rows (place + 1)) old mid new was gains
+  pub scanned_next : (place : ℕ) (old mid new : Rows) → Gains dots (IsScannedBelow flat dots c rows place) old mid
+      → Gains dots (IsFor dots place (slice_index_or rows place []) (IsScannedFor flat c)) mid new
+      → Gains dots (IsScannedBelow flat dots c rows (place + 1)) old new
+  scanned_next place old mid new was gains = gains_both dots (IsScannedBelow flat dots c rows place)
+      (IsFor dots place (slice_index_or rows place []) (IsScannedFor flat c))
+      (IsScannedBelow flat dots c rows (place + 1)) old mid new was gains
       (λ a h. ⊎_elim (λ lt. inl (record { place = h.place; under = lt; scanned = h.scanned }))
       (λ past. let lt = h.under in let same : h.place ≡ place = omega (arith, lt, past) in
-      inr (subst (λ v. IsFor spots v (slice_index_or rows v []) (IsScannedFor flat c) a) same h.scanned))
+      inr (subst (λ v. IsFor dots v (slice_index_or rows v []) (IsScannedFor flat c) a) same h.scanned))
       (cases_lt h.place place))
       (λ a h. let lt = h.under in record { place = h.place; under = omega (arith, lt); scanned = h.scanned })
       (λ a h. record { place = place; under = omega arith; scanned = h })
 
-  pub scanned_all : (count : ℕ) (old new : Rows) → length spots ≤ count
-      → Gains spots (IsScannedBelow flat spots c rows count) old new
-      → Gains spots (IsScannedItem flat c (row_items spots rows)) old new
-  scanned_all count old new le gains = gains_as spots (IsScannedBelow flat spots c rows count)
-      (IsScannedItem flat c (row_items spots rows)) old new
+  pub scanned_all : (count : ℕ) (old new : Rows) → length dots ≤ count
+      → Gains dots (IsScannedBelow flat dots c rows count) old new
+      → Gains dots (IsScannedItem flat c (row_items dots rows)) old new
+  scanned_all count old new le gains = gains_as dots (IsScannedBelow flat dots c rows count)
+      (IsScannedItem flat c (row_items dots rows)) old new
       (λ a h. let s = h.scanned in record {
         by = s.by;
-        stands = row_item_in spots rows s.by (record { place = h.place; is = s.is; has = s.has });
+        stands = row_item_in dots rows s.by (record { place = h.place; is = s.is; has = s.has });
         reads = s.work.reads;
         node = s.work.node;
         step = s.work.step;
         origin = s.work.origin;
       })
-      (λ a h. let f = in_row_item spots rows h.by h.stands in
-      let lt = get_below spots f.place f.is in
+      (λ a h. let f = in_row_item dots rows h.by h.stands in
+      let lt = get_below dots f.place f.is in
       record {
         place = f.place;
         under = omega (arith, lt, le);
@@ -450,15 +450,15 @@ module _ (flat : code_flat.Tables) (spots : List DottedRule) (c : ℕ) (rows : L
       })
       gains
 
-  module _ (place : ℕ) (at : DottedRule) (at_is : slice_get spots place ≡ Some at) (old new : Rows) where
-    pub scan_by : (after : ℕ) → slice_get spots after ≡ Some (spot at.node (at.step + 1))
+  module _ (place : ℕ) (at : DottedRule) (at_is : slice_get dots place ≡ Some at) (old new : Rows) where
+    pub scan_by : (after : ℕ) → slice_get dots after ≡ Some (dot at.node (at.step + 1))
         → IfSomeSet (read_of flat (item_at 0 at)) c
-        → Gains spots (IsAfterCall spots (record { from = place; after = after }) rows) old new
-        → Gains spots (IsFor spots place (slice_index_or rows place []) (IsScannedFor flat c)) old new
+        → Gains dots (IsAfterCall dots (record { from = place; after = after }) rows) old new
+        → Gains dots (IsFor dots place (slice_index_or rows place []) (IsScannedFor flat c)) old new
     scan_by after after_is reads gains =
-        gains_as spots (IsAfterCall spots (record { from = place; after = after }) rows)
-        (IsFor spots place (slice_index_or rows place []) (IsScannedFor flat c)) old new
-        (λ a h. let same = one_spot after_is h.0 in
+        gains_as dots (IsAfterCall dots (record { from = place; after = after }) rows)
+        (IsFor dots place (slice_index_or rows place []) (IsScannedFor flat c)) old new
+        (λ a h. let same = one_dot after_is h.0 in
         let n : at.node ≡ a.node = ap (λ v. v.node) same in
         let k : at.step + 1 ≡ a.step = ap (λ v. v.step) same in
         record {
@@ -467,19 +467,19 @@ module _ (flat : code_flat.Tables) (spots : List DottedRule) (c : ℕ) (rows : L
           has = h.1;
           work = record { reads = reads; node = sym n; step = sym k; origin = refl };
         })
-        (λ a h. let same = one_spot at_is h.is in
+        (λ a h. let same = one_dot at_is h.is in
         let n : at.node ≡ h.by.node = ap (λ v. v.node) same in
         let k : at.step ≡ h.by.step = ap (λ v. v.step) same in (
-          after_is ∙ (ap (λ v. Some (spot v (at.step + 1))) (n ∙ sym h.work.node)
-              ∙ ap (λ v. Some (spot a.node v)) (ap (λ v. v + 1) k ∙ sym h.work.step)),
+          after_is ∙ (ap (λ v. Some (dot v (at.step + 1))) (n ∙ sym h.work.node)
+              ∙ ap (λ v. Some (dot a.node v)) (ap (λ v. v + 1) k ∙ sym h.work.step)),
           subst (λ v. Contains (slice_index_or rows place []) v) (sym h.work.origin) h.has,
         ))
         gains
 
     pub scan_nothing : (IfSomeSet (read_of flat (item_at 0 at)) c → ⊥)
-        → Gains spots (IsFor spots place (slice_index_or rows place []) (IsScannedFor flat c)) old old
-    scan_nothing none = gains_none spots (IsFor spots place (slice_index_or rows place []) (IsScannedFor flat c)) old
-        (λ a h. absurd (none (subst (λ v. IfSomeSet (read_of flat (item_at 0 v)) c) (sym (one_spot at_is h.is))
+        → Gains dots (IsFor dots place (slice_index_or rows place []) (IsScannedFor flat c)) old old
+    scan_nothing none = gains_none dots (IsFor dots place (slice_index_or rows place []) (IsScannedFor flat c)) old
+        (λ a h. absurd (none (subst (λ v. IfSomeSet (read_of flat (item_at 0 v)) c) (sym (one_dot at_is h.is))
         h.work.reads)))
 
 -- what a look-up found
@@ -493,94 +493,94 @@ missing_at xs i high = past_get xs i (grind (arith, high))
 pub missing_past : {A : Type 0} (xs : List A) (i : ℕ) → false ≡ ltb i (length xs) → length xs ≤ i
 missing_past xs i high = grind (arith, high)
 
-pub start_below : (flat : code_flat.Tables) (spots : List DottedRule) (root : ℕ) (starts items : List ℕ) (i d : ℕ)
-    → AreStarts flat spots root starts → items ≡ starts → i < length items → slice_index_or items i d < length spots
-start_below flat spots root starts items i d are same lt =
+pub start_below : (flat : code_flat.Tables) (dots : List DottedRule) (root : ℕ) (starts items : List ℕ) (i d : ℕ)
+    → AreStarts flat dots root starts → items ≡ starts → i < length items → slice_index_or items i d < length dots
+start_below flat dots root starts items i d are same lt =
     let s = are.only (slice_index_or items i d) (subst (λ v. In (slice_index_or items i d) v) same
     (at_index_in items i d lt)) in
-    get_below spots (slice_index_or items i d) s.2
+    get_below dots (slice_index_or items i d) s.2
 
 -- a place that is called after has a number
-pub call_below : (flat : code_flat.Tables) (spots : List DottedRule) (steps : List DottedActions) (root : ℕ)
+pub call_below : (flat : code_flat.Tables) (dots : List DottedRule) (steps : List DottedActions) (root : ℕ)
     (calls items : List Call)
-    (i : ℕ) (d : Call) → AreSteps flat spots steps → AreCallsTo steps root calls → items ≡ calls → i < length items
-    → (slice_index_or items i d).after < length spots
-call_below flat spots steps root calls items i d are ones same lt =
+    (i : ℕ) (d : Call) → AreSteps flat dots steps → AreCallsTo steps root calls → items ≡ calls → i < length items
+    → (slice_index_or items i d).after < length dots
+call_below flat dots steps root calls items i d are ones same lt =
     let one = ones.only (slice_index_or items i d) (subst (λ v. In (slice_index_or items i d) v) same
     (at_index_in items i d lt)) in
-    let t = told_at flat spots steps are root [] (slice_index_or items i d).from one.step one.is in
-    let c = called_in flat spots steps are root [] t.at one.step.called one.called one.called_is t.tells.called in
-    get_below spots (slice_index_or items i d).after (subst (λ v. slice_get spots v ≡ Some (spot t.at.node c.next))
+    let t = reported_at flat dots steps are root [] (slice_index_or items i d).from one.step one.is in
+    let c = called_in flat dots steps are root [] t.at one.step.called one.called one.called_is t.reports.called in
+    get_below dots (slice_index_or items i d).after (subst (λ v. slice_get dots v ≡ Some (dot t.at.node c.next))
     one.after c.after)
 
 -- what a place does
-pub record StepHere (flat : code_flat.Tables) (spots : List DottedRule) (place : ℕ)
+pub record StepHere (flat : code_flat.Tables) (dots : List DottedRule) (place : ℕ)
     (step : DottedActions) : Type 0 where
   pub at : DottedRule
-  pub is : slice_get spots place ≡ Some at
-  pub tells : IsStep flat spots at step
+  pub is : slice_get dots place ≡ Some at
+  pub reports : IsStep flat dots at step
 
-pub step_here : (flat : code_flat.Tables) (spots : List DottedRule) (steps : List DottedActions)
-    → AreSteps flat spots steps
-    → (place : ℕ) (step : DottedActions) → place < length spots → step ≡ slice_index_or steps place step
-    → StepHere flat spots place step
-step_here flat spots steps are place step lt is =
-    let there = get_there spots place lt in
+pub step_here : (flat : code_flat.Tables) (dots : List DottedRule) (steps : List DottedActions)
+    → AreSteps flat dots steps
+    → (place : ℕ) (step : DottedActions) → place < length dots → step ≡ slice_index_or steps place step
+    → StepHere flat dots place step
+step_here flat dots steps are place step lt is =
+    let there = get_there dots place lt in
     let count = are.count in
     let low : place < length steps = omega (arith, lt, count) in
     record {
       at = there.0;
       is = there.1;
-      tells = are.each place there.0 step there.1 (slice_get-get_or steps place step low ∙ ap Some (sym is));
+      reports = are.each place there.0 step there.1 (slice_get-get_or steps place step low ∙ ap Some (sym is));
     }
 
-pub call_here : (flat : code_flat.Tables) (spots : List DottedRule) (at : DottedRule) (step : DottedActions)
+pub call_here : (flat : code_flat.Tables) (dots : List DottedRule) (at : DottedRule) (step : DottedActions)
     (c : Called)
-    → IsStep flat spots at step → step.called ≡ Some c → IsCallAt flat spots at c
-call_here flat spots at step c tells is = subst (λ o. IsCalledAt flat spots at o) is tells.called
+    → IsStep flat dots at step → step.called ≡ Some c → IsCallAt flat dots at c
+call_here flat dots at step c reports is = subst (λ o. IsCalledAt flat dots at o) is reports.called
 
-pub no_call_here : (flat : code_flat.Tables) (spots : List DottedRule) (at : DottedRule) (step : DottedActions)
-    → IsStep flat spots at step → step.called ≡ None → call_at flat at ≡ None
-no_call_here flat spots at step tells is = subst (λ o. IsCalledAt flat spots at o) is tells.called
+pub no_call_here : (flat : code_flat.Tables) (dots : List DottedRule) (at : DottedRule) (step : DottedActions)
+    → IsStep flat dots at step → step.called ≡ None → call_at flat at ≡ None
+no_call_here flat dots at step reports is = subst (λ o. IsCalledAt flat dots at o) is reports.called
 
 -- the set of an origin
-pub view_at : (spots : List DottedRule) (sets : List KeptRows) (origin : ℕ) (kept : KeptRows) → origin < length sets
+pub view_at : (dots : List DottedRule) (sets : List KeptRows) (origin : ℕ) (kept : KeptRows) → origin < length sets
     → kept ≡ slice_index_or sets origin kept
-    → slice_get (row_views spots sets) origin ≡ Some (row_items spots kept.rows.items)
-view_at spots sets origin kept lt is = get_map (λ s. row_items spots s.rows.items) sets origin
+    → slice_get (row_views dots sets) origin ≡ Some (row_items dots kept.rows.items)
+view_at dots sets origin kept lt is = get_map (λ s. row_items dots s.rows.items) sets origin
     (slice_get-get_or sets origin kept lt ∙ ap Some (sym is))
 
 -- the whole is predicted
-pub whole_starts : (flat : code_flat.Tables) (spots : List DottedRule) (root : ℕ) (zero_row : List ℕ) (old new : Rows)
+pub whole_starts : (flat : code_flat.Tables) (dots : List DottedRule) (root : ℕ) (zero_row : List ℕ) (old new : Rows)
     → whole_root flat ≡ Some root → ((k : ℕ) → Contains zero_row k ↔ (k ≡ 0))
-    → Gains spots (λ a. (a.node ≡ root) × (a.step < begin_count flat root) × Contains zero_row a.origin) old new
-    → Gains spots (IsWhole flat) old new
-whole_starts flat spots root zero_row old new is one gains = gains_as spots
+    → Gains dots (λ a. (a.node ≡ root) × (a.step < begin_count flat root) × Contains zero_row a.origin) old new
+    → Gains dots (IsWhole flat) old new
+whole_starts flat dots root zero_row old new is one gains = gains_as dots
     (λ a. (a.node ≡ root) × (a.step < begin_count flat root) × Contains zero_row a.origin) (IsWhole flat) old new
     (λ a h. record { root = root; is = is; begun = (h.0, h.1, (one a.origin).0 h.2) })
     (λ a h. let same : h.root ≡ root = some_same (sym h.is ∙ is) in let b = h.begun in
     (b.0 ∙ same, subst (λ v. a.step < begin_count flat v) same b.1, (one a.origin).1 b.2))
     gains
 
-pub no_whole : (flat : code_flat.Tables) (spots : List DottedRule) (old : Rows) → whole_root flat ≡ None
-    → Gains spots (IsWhole flat) old old
-no_whole flat spots old none = gains_none spots (IsWhole flat) old (λ a h. absurd (cc (none, h.is)))
+pub no_whole : (flat : code_flat.Tables) (dots : List DottedRule) (old : Rows) → whole_root flat ≡ None
+    → Gains dots (IsWhole flat) old old
+no_whole flat dots old none = gains_none dots (IsWhole flat) old (λ a h. absurd (cc (none, h.is)))
 
 -- what the first set, and any later one, begins with
-pub begins_first : (flat : code_flat.Tables) (spots : List DottedRule) (x : List ℕ) (sets : List (List Item))
+pub begins_first : (flat : code_flat.Tables) (dots : List DottedRule) (x : List ℕ) (sets : List (List Item))
     (old new : Rows)
-    → length sets ≡ 0 → Gains spots (IsWhole flat) old new → Gains spots (IsFirst flat x sets) old new
-begins_first flat spots x sets old new none gains = gains_as spots (IsWhole flat) (IsFirst flat x sets) old new
+    → length sets ≡ 0 → Gains dots (IsWhole flat) old new → Gains dots (IsFirst flat x sets) old new
+begins_first flat dots x sets old new none gains = gains_as dots (IsWhole flat) (IsFirst flat x sets) old new
     (λ a h. inl (none, h))
     (λ a h. ⊎_elim (λ w. w.1) (λ r. let size = r.size in absurd (omega (arith, size, none))) h)
     gains
 
-pub begins_after : (flat : code_flat.Tables) (spots : List DottedRule) (x : List ℕ) (sets : List (List Item))
+pub begins_after : (flat : code_flat.Tables) (dots : List DottedRule) (x : List ℕ) (sets : List (List Item))
     (old new : Rows)
     (k c : ℕ) (last : List Item) → length sets ≡ k + 1 → slice_get sets k ≡ Some last → slice_get x k ≡ Some c
-    → Gains spots (IsScannedItem flat c last) old new → Gains spots (IsFirst flat x sets) old new
-begins_after flat spots x sets old new k c last size set letter gains =
-    gains_as spots (IsScannedItem flat c last) (IsFirst flat x sets) old new
+    → Gains dots (IsScannedItem flat c last) old new → Gains dots (IsFirst flat x sets) old new
+begins_after flat dots x sets old new k c last size set letter gains =
+    gains_as dots (IsScannedItem flat c last) (IsFirst flat x sets) old new
     (λ a r. inr (record { at = k; letter = c; last = last; size = size; set = set; letter_is = letter; read = r }))
     (λ a h. ⊎_elim (λ w. let n = w.0 in absurd (omega (arith, n, size))) (λ r. back a r) h) gains
   where
@@ -593,14 +593,14 @@ begins_after flat spots x sets old new k c last size set letter gains =
         subst (λ v. IsScannedItem flat v last a) two (subst (λ v. IsScannedItem flat h.letter v a) one h.read)
 
 -- the place by its number
-pub place_yes : (spots : List DottedRule) (place : ℕ) (d : DottedRule) (n k : ℕ) → place < length spots
-    → ((slice_index_or spots place d).node ≡ n) × ((slice_index_or spots place d).step ≡ k)
-    → slice_get spots place ≡ Some (spot n k)
-place_yes spots place d n k lt is = get_or_index spots place d lt
-    ∙ (ap (λ v. Some (spot v (slice_index_or spots place d).step)) is.0 ∙ ap (λ v. Some (spot n v)) is.1)
+pub place_yes : (dots : List DottedRule) (place : ℕ) (d : DottedRule) (n k : ℕ) → place < length dots
+    → ((slice_index_or dots place d).node ≡ n) × ((slice_index_or dots place d).step ≡ k)
+    → slice_get dots place ≡ Some (dot n k)
+place_yes dots place d n k lt is = get_or_index dots place d lt
+    ∙ (ap (λ v. Some (dot v (slice_index_or dots place d).step)) is.0 ∙ ap (λ v. Some (dot n v)) is.1)
 
-pub place_of : (spots : List DottedRule) (place : ℕ) (d : DottedRule) (n k : ℕ) → place < length spots
-    → slice_get spots place ≡ Some (spot n k)
-    → ((slice_index_or spots place d).node ≡ n) × ((slice_index_or spots place d).step ≡ k)
-place_of spots place d n k lt is =
-    let same = one_spot (get_or_index spots place d lt) is in (ap (λ v. v.node) same, ap (λ v. v.step) same)
+pub place_of : (dots : List DottedRule) (place : ℕ) (d : DottedRule) (n k : ℕ) → place < length dots
+    → slice_get dots place ≡ Some (dot n k)
+    → ((slice_index_or dots place d).node ≡ n) × ((slice_index_or dots place d).step ≡ k)
+place_of dots place d n k lt is =
+    let same = one_dot (get_or_index dots place d lt) is in (ap (λ v. v.node) same, ap (λ v. v.step) same)

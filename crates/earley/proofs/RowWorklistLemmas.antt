@@ -16,7 +16,7 @@ use Rattle.earleyitems.specs.ItemSets.{waiting_or}
 use Rattle.earleyitems.specs.Worklist.{IsWork, IsWorked}
 use Rattle.flatgrammar.proofs.CallOfLemmas.{equal_or, get_below}
 use Rattle.flatgrammar.proofs.SliceGetLemmas.{push_cases}
-use Rattle.flatgrammar.specs.Blocks.{spot}
+use Rattle.flatgrammar.specs.Blocks.{dot}
 use Rattle.flatgrammar.specs.Flat.{at}
 use Rattle.flatgrammar.specs.Holds.{Holds}
 use Rattle.flatgrammar.specs.NodeSteps.{flat_of}
@@ -48,22 +48,22 @@ module _ (flat : code_flat.Tables) (roots : GiveRoots (flat_of flat) flat.roots.
   work_holds by a h (inr c) = completed_holds flat roots x sets [] earlier (none_hold flat roots nulls x sets earlier)
       by a h c (λ t. waits_early by.origin (slice_get sets by.origin) refl c.advanced.stands)
 
-  module _ (spots : List DottedRule) where
-    pub nothing_pending : (old : Rows) → IsRowWorklist flat spots x sets old → ((p k : ℕ) → HasAt old.pending p k → ⊥)
-        → (a : Item) → IsRowItem spots old.all a → (b : Item) → IsWork flat sets a b → IsRowItem spots old.all b
+  module _ (dots : List DottedRule) where
+    pub nothing_pending : (old : Rows) → IsRowWorklist flat dots x sets old → ((p k : ℕ) → HasAt old.pending p k → ⊥)
+        → (a : Item) → IsRowItem dots old.all a → (b : Item) → IsWork flat sets a b → IsRowItem dots old.all b
     nothing_pending old work none a h b w =
         ⊎_elim (λ p. absurd (none p.place a.origin p.has)) (λ done. done b w) (work.worked a h)
 
-    module _ (place : ℕ) (row : List ℕ) (old mid new : Rows) (work : IsRowWorklist flat spots x sets old)
+    module _ (place : ℕ) (row : List ℕ) (old mid new : Rows) (work : IsRowWorklist flat dots x sets old)
         (takes : TakesAt place row old mid) where
-      pub stands_mid : (a : Item) → IsRowItem spots old.all a → IsRowItem spots mid.all a
+      pub stands_mid : (a : Item) → IsRowItem dots old.all a → IsRowItem dots mid.all a
       stands_mid a h = record {
         place = h.place;
         is = h.is;
         has = subst (λ v. HasAt v h.place a.origin) (sym takes.all) h.has;
       }
 
-      stood_old : (a : Item) → IsRowItem spots mid.all a → IsRowItem spots old.all a
+      stood_old : (a : Item) → IsRowItem dots mid.all a → IsRowItem dots old.all a
       stood_old a h = record {
         place = h.place;
         is = h.is;
@@ -71,12 +71,12 @@ module _ (flat : code_flat.Tables) (roots : GiveRoots (flat_of flat) flat.roots.
       }
 
       -- what was pending is taken, or pending still
-      taken_or : (a : Item) → IsRowItem spots old.pending a
-          → ((slice_get spots place ≡ Some (spot a.node a.step)) × Contains row a.origin) ⊎ IsRowItem spots
+      taken_or : (a : Item) → IsRowItem dots old.pending a
+          → ((slice_get dots place ≡ Some (dot a.node a.step)) × Contains row a.origin) ⊎ IsRowItem dots
           mid.pending a
       taken_or a h = ⊎_elim
           (λ same. inl (
-            subst (λ v. slice_get spots v ≡ Some (spot a.node a.step)) same h.is,
+            subst (λ v. slice_get dots v ≡ Some (dot a.node a.step)) same h.is,
             (takes.taken a.origin).1 (subst (λ v. HasAt old.pending v a.origin) same h.has),
           ))
           (λ other. inr (record {
@@ -86,17 +86,17 @@ module _ (flat : code_flat.Tables) (roots : GiveRoots (flat_of flat) flat.roots.
           }))
           (equal_or h.place place)
 
-      was_pending : (a : Item) → IsRowItem spots mid.pending a → IsRowItem spots old.pending a
+      was_pending : (a : Item) → IsRowItem dots mid.pending a → IsRowItem dots old.pending a
       was_pending a h = record { place = h.place; is = h.is; has = ((takes.rest h.place a.origin).0 h.has).0 }
 
       -- what is taken stands in the set
-      taken_stands : (a : Item) → slice_get spots place ≡ Some (spot a.node a.step) → Contains row a.origin
-          → IsRowItem spots old.all a
+      taken_stands : (a : Item) → slice_get dots place ≡ Some (dot a.node a.step) → Contains row a.origin
+          → IsRowItem dots old.all a
       taken_stands a is has =
           work.within a (record { place = place; is = is; has = (takes.taken a.origin).0 has })
 
-      pub worked_on : Gains spots (IsFor spots place row (IsWork flat sets)) mid new
-          → IsRowWorklist flat spots x sets new
+      pub worked_on : Gains dots (IsFor dots place row (IsWork flat sets)) mid new
+          → IsRowWorklist flat dots x sets new
       worked_on gains = record {
         count = gains.count ∙ (ap (λ v. length v) takes.all ∙ work.count);
         held = λ a h. ⊎_elim (λ g. work.held a (stood_old a g))
@@ -106,8 +106,8 @@ module _ (flat : code_flat.Tables) (roots : GiveRoots (flat_of flat) flat.roots.
         worked = λ a h. ⊎_elim (λ g. of_old a (stood_old a g)) (λ g. inl g) (gains.fresh a h);
       }
         where
-          of_old : (a : Item) → IsRowItem spots old.all a → IsRowItem spots new.pending a
-              ⊎ ((b : Item) → IsWork flat sets a b → IsRowItem spots new.all b)
+          of_old : (a : Item) → IsRowItem dots old.all a → IsRowItem dots new.pending a
+              ⊎ ((b : Item) → IsWork flat sets a b → IsRowItem dots new.all b)
           of_old a h = ⊎_elim
               (λ p. ⊎_elim
               (λ taken. inr (λ b w. gains.all b (record { by = a; is = taken.0; has = taken.1; work = w })))
@@ -115,7 +115,7 @@ module _ (flat : code_flat.Tables) (roots : GiveRoots (flat_of flat) flat.roots.
               (λ done. inr (λ b w. gains.kept b (stands_mid b (done b w)))) (work.worked a h)
 
       -- an empty row
-      pub worked_none : ((k : ℕ) → Contains row k → ⊥) → IsRowWorklist flat spots x sets mid
+      pub worked_none : ((k : ℕ) → Contains row k → ⊥) → IsRowWorklist flat dots x sets mid
       worked_none none = record {
         count = ap (λ v. length v) takes.all ∙ work.count;
         held = λ a h. work.held a (stood_old a h);
@@ -126,8 +126,8 @@ module _ (flat : code_flat.Tables) (roots : GiveRoots (flat_of flat) flat.roots.
       }
 
     -- a set begins: all is pending
-    pub begun_rows : (old new : Rows) → old ≡ no_items (length spots) → length old.all ≡ length spots
-        → IsBuilt flat x sets → Gains spots (IsFirst flat x sets) old new → IsRowWorklist flat spots x sets new
+    pub begun_rows : (old new : Rows) → old ≡ no_items (length dots) → length old.all ≡ length dots
+        → IsBuilt flat x sets → Gains dots (IsFirst flat x sets) old new → IsRowWorklist flat dots x sets new
     begun_rows old new none count built gains = record {
       count = gains.count ∙ count;
       held = λ a h. ⊎_elim (λ g. absurd (nothing a g)) (λ g. first_item a g) (gains.only a h);
@@ -135,12 +135,12 @@ module _ (flat : code_flat.Tables) (roots : GiveRoots (flat_of flat) flat.roots.
       worked = λ a h. ⊎_elim (λ g. absurd (nothing a g)) (λ g. inl g) (gains.fresh a h);
     }
       where
-        nothing : (a : Item) → IsRowItem spots old.all a → ⊥
-        nothing a h = no_number (length spots) h.place a.origin
+        nothing : (a : Item) → IsRowItem dots old.all a → ⊥
+        nothing a h = no_number (length dots) h.place a.origin
             (subst (λ v. HasAt v h.place a.origin) (ap (λ v. v.all) none) h.has)
 
-        nothing_waits : (a : Item) → IsRowItem spots old.pending a → ⊥
-        nothing_waits a h = no_number (length spots) h.place a.origin
+        nothing_waits : (a : Item) → IsRowItem dots old.pending a → ⊥
+        nothing_waits a h = no_number (length dots) h.place a.origin
             (subst (λ v. HasAt v h.place a.origin) (ap (λ v. v.pending) none) h.has)
 
         first_item : (a : Item) → IsFirst flat x sets a → HoldsHere a
@@ -149,26 +149,26 @@ module _ (flat : code_flat.Tables) (roots : GiveRoots (flat_of flat) flat.roots.
         first_item a (inr r) = after_holds flat roots x sets earlier a r
 
   -- a set that is filled follows those before it
-  pub filled_rows : (spots : List DottedRule) (begun full : Rows) (rows : List (List ℕ)) → AreDifferent spots
+  pub filled_rows : (dots : List DottedRule) (begun full : Rows) (rows : List (List ℕ)) → AreDifferent dots
       → IsBuilt flat x sets → rows ≡ full.all → ((p : ℕ) → IsStrictlyIncreasing (slice_index_or rows p []))
-      → ((a : Item) → IsFirst flat x sets a → IsRowItem spots begun.all a)
-      → ((a : Item) → IsRowItem spots begun.all a → IsRowItem spots full.all a)
-      → IsRowWorklist flat spots x sets full → ((p k : ℕ) → HasAt full.pending p k → ⊥)
-      → IsBuilt flat x (sets ++ row_items spots rows ∷ [])
-  filled_rows spots begun full rows different built is up first keeps work none =
-      subst (λ v. IsBuilt flat x (sets ++ row_items spots v ∷ [])) (sym is)
-      (built_more flat roots x sets built (row_items spots full.all) held
-      (row_items_different spots full.all different (λ p. subst (λ v. IsStrictlyIncreasing (slice_index_or v p [])) is
+      → ((a : Item) → IsFirst flat x sets a → IsRowItem dots begun.all a)
+      → ((a : Item) → IsRowItem dots begun.all a → IsRowItem dots full.all a)
+      → IsRowWorklist flat dots x sets full → ((p k : ℕ) → HasAt full.pending p k → ⊥)
+      → IsBuilt flat x (sets ++ row_items dots rows ∷ [])
+  filled_rows dots begun full rows different built is up first keeps work none =
+      subst (λ v. IsBuilt flat x (sets ++ row_items dots v ∷ [])) (sym is)
+      (built_more flat roots x sets built (row_items dots full.all) held
+      (row_items_different dots full.all different (λ p. subst (λ v. IsStrictlyIncreasing (slice_index_or v p [])) is
       (up p)))
-      (worked_closed flat roots nulls x sets earlier (row_items spots full.all) held worked)
-      (λ a h. row_item_in spots full.all a (keeps a (first a h))))
+      (worked_closed flat roots nulls x sets earlier (row_items dots full.all) held worked)
+      (λ a h. row_item_in dots full.all a (keeps a (first a h))))
     where
-      held : Hold (flat_of flat) x (length sets) (row_items spots full.all)
-      held a h = work.held a (in_row_item spots full.all a h)
+      held : Hold (flat_of flat) x (length sets) (row_items dots full.all)
+      held a h = work.held a (in_row_item dots full.all a h)
 
-      worked : IsWorked flat sets (row_items spots full.all) (row_items spots full.all)
-      worked a h b w = row_item_in spots full.all b
-          (nothing_pending spots full work none a (in_row_item spots full.all a h) b w)
+      worked : IsWorked flat sets (row_items dots full.all) (row_items dots full.all)
+      worked a h b w = row_item_in dots full.all b
+          (nothing_pending dots full work none a (in_row_item dots full.all a h) b w)
 
 -- rows of nothing
 pub length_no : (n : ℕ) → length {A = List ℕ} (replicate n []) ≡ n
@@ -176,12 +176,12 @@ length_no zero = refl
 length_no (suc n) = ap suc (length_no n)
 
 -- one set more
-pub views_more : (spots : List DottedRule) (sets : List KeptRows) (kept : KeptRows)
-    → row_views spots (sets ++ kept ∷ []) ≡ row_views spots sets ++ row_items spots kept.rows.items ∷ []
-views_more spots [] kept = refl
-views_more spots (s ∷ sets) kept = ap (λ v. row_items spots s.rows.items ∷ v) (views_more spots sets kept)
+pub views_more : (dots : List DottedRule) (sets : List KeptRows) (kept : KeptRows)
+    → row_views dots (sets ++ kept ∷ []) ≡ row_views dots sets ++ row_items dots kept.rows.items ∷ []
+views_more dots [] kept = refl
+views_more dots (s ∷ sets) kept = ap (λ v. row_items dots s.rows.items ∷ v) (views_more dots sets kept)
 
-pub sized_more : (spots : List DottedRule) (sets : List KeptRows) (kept : KeptRows) → AreSizedRows spots sets
-    → kept.size ≡ length (row_items spots kept.rows.items) → AreSizedRows spots (sets ++ kept ∷ [])
-sized_more spots sets kept all last j s is = ⊎_elim (λ was. all j s was)
-    (λ h. subst (λ v. v.size ≡ length (row_items spots v.rows.items)) h.1 last) (push_cases sets kept j s is)
+pub sized_more : (dots : List DottedRule) (sets : List KeptRows) (kept : KeptRows) → AreSizedRows dots sets
+    → kept.size ≡ length (row_items dots kept.rows.items) → AreSizedRows dots (sets ++ kept ∷ [])
+sized_more dots sets kept all last j s is = ⊎_elim (λ was. all j s was)
+    (λ h. subst (λ v. v.size ≡ length (row_items dots v.rows.items)) h.1 last) (push_cases sets kept j s is)

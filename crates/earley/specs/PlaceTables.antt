@@ -1,6 +1,6 @@
 -- Tables of the places of a flat grammar by number.
 use Rattle.std.specs.Prelude.{◌≡◌, ℕ, ◌+◌, ◌<◌, Bool, true, false, List, [], length, Option, Some, None, slice_get}
-use Rattle.flatgrammar.specs.Blocks.{item_at, spot, call_at, begin_count}
+use Rattle.flatgrammar.specs.Blocks.{item_at, dot, call_at, begin_count}
 use Rattle.flatgrammar.specs.NodeSteps.{IfSomeSet}
 use Rattle.flatgrammar.specs.Places.{In, AreDifferent}
 use Rattle.flatgrammar.specs.TableViews.{done_of, null_of, takes_of, read_of, whole_root}
@@ -13,49 +13,49 @@ use Rattle.earley.specs.declared.place_table.RootPlaces.{RootPlaces}
 use Rattle.earley.specs.declared.place_table.DottedActions.{DottedActions}
 
 -- different places, of nodes below one
-pub record AreBelow (node : ℕ) (spots : List DottedRule) : Type 0 where
-  pub below : (p : DottedRule) → In p spots → p.node < node
-  pub different : AreDifferent spots
+pub record AreBelow (node : ℕ) (dots : List DottedRule) : Type 0 where
+  pub below : (p : DottedRule) → In p dots → p.node < node
+  pub different : AreDifferent dots
 
 -- what a place calls, and the number of the place after the call
-pub record IsCallAt (flat : code_flat.Tables) (spots : List DottedRule) (at : DottedRule) (c : Called) : Type 0 where
+pub record IsCallAt (flat : code_flat.Tables) (dots : List DottedRule) (at : DottedRule) (c : Called) : Type 0 where
   pub next : ℕ
   pub call : call_at flat at ≡ Some (c.root, next)
-  pub after : slice_get spots c.after ≡ Some (spot at.node next)
+  pub after : slice_get dots c.after ≡ Some (dot at.node next)
   pub free : null_of flat c.root ≡ true → takes_of flat (item_at 0 at) ≡ false → c.free ≡ true
   pub only_free : c.free ≡ true → (null_of flat c.root ≡ true) × (takes_of flat (item_at 0 at) ≡ false)
   pub within : c.root < length flat.nodes.items
 
 abbrev pub IsCalledAt : code_flat.Tables → List DottedRule → DottedRule → Option Called → Type 0
-IsCalledAt flat spots at None = call_at flat at ≡ None
-IsCalledAt flat spots at (Some c) = IsCallAt flat spots at c
+IsCalledAt flat dots at None = call_at flat at ≡ None
+IsCalledAt flat dots at (Some c) = IsCallAt flat dots at c
 
 -- the number of the place after the letter that a place may read
 abbrev pub IsReadAt : List DottedRule → DottedRule → Bool → Option ℕ → Type 0
-IsReadAt spots at may None = may ≡ false
-IsReadAt spots at may (Some p) = slice_get spots p ≡ Some (spot at.node (at.step + 1))
+IsReadAt dots at may None = may ≡ false
+IsReadAt dots at may (Some p) = slice_get dots p ≡ Some (dot at.node (at.step + 1))
 
 -- what a place does
-pub record IsStep (flat : code_flat.Tables) (spots : List DottedRule) (at : DottedRule)
+pub record IsStep (flat : code_flat.Tables) (dots : List DottedRule) (at : DottedRule)
     (s : DottedActions) : Type 0 where
-  pub called : IsCalledAt flat spots at s.called
+  pub called : IsCalledAt flat dots at s.called
   pub done : s.done ≡ done_of flat (item_at 0 at)
   pub read : (c : ℕ) → IfSomeSet (read_of flat (item_at 0 at)) c → (p : ℕ) × (s.read ≡ Some p)
-  pub after : (p : ℕ) → s.read ≡ Some p → slice_get spots p ≡ Some (spot at.node (at.step + 1))
+  pub after : (p : ℕ) → s.read ≡ Some p → slice_get dots p ≡ Some (dot at.node (at.step + 1))
 
-pub record AreSteps (flat : code_flat.Tables) (spots : List DottedRule) (steps : List DottedActions) : Type 0 where
-  pub count : length steps ≡ length spots
-  pub each : (p : ℕ) (at : DottedRule) (s : DottedActions) → slice_get spots p ≡ Some at → slice_get steps p ≡ Some s
-      → IsStep flat spots at s
+pub record AreSteps (flat : code_flat.Tables) (dots : List DottedRule) (steps : List DottedActions) : Type 0 where
+  pub count : length steps ≡ length dots
+  pub each : (p : ℕ) (at : DottedRule) (s : DottedActions) → slice_get dots p ≡ Some at → slice_get steps p ≡ Some s
+      → IsStep flat dots at s
 
 -- the places of the first steps of a node
-pub record AreFirstPlaces (spots : List DottedRule) (node count : ℕ) (places : List ℕ) : Type 0 where
-  pub only : (p : ℕ) → In p places → (k : ℕ) × (k < count) × (slice_get spots p ≡ Some (spot node k))
-  pub all : (k : ℕ) → k < count → (p : ℕ) × In p places × (slice_get spots p ≡ Some (spot node k))
+pub record AreFirstPlaces (dots : List DottedRule) (node count : ℕ) (places : List ℕ) : Type 0 where
+  pub only : (p : ℕ) → In p places → (k : ℕ) × (k < count) × (slice_get dots p ≡ Some (dot node k))
+  pub all : (k : ℕ) → k < count → (p : ℕ) × In p places × (slice_get dots p ≡ Some (dot node k))
 
 -- the places where a root starts
 abbrev pub AreStarts : code_flat.Tables → List DottedRule → ℕ → List ℕ → Type 0
-AreStarts flat spots root starts = AreFirstPlaces spots root (begin_count flat root) starts
+AreStarts flat dots root starts = AreFirstPlaces dots root (begin_count flat root) starts
 
 -- a place that calls a root
 pub record IsCallTo (steps : List DottedActions) (root : ℕ) (c : Call) : Type 0 where
@@ -81,21 +81,21 @@ pub record AreCallsTo (steps : List DottedActions) (root : ℕ) (calls : List Ca
 
 -- the same of a root that is reached; of others none are listed
 abbrev pub AreStartsIf : Bool → code_flat.Tables → List DottedRule → ℕ → List ℕ → Type 0
-AreStartsIf true flat spots root starts = AreStarts flat spots root starts
-AreStartsIf false flat spots root starts = starts ≡ []
+AreStartsIf true flat dots root starts = AreStarts flat dots root starts
+AreStartsIf false flat dots root starts = starts ≡ []
 
-pub record IsRootAt (flat : code_flat.Tables) (spots : List DottedRule) (steps : List DottedActions) (root : ℕ)
+pub record IsRootAt (flat : code_flat.Tables) (dots : List DottedRule) (steps : List DottedActions) (root : ℕ)
     (r : RootPlaces)
     : Type 0 where
-  pub starts : AreStartsIf r.reached flat spots root r.starts.items
+  pub starts : AreStartsIf r.reached flat dots root r.starts.items
   pub calls : AreCallsTo steps root r.calls.items
 
 -- of each root where it starts and what calls it
-pub record AreRootPlaces (flat : code_flat.Tables) (spots : List DottedRule) (steps : List DottedActions)
+pub record AreRootPlaces (flat : code_flat.Tables) (dots : List DottedRule) (steps : List DottedActions)
     (roots : List RootPlaces)
     : Type 0 where
   pub count : length roots ≡ length flat.nodes.items
-  pub each : (t : ℕ) (r : RootPlaces) → slice_get roots t ≡ Some r → IsRootAt flat spots steps t r
+  pub each : (t : ℕ) (r : RootPlaces) → slice_get roots t ≡ Some r → IsRootAt flat dots steps t r
 
 -- a root is reached
 abbrev pub IsReached : List RootPlaces → ℕ → Type 0
@@ -108,8 +108,8 @@ AreCallsReached roots steps = (p : ℕ) (s : DottedActions) (c : Called) → sli
 
 -- the table of a grammar
 pub record IsPlaceTable (t : PlaceTable) : Type 0 where
-  pub different : AreDifferent t.spots.items
-  pub steps : AreSteps t.flat.value t.spots.items t.steps.items
-  pub roots : AreRootPlaces t.flat.value t.spots.items t.steps.items t.roots.items
+  pub different : AreDifferent t.dots.items
+  pub steps : AreSteps t.flat.value t.dots.items t.steps.items
+  pub roots : AreRootPlaces t.flat.value t.dots.items t.steps.items t.roots.items
   pub reached : AreCallsReached t.roots.items t.steps.items
   pub whole : (root : ℕ) → whole_root t.flat.value ≡ Some root → IsReached t.roots.items root

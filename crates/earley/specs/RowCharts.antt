@@ -15,11 +15,11 @@ use Rattle.earley.specs.declared.row_sets.RowChart.{RowChart}
 
 -- the items of each set
 abbrev pub row_views : List DottedRule → List KeptRows → List (List Item)
-row_views spots sets = map (λ s. row_items spots s.rows.items) sets
+row_views dots sets = map (λ s. row_items dots s.rows.items) sets
 
 -- the sets of a chart of rows
 abbrev pub rows_chart : RowChart → List (List (Place × ℕ))
-rows_chart r = map (λ set. map pair set) (row_views r.table.spots.items r.sets.items)
+rows_chart r = map (λ set. map pair set) (row_views r.table.dots.items r.sets.items)
 
 -- a chart: that of items, or that of rows where there is one
 abbrev pub chart_by : Option RowChart → List (List (Place × ℕ)) → List (List (Place × ℕ))
@@ -28,18 +28,18 @@ chart_by (Some rows) sparse = rows_chart rows
 
 -- each set has its size beside it
 abbrev pub AreSizedRows : List DottedRule → List KeptRows → Type 0
-AreSizedRows spots sets = (j : ℕ) (s : KeptRows) → slice_get sets j ≡ Some s
-    → s.size ≡ length (row_items spots s.rows.items)
+AreSizedRows dots sets = (j : ℕ) (s : KeptRows) → slice_get sets j ≡ Some s
+    → s.size ≡ length (row_items dots s.rows.items)
 
 pub record IsSizedChart (rows : Option RowChart) : Type 0 where
-  pub size : (r : RowChart) → rows ≡ Some r → AreSizedRows r.table.spots.items r.sets.items
+  pub size : (r : RowChart) → rows ≡ Some r → AreSizedRows r.table.dots.items r.sets.items
 
 -- a set on which the worklist is at work: all that is not pending has been worked on
-pub record IsRowWorklist (flat : code_flat.Tables) (spots : List DottedRule) (x : List ℕ) (sets : List (List Item))
+pub record IsRowWorklist (flat : code_flat.Tables) (dots : List DottedRule) (x : List ℕ) (sets : List (List Item))
     (rows : Rows) : Type 0 where
-  pub count : length rows.all ≡ length spots
-  pub held : (a : Item) → IsRowItem spots rows.all a
+  pub count : length rows.all ≡ length dots
+  pub held : (a : Item) → IsRowItem dots rows.all a
       → Holds (flat_of flat) x (length sets) (at a.node a.step) a.origin
-  pub within : (a : Item) → IsRowItem spots rows.pending a → IsRowItem spots rows.all a
-  pub worked : (a : Item) → IsRowItem spots rows.all a → IsRowItem spots rows.pending a
-      ⊎ ((b : Item) → IsWork flat sets a b → IsRowItem spots rows.all b)
+  pub within : (a : Item) → IsRowItem dots rows.pending a → IsRowItem dots rows.all a
+  pub worked : (a : Item) → IsRowItem dots rows.all a → IsRowItem dots rows.pending a
+      ⊎ ((b : Item) → IsWork flat sets a b → IsRowItem dots rows.all b)

@@ -1,7 +1,7 @@
 -- The filled sets of a line, in kinds by the rows of a place.
 use Rattle.std.specs.Prelude.{◌≡◌, ◌↔◌, ◌⊎◌, ℕ, ◌<◌, ◌≤◌, List, [], length, Option, Some, None, slice_get, Contains}
 use Rattle.earley.specs.RowSets.{HasAt}
-use Rattle.flatgrammar.specs.Blocks.{spot}
+use Rattle.flatgrammar.specs.Blocks.{dot}
 use Rattle.flatgrammar.specs.Places.{In}
 use Rattle.flatgrammar.specs.declared.block.DottedRule.{DottedRule}
 use Rattle.flatgrammar.specs.declared.flat_item.Item.{Item}
@@ -57,31 +57,31 @@ pub record AreIndexed (places : ℕ) (filled : FilledSets) : Type 0 where
 
 -- the place after a call, with the origins of the place that calls, in the set of each number of a row that is below
 -- one
-pub record IsAfterIn (spots : List DottedRule) (call : Call) (sets : List KeptRows) (row : List ℕ) (below : ℕ)
+pub record IsAfterIn (dots : List DottedRule) (call : Call) (sets : List KeptRows) (row : List ℕ) (below : ℕ)
     (a : Item)
     : Type 0 where
   pub origin : ℕ
   pub has : Contains row origin
   pub under : origin < below
-  pub after : IsAfterCall spots call (rows_at sets origin) a
+  pub after : IsAfterCall dots call (rows_at sets origin) a
 
 -- the same in the set of the greatest number of the row
-pub record IsAfterLast (spots : List DottedRule) (call : Call) (sets : List KeptRows) (row : List ℕ) (below : ℕ)
+pub record IsAfterLast (dots : List DottedRule) (call : Call) (sets : List KeptRows) (row : List ℕ) (below : ℕ)
     (a : Item)
     : Type 0 where
-  pub after : IsAfterIn spots call sets row below a
+  pub after : IsAfterIn dots call sets row below a
   pub last : (k : ℕ) → Contains row k → k ≤ after.origin
 
 -- the place after a call, with those numbers of a row that are in its own row too
-pub record IsAfterOwn (spots : List DottedRule) (call : Call) (mine : List (List ℕ)) (row : List ℕ)
+pub record IsAfterOwn (dots : List DottedRule) (call : Call) (mine : List (List ℕ)) (row : List ℕ)
     (a : Item) : Type 0 where
-  pub after : slice_get spots call.after ≡ Some (spot a.node a.step)
+  pub after : slice_get dots call.after ≡ Some (dot a.node a.step)
   pub has : Contains row a.origin
   pub own : HasAt mine call.from a.origin
 
 -- the places after these calls, likewise
-pub record IsAfterSome (spots : List DottedRule) (calls : List Call) (sets : List KeptRows) (row : List ℕ) (below : ℕ)
+pub record IsAfterSome (dots : List DottedRule) (calls : List Call) (sets : List KeptRows) (row : List ℕ) (below : ℕ)
     (a : Item) : Type 0 where
   pub call : Call
   pub stands : In call calls
-  pub after : IsAfterIn spots call sets row below a
+  pub after : IsAfterIn dots call sets row below a

@@ -2,7 +2,7 @@
 use Rattle.std.specs.Prelude.{◌≡◌, ◌↔◌, ◌⊎◌, ℕ, ◌+◌, ◌<◌, List, [], ◌∷◌, ◌++◌, length, map, Some, slice_get, Contains}
 use Rattle.earley.specs.RowSets.{Rows, HasAt, HasSome}
 use Rattle.earleyitems.specs.ItemSets.{IsAdvanced, waiting_in}
-use Rattle.flatgrammar.specs.Blocks.{item_at, spot}
+use Rattle.flatgrammar.specs.Blocks.{item_at, dot}
 use Rattle.flatgrammar.specs.NodeSteps.{IfSomeSet}
 use Rattle.flatgrammar.specs.TableViews.{read_of}
 use Rattle.flatgrammar.specs.declared.block.DottedRule.{DottedRule}
@@ -12,43 +12,43 @@ use Rattle.flatgrammar.specs.Places.{In}
 use Rattle.earley.specs.declared.place_table.Call.{Call}
 
 -- the row of the item's place has its origin
-pub record IsRowItem (spots : List DottedRule) (rows : List (List ℕ)) (a : Item) : Type 0 where
+pub record IsRowItem (dots : List DottedRule) (rows : List (List ℕ)) (a : Item) : Type 0 where
   pub place : ℕ
-  pub is : slice_get spots place ≡ Some (spot a.node a.step)
+  pub is : slice_get dots place ≡ Some (dot a.node a.step)
   pub has : HasAt rows place a.origin
 
 -- the items of rows: places in order, then their origins
 abbrev pub row_items : List DottedRule → List (List ℕ) → List Item
 row_items [] rows = []
-row_items (s ∷ spots) [] = []
-row_items (s ∷ spots) (row ∷ rows) = map (λ k. item_at k s) row ++ row_items spots rows
+row_items (s ∷ dots) [] = []
+row_items (s ∷ dots) (row ∷ rows) = map (λ k. item_at k s) row ++ row_items dots rows
 
 -- the rows got the items of Q. What is new is pending, and what was pending still is
-pub record Gains (spots : List DottedRule) (Q : Item → Type 0) (old new : Rows) : Type 0 where
+pub record Gains (dots : List DottedRule) (Q : Item → Type 0) (old new : Rows) : Type 0 where
   pub count : length new.all ≡ length old.all
-  pub all : (a : Item) → Q a → IsRowItem spots new.all a
-  pub only : (a : Item) → IsRowItem spots new.all a → IsRowItem spots old.all a ⊎ Q a
-  pub kept : (a : Item) → IsRowItem spots old.all a → IsRowItem spots new.all a
-  pub still : (a : Item) → IsRowItem spots old.pending a → IsRowItem spots new.pending a
-  pub fresh : (a : Item) → IsRowItem spots new.all a → IsRowItem spots old.all a ⊎ IsRowItem spots new.pending a
-  pub within : (a : Item) → IsRowItem spots new.pending a → IsRowItem spots old.pending a ⊎ IsRowItem spots new.all a
+  pub all : (a : Item) → Q a → IsRowItem dots new.all a
+  pub only : (a : Item) → IsRowItem dots new.all a → IsRowItem dots old.all a ⊎ Q a
+  pub kept : (a : Item) → IsRowItem dots old.all a → IsRowItem dots new.all a
+  pub still : (a : Item) → IsRowItem dots old.pending a → IsRowItem dots new.pending a
+  pub fresh : (a : Item) → IsRowItem dots new.all a → IsRowItem dots old.all a ⊎ IsRowItem dots new.pending a
+  pub within : (a : Item) → IsRowItem dots new.pending a → IsRowItem dots old.pending a ⊎ IsRowItem dots new.all a
 
 -- the place after a call, with the origins of the place that calls
 abbrev pub IsAfterCall : List DottedRule → Call → List (List ℕ) → Item → Type 0
-IsAfterCall spots call rows a = (slice_get spots call.after ≡ Some (spot a.node a.step)) × HasAt rows call.from a.origin
+IsAfterCall dots call rows a = (slice_get dots call.after ≡ Some (dot a.node a.step)) × HasAt rows call.from a.origin
 
 -- the places after these calls, with the origins of the places that call
-pub record IsCalledBy (spots : List DottedRule) (calls : List Call) (rows : List (List ℕ)) (a : Item) : Type 0 where
+pub record IsCalledBy (dots : List DottedRule) (calls : List Call) (rows : List (List ℕ)) (a : Item) : Type 0 where
   pub call : Call
   pub stands : In call calls
-  pub after : slice_get spots call.after ≡ Some (spot a.node a.step)
+  pub after : slice_get dots call.after ≡ Some (dot a.node a.step)
   pub has : HasAt rows call.from a.origin
 
 -- what a relation adds for the items of a place with the numbers of a row
-pub record IsFor (spots : List DottedRule) (place : ℕ) (row : List ℕ) (W : Item → Item
+pub record IsFor (dots : List DottedRule) (place : ℕ) (row : List ℕ) (W : Item → Item
     → Type 0) (a : Item) : Type 0 where
   pub by : Item
-  pub is : slice_get spots place ≡ Some (spot by.node by.step)
+  pub is : slice_get dots place ≡ Some (dot by.node by.step)
   pub has : Contains row by.origin
   pub work : W by a
 
@@ -68,12 +68,12 @@ pub record IsScannedFor (flat : code_flat.Tables) (c : ℕ) (by a : Item) : Type
   pub origin : a.origin ≡ by.origin
 
 -- the dotted rule of a place below n that has a number
-pub record HasSpotBelow (spots : List DottedRule) (rows : List (List ℕ)) (n : ℕ) (s : DottedRule) : Type 0 where
+pub record HasDotBelow (dots : List DottedRule) (rows : List (List ℕ)) (n : ℕ) (s : DottedRule) : Type 0 where
   pub place : ℕ
   pub under : place < n
-  pub is : slice_get spots place ≡ Some s
+  pub is : slice_get dots place ≡ Some s
   pub some : HasSome rows place
 
 -- the dotted rules of such places
-abbrev pub AreSpotsBelow : List DottedRule → List (List ℕ) → ℕ → List DottedRule → Type 0
-AreSpotsBelow spots rows n found = (s : DottedRule) → In s found ↔ HasSpotBelow spots rows n s
+abbrev pub AreDotsBelow : List DottedRule → List (List ℕ) → ℕ → List DottedRule → Type 0
+AreDotsBelow dots rows n found = (s : DottedRule) → In s found ↔ HasDotBelow dots rows n s

@@ -1,12 +1,12 @@
 //! Charts of item sets, and the line judge.
 ghost use Rattle.std.specs.Prelude.{◌≡◌, ◌↔◌, ◌*◌, ◌+◌, ◌≤◌, ℕ, List, [], IsTrue, IfOk, OnErr, length, map};
-ghost use Rattle.earleyitems.specs.ChartSets.{set_at, AreSpotsOf, IsSet};
+ghost use Rattle.earleyitems.specs.ChartSets.{set_at, AreDotsOf, IsSet};
 ghost use Rattle.flatgrammar.specs.FlatVerdicts.{DerivesLine};
 ghost use Rattle.flatgrammar.specs.Places.{places};
 
 use crate::row_chart::judge_rows;
+use crate::row_dots::row_dots;
 use crate::row_sets::RowChart;
-use crate::row_spots::row_spots;
 use earleyitems::judge_within;
 use flatgrammar::{DottedRule, Flat};
 use letters::Letter;
@@ -73,13 +73,13 @@ impl Chart {
 
     /// Returns the dotted rules of the items of set `j`, each once or more; none if there is no such set. `Memory` if
     /// an allocation fails.
-    pub fn spots(&self, j: usize) -> Result<Vec<DottedRule>, Memory>
-        ensures { IfOk result (λ spots. AreSpotsOf (set_at self.now j) spots.items) }
+    pub fn dots(&self, j: usize) -> Result<Vec<DottedRule>, Memory>
+        ensures { IfOk result (λ dots. AreDotsOf (set_at self.now j) dots.items) }
     {
         match &self.rows {
-            None => self.items.spots(j),
+            None => self.items.dots(j),
             Some(rows) => match rows.sets.get(j) {
-                Some(set) => row_spots(self.alloc, &rows.table.spots, &set.rows),
+                Some(set) => row_dots(self.alloc, &rows.table.dots, &set.rows),
                 None => Ok(Vec::new(self.alloc)),
             },
         }
@@ -114,7 +114,7 @@ fn judge_many<L: Letter>(chart: &mut Chart, flat: &Flat, line: &[L]) -> Result<b
 }
 
 /// Fills the chart with the item sets of a line, and returns whether the flat grammar derives the line. By the law
-/// `items_tell` of `lowering`, a flat grammar of `lower` answers for the judged rule. The line may have at most
+/// `items_decide` of `lowering`, a flat grammar of `lower` answers for the judged rule. The line may have at most
 /// `flat.limit()` symbols.
 ///
 /// `Memory` if an allocation fails; the chart is empty then.

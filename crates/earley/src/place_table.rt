@@ -1,6 +1,6 @@
 //! The dotted rules of a flat grammar, numbered, with their actions.
 ghost use Rattle.std.specs.Prelude.{◌≡◌, ◌+◌, ℕ, List, Some, IfOk, IfSome, IsTrue, slice_get};
-ghost use Rattle.flatgrammar.specs.Blocks.{spot, item_at, call_at};
+ghost use Rattle.flatgrammar.specs.Blocks.{dot, item_at, call_at};
 ghost use Rattle.flatgrammar.specs.Places.{AreDifferent};
 ghost use Rattle.flatgrammar.specs.TableViews.{takes_of, whole_root};
 ghost use Rattle.earley.specs.PlaceTables.{AreBelow, IsStep, IsReadAt, IsCalledAt, AreSteps, AreStarts, AreCallsTo};
@@ -9,7 +9,9 @@ ghost use Rattle.earley.specs.declared.place_table.Called.{Called as code_called
 ghost use Rattle.earley.specs.declared.place_table.DottedActions.{DottedActions as code_step};
 ghost use Rattle.earley.specs.PlaceTables.{AreRootPlaces, IsPlaceTable};
 
-use flatgrammar::{Deed, DottedRule, Item, Node, Tables, begin_steps, deed_of, null, whole_root};
+use flatgrammar::{
+    DottedRule, Item, Node, Operation, Tables, begin_steps, null, operation_of, whole_root,
+};
 use ruletable::Memory;
 use std::alloc::Global;
 use std::rc::Rc;
@@ -68,7 +70,7 @@ pub(crate) struct PlaceTable {
     /// The grammar.
     pub(crate) flat: Rc<Tables>,
     /// The dotted rules, by number.
-    pub(crate) spots: Vec<DottedRule>,
+    pub(crate) dots: Vec<DottedRule>,
     /// The actions of each dotted rule, by number.
     pub(crate) steps: Vec<DottedActions>,
     /// Of each node, as a root, where it starts and its call sites.
@@ -79,7 +81,7 @@ pub(crate) struct PlaceTable {
 #[derive(Drop)]
 struct Numbers {
     /// The dotted rules, by number.
-    spots: Vec<DottedRule>,
+    dots: Vec<DottedRule>,
     /// Of each node the number of its first dotted rule.
     firsts: Vec<usize>,
 }
@@ -128,7 +130,7 @@ fn mark_called(
             step,
             origin: 0,
         };
-        match deed_of(flat, item).called {
+        match operation_of(flat, item).called {
             Some((root, _next)) => mark(root, marks, waiting)?,
             None => {}
         }
@@ -168,40 +170,40 @@ fn places_of(node: &Node, reached: bool) -> usize {
 }
 
 // Numbers the places of a node.
-fn number_node(node: usize, count: usize, spots: &mut Vec<DottedRule>) -> Result<(), Memory>
-    requires { AreBelow node spots.old.items }
-    ensures { IfOk result (λ done. AreBelow (node + 1) spots.new.items) }
+fn number_node(node: usize, count: usize, dots: &mut Vec<DottedRule>) -> Result<(), Memory>
+    requires { AreBelow node dots.old.items }
+    ensures { IfOk result (λ done. AreBelow (node + 1) dots.new.items) }
 {
     for step in 0..count {
-        spots.push(DottedRule { node, step })?;
+        dots.push(DottedRule { node, step })?;
     }
     Ok(())
 }
 
 // Numbers the places of the nodes that are marked. `None` if they are too many.
 fn number_all(alloc: Global, flat: &Tables, marks: &[bool]) -> Result<Option<Numbers>, Memory>
-    ensures { IfOk result (λ numbers. IfSome numbers (λ n. AreDifferent n.spots.items)) }
+    ensures { IfOk result (λ numbers. IfSome numbers (λ n. AreDifferent n.dots.items)) }
 {
-    let mut spots = Vec::new(alloc);
+    let mut dots = Vec::new(alloc);
     let mut firsts = Vec::new(alloc);
     for node in 0..flat.nodes.len() {
         let count = places_of(&flat.nodes[node], is_marked(marks, node));
-        if MOST_PLACES.saturating_sub(spots.len()) < count {
+        if MOST_PLACES.saturating_sub(dots.len()) < count {
             return Ok(None);
         }
-        firsts.push(spots.len())?;
-        number_node(node, count, &mut spots)?;
+        firsts.push(dots.len())?;
+        number_node(node, count, &mut dots)?;
     }
-    Ok(Some(Numbers { spots, firsts }))
+    Ok(Some(Numbers { dots, firsts }))
 }
 
 // Returns the number of a place, if it has one.
 fn number(numbers: &Numbers, node: usize, step: usize) -> Option<usize>
-    ensures { IfSome result (λ p. slice_get numbers.now.spots.items p ≡ Some (spot node step)) }
+    ensures { IfSome result (λ p. slice_get numbers.now.dots.items p ≡ Some (dot node step)) }
 {
     let first = numbers.firsts.get(node)?;
     let place = first.checked_add(step)?;
-    let found = numbers.spots.get(place)?;
+    let found = numbers.dots.get(place)?;
     if found.node == node && found.step == step {
         Some(place)
     } else {
@@ -210,27 +212,32 @@ fn number(numbers: &Numbers, node: usize, step: usize) -> Option<usize>
 }
 
 // Returns what a place calls. `None` if the place after the call has no number.
-fn called_at(flat: &Tables, numbers: &Numbers, at: DottedRule, deed: Deed) -> Option<Option<Called>>
-    requires called { deed.called ≡ call_at flat.now at }
-    requires takes { deed.takes ≡ takes_of flat.now (item_at 0 at) }
-    ensures { IfSome result (IsCalledAt flat.now numbers.now.spots.items at) }
+fn called_at(
+    flat: &Tables,
+    numbers: &Numbers,
+    at: DottedRule,
+    operation: Operation,
+) -> Option<Option<Called>>
+    requires called { operation.called ≡ call_at flat.now at }
+    requires takes { operation.takes ≡ takes_of flat.now (item_at 0 at) }
+    ensures { IfSome result (IsCalledAt flat.now numbers.now.dots.items at) }
 {
-    let Some((root, next)) = deed.called else {
+    let Some((root, next)) = operation.called else {
         return Some(None);
     };
     if root >= flat.nodes.len() {
         return None;
     }
     let after = number(numbers, at.node, next)?;
-    let free = null(flat, root) && !deed.takes;
+    let free = null(flat, root) && !operation.takes;
     Some(Some(Called { root, after, free }))
 }
 
 // Returns the place after the letter that a place reads, if it may read one. `None` if that place has no number.
-fn read_at(numbers: &Numbers, at: DottedRule, deed: Deed) -> Option<Option<usize>>
-    ensures { IfSome result (IsReadAt numbers.now.spots.items at deed.reads) }
+fn read_at(numbers: &Numbers, at: DottedRule, operation: Operation) -> Option<Option<usize>>
+    ensures { IfSome result (IsReadAt numbers.now.dots.items at operation.reads) }
 {
-    if !deed.reads {
+    if !operation.reads {
         return Some(None);
     }
     let next = at.step.checked_add(1)?;
@@ -241,19 +248,19 @@ fn read_at(numbers: &Numbers, at: DottedRule, deed: Deed) -> Option<Option<usize
 /// Returns the actions of the dotted rule `at`. `None` if its call or its symbol leads to a dotted rule without a
 /// number.
 fn step_at(flat: &Tables, numbers: &Numbers, at: DottedRule) -> Option<DottedActions>
-    ensures { IfSome result (IsStep flat.now numbers.now.spots.items at) }
+    ensures { IfSome result (IsStep flat.now numbers.now.dots.items at) }
 {
     let item = Item {
         node: at.node,
         step: at.step,
         origin: 0,
     };
-    let deed = deed_of(flat, item);
-    let called = called_at(flat, numbers, at, deed)?;
-    let read = read_at(numbers, at, deed)?;
+    let operation = operation_of(flat, item);
+    let called = called_at(flat, numbers, at, operation)?;
+    let read = read_at(numbers, at, operation)?;
     Some(DottedActions {
         called,
-        done: deed.done,
+        done: operation.done,
         read,
     })
 }
@@ -264,10 +271,10 @@ fn all_steps(
     flat: &Tables,
     numbers: &Numbers,
 ) -> Result<Option<Vec<DottedActions>>, Memory>
-    ensures { IfOk result (λ steps. IfSome steps (λ s. AreSteps flat.now numbers.now.spots.items s.items)) }
+    ensures { IfOk result (λ steps. IfSome steps (λ s. AreSteps flat.now numbers.now.dots.items s.items)) }
 {
     let mut steps = Vec::new(alloc);
-    for at in &numbers.spots {
+    for at in &numbers.dots {
         let Some(step) = step_at(flat, numbers, *at) else {
             return Ok(None);
         };
@@ -283,7 +290,7 @@ fn starts_of(
     numbers: &Numbers,
     root: usize,
 ) -> Result<Option<Vec<usize>>, Memory>
-    ensures { IfOk result (λ starts. IfSome starts (λ s. AreStarts flat.now numbers.now.spots.items root s.items)) }
+    ensures { IfOk result (λ starts. IfSome starts (λ s. AreStarts flat.now numbers.now.dots.items root s.items)) }
 {
     let mut starts = Vec::new(alloc);
     for step in 0..begin_steps(flat, root) {
@@ -303,7 +310,7 @@ fn starts_if(
     root: usize,
     reached: bool,
 ) -> Result<Option<Vec<usize>>, Memory>
-    ensures { IfOk result (λ starts. IfSome starts (λ s. AreStartsIf reached flat.now numbers.now.spots.items root
+    ensures { IfOk result (λ starts. IfSome starts (λ s. AreStartsIf reached flat.now numbers.now.dots.items root
         s.items)) }
 {
     if !reached {
@@ -353,7 +360,7 @@ fn all_roots(
     marks: &[bool],
     steps: &[DottedActions],
 ) -> Result<Option<Vec<RootPlaces>>, Memory>
-    ensures { IfOk result (λ roots. IfSome roots (λ r. AreRootPlaces flat.now numbers.now.spots.items steps.now
+    ensures { IfOk result (λ roots. IfSome roots (λ r. AreRootPlaces flat.now numbers.now.dots.items steps.now
         r.items)) }
 {
     let mut roots = Vec::new(alloc);
@@ -434,7 +441,7 @@ pub(crate) fn place_table(alloc: Global, flat: Rc<Tables>) -> Result<Option<Plac
     }
     Ok(Some(PlaceTable {
         flat,
-        spots: numbers.spots,
+        dots: numbers.dots,
         steps,
         roots,
     }))

@@ -5,7 +5,7 @@ ghost use Rattle.earley.specs.RowSets.{HasAt};
 ghost use Rattle.earleyitems.specs.ChartSets.{set_at, IsSet};
 ghost use Rattle.earleyitems.specs.Charts.{IsWhole, IsFirst, IsBuilt};
 ghost use Rattle.earleyitems.specs.ScannedItems.{IsScannedItem};
-ghost use Rattle.flatgrammar.specs.Blocks.{AreExact, spot};
+ghost use Rattle.flatgrammar.specs.Blocks.{AreExact, dot};
 ghost use Rattle.flatgrammar.specs.Flat.{Place};
 ghost use Rattle.flatgrammar.specs.Holds.{Holds};
 ghost use Rattle.flatgrammar.specs.NodeSteps.{flat_of};
@@ -47,12 +47,12 @@ fn scan_row(
     set: &mut RowSet,
 ) -> Result<(), Memory>
     requires table { IsPlaceTable table.now }
-    requires count { length set.old.all ≡ length table.now.spots.items }
-    requires place { place < length table.now.spots.items }
-    ensures { IfOk result (λ done. Gains table.now.spots.items (IsFor table.now.spots.items place
+    requires count { length set.old.all ≡ length table.now.dots.items }
+    requires place { place < length table.now.dots.items }
+    ensures { IfOk result (λ done. Gains table.now.dots.items (IsFor table.now.dots.items place
         (slice_index_or rows.now place []) (IsScannedFor table.now.flat.value value)) set.old set.new) }
 {
-    let at = table.spots[place];
+    let at = table.dots[place];
     let item = Item {
         node: at.node,
         step: at.step,
@@ -76,11 +76,11 @@ fn scan_rows(
     set: &mut RowSet,
 ) -> Result<(), Memory>
     requires table { IsPlaceTable table.now }
-    requires count { length set.old.all ≡ length table.now.spots.items }
-    ensures { IfOk result (λ done. Gains table.now.spots.items (IsScannedItem table.now.flat.value value
-        (row_items table.now.spots.items rows.now)) set.old set.new) }
+    requires count { length set.old.all ≡ length table.now.dots.items }
+    ensures { IfOk result (λ done. Gains table.now.dots.items (IsScannedItem table.now.flat.value value
+        (row_items table.now.dots.items rows.now)) set.old set.new) }
 {
-    for place in 0..table.spots.len() {
+    for place in 0..table.dots.len() {
         scan_row(table, value, rows, place, set)?;
     }
     Ok(())
@@ -89,8 +89,8 @@ fn scan_rows(
 // Predicts the whole.
 fn start_rows(alloc: Global, table: &PlaceTable, set: &mut RowSet) -> Result<(), Memory>
     requires table { IsPlaceTable table.now }
-    requires count { length set.old.all ≡ length table.now.spots.items }
-    ensures { IfOk result (λ done. Gains table.now.spots.items (IsWhole table.now.flat.value) set.old set.new) }
+    requires count { length set.old.all ≡ length table.now.dots.items }
+    ensures { IfOk result (λ done. Gains table.now.dots.items (IsWhole table.now.flat.value) set.old set.new) }
 {
     let Some(root) = whole_root(&table.flat) else {
         return Ok(());
@@ -109,10 +109,10 @@ fn begin_rows<L: Letter>(
     set: &mut RowSet,
 ) -> Result<(), Memory>
     requires table { IsPlaceTable table.now }
-    requires count { length set.old.all ≡ length table.now.spots.items }
+    requires count { length set.old.all ≡ length table.now.dots.items }
     requires length { length sets.now ≤ length line.now }
-    ensures { IfOk result (λ done. Gains table.now.spots.items (IsFirst table.now.flat.value (map L.number line.now)
-        (row_views table.now.spots.items sets.now)) set.old set.new) }
+    ensures { IfOk result (λ done. Gains table.now.dots.items (IsFirst table.now.flat.value (map L.number line.now)
+        (row_views table.now.dots.items sets.now)) set.old set.new) }
 {
     if sets.is_empty() {
         start_rows(alloc, table, set)?;
@@ -132,18 +132,18 @@ fn next_set<L: Letter>(
 ) -> Result<KeptRows, Memory>
     requires table { IsPlaceTable table.now }
     requires exact { AreExact table.now.flat.value }
-    requires indexed { AreIndexed (length table.now.spots.items) filled.now }
+    requires indexed { AreIndexed (length table.now.dots.items) filled.now }
     requires length { length filled.now.sets.items ≤ length line.now }
     requires short { length line.now < 2 ^ 63 }
     requires built { IsBuilt table.now.flat.value (map L.number line.now)
-        (row_views table.now.spots.items filled.now.sets.items) }
-    ensures count { IfOk result (λ kept. length kept.rows.items ≡ length table.now.spots.items) }
-    ensures size { IfOk result (λ kept. kept.size ≡ length (row_items table.now.spots.items kept.rows.items)) }
+        (row_views table.now.dots.items filled.now.sets.items) }
+    ensures count { IfOk result (λ kept. length kept.rows.items ≡ length table.now.dots.items) }
+    ensures size { IfOk result (λ kept. kept.size ≡ length (row_items table.now.dots.items kept.rows.items)) }
     ensures built { IfOk result (λ kept. IsBuilt table.now.flat.value (map L.number line.now)
-        (row_views table.now.spots.items filled.now.sets.items
-        ++ row_items table.now.spots.items kept.rows.items ∷ [])) }
+        (row_views table.now.dots.items filled.now.sets.items
+        ++ row_items table.now.dots.items kept.rows.items ∷ [])) }
 {
-    let mut set = RowSet::new(alloc, table.spots.len())?;
+    let mut set = RowSet::new(alloc, table.dots.len())?;
     begin_rows(alloc, table, line, &filled.sets, &mut set)?;
     fill_rows(alloc, table, filled, &mut set)?;
     kept_rows(set)
@@ -159,11 +159,11 @@ fn row_sets<L: Letter>(
     requires exact { AreExact table.now.flat.value }
     requires short { length line.now < 2 ^ 63 }
     ensures count { IfOk result (λ sets. length sets.items ≡ length line.now + 1) }
-    ensures sized { IfOk result (λ sets. AreSizedRows table.now.spots.items sets.items) }
+    ensures sized { IfOk result (λ sets. AreSizedRows table.now.dots.items sets.items) }
     ensures built { IfOk result (λ sets. IsBuilt table.now.flat.value (map L.number line.now)
-        (row_views table.now.spots.items sets.items)) }
+        (row_views table.now.dots.items sets.items)) }
 {
-    let places = table.spots.len();
+    let places = table.dots.len();
     let mut filled = no_sets(alloc, places)?;
     while filled.sets.len() <= line.len() {
         let kept = next_set(alloc, table, line, &filled)?;
@@ -209,12 +209,12 @@ fn is_at(at: DottedRule, item: Item) -> bool
 }
 
 // Returns whether a place is that of an item, and its row has the item's origin.
-fn holds_at(spots: &[DottedRule], rows: &[BitRow], place: usize, item: Item) -> bool
-    requires { place < length spots.now }
-    ensures { IsTrue result ↔ ((slice_get spots.now place ≡ Some (spot item.node item.step))
+fn holds_at(dots: &[DottedRule], rows: &[BitRow], place: usize, item: Item) -> bool
+    requires { place < length dots.now }
+    ensures { IsTrue result ↔ ((slice_get dots.now place ≡ Some (dot item.node item.step))
         × HasAt rows.now place item.origin) }
 {
-    let at = spots[place];
+    let at = dots[place];
     if is_at(at, item) {
         return has_number(rows, place, item.origin);
     }
@@ -222,11 +222,11 @@ fn holds_at(spots: &[DottedRule], rows: &[BitRow], place: usize, item: Item) -> 
 }
 
 // Returns whether rows hold an item.
-fn has_item(spots: &[DottedRule], rows: &[BitRow], item: Item) -> bool
-    ensures { IsTrue result ↔ IsRowItem spots.now rows.now item }
+fn has_item(dots: &[DottedRule], rows: &[BitRow], item: Item) -> bool
+    ensures { IsTrue result ↔ IsRowItem dots.now rows.now item }
 {
-    for place in 0..spots.len() {
-        if holds_at(spots, rows, place, item) {
+    for place in 0..dots.len() {
+        if holds_at(dots, rows, place, item) {
             return true;
         }
     }
@@ -243,7 +243,7 @@ fn judge_by_table<L: Letter>(
     requires table { IsPlaceTable table }
     requires exact { AreExact table.flat.value }
     requires short { length line.now < 2 ^ 63 }
-    ensures sized { IfOk result (λ d. AreSizedRows d.chart.table.spots.items d.chart.sets.items) }
+    ensures sized { IfOk result (λ d. AreSizedRows d.chart.table.dots.items d.chart.sets.items) }
     ensures sets { IfOk result (λ d. (j : ℕ) → IsSet (flat_of table.flat.value) (map L.number line.now) j
         (set_at (rows_chart d.chart) j)) }
     ensures answer { IfOk result (λ d. IsTrue d.yes ↔ Holds (flat_of table.flat.value) (map L.number line.now)
@@ -255,7 +255,7 @@ fn judge_by_table<L: Letter>(
         step: 1,
         origin: 0,
     };
-    let yes = has_item(&table.spots, &sets[line.len()].rows, whole);
+    let yes = has_item(&table.dots, &sets[line.len()].rows, whole);
     let chart = RowChart { table, sets };
     Ok(JudgedRows { chart, yes })
 }
@@ -268,10 +268,12 @@ pub(crate) fn judge_rows<L: Letter>(
     line: &[L],
 ) -> Result<Option<JudgedRows>, Memory>
     requires { AreExact flat.value }
-    ensures sized { IfOk result (λ told. IfSome told (λ d. AreSizedRows d.chart.table.spots.items d.chart.sets.items)) }
-    ensures sets { IfOk result (λ told. IfSome told (λ d. (j : ℕ) → IsSet (flat_of flat.value) (map L.number line.now) j
+    ensures sized { IfOk result (λ reported. IfSome reported (λ d. AreSizedRows d.chart.table.dots.items
+        d.chart.sets.items)) }
+    ensures sets { IfOk result (λ reported. IfSome reported (λ d. (j : ℕ)
+        → IsSet (flat_of flat.value) (map L.number line.now) j
         (set_at (rows_chart d.chart) j))) }
-    ensures answer { IfOk result (λ told. IfSome told (λ d. IsTrue d.yes ↔ Holds (flat_of flat.value)
+    ensures answer { IfOk result (λ reported. IfSome reported (λ d. IsTrue d.yes ↔ Holds (flat_of flat.value)
         (map L.number line.now) (length line.now) (Place.at (flat_of flat.value).whole 1) 0)) }
 {
     if line.len() >= LONGEST {

@@ -36,19 +36,19 @@ fn work_once(
 ) -> Result<bool, Memory>
     requires table { IsPlaceTable table.now }
     requires exact { AreExact table.now.flat.value }
-    requires indexed { AreIndexed (length table.now.spots.items) filled.now }
+    requires indexed { AreIndexed (length table.now.dots.items) filled.now }
     requires here { (k : ℕ) → Contains here.now k ↔ (k ≡ length filled.now.sets.items) }
     requires begun { (line : List ℕ) × HoldAll (flat_of table.now.flat.value) line
-        (row_views table.now.spots.items filled.now.sets.items) × IsRowWorklist table.now.flat.value
-        table.now.spots.items line (row_views table.now.spots.items filled.now.sets.items) set.old }
-    ensures count { IfOk result (λ done. length set.new.all ≡ length table.now.spots.items) }
-    ensures keeps { IfOk result (λ done. (a : code_item.Item) → IsRowItem table.now.spots.items set.old.all a
-        → IsRowItem table.now.spots.items set.new.all a) }
+        (row_views table.now.dots.items filled.now.sets.items) × IsRowWorklist table.now.flat.value
+        table.now.dots.items line (row_views table.now.dots.items filled.now.sets.items) set.old }
+    ensures count { IfOk result (λ done. length set.new.all ≡ length table.now.dots.items) }
+    ensures keeps { IfOk result (λ done. (a : code_item.Item) → IsRowItem table.now.dots.items set.old.all a
+        → IsRowItem table.now.dots.items set.new.all a) }
     ensures worklist { IfOk result (λ done. (line : List ℕ) → HoldAll (flat_of table.now.flat.value) line
-        (row_views table.now.spots.items filled.now.sets.items) → IsRowWorklist table.now.flat.value
-        table.now.spots.items line (row_views table.now.spots.items filled.now.sets.items) set.old
-        → IsRowWorklist table.now.flat.value table.now.spots.items line
-        (row_views table.now.spots.items filled.now.sets.items) set.new) }
+        (row_views table.now.dots.items filled.now.sets.items) → IsRowWorklist table.now.flat.value
+        table.now.dots.items line (row_views table.now.dots.items filled.now.sets.items) set.old
+        → IsRowWorklist table.now.flat.value table.now.dots.items line
+        (row_views table.now.dots.items filled.now.sets.items) set.new) }
     ensures none { IfOk result (λ done. done ≡ true → (p k : ℕ) → HasAt set.new.pending p k → ⊥) }
 {
     let Some((place, row)) = set.take() else {
@@ -71,19 +71,19 @@ pub(crate) fn fill_rows(
 ) -> Result<(), Memory>
     requires table { IsPlaceTable table.now }
     requires exact { AreExact table.now.flat.value }
-    requires indexed { AreIndexed (length table.now.spots.items) filled.now }
+    requires indexed { AreIndexed (length table.now.dots.items) filled.now }
     requires number { length filled.now.sets.items < 2 ^ 63 }
     requires begun { (line : List ℕ) × HoldAll (flat_of table.now.flat.value) line
-        (row_views table.now.spots.items filled.now.sets.items) × IsRowWorklist table.now.flat.value
-        table.now.spots.items line (row_views table.now.spots.items filled.now.sets.items) set.old }
-    ensures count { IfOk result (λ done. length set.new.all ≡ length table.now.spots.items) }
-    ensures keeps { IfOk result (λ done. (a : code_item.Item) → IsRowItem table.now.spots.items set.old.all a
-        → IsRowItem table.now.spots.items set.new.all a) }
+        (row_views table.now.dots.items filled.now.sets.items) × IsRowWorklist table.now.flat.value
+        table.now.dots.items line (row_views table.now.dots.items filled.now.sets.items) set.old }
+    ensures count { IfOk result (λ done. length set.new.all ≡ length table.now.dots.items) }
+    ensures keeps { IfOk result (λ done. (a : code_item.Item) → IsRowItem table.now.dots.items set.old.all a
+        → IsRowItem table.now.dots.items set.new.all a) }
     ensures worklist { IfOk result (λ done. (line : List ℕ) → HoldAll (flat_of table.now.flat.value) line
-        (row_views table.now.spots.items filled.now.sets.items) → IsRowWorklist table.now.flat.value
-        table.now.spots.items line (row_views table.now.spots.items filled.now.sets.items) set.old
-        → IsRowWorklist table.now.flat.value table.now.spots.items line
-        (row_views table.now.spots.items filled.now.sets.items) set.new) }
+        (row_views table.now.dots.items filled.now.sets.items) → IsRowWorklist table.now.flat.value
+        table.now.dots.items line (row_views table.now.dots.items filled.now.sets.items) set.old
+        → IsRowWorklist table.now.flat.value table.now.dots.items line
+        (row_views table.now.dots.items filled.now.sets.items) set.new) }
     ensures none { IfOk result (λ done. (p k : ℕ) → HasAt set.new.pending p k → ⊥) }
 {
     let here = row_of(alloc, filled.sets.len())?;

@@ -1,7 +1,7 @@
 //! Filled sets as rows.
 ghost use Rattle.std.specs.Prelude.{◌≡◌, ℕ, List, [], IfOk, length, slice_index_or};
 ghost use Rattle.std.specs.List.Sorted.{IsStrictlyIncreasing};
-ghost use Rattle.flatgrammar.specs.declared.block.DottedRule.{DottedRule as code_spot};
+ghost use Rattle.flatgrammar.specs.declared.block.DottedRule.{DottedRule as code_dot};
 ghost use Rattle.earley.specs.RowItems.{row_items};
 
 use crate::place_table::PlaceTable;
@@ -29,8 +29,8 @@ pub(crate) struct RowChart {
 /// Keeps a set that is filled. `Memory` if its items are 2 ^ 64 or more.
 pub(crate) fn kept_rows(set: RowSet) -> Result<KeptRows, Memory>
     ensures rows { IfOk result (λ kept. kept.rows.items ≡ set.all) }
-    ensures size { IfOk result (λ kept. (spots : List code_spot) → length spots ≡ length set.all
-        → kept.size ≡ length (row_items spots kept.rows.items)) }
+    ensures size { IfOk result (λ kept. (dots : List code_dot) → length dots ≡ length set.all
+        → kept.size ≡ length (row_items dots kept.rows.items)) }
     ensures ascend { IfOk result (λ kept. (p : ℕ) → IsStrictlyIncreasing (slice_index_or kept.rows.items p [])) }
 {
     let rows = set.into_rows();

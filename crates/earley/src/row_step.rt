@@ -4,7 +4,7 @@ ghost use Rattle.earley.specs.RowSets.{HasAt};
 ghost use Rattle.earleyitems.specs.ItemSets.{IsPredicted, IsCompleted};
 ghost use Rattle.earleyitems.specs.Worklist.{AdvancesNullable, IsWork};
 ghost use Rattle.flatgrammar.specs.Blocks.{begin_count};
-ghost use Rattle.flatgrammar.specs.declared.block.DottedRule.{DottedRule as code_spot};
+ghost use Rattle.flatgrammar.specs.declared.block.DottedRule.{DottedRule as code_dot};
 ghost use Rattle.flatgrammar.specs.declared.flat_item.Item as code_item;
 ghost use Rattle.earley.specs.PlaceTables.{IsPlaceTable, IsReached};
 ghost use Rattle.earley.specs.RowCharts.{row_views};
@@ -26,8 +26,8 @@ pub(crate) fn predict_root(
 ) -> Result<(), Memory>
     requires table { IsPlaceTable table.now }
     requires reached { IsReached table.now.roots.items root }
-    requires count { length set.old.all ≡ length table.now.spots.items }
-    ensures { IfOk result (λ done. Gains table.now.spots.items
+    requires count { length set.old.all ≡ length table.now.dots.items }
+    ensures { IfOk result (λ done. Gains table.now.dots.items
         (λ a. (a.node ≡ root) × (a.step < begin_count table.now.flat.value root) × Contains here.now a.origin)
         set.old set.new) }
 {
@@ -49,11 +49,11 @@ fn predict_row(
     set: &mut RowSet,
 ) -> Result<(), Memory>
     requires table { IsPlaceTable table.now }
-    requires count { length set.old.all ≡ length table.now.spots.items }
-    requires place { place < length table.now.spots.items }
+    requires count { length set.old.all ≡ length table.now.dots.items }
+    requires place { place < length table.now.dots.items }
     requires some { (k : ℕ) × Contains row.now k }
-    ensures { IfOk result (λ done. (j : ℕ) → ((k : ℕ) → Contains here.now k ↔ (k ≡ j)) → Gains table.now.spots.items
-        (IsFor table.now.spots.items place row.now (IsPredicted table.now.flat.value j)) set.old set.new) }
+    ensures { IfOk result (λ done. (j : ℕ) → ((k : ℕ) → Contains here.now k ↔ (k ≡ j)) → Gains table.now.dots.items
+        (IsFor table.now.dots.items place row.now (IsPredicted table.now.flat.value j)) set.old set.new) }
 {
     match table.steps[place].called {
         Some(called) => {
@@ -72,10 +72,10 @@ fn advance_row(
     set: &mut RowSet,
 ) -> Result<(), Memory>
     requires table { IsPlaceTable table.now }
-    requires count { length set.old.all ≡ length table.now.spots.items }
-    requires place { place < length table.now.spots.items }
-    ensures { IfOk result (λ done. Gains table.now.spots.items
-        (IsFor table.now.spots.items place row.now (AdvancesNullable table.now.flat.value)) set.old set.new) }
+    requires count { length set.old.all ≡ length table.now.dots.items }
+    requires place { place < length table.now.dots.items }
+    ensures { IfOk result (λ done. Gains table.now.dots.items
+        (IsFor table.now.dots.items place row.now (AdvancesNullable table.now.flat.value)) set.old set.new) }
 {
     match table.steps[place].called {
         Some(called) if called.free => {
@@ -89,7 +89,7 @@ fn advance_row(
 /// Advances the row of a dotted rule over a call.
 pub(crate) fn advance_call(rows: &[BitRow], call: Call, set: &mut RowSet) -> Result<(), Memory>
     requires { call.after < length set.old.all }
-    ensures { IfOk result (λ done. (spots : List code_spot) → Gains spots (IsAfterCall spots call rows.now) set.old
+    ensures { IfOk result (λ done. (dots : List code_dot) → Gains dots (IsAfterCall dots call rows.now) set.old
         set.new) }
 {
     match rows.get(call.from) {
@@ -104,7 +104,7 @@ pub(crate) fn advance_call(rows: &[BitRow], call: Call, set: &mut RowSet) -> Res
 // Advances over a call the sets of those numbers of a row that are the place's own.
 fn complete_own(own: &[BitRow], call: Call, row: &BitRow, set: &mut RowSet) -> Result<(), Memory>
     requires { call.after < length set.old.all }
-    ensures { IfOk result (λ done. (spots : List code_spot) → Gains spots (IsAfterOwn spots call own.now row.now)
+    ensures { IfOk result (λ done. (dots : List code_dot) → Gains dots (IsAfterOwn dots call own.now row.now)
         set.old set.new) }
 {
     match own.get(call.from) {
@@ -125,7 +125,7 @@ fn complete_each(
     set: &mut RowSet,
 ) -> Result<(), Memory>
     requires { call.after < length set.old.all }
-    ensures { IfOk result (λ done. (spots : List code_spot) → Gains spots (IsAfterIn spots call sets.now row.now
+    ensures { IfOk result (λ done. (dots : List code_dot) → Gains dots (IsAfterIn dots call sets.now row.now
         (length sets.now)) set.old set.new) }
 {
     let mut from = 0;
@@ -150,7 +150,7 @@ fn complete_last(
     set: &mut RowSet,
 ) -> Result<(), Memory>
     requires { call.after < length set.old.all }
-    ensures { IfOk result (λ done. (spots : List code_spot) → Gains spots (IsAfterLast spots call sets.now row.now
+    ensures { IfOk result (λ done. (dots : List code_dot) → Gains dots (IsAfterLast dots call sets.now row.now
         (length sets.now)) set.old set.new) }
 {
     let Some(origin) = row.last() else {
@@ -195,9 +195,9 @@ fn complete_rest(
 ) -> Result<(), Memory>
     requires indexed { AreIndexed places filled.now }
     requires after { call.after < length set.old.all }
-    requires own { (spots : List code_spot) (a : code_item.Item) → IsAfterOwn spots call filled.now.own.items row.now a
-        → IsRowItem spots set.old.all a }
-    ensures { IfOk result (λ done. (spots : List code_spot) → Gains spots (IsAfterIn spots call filled.now.sets.items
+    requires own { (dots : List code_dot) (a : code_item.Item) → IsAfterOwn dots call filled.now.own.items row.now a
+        → IsRowItem dots set.old.all a }
+    ensures { IfOk result (λ done. (dots : List code_dot) → Gains dots (IsAfterIn dots call filled.now.sets.items
         row.now (length filled.now.sets.items)) set.old set.new) }
 {
     let Some(rest) = filled.rest.get(call.from) else {
@@ -225,7 +225,7 @@ fn complete_call(
 ) -> Result<(), Memory>
     requires indexed { AreIndexed places filled.now }
     requires after { call.after < length set.old.all }
-    ensures { IfOk result (λ done. (spots : List code_spot) → Gains spots (IsAfterIn spots call filled.now.sets.items
+    ensures { IfOk result (λ done. (dots : List code_dot) → Gains dots (IsAfterIn dots call filled.now.sets.items
         row.now (length filled.now.sets.items)) set.old set.new) }
 {
     complete_own(&filled.own, call, row, set)?;
@@ -242,17 +242,17 @@ fn complete_all(
     set: &mut RowSet,
 ) -> Result<(), Memory>
     requires table { IsPlaceTable table.now }
-    requires indexed { AreIndexed (length table.now.spots.items) filled.now }
-    requires count { length set.old.all ≡ length table.now.spots.items }
-    ensures { IfOk result (λ done. Gains table.now.spots.items (IsCompletedBy table.now.flat.value
-        (row_views table.now.spots.items filled.now.sets.items) root row.now (length filled.now.sets.items)) set.old
+    requires indexed { AreIndexed (length table.now.dots.items) filled.now }
+    requires count { length set.old.all ≡ length table.now.dots.items }
+    ensures { IfOk result (λ done. Gains table.now.dots.items (IsCompletedBy table.now.flat.value
+        (row_views table.now.dots.items filled.now.sets.items) root row.now (length filled.now.sets.items)) set.old
         set.new) }
 {
     let Some(places) = table.roots.get(root) else {
         return Ok(());
     };
     for call in &places.calls {
-        complete_call(table.spots.len(), filled, *call, row, set)?;
+        complete_call(table.dots.len(), filled, *call, row, set)?;
     }
     Ok(())
 }
@@ -266,15 +266,15 @@ fn complete_row(
     set: &mut RowSet,
 ) -> Result<(), Memory>
     requires table { IsPlaceTable table.now }
-    requires indexed { AreIndexed (length table.now.spots.items) filled.now }
-    requires count { length set.old.all ≡ length table.now.spots.items }
-    requires place { place < length table.now.spots.items }
-    ensures { IfOk result (λ done. Gains table.now.spots.items (IsFor table.now.spots.items place row.now
-        (IsCompleted table.now.flat.value (row_views table.now.spots.items filled.now.sets.items) []))
+    requires indexed { AreIndexed (length table.now.dots.items) filled.now }
+    requires count { length set.old.all ≡ length table.now.dots.items }
+    requires place { place < length table.now.dots.items }
+    ensures { IfOk result (λ done. Gains table.now.dots.items (IsFor table.now.dots.items place row.now
+        (IsCompleted table.now.flat.value (row_views table.now.dots.items filled.now.sets.items) []))
         set.old set.new) }
 {
     if table.steps[place].done {
-        complete_all(table, filled, table.spots[place].node, row, set)?;
+        complete_all(table, filled, table.dots[place].node, row, set)?;
         return Ok(());
     }
     Ok(())
@@ -291,13 +291,13 @@ pub(crate) fn work_row(
     set: &mut RowSet,
 ) -> Result<(), Memory>
     requires table { IsPlaceTable table.now }
-    requires indexed { AreIndexed (length table.now.spots.items) filled.now }
-    requires count { length set.old.all ≡ length table.now.spots.items }
-    requires place { place < length table.now.spots.items }
+    requires indexed { AreIndexed (length table.now.dots.items) filled.now }
+    requires count { length set.old.all ≡ length table.now.dots.items }
+    requires place { place < length table.now.dots.items }
     requires some { (k : ℕ) × Contains row.now k }
     requires here { (k : ℕ) → Contains here.now k ↔ (k ≡ length filled.now.sets.items) }
-    ensures { IfOk result (λ done. Gains table.now.spots.items (IsFor table.now.spots.items place row.now
-        (IsWork table.now.flat.value (row_views table.now.spots.items filled.now.sets.items))) set.old set.new) }
+    ensures { IfOk result (λ done. Gains table.now.dots.items (IsFor table.now.dots.items place row.now
+        (IsWork table.now.flat.value (row_views table.now.dots.items filled.now.sets.items))) set.old set.new) }
 {
     predict_row(table, place, row, here, set)?;
     advance_row(table, place, row, set)?;

@@ -22,7 +22,7 @@ fn furthest(chart: &Chart, end: usize) -> usize
     last
 }
 
-/// Fills the chart with the item sets of a line, and returns the verdict of the flat grammar. By the law `items_tell`
+/// Fills the chart with the item sets of a line, and returns the verdict of the flat grammar. By the law `items_decide`
 /// of `lowering`, a flat grammar of `lower_viable` gives the judged rule's verdict, with the longest viable prefix. The
 /// line may have at most `flat.limit()` symbols.
 ///

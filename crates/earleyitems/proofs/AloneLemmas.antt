@@ -11,7 +11,7 @@ use Rattle.flatgrammar.specs.declared.flat_item.Item.{Item}
 use Rattle.flatgrammar.specs.declared.inner.Inner.{Inner}
 use Rattle.flatgrammar.specs.declared.tables.Tables as code_flat
 use Rattle.flatgrammar.specs.TableViews.{root_in, rooted, called_by, call_of, count_in}
-use Rattle.flatgrammar.specs.Blocks.{spot, item_at, begin_count, block_of, IsAlone}
+use Rattle.flatgrammar.specs.Blocks.{dot, item_at, begin_count, block_of, IsAlone}
 use Rattle.flatgrammar.proofs.CallOfLemmas.{some_same, equal_or, place_node, place_step, calling_callee, calls_late}
 use Rattle.flatgrammar.proofs.CallOfLemmas.{get_unmap}
 use Rattle.flatgrammar.proofs.InLemmas.{in_left}
@@ -92,8 +92,8 @@ module _ (flat : code_flat.Tables) where
       kept_set))
       old new
       (λ a h. record {
-        from = item_at j (spot i.node i.step);
-        stands = in_left kept_set.items (in_expand (block_of flat) j i.head kept_set.heads (spot i.node i.step)
+        from = item_at j (dot i.node i.step);
+        stands = in_left kept_set.items (in_expand (block_of flat) j i.head kept_set.heads (dot i.node i.step)
             (get_in i.head kept_set.heads hint at_hint) one.stands);
         call = one.call ∙ ap (λ v. Some (root, v)) (sym (ap (λ v. v.step) h));
         node = ap (λ v. v.node) h;
@@ -101,9 +101,9 @@ module _ (flat : code_flat.Tables) where
       })
       (λ a r.
       let only = one.only r.from.node r.from.step a.step r.call in
-      let here : call_of flat (item_at 0 (spot i.node i.step)) ≡ call_of flat r.from =
-      ap (λ v. call_of flat (item_at 0 (spot v i.step))) only.0
-      ∙ ap (λ v. call_of flat (item_at 0 (spot r.from.node v))) only.1 in
+      let here : call_of flat (item_at 0 (dot i.node i.step)) ≡ call_of flat r.from =
+      ap (λ v. call_of flat (item_at 0 (dot v i.step))) only.0
+      ∙ ap (λ v. call_of flat (item_at 0 (dot r.from.node v))) only.1 in
       let next : i.next ≡ a.step = ap (λ v. v.1) (some_same (sym one.call ∙ (here ∙ r.call))) in
       let lt : r.from.step < begin_count flat r.from.node =
       subst (λ v. r.from.step < begin_count flat v) only.0

@@ -116,9 +116,10 @@ module _ (bucket : Item → ℕ) where
   linked_within list links buckets base l b h g = let le = (l.last b h g).within in omega (arith, le)
 
   -- the last item of a bucket, by the bucket's number
-  pub last_told : (list : List Item) (links buckets : List ℕ) (base b d : ℕ) → AreLinked bucket list links buckets base
+  pub last_reported : (list : List Item) (links buckets : List ℕ) (base b d : ℕ)
+      → AreLinked bucket list links buckets base
       → b < length buckets → IsLast bucket list (length list) b (slice_index_or buckets b d - base)
-  last_told list links buckets base b d l lt = l.last b (slice_index_or buckets b d) (get_index buckets b d lt)
+  last_reported list links buckets base b d l lt = l.last b (slice_index_or buckets b d) (get_index buckets b d lt)
 
   in_push : (list : List Item) (a : Item) (b j : ℕ) → IsIn bucket list b j → IsIn bucket (list ++ a ∷ []) b j
   in_push list a b j i = (i.0, keeps_get list (a ∷ []) j i.0 i.1, i.2)
@@ -164,16 +165,16 @@ module _ (bucket : Item → ℕ) where
     last = l.last;
   }
 
-  pub linked_push : (list : List Item) (links buckets : List ℕ) (base : ℕ) (a : Item) (last told : ℕ)
+  pub linked_push : (list : List Item) (links buckets : List ℕ) (base : ℕ) (a : Item) (last reported : ℕ)
       → AreLinked bucket list links buckets base → slice_get links (length list) ≡ Some last →
-      IsLast bucket list (length list) (bucket a) last → told ≡ base + (length list + 1) →
-      AreLinked bucket (list ++ a ∷ []) links (set buckets (bucket a) told) base
-  linked_push list links buckets base a last told l is at_last tells = record {
+      IsLast bucket list (length list) (bucket a) last → reported ≡ base + (length list + 1) →
+      AreLinked bucket (list ++ a ∷ []) links (set buckets (bucket a) reported) base
+  linked_push list links buckets base a last reported l is at_last reports = record {
     long = let lt = slice_get_within links (length list) last is in let size = length-append list (a ∷ []) in
         omega (arith, lt, size);
-    some = let n = length-set buckets (bucket a) told in let some = l.some in omega (arith, some, n);
+    some = let n = length-set buckets (bucket a) reported in let some = l.some in omega (arith, some, n);
     before = λ i k d h g. by_link i k d g (push_cases list a i d h);
-    last = λ b h g. by_bucket b h (set_cases buckets (bucket a) b told h g);
+    last = λ b h g. by_bucket b h (set_cases buckets (bucket a) b reported h g);
   }
     where
       by_link : (i k : ℕ) (d : Item) → slice_get links i ≡ Some k → (slice_get list i ≡ Some d)
@@ -187,19 +188,19 @@ module _ (bucket : Item → ℕ) where
           let k_is : last ≡ k = some_same (sym is ∙ (ap (λ n. slice_get links n) (sym m.0) ∙ g)) in
           rw (m.0, ← m.1, ← k_is) (last_push list a (length list) (bucket a) last (omega arith) at_last)
 
-      by_bucket : (b h : ℕ) → ((b ≡ bucket a) × (told ≡ h)) ⊎ ((b ≡ bucket a → ⊥) × (slice_get buckets b ≡ Some h))
+      by_bucket : (b h : ℕ) → ((b ≡ bucket a) × (reported ≡ h)) ⊎ ((b ≡ bucket a → ⊥) × (slice_get buckets b ≡ Some h))
           → IsLast bucket (list ++ a ∷ []) (length (list ++ a ∷ [])) b (h - base)
-      by_bucket b h (inl m) = let n = m.1 in last_new list a b (h - base) m.0 (omega (arith, n, tells))
+      by_bucket b h (inl m) = let n = m.1 in last_new list a b (h - base) m.0 (omega (arith, n, reports))
       by_bucket b h (inr m) = last_other list a b (h - base) (λ same. m.0 (sym same)) (l.last b h m.1)
 
   -- the next item of a list of which the first i are linked
-  pub linked_next : (list : List Item) (links buckets : List ℕ) (base i last told : ℕ) (a : Item)
+  pub linked_next : (list : List Item) (links buckets : List ℕ) (base i last reported : ℕ) (a : Item)
       → slice_get list i ≡ Some a → length list ≤ length links →
       AreLinked bucket (take i list) links buckets base → IsLast bucket (take i list) (length (take i list)) (bucket
       a) last
-      → told ≡ base + (i + 1) →
-      AreLinked bucket (take (i + 1) list) (set links i last) (set buckets (bucket a) told) base
-  linked_next list links buckets base i last told a is long l at_last tells =
+      → reported ≡ base + (i + 1) →
+      AreLinked bucket (take (i + 1) list) (set links i last) (set buckets (bucket a) reported) base
+  linked_next list links buckets base i last reported a is long l at_last reports =
       let lt = slice_get_within list i a is in
       let count : length (take i list) ≡ i = length-take-le i list (omega (arith, lt)) in
       let size = length-set links i last in
@@ -207,8 +208,8 @@ module _ (bucket : Item → ℕ) where
       (omega (arith, count, size, long, lt)) (λ j k less g. other j k less g count) in
       let here : slice_get (set links i last) (length (take i list)) ≡ Some last =
       rw count (set_get links i last (omega (arith, lt, long))) in
-      let pushed = linked_push (take i list) (set links i last) buckets base a last told kept here at_last
-      (omega (arith, tells, count)) in
+      let pushed = linked_push (take i list) (set links i last) buckets base a last reported kept here at_last
+      (omega (arith, reports, count)) in
       rw (add-one i, take_next list i a is) pushed
     where
       other : (j k : ℕ) → j < length (take i list) → slice_get (set links i last) j ≡ Some k → length (take i list) ≡ i

@@ -81,13 +81,13 @@ module _ (Q : Item → Type 0) where
 pub callers_more : (flat : code_flat.Tables) (seen : List Item) (list new : List CallingItem) (c : CallingItem)
     → AreCallers flat seen list → call_of flat c.at.item ≡ Some (c.root, c.next) → new ≡ list ++ c ∷ [] →
     AreCallers flat (seen ++ c.at.item ∷ []) new
-callers_more flat seen list new c are tells pushed = record {
+callers_more flat seen list new c are reports pushed = record {
   chosen = subst (λ v. AreChosen (Calls flat) (seen ++ c.at.item ∷ []) v)
       (sym (ap (λ v. callers_of v) pushed ∙ map_end (λ d. d.at.item) list c))
       (chosen_more (Calls flat) seen (callers_of list) c.at.item are.chosen);
-  tell = λ d i. by d (before_end d c list (subst (λ v. In d v) pushed i));
+  report = λ d i. by d (before_end d c list (subst (λ v. In d v) pushed i));
 }
   where
     by : (d : CallingItem) → In d list ⊎ (d ≡ c) → call_of flat d.at.item ≡ Some (d.root, d.next)
-    by d (inl h) = are.tell d h
-    by d (inr same) = subst (λ v. call_of flat v.at.item ≡ Some (v.root, v.next)) (sym same) tells
+    by d (inl h) = are.report d h
+    by d (inr same) = subst (λ v. call_of flat v.at.item ≡ Some (v.root, v.next)) (sym same) reports

@@ -32,51 +32,51 @@ in_either (x ∷ xs) (on h) = by (in_either xs h)
     by (inl g) = inl (on g)
     by (inr g) = inr g
 
-pub in_map : (j : ℕ) (p : DottedRule) (spots : List DottedRule) → In p spots → In (item_at j p) (map (item_at j) spots)
+pub in_map : (j : ℕ) (p : DottedRule) (dots : List DottedRule) → In p dots → In (item_at j p) (map (item_at j) dots)
 in_map j p [] h = elim h [ ]
-in_map j p (q ∷ spots) (now same) = now (ap (λ v. item_at j v) same)
-in_map j p (q ∷ spots) (on h) = on (in_map j p spots h)
+in_map j p (q ∷ dots) (now same) = now (ap (λ v. item_at j v) same)
+in_map j p (q ∷ dots) (on h) = on (in_map j p dots h)
 
-pub record Mapped (j : ℕ) (a : Item) (spots : List DottedRule) : Type 0 where
-  pub spot : DottedRule
-  pub stands : In spot spots
-  pub is : a ≡ item_at j spot
+pub record Mapped (j : ℕ) (a : Item) (dots : List DottedRule) : Type 0 where
+  pub dot : DottedRule
+  pub stands : In dot dots
+  pub is : a ≡ item_at j dot
 
-pub from_map : (j : ℕ) (a : Item) (spots : List DottedRule) → In a (map (item_at j) spots) → Mapped j a spots
+pub from_map : (j : ℕ) (a : Item) (dots : List DottedRule) → In a (map (item_at j) dots) → Mapped j a dots
 from_map j a [] h = elim h [ ]
-from_map j a (q ∷ spots) (now same) = record { spot = q; stands = now refl; is = same }
-from_map j a (q ∷ spots) (on h) = let m = from_map j a spots h in
-    record { spot = m.spot; stands = on m.stands; is = m.is }
+from_map j a (q ∷ dots) (now same) = record { dot = q; stands = now refl; is = same }
+from_map j a (q ∷ dots) (on h) = let m = from_map j a dots h in
+    record { dot = m.dot; stands = on m.stands; is = m.is }
 
 pub record Expanded (blocks : ℕ → Block) (j : ℕ) (heads : List ℕ) (a : Item) : Type 0 where
   pub head : ℕ
   pub stands : In head heads
-  pub spot : DottedRule
-  pub lies : In spot (blocks head).spots
-  pub is : a ≡ item_at j spot
+  pub dot : DottedRule
+  pub lies : In dot (blocks head).dots
+  pub is : a ≡ item_at j dot
 
-pub in_expand : (blocks : ℕ → Block) (j h : ℕ) (heads : List ℕ) (p : DottedRule) → In h heads → In p (blocks h).spots
+pub in_expand : (blocks : ℕ → Block) (j h : ℕ) (heads : List ℕ) (p : DottedRule) → In h heads → In p (blocks h).dots
     → In (item_at j p) (expand blocks j heads)
 in_expand blocks j h [] p at_h lies = elim at_h [ ]
 in_expand blocks j h (g ∷ heads) p (now same) lies =
-    in_left (expand blocks j heads) (in_map j p (blocks g).spots (subst (λ v. In p (blocks v).spots) same lies))
-in_expand blocks j h (g ∷ heads) p (on at_h) lies = in_right (map (item_at j) (blocks g).spots)
+    in_left (expand blocks j heads) (in_map j p (blocks g).dots (subst (λ v. In p (blocks v).dots) same lies))
+in_expand blocks j h (g ∷ heads) p (on at_h) lies = in_right (map (item_at j) (blocks g).dots)
     (in_expand blocks j h heads p at_h lies)
 
 pub from_expand : (blocks : ℕ → Block) (j : ℕ) (heads : List ℕ) (a : Item) → In a (expand blocks j heads)
     → Expanded blocks j heads a
 from_expand blocks j [] a h = elim h [ ]
-from_expand blocks j (g ∷ heads) a h = by (in_either (map (item_at j) (blocks g).spots) h)
+from_expand blocks j (g ∷ heads) a h = by (in_either (map (item_at j) (blocks g).dots) h)
     (λ r. from_expand blocks j heads a r)
   where
-    by : In a (map (item_at j) (blocks g).spots) ⊎ In a (expand blocks j heads)
+    by : In a (map (item_at j) (blocks g).dots) ⊎ In a (expand blocks j heads)
         → (In a (expand blocks j heads) → Expanded blocks j heads a) → Expanded blocks j (g ∷ heads) a
-    by (inl m) rec = let f = from_map j a (blocks g).spots m in
-        record { head = g; stands = now refl; spot = f.spot; lies = f.stands; is = f.is }
+    by (inl m) rec = let f = from_map j a (blocks g).dots m in
+        record { head = g; stands = now refl; dot = f.dot; lies = f.stands; is = f.is }
     by (inr r) rec = let e = rec r in record {
       head = e.head;
       stands = on e.stands;
-      spot = e.spot;
+      dot = e.dot;
       lies = e.lies;
       is = e.is;
     }
@@ -93,15 +93,15 @@ module _ (flat : code_flat.Tables) (blocks : ℕ → Block) (sets : List (List I
           → In b (full blocks (length sets) heads items)
       predicted e p =
           let block = are.block e.head (among e.head e.stands) in
-          let call : call_at flat e.spot ≡ Some (p.root, p.next) = subst (λ v. call_of flat v ≡ Some (p.root, p.next))
+          let call : call_at flat e.dot ≡ Some (p.root, p.next) = subst (λ v. call_of flat v ≡ Some (p.root, p.next))
           e.is p.call in
           let is = item_same b p.root b.step (length sets) p.begun.0 refl p.begun.2 in
           subst (λ v. In v (full blocks (length sets) heads items)) (sym is)
           (in_left items (cases (block.called p.root
-          (record { from = e.spot; stands = e.lies; next = p.next; call = call }))))
+          (record { from = e.dot; stands = e.lies; next = p.next; call = call }))))
         where
           cases : In p.root (blocks e.head).calls ⊎ ((k : ℕ) → k < begin_count flat p.root
-              → In (record { node = p.root; step = k }) (blocks e.head).spots) →
+              → In (record { node = p.root; step = k }) (blocks e.head).dots) →
               In (item_at (length sets) (record { node = p.root; step = b.step })) (expand blocks (length sets) heads)
           cases (inl there) =
               let at_root = opened.calls e.head e.stands p.root there in
@@ -114,15 +114,15 @@ module _ (flat : code_flat.Tables) (blocks : ℕ → Block) (sets : List (List I
           → In b (full blocks (length sets) heads items)
       passed e p =
           let block = are.block e.head (among e.head e.stands) in
-          let call : call_at flat e.spot ≡ Some (p.root, b.step) = subst (λ v. call_of flat v ≡ Some (p.root, b.step))
+          let call : call_at flat e.dot ≡ Some (p.root, b.step) = subst (λ v. call_of flat v ≡ Some (p.root, b.step))
           e.is p.call in
-          let node : b.node ≡ e.spot.node = p.node ∙ ap (λ v. v.node) e.is in
+          let node : b.node ≡ e.dot.node = p.node ∙ ap (λ v. v.node) e.is in
           let origin : b.origin ≡ length sets = p.origin ∙ ap (λ v. v.origin) e.is in
-          let is = item_same b e.spot.node b.step (length sets) node refl origin in
+          let is = item_same b e.dot.node b.step (length sets) node refl origin in
           subst (λ v. In v (full blocks (length sets) heads items)) (sym is)
-          (cases (block.passed (record { node = e.spot.node; step = b.step })
+          (cases (block.passed (record { node = e.dot.node; step = b.step })
           (record {
-            from = e.spot;
+            from = e.dot;
             stands = e.lies;
             root = p.root;
             call = call;
@@ -131,13 +131,13 @@ module _ (flat : code_flat.Tables) (blocks : ℕ → Block) (sets : List (List I
             node = refl;
           })))
         where
-          cases : In (record { node = e.spot.node; step = b.step }) (blocks e.head).passes
-              ⊎ In (record { node = e.spot.node; step = b.step }) (blocks e.head).spots →
-              In (item_at (length sets) (record { node = e.spot.node; step = b.step }))
+          cases : In (record { node = e.dot.node; step = b.step }) (blocks e.head).passes
+              ⊎ In (record { node = e.dot.node; step = b.step }) (blocks e.head).dots →
+              In (item_at (length sets) (record { node = e.dot.node; step = b.step }))
               (full blocks (length sets) heads items)
-          cases (inl r) = opened.passes e.head e.stands (record { node = e.spot.node; step = b.step }) r
+          cases (inl r) = opened.passes e.head e.stands (record { node = e.dot.node; step = b.step }) r
           cases (inr r) = in_left items (in_expand blocks (length sets) e.head heads
-              (record { node = e.spot.node; step = b.step }) (among e.head e.stands) r)
+              (record { node = e.dot.node; step = b.step }) (among e.head e.stands) r)
 
       completed : (e : Expanded blocks (length sets) front a) → IsCompleted flat sets [] a b
           → In b (full blocks (length sets) heads items)
@@ -193,43 +193,43 @@ different_both (x ∷ xs) ys dx dy apart =
     by (inl g) = dx.0 g
     by (inr g) = apart x (now refl) g
 
-spot_same : (j : ℕ) (p q : DottedRule) → item_at j p ≡ item_at j q → p ≡ q
-spot_same j p q h =
+dot_same : (j : ℕ) (p q : DottedRule) → item_at j p ≡ item_at j q → p ≡ q
+dot_same j p q h =
     let n : p.node ≡ q.node = ap (λ v. v.node) h in
     let s : p.step ≡ q.step = ap (λ v. v.step) h in
     ap (λ v. record { node = v; step = p.step }) n ∙ ap (λ v. record { node = q.node; step = v }) s
 
-pub different_map : (j : ℕ) (spots : List DottedRule) → AreDifferent spots → AreDifferent (map (item_at j) spots)
+pub different_map : (j : ℕ) (dots : List DottedRule) → AreDifferent dots → AreDifferent (map (item_at j) dots)
 different_map j [] d = tt
-different_map j (p ∷ spots) d = (
-  (λ h. let m = from_map j (item_at j p) spots h in
-      d.0 (subst (λ v. In v spots) (sym (spot_same j p m.spot m.is)) m.stands)),
-  different_map j spots d.1,
+different_map j (p ∷ dots) d = (
+  (λ h. let m = from_map j (item_at j p) dots h in
+      d.0 (subst (λ v. In v dots) (sym (dot_same j p m.dot m.is)) m.stands)),
+  different_map j dots d.1,
 )
 
-pub different_spots : (j : ℕ) (spots : List DottedRule) → AreDifferent (map (item_at j) spots) → AreDifferent spots
-different_spots j [] d = tt
-different_spots j (p ∷ spots) d = ((λ h. d.0 (in_map j p spots h)), different_spots j spots d.1)
+pub different_dots : (j : ℕ) (dots : List DottedRule) → AreDifferent (map (item_at j) dots) → AreDifferent dots
+different_dots j [] d = tt
+different_dots j (p ∷ dots) d = ((λ h. d.0 (in_map j p dots h)), different_dots j dots d.1)
 
 module _ (flat : code_flat.Tables) (blocks : ℕ → Block) (j : ℕ) where
   pub expand_different : (heads : List ℕ) → AreBlocks flat blocks heads → AreDifferent heads
       → AreDifferent (expand blocks j heads)
   expand_different [] are d = tt
   expand_different (h ∷ heads) are d =
-      different_both (map (item_at j) (blocks h).spots) (expand blocks j heads)
-      (different_map j (blocks h).spots (are.block h (now refl)).different)
+      different_both (map (item_at j) (blocks h).dots) (expand blocks j heads)
+      (different_map j (blocks h).dots (are.block h (now refl)).different)
       (expand_different heads (record {
         block = λ g at_g. are.block g (on at_g);
         apart = λ g k at_g at_k. are.apart g k (on at_g) (on at_k);
       }) d.1) apart
     where
-      apart : (a : Item) → In a (map (item_at j) (blocks h).spots) → In a (expand blocks j heads) → ⊥
+      apart : (a : Item) → In a (map (item_at j) (blocks h).dots) → In a (expand blocks j heads) → ⊥
       apart a m r =
-          let f = from_map j a (blocks h).spots m in
+          let f = from_map j a (blocks h).dots m in
           let e = from_expand blocks j heads a r in
-          let same : f.spot ≡ e.spot = spot_same j f.spot e.spot (sym f.is ∙ e.is) in
-          let one = are.apart h e.head (now refl) (on e.stands) e.spot
-          (subst (λ v. In v (blocks h).spots) same f.stands) e.lies in
+          let same : f.dot ≡ e.dot = dot_same j f.dot e.dot (sym f.is ∙ e.is) in
+          let one = are.apart h e.head (now refl) (on e.stands) e.dot
+          (subst (λ v. In v (blocks h).dots) same f.stands) e.lies in
           d.0 (subst (λ v. In v heads) (sym one) e.stands)
 
   -- each item once, where no item beside the blocks stands in one

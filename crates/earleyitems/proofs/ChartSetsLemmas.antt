@@ -188,15 +188,15 @@ sized_push tables kept_sets kept_set all last j f is =
     (push_cases kept_sets kept_set j f is)
 
 -- one block more
-pub size_more : (blocks : ℕ → Block) (j : ℕ) (heads : List ℕ) (k d : ℕ) (spots : List DottedRule) → k < length heads
-    → spots ≡ (blocks (slice_index_or heads k d)).spots →
-    length (expand blocks j (take (k + 1) heads)) ≡ length (expand blocks j (take k heads)) + length spots
-size_more blocks j heads k d spots lt is =
+pub size_more : (blocks : ℕ → Block) (j : ℕ) (heads : List ℕ) (k d : ℕ) (dots : List DottedRule) → k < length heads
+    → dots ≡ (blocks (slice_index_or heads k d)).dots →
+    length (expand blocks j (take (k + 1) heads)) ≡ length (expand blocks j (take k heads)) + length dots
+size_more blocks j heads k d dots lt is =
     ap (λ v. length (expand blocks j v)) (take_one heads k d lt) ∙
     (ap (λ v. length v) (expand_end blocks j (take k heads) (slice_index_or heads k d)) ∙
-    (length-append (expand blocks j (take k heads)) (map (item_at j) (blocks (slice_index_or heads k d)).spots) ∙
+    (length-append (expand blocks j (take k heads)) (map (item_at j) (blocks (slice_index_or heads k d)).dots) ∙
     ap (λ v. length (expand blocks j (take k heads)) + v)
-    (length-map (blocks (slice_index_or heads k d)).spots (item_at j) ∙ ap (λ v. length v) (sym is))))
+    (length-map (blocks (slice_index_or heads k d)).dots (item_at j) ∙ ap (λ v. length v) (sym is))))
 
 pub size_here : (tables : code_flat.Tables) (j : ℕ) (hs : List ℕ) (is : List Item) (heads : List ℕ) (items : List Item)
     (n : ℕ) → hs ≡ heads → is ≡ items → n ≡ length (full (block_of tables) j hs is) →

@@ -37,12 +37,12 @@ map_end f [] x = refl
 map_end f (y ∷ xs) x = ap (λ v. f y ∷ v) (map_end f xs x)
 
 pub expand_end : (blocks : ℕ → Block) (j : ℕ) (heads : List ℕ) (h : ℕ) → expand blocks j (heads ++ h ∷ [])
-    ≡ expand blocks j heads ++ map (item_at j) (blocks h).spots
-expand_end blocks j [] h = append-nil (map (item_at j) (blocks h).spots)
+    ≡ expand blocks j heads ++ map (item_at j) (blocks h).dots
+expand_end blocks j [] h = append-nil (map (item_at j) (blocks h).dots)
 expand_end blocks j (g ∷ heads) h =
-    ap (λ v. map (item_at j) (blocks g).spots ++ v) (expand_end blocks j heads h)
-    ∙ sym (append_assoc (map (item_at j) (blocks g).spots) (expand blocks j heads)
-    (map (item_at j) (blocks h).spots))
+    ap (λ v. map (item_at j) (blocks g).dots ++ v) (expand_end blocks j heads h)
+    ∙ sym (append_assoc (map (item_at j) (blocks g).dots) (expand blocks j heads)
+    (map (item_at j) (blocks h).dots))
 
 pub in_more : {A : Type 0} (ws : List A) (w : A) (old mid new : List A) → Adds (λ a. In a ws) old mid
     → Adds (λ a. a ≡ w) mid new → Adds (λ a. In a (ws ++ w ∷ [])) old new
@@ -126,28 +126,28 @@ module _ (flat : code_flat.Tables) (root : ℕ) where
       subst (λ v. Adds (IsAdvanced flat root v) old new) (sym (take_one ws k d lt))
       (advanced_both flat root (take k ws) (slice_index_or ws k d ∷ []) old mid new p q)
 
-  pub advanced_spots_more : (j : ℕ) (ws : List DottedRule) (k : ℕ) (d : DottedRule) (old mid new : List Item)
+  pub advanced_dots_more : (j : ℕ) (ws : List DottedRule) (k : ℕ) (d : DottedRule) (old mid new : List Item)
       → k < length ws
       → Adds (IsAdvanced flat root (map (item_at j) (take k ws))) old mid →
       Adds (IsAdvanced flat root (item_at j (slice_index_or ws k d) ∷ [])) mid new
       → Adds (IsAdvanced flat root (map (item_at j) (take (k + 1) ws))) old new
-  advanced_spots_more j ws k d old mid new lt p q =
+  advanced_dots_more j ws k d old mid new lt p q =
       subst (λ v. Adds (IsAdvanced flat root v) old new)
       (sym (ap (λ v. map (item_at j) v) (take_one ws k d lt)
       ∙ map_end (item_at j) (take k ws) (slice_index_or ws k d)))
       (advanced_both flat root (map (item_at j) (take k ws)) (item_at j (slice_index_or ws k d) ∷ []) old mid new p q)
 
-  pub advanced_heads_more : (blocks : ℕ → Block) (j : ℕ) (hs : List ℕ) (k d : ℕ) (spots : List DottedRule)
+  pub advanced_heads_more : (blocks : ℕ → Block) (j : ℕ) (hs : List ℕ) (k d : ℕ) (dots : List DottedRule)
       (old mid new : List Item) → k < length hs →
-      spots ≡ (blocks (slice_index_or hs k d)).spots → Adds (IsAdvanced flat root (expand blocks j (take k hs))) old
+      dots ≡ (blocks (slice_index_or hs k d)).dots → Adds (IsAdvanced flat root (expand blocks j (take k hs))) old
       mid →
-      Adds (IsAdvanced flat root (map (item_at j) spots)) mid new
+      Adds (IsAdvanced flat root (map (item_at j) dots)) mid new
       → Adds (IsAdvanced flat root (expand blocks j (take (k + 1) hs))) old new
-  advanced_heads_more blocks j hs k d spots old mid new lt is p q =
+  advanced_heads_more blocks j hs k d dots old mid new lt is p q =
       subst (λ v. Adds (IsAdvanced flat root v) old new)
       (sym (ap (λ v. expand blocks j v) (take_one hs k d lt)
       ∙ expand_end blocks j (take k hs) (slice_index_or hs k d)))
-      (advanced_both flat root (expand blocks j (take k hs)) (map (item_at j) (blocks (slice_index_or hs k d)).spots)
+      (advanced_both flat root (expand blocks j (take k hs)) (map (item_at j) (blocks (slice_index_or hs k d)).dots)
       old
       mid new p
       (subst (λ v. Adds (IsAdvanced flat root (map (item_at j) v)) mid new) is q))

@@ -59,7 +59,7 @@ module _ (flat : code_flat.Tables) where
       by (inl g) =
           let e = from_expand (block_of flat) j heads a g in
           in_left items' (subst (λ v. In v (expand (block_of flat) j heads')) (sym e.is)
-          (in_expand (block_of flat) j e.head heads' e.spot (more e.head e.stands) e.lies))
+          (in_expand (block_of flat) j e.head heads' e.dot (more e.head e.stands) e.lies))
       by (inr g) = in_right (expand (block_of flat) j heads') (more' a g)
 
 module _ (flat : code_flat.Tables) (roots : GiveRoots (flat_of flat) flat.roots.items)
@@ -130,9 +130,9 @@ module _ (flat : code_flat.Tables) (roots : GiveRoots (flat_of flat) flat.roots.
       (λ t. waits_early item.origin (slice_get sets item.origin) refl c.advanced.stands)
 
   module _ (ii hi : ℕ) (heads : List ℕ) (items : List Item) (g : IsWorklist flat x sets ii hi heads items) where
-    spot_holds : (h : ℕ) (p : DottedRule) → In h heads → In p (block_of flat h).spots
+    dot_holds : (h : ℕ) (p : DottedRule) → In h heads → In p (block_of flat h).dots
         → Holds (flat_of flat) x (length sets) (at p.node p.step) (length sets)
-    spot_holds h p at_h lies = inside_holds flat roots x sets earlier h (g.predicted h at_h)
+    dot_holds h p at_h lies = inside_holds flat roots x sets earlier h (g.predicted h at_h)
         ((tables.block h (g.are_heads h at_h)).inside p lies)
 
     pub full_held : Hold (flat_of flat) x (length sets) (full (block_of flat) (length sets) heads items)
@@ -143,7 +143,7 @@ module _ (flat : code_flat.Tables) (roots : GiveRoots (flat_of flat) flat.roots.
         by (inl i) =
             let e = from_expand (block_of flat) (length sets) heads a i in
             subst (λ v. Holds (flat_of flat) x (length sets) (at v.node v.step) v.origin) (sym e.is)
-            (spot_holds e.head e.spot e.stands e.lies)
+            (dot_holds e.head e.dot e.stands e.lies)
         by (inr i) = g.held a i
 
     are_blocks : AreBlocks flat (block_of flat) heads
@@ -159,7 +159,7 @@ module _ (flat : code_flat.Tables) (roots : GiveRoots (flat_of flat) flat.roots.
         apart : (a : Item) → In a (expand (block_of flat) (length sets) heads) → In a items → ⊥
         apart a i h =
             let e = from_expand (block_of flat) (length sets) heads a i in
-            let begins = inside_begins flat ((tables.block e.head (g.are_heads e.head e.stands)).inside e.spot
+            let begins = inside_begins flat ((tables.block e.head (g.are_heads e.head e.stands)).inside e.dot
             e.lies) in
             let lt : a.step < begin_count flat a.node = subst (λ v. v.step < begin_count flat v.node) (sym e.is)
             begins in
@@ -297,7 +297,7 @@ module _ (flat : code_flat.Tables) (roots : GiveRoots (flat_of flat) flat.roots.
           → Holds (flat_of flat) x (length sets) (at r.node r.step) (length sets)
       passed_holds_here r h =
           let p = this_block.passes r h in
-          let from = spot_holds (slice_index_or heads hi d) p.from at_this p.stands in
+          let from = dot_holds (slice_index_or heads hi d) p.from at_this p.stands in
           passed_holds flat roots nulls x sets earlier (item_at (length sets) p.from) (item_at (length sets) r) from
           (record { root = p.root; call = p.call; null = p.null; free = p.free; node = p.node; origin = refl })
 
@@ -337,7 +337,7 @@ module _ (flat : code_flat.Tables) (roots : GiveRoots (flat_of flat) flat.roots.
           predicted h (inr c) k lt =
               let p = this_block.calls h c in
               asked_predicted (item_at (length sets) p.from) h p.next k
-              (spot_holds (slice_index_or heads hi d) p.from at_this p.stands) p.call lt
+              (dot_holds (slice_index_or heads hi d) p.from at_this p.stands) p.call lt
 
           under : (h : ℕ) → In h heads ⊎ In h (block_of flat (slice_index_or heads hi d)).calls
               → h < length flat.nodes.items
@@ -355,13 +355,13 @@ module _ (flat : code_flat.Tables) (roots : GiveRoots (flat_of flat) flat.roots.
           held a (inr m) =
               let f = from_map (length sets) a (block_of flat (slice_index_or heads hi d)).passes m in
               subst (λ v. Holds (flat_of flat) x (length sets) (at v.node v.step) v.origin) (sym f.is)
-              (passed_holds_here f.spot f.stands)
+              (passed_holds_here f.dot f.stands)
 
           begins_not : (a : Item) → In a (map (item_at (length sets))
               (block_of flat (slice_index_or heads hi d)).passes) → a.step < begin_count flat a.node → ⊥
           begins_not a m lt =
               let f = from_map (length sets) a (block_of flat (slice_index_or heads hi d)).passes m in
-              this_block.late f.spot f.stands (subst (λ v. v.step < begin_count flat v.node) f.is lt)
+              this_block.late f.dot f.stands (subst (λ v. v.step < begin_count flat v.node) f.is lt)
 
           late : (a : Item) → In a items ⊎ In a (map (item_at (length sets))
               (block_of flat (slice_index_or heads hi d)).passes) → IsLate flat a

@@ -6,12 +6,12 @@ use Rattle.std.proofs.lemmas.List.{map-append, take_all}
 use Rattle.flatgrammar.proofs.SliceGetLemmas.{get_below}
 use Rattle.flatgrammar.proofs.CallOfLemmas.{some_same}
 use Rattle.flatgrammar.proofs.SliceGetLemmas.{push_cases}
-use Rattle.flatgrammar.proofs.SpotListLemmas.{readers_pick}
-use Rattle.flatgrammar.specs.Blocks.{home_of, home_or, inner_of, AreHomes, AreSpotLists, block_of, item_at, lists_of}
+use Rattle.flatgrammar.proofs.DotListLemmas.{readers_pick}
+use Rattle.flatgrammar.specs.Blocks.{home_of, home_or, inner_of, AreHomes, AreDotLists, block_of, item_at, lists_of}
 use Rattle.flatgrammar.specs.Blocks.{readers_of}
 use Rattle.flatgrammar.specs.declared.block.DottedRule.{DottedRule}
 use Rattle.flatgrammar.specs.declared.inner.Inner.{Inner}
-use Rattle.flatgrammar.specs.declared.spot_list.Ask.{Ask}
+use Rattle.flatgrammar.specs.declared.dot_list.Ask.{Ask}
 use Rattle.flatgrammar.specs.Places.{In, now, on}
 use Rattle.flatgrammar.specs.declared.flat_item.Item.{Item}
 use Rattle.flatgrammar.specs.declared.tables.Tables as code_flat
@@ -107,18 +107,18 @@ module _ (flat : code_flat.Tables) where
   -- what a block has is at home where its head is
   module _ (are_homes : AreHomes flat) (rows : List (List ℕ)) (heads : List ℕ) (h j k : ℕ) (p : DottedRule)
       (row : slice_index_or rows j [] ≡ heads) (at : slice_get heads k ≡ Some h) where
-    pub spot_home : In p (block_of flat h).spots → IsHome flat rows (item_at j p) k
-    spot_home stands = ap (λ v. slice_get v k) row ∙ (at ∙ ap Some (sym (are_homes.spots h p stands)))
+    pub dot_home : In p (block_of flat h).dots → IsHome flat rows (item_at j p) k
+    dot_home stands = ap (λ v. slice_get v k) row ∙ (at ∙ ap Some (sym (are_homes.dots h p stands)))
 
     pub pass_home : In p (block_of flat h).passes → IsHome flat rows (item_at j p) k
     pass_home stands = ap (λ v. slice_get v k) row ∙ (at ∙ ap Some (sym (are_homes.passes h p stands)))
 
-  pub site_stands : (lists : AreSpotLists flat) (h : ℕ) (site : Ask) → In site (lists_of flat h).asks
-      → In site.spot (block_of flat h).spots
-  site_stands lists h site stands = (lists h).0.0 site.spot (in_mapped (λ a. a.spot) stands)
+  pub site_stands : (lists : AreDotLists flat) (h : ℕ) (site : Ask) → In site (lists_of flat h).asks
+      → In site.dot (block_of flat h).dots
+  site_stands lists h site stands = (lists h).0.0 site.dot (in_mapped (λ a. a.dot) stands)
 
-  pub reader_stands : (lists : AreSpotLists flat) (h c : ℕ) (p : DottedRule) → In p (readers_of flat h c)
-      → In p (block_of flat h).spots
+  pub reader_stands : (lists : AreDotLists flat) (h c : ℕ) (p : DottedRule) → In p (readers_of flat h c)
+      → In p (block_of flat h).dots
   reader_stands lists h c p stands = (readers_pick flat h c lists).0 p stands
 
   pub home_own : (t : ℕ) → inner_of flat t ≡ None → home_of flat t ≡ t

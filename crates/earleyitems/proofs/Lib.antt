@@ -16,7 +16,7 @@ pub mod ItemLemmas
 pub mod AreBucketsLemmas
 pub mod RecordsLemmas
 pub mod SetAtMostLemmas
-pub mod SetSpotsLemmas
+pub mod SetDotsLemmas
 pub mod SetsLemmas
 pub mod ViewsLemmas
 pub mod ListAllLemmas

@@ -18,8 +18,8 @@ use Rattle.earleyitems.specs.EarleySets.{EarleySet, GoesOn}
 use Rattle.earleyitems.specs.SetViews.{view}
 use Rattle.earleyitems.specs.Waiting.{IsSkippedTo, Chain, ended, linked, IsListed, call_site_at, AreWaiting}
 use Rattle.earleyitems.specs.Waiting.{AreWaitingAll}
-use Rattle.flatgrammar.specs.Blocks.{item_at, block_of, inner_of, lists_of, spots_of, AreSpotLists}
-use Rattle.flatgrammar.specs.declared.spot_list.Ask.{Ask}
+use Rattle.flatgrammar.specs.Blocks.{item_at, block_of, inner_of, lists_of, dots_of, AreDotLists}
+use Rattle.flatgrammar.specs.declared.dot_list.Ask.{Ask}
 use Rattle.earleyitems.proofs.BlockLemmas.{in_right, in_either, in_map, from_map}
 use Rattle.earleyitems.proofs.AddsLemmas.{adds_none, adds_both, adds_as}
 use Rattle.earleyitems.proofs.ExpandLemmas.{take_one}
@@ -169,9 +169,9 @@ pub listed_chain : {waiters all : List Waiter} {first from : ℕ} {Q : Item → 
 listed_chain {waiters = waiters} {all = all} {from = from} l same go = subst (λ v. Chain v from l.items) (sym go.1)
     (subst (λ n. Chain (waiters ++ go.0) n l.items) same (chain_more go.0 l.chain))
 
-call_site_spots : (j : ℕ) (sites : List Ask) → map (call_site_at j) sites ≡ map (item_at j) (spots_of sites)
-call_site_spots j [] = refl
-call_site_spots j (site ∷ sites) = ap (λ v. call_site_at j site ∷ v) (call_site_spots j sites)
+call_site_dots : (j : ℕ) (sites : List Ask) → map (call_site_at j) sites ≡ map (item_at j) (dots_of sites)
+call_site_dots j [] = refl
+call_site_dots j (site ∷ sites) = ap (λ v. call_site_at j site ∷ v) (call_site_dots j sites)
 
 -- one more set
 pub waiting_push : (flat : code_flat.Tables) (kept_sets : List EarleySet) (kept_set : EarleySet)
@@ -370,18 +370,18 @@ module _ (flat : code_flat.Tables) (heads : List ℕ) where
           by (inr i) = in_right seen (stand r.from i)
 
   -- of a block the places that call a root with a block of its own are enough
-  pub waiting_callers : (lists : AreSpotLists flat) (head j : ℕ) (seen : List Item) (firsts : List ℕ)
+  pub waiting_callers : (lists : AreDotLists flat) (head j : ℕ) (seen : List Item) (firsts : List ℕ)
       (waiters : List Waiter) →
       AreWaiting flat (seen ++ map (call_site_at j) (lists_of flat head).asks) heads firsts waiters
-      → AreWaiting flat (seen ++ map (item_at j) (block_of flat head).spots) heads firsts waiters
+      → AreWaiting flat (seen ++ map (item_at j) (block_of flat head).dots) heads firsts waiters
   waiting_callers lists head j seen firsts waiters are =
-      waiting_fewer seen (map (item_at j) (spots_of (lists_of flat head).asks))
-      (map (item_at j) (block_of flat head).spots) firsts waiters
-      (λ a i. let m = from_map j a (spots_of (lists_of flat head).asks) i in
-      subst (λ v. In v (map (item_at j) (block_of flat head).spots)) (sym m.is)
-      (in_map j m.spot (block_of flat head).spots ((lists head).0.0 m.spot m.stands)))
-      (λ a t l i call own. let m = from_map j a (block_of flat head).spots i in
-      subst (λ v. In v (map (item_at j) (spots_of (lists_of flat head).asks))) (sym m.is)
-      (in_map j m.spot (spots_of (lists_of flat head).asks)
-      ((lists head).0.1 m.spot m.stands (t, l, subst (λ v. call_of flat v ≡ Some (t, l)) m.is call, own))))
-      (subst (λ v. AreWaiting flat (seen ++ v) heads firsts waiters) (call_site_spots j (lists_of flat head).asks) are)
+      waiting_fewer seen (map (item_at j) (dots_of (lists_of flat head).asks))
+      (map (item_at j) (block_of flat head).dots) firsts waiters
+      (λ a i. let m = from_map j a (dots_of (lists_of flat head).asks) i in
+      subst (λ v. In v (map (item_at j) (block_of flat head).dots)) (sym m.is)
+      (in_map j m.dot (block_of flat head).dots ((lists head).0.0 m.dot m.stands)))
+      (λ a t l i call own. let m = from_map j a (block_of flat head).dots i in
+      subst (λ v. In v (map (item_at j) (dots_of (lists_of flat head).asks))) (sym m.is)
+      (in_map j m.dot (dots_of (lists_of flat head).asks)
+      ((lists head).0.1 m.dot m.stands (t, l, subst (λ v. call_of flat v ≡ Some (t, l)) m.is call, own))))
+      (subst (λ v. AreWaiting flat (seen ++ v) heads firsts waiters) (call_site_dots j (lists_of flat head).asks) are)

@@ -16,7 +16,7 @@ use Rattle.earleyitems.specs.EarleySets.{last_waiters}
 use Rattle.earleyitems.specs.EarleySets.{AreBounds, AreStored, AreSameHeads, GoesOn, GoOn}
 use Rattle.earleyitems.proofs.AreBucketsLemmas.{or_get, get_index}
 use Rattle.earleyitems.proofs.ExpandLemmas.{take_past, take_one, map_end}
-use Rattle.earleyitems.proofs.SetsLemmas.{all_bounds_push, part_appended, behind_new, rest_long, go_longer}
+use Rattle.earleyitems.proofs.SetsLemmas.{all_bounds_push, part_appended, after_new, rest_long, go_longer}
 
 -- entries of lists
 pub set_get : {A : Type 0} (xs ys : List A) (k : ℕ) (a : A) → k < length xs → slice_get (xs ++ ys) k ≡ Some a
@@ -107,33 +107,33 @@ added_stored old new bounds all b is go are here ends = subst (λ v. AreStored n
 })
 
 -- what comes after the first entries
-pub behind_is : {A : Type 0} (old xs more : List A) (from : ℕ) → xs ≡ old ++ more → from ≡ length old
+pub after_is : {A : Type 0} (old xs more : List A) (from : ℕ) → xs ≡ old ++ more → from ≡ length old
     → take (length xs - from) (drop from xs) ≡ more
-behind_is old xs more from is same =
+after_is old xs more from is same =
     (part_appended old xs more (record { from = from; to = length xs }) is same refl).is
 
 -- the records of a set, written after those of the others
-pub record AreBehind (heads : List ℕ) (old new here : List Record) (part : IndexRange) : Type 0 where
+pub record AreAfter (heads : List ℕ) (old new here : List Record) (part : IndexRange) : Type 0 where
   pub goes : GoesOn old new
   pub part_is : part_of new part ≡ here
   pub heads_are : heads_of (part_of new part) ≡ heads
 
-pub are_behind : (heads : List ℕ) (old xs here rest : List Record) (from n to : ℕ)
+pub are_after : (heads : List ℕ) (old xs here rest : List Record) (from n to : ℕ)
     → xs ≡ old ++ fresh heads → from ≡ length old →
     length here ≡ length (take (length xs - from) (drop from xs)) →
     AreSameHeads (take (length xs - from) (drop from xs)) here → n ≡ length xs → to ≡ n →
-    AreBehind heads old (take n (put_mid from (length xs - from) xs here ++ rest)) here
+    AreAfter heads old (take n (put_mid from (length xs - from) xs here ++ rest)) here
     (record { from = from; to = to })
-are_behind heads old xs here rest from n to are same long same_heads size end =
+are_after heads old xs here rest from n to are same long same_heads size end =
     let new = take n (put_mid from (length xs - from) xs here ++ rest) in
-    let is : new ≡ old ++ here = behind_new old xs here rest from n (fresh heads, are) same long size in
+    let is : new ≡ old ++ here = after_new old xs here rest from n (fresh heads, are) same long size in
     let sum = ap (λ v. length v) is ∙ length-append old here in
     let wide = rest_long xs from in
     let longer = go_longer old xs (fresh heads, are) in
     let part : IndexRange = record { from = from; to = to } in
     let full : to ≡ length new = omega (arith, sum, wide, longer, long, same, size, end) in
     let put = part_appended old new here part is same full in
-    let slice = behind_is old xs (fresh heads) from are same in
+    let slice = after_is old xs (fresh heads) from are same in
     let fresh_same : AreSameHeads (fresh heads) here = subst (λ v. AreSameHeads v here) slice same_heads in
     record {
       goes = (here, is);

@@ -47,10 +47,10 @@ pub goes_farther : {A : Type 0} (old mid new : List A) → GoesOn old mid → Go
 goes_farther old mid new p q = (p.0 ++ q.0, q.1 ∙ (ap (λ v. v ++ q.0) p.1 ∙ append_assoc old p.0 q.0))
 
 -- what is written after the first entries
-pub written_behind : {A : Type 0} (xs ys rest : List A) (from n : ℕ) → from ≤ length xs → length ys ≡ length xs - from
+pub written_after : {A : Type 0} (xs ys rest : List A) (from n : ℕ) → from ≤ length xs → length ys ≡ length xs - from
     → n ≡ length xs →
     take n (put_mid from (length xs - from) xs ys ++ rest) ≡ take from xs ++ ys
-written_behind xs ys rest from n le size is =
+written_after xs ys rest from n le size is =
     let count = length-append (take from xs) (ys ++ post_of from (length xs - from) xs) in
     let back = length-append ys (post_of from (length xs - from) xs) in
     let front : length (take from xs) ≡ from = length-take-le from xs le in
@@ -63,21 +63,21 @@ written_behind xs ys rest from n le size is =
 pub rest_long : {A : Type 0} (xs : List A) (from : ℕ) → length (take (length xs - from) (drop from xs))
     ≡ length xs - from
 rest_long xs from =
-    let behind = length-drop from xs in
-    ap (λ v. length v) (take_all (length xs - from) (drop from xs) (omega (arith, behind))) ∙ behind
+    let after = length-drop from xs in
+    ap (λ v. length v) (take_all (length xs - from) (drop from xs) (omega (arith, after))) ∙ after
 
 -- what is written after a list that goes on
-pub behind_new : {A : Type 0} (old xs ys rest : List A) (from n : ℕ) → GoesOn old xs → from ≡ length old →
+pub after_new : {A : Type 0} (old xs ys rest : List A) (from n : ℕ) → GoesOn old xs → from ≡ length old →
     length ys ≡ length (take (length xs - from) (drop from xs)) → n ≡ length xs →
     take n (put_mid from (length xs - from) xs ys ++ rest) ≡ old ++ ys
-behind_new old xs ys rest from n go same size is =
+after_new old xs ys rest from n go same size is =
     let longer = go_longer old xs go in
     let le : from ≤ length xs = omega (arith, longer, same) in
     let count : length ys ≡ length xs - from = size ∙ rest_long xs from in
     let front : take from xs ≡ old =
     ap (λ v. take from v) go.1 ∙ (take-append-le from old go.0 (omega (arith, same)) ∙ take_all from old
     (omega (arith, same))) in
-    written_behind xs ys rest from n le count is ∙ ap (λ v. v ++ ys) front
+    written_after xs ys rest from n le count is ∙ ap (λ v. v ++ ys) front
 
 -- what was appended to a list
 pub part_appended : {A : Type 0} (old new more : List A) (part : IndexRange) → new ≡ old ++ more

@@ -114,11 +114,11 @@ module _ (flat : code_flat.Tables) (roots : GiveRoots (flat_of flat) flat.roots.
   first_in : (a : Item) → IsFirst flat x sets a → In a (full (block_of flat) (length sets) heads items)
   first_in a (inl w) =
       let at_root = begun.all w.1.root (w.0, w.1.is) in
-      let spot = tables.whole w.1.root w.1.is a.step w.1.begun.1 in
+      let dot = tables.whole w.1.root w.1.is a.step w.1.begun.1 in
       let is = item_same a w.1.root a.step (length sets) w.1.begun.0 refl (w.1.begun.2 ∙ sym w.0) in
       subst (λ v. In v (full (block_of flat) (length sets) heads items)) (sym is)
       (in_left items (in_expand (block_of flat) (length sets) w.1.root heads (record { node = w.1.root; step = a.step })
-      at_root spot))
+      at_root dot))
   first_in a (inr r) = in_right (expand (block_of flat) (length sets) heads) (after.all a r)
 
   pub set_built : (new : List Item) → Hold (flat_of flat) x (length sets) new → AreDifferent new
@@ -204,46 +204,46 @@ not_more item ws w none differs h = by (before_end item w ws h)
     by (inl g) = none g
     by (inr same) = differs same
 
-pub spots_none : (j : ℕ) (item : Item) (spots : List DottedRule) (k : ℕ) (d : DottedRule) → k < length spots
-    → (In item (map (item_at j) (take k spots)) → ⊥) → (item ≡ item_at j (slice_index_or spots k d) → ⊥) →
-    In item (map (item_at j) (take (k + 1) spots)) → ⊥
-spots_none j item spots k d lt none differs h =
-    not_more item (map (item_at j) (take k spots)) (item_at j (slice_index_or spots k d)) none differs
-    (subst (λ v. In item v) (ap (λ v. map (item_at j) v) (take_one spots k d lt)
-    ∙ map_end (item_at j) (take k spots) (slice_index_or spots k d)) h)
+pub dots_none : (j : ℕ) (item : Item) (dots : List DottedRule) (k : ℕ) (d : DottedRule) → k < length dots
+    → (In item (map (item_at j) (take k dots)) → ⊥) → (item ≡ item_at j (slice_index_or dots k d) → ⊥) →
+    In item (map (item_at j) (take (k + 1) dots)) → ⊥
+dots_none j item dots k d lt none differs h =
+    not_more item (map (item_at j) (take k dots)) (item_at j (slice_index_or dots k d)) none differs
+    (subst (λ v. In item v) (ap (λ v. map (item_at j) v) (take_one dots k d lt)
+    ∙ map_end (item_at j) (take k dots) (slice_index_or dots k d)) h)
 
-pub spots_some : (j : ℕ) (item : Item) (spots : List DottedRule) (k : ℕ) (d : DottedRule) → k < length spots
-    → item ≡ item_at j (slice_index_or spots k d) → In item (map (item_at j) spots)
-spots_some j item spots k d lt same = subst (λ v. In v (map (item_at j) spots)) (sym same)
-    (in_map j (slice_index_or spots k d) spots (at_index_in spots k d lt))
+pub dots_some : (j : ℕ) (item : Item) (dots : List DottedRule) (k : ℕ) (d : DottedRule) → k < length dots
+    → item ≡ item_at j (slice_index_or dots k d) → In item (map (item_at j) dots)
+dots_some j item dots k d lt same = subst (λ v. In v (map (item_at j) dots)) (sym same)
+    (in_map j (slice_index_or dots k d) dots (at_index_in dots k d lt))
 
-pub heads_none : (blocks : ℕ → Block) (j : ℕ) (item : Item) (heads : List ℕ) (k d : ℕ) (spots : List DottedRule)
-    → k < length heads → spots ≡ (blocks (slice_index_or heads k d)).spots →
-    (In item (expand blocks j (take k heads)) → ⊥) → (In item (map (item_at j) spots) → ⊥)
+pub heads_none : (blocks : ℕ → Block) (j : ℕ) (item : Item) (heads : List ℕ) (k d : ℕ) (dots : List DottedRule)
+    → k < length heads → dots ≡ (blocks (slice_index_or heads k d)).dots →
+    (In item (expand blocks j (take k heads)) → ⊥) → (In item (map (item_at j) dots) → ⊥)
     → In item (expand blocks j (take (k + 1) heads)) → ⊥
-heads_none blocks j item heads k d spots lt is none differs h =
+heads_none blocks j item heads k d dots lt is none differs h =
     by (in_either (expand blocks j (take k heads)) (subst (λ v. In item v)
     (ap (λ v. expand blocks j v) (take_one heads k d lt)
     ∙ expand_end blocks j (take k heads) (slice_index_or heads k d)) h))
   where
     by : In item (expand blocks j (take k heads)) ⊎ In item
-        (map (item_at j) (blocks (slice_index_or heads k d)).spots) → ⊥
+        (map (item_at j) (blocks (slice_index_or heads k d)).dots) → ⊥
     by (inl g) = none g
     by (inr g) = differs (subst (λ v. In item (map (item_at j) v)) (sym is) g)
 
-pub heads_some : (blocks : ℕ → Block) (j : ℕ) (item : Item) (heads : List ℕ) (k d : ℕ) (spots : List DottedRule)
-    → k < length heads → spots ≡ (blocks (slice_index_or heads k d)).spots →
-    In item (map (item_at j) spots) → In item (expand blocks j heads)
-heads_some blocks j item heads k d spots lt is h =
-    let f = from_map j item (blocks (slice_index_or heads k d)).spots (subst (λ v. In item (map (item_at j) v)) is h) in
+pub heads_some : (blocks : ℕ → Block) (j : ℕ) (item : Item) (heads : List ℕ) (k d : ℕ) (dots : List DottedRule)
+    → k < length heads → dots ≡ (blocks (slice_index_or heads k d)).dots →
+    In item (map (item_at j) dots) → In item (expand blocks j heads)
+heads_some blocks j item heads k d dots lt is h =
+    let f = from_map j item (blocks (slice_index_or heads k d)).dots (subst (λ v. In item (map (item_at j) v)) is h) in
     subst (λ v. In v (expand blocks j heads)) (sym f.is)
-    (in_expand blocks j (slice_index_or heads k d) heads f.spot (at_index_in heads k d lt) f.stands)
+    (in_expand blocks j (slice_index_or heads k d) heads f.dot (at_index_in heads k d lt) f.stands)
 
 pub heads_all : (blocks : ℕ → Block) (j : ℕ) (item : Item) (heads : List ℕ) (k : ℕ) → length heads ≤ k
     → (In item (expand blocks j (take k heads)) → ⊥) → In item (expand blocks j heads) → ⊥
 heads_all blocks j item heads k le none h = none
     (subst (λ v. In item (expand blocks j v)) (sym (take_past heads k le)) h)
 
-pub spots_all : (j : ℕ) (item : Item) (spots : List DottedRule) (k : ℕ) → length spots ≤ k
-    → (In item (map (item_at j) (take k spots)) → ⊥) → In item (map (item_at j) spots) → ⊥
-spots_all j item spots k le none h = none (subst (λ v. In item (map (item_at j) v)) (sym (take_past spots k le)) h)
+pub dots_all : (j : ℕ) (item : Item) (dots : List DottedRule) (k : ℕ) → length dots ≤ k
+    → (In item (map (item_at j) (take k dots)) → ⊥) → In item (map (item_at j) dots) → ⊥
+dots_all j item dots k le none h = none (subst (λ v. In item (map (item_at j) v)) (sym (take_past dots k le)) h)

@@ -26,13 +26,13 @@ abbrev pub set_at : List (List (Place × ℕ)) → ℕ → List (Place × ℕ)
 set_at sets j = slice_index_or sets j []
 
 -- an item of a set has this dotted rule
-pub record HasSpot (set : List (Place × ℕ)) (s : DottedRule) : Type 0 where
+pub record HasDot (set : List (Place × ℕ)) (s : DottedRule) : Type 0 where
   pub origin : ℕ
   pub stands : In {A = Place × ℕ} (at s.node s.step, origin) set
 
 -- the dotted rules are those of the items of a set
-abbrev pub AreSpotsOf : List (Place × ℕ) → List DottedRule → Type 0
-AreSpotsOf set spots = (s : DottedRule) → In s spots ↔ HasSpot set s
+abbrev pub AreDotsOf : List (Place × ℕ) → List DottedRule → Type 0
+AreDotsOf set dots = (s : DottedRule) → In s dots ↔ HasDot set s
 
 -- a list is exactly the items of set j, each once
 pub record IsSet (flat : Flat) (x : List ℕ) (j : ℕ) (set : List (Place × ℕ)) : Type 0 where

@@ -38,7 +38,7 @@ AreCalls flat callers = (c : CallingItem) → In c callers → call_of flat c.at
 -- of all items at least those that call, with what they call
 pub record AreCallers (flat : code_flat.Tables) (all : List Item) (callers : List CallingItem) : Type 0 where
   pub chosen : AreChosen (Calls flat) all (callers_of callers)
-  pub tell : AreCalls flat callers
+  pub report : AreCalls flat callers
 
 -- the readers are those of the last set
 abbrev pub AreReaders : code_flat.Tables → List EarleySet → List HomedItem → Type 0

@@ -16,7 +16,7 @@ use Rattle.flatgrammar.specs.Blocks.{Block, IsBlock, item_at, block_of, begin_co
 
 abbrev pub expand : (ℕ → Block) → ℕ → List ℕ → List Item
 expand blocks j [] = []
-expand blocks j (h ∷ heads) = map (item_at j) (blocks h).spots ++ expand blocks j heads
+expand blocks j (h ∷ heads) = map (item_at j) (blocks h).dots ++ expand blocks j heads
 
 -- a set as it is kept: the heads predicted in it, and the items beside their blocks
 abbrev pub full : (ℕ → Block) → ℕ → List ℕ → List Item → List Item
@@ -24,7 +24,7 @@ full blocks j heads items = expand blocks j heads ++ items
 
 pub record AreBlocks (flat : code_flat.Tables) (blocks : ℕ → Block) (heads : List ℕ) : Type 0 where
   pub block : (h : ℕ) → In h heads → IsBlock flat h (blocks h)
-  pub apart : (g h : ℕ) → In g heads → In h heads → (p : DottedRule) → In p (blocks g).spots → In p (blocks h).spots
+  pub apart : (g h : ℕ) → In g heads → In h heads → (p : DottedRule) → In p (blocks g).dots → In p (blocks h).dots
       → g ≡ h
 
 -- what the blocks of a front of the heads predict and advance is there

@@ -3,7 +3,7 @@ use Rattle.std.specs.Prelude.{◌≡◌, ℕ, suc, ◌<◌, ◌≤◌, ◌⊎◌
 use Rattle.flatgrammar.specs.declared.flat_item.Item.{Item}
 use Rattle.flatgrammar.specs.declared.tables.Tables as code_flat
 use Rattle.flatgrammar.specs.TableViews.{call_of}
-use Rattle.flatgrammar.specs.declared.spot_list.Ask.{Ask}
+use Rattle.flatgrammar.specs.declared.dot_list.Ask.{Ask}
 use Rattle.flatgrammar.specs.Blocks.{item_at, begin_count, inner_of}
 use Rattle.flatgrammar.specs.Places.{In}
 use Rattle.earleyitems.specs.EarleySets.{EarleySet}
@@ -38,7 +38,7 @@ item_from item step = record { node = item.node; step = step; origin = item.orig
 
 -- the item of a call site
 abbrev pub call_site_at : ℕ → Ask → Item
-call_site_at j site = item_at j site.spot
+call_site_at j site = item_at j site.dot
 
 -- for each head that no one place alone calls, the items after those that call it
 abbrev pub AreWaiting : code_flat.Tables → List Item → List ℕ → List ℕ → List Waiter → Type 0

@@ -4,8 +4,8 @@ ghost use Rattle.std.specs.Prelude.{IfNone, OnOk, OnErr, length, map, slice_get,
 ghost use Rattle.flatgrammar.specs.NodeSteps.{flat_of};
 ghost use Rattle.flatgrammar.specs.TableViews.{GiveRoots, AreNulls};
 ghost use Rattle.earleyitems.specs.Charts.{IsAfter, IsExact};
-ghost use Rattle.earleyitems.specs.ChartSets.{chart_of, set_at, IsSet, AreSized, AreSpotsOf, HaveMoreItems};
-ghost use Rattle.flatgrammar.specs.Blocks.{AreExact, block_of, item_at, AreTables, AreAlone, AreHomes, AreSpotLists};
+ghost use Rattle.earleyitems.specs.ChartSets.{chart_of, set_at, IsSet, AreSized, AreDotsOf, HaveMoreItems};
+ghost use Rattle.flatgrammar.specs.Blocks.{AreExact, block_of, item_at, AreTables, AreAlone, AreHomes, AreDotLists};
 ghost use Rattle.earleyitems.specs.ItemHomes.{head_rows, AreItemsHomed, AreReadersHomed};
 ghost use Rattle.earleyitems.specs.ItemSets.{Adds};
 ghost use Rattle.earleyitems.specs.Waiting.{IsKept};
@@ -23,9 +23,9 @@ use crate::item::{holds, same};
 use crate::items::Items;
 use crate::postdot::{HomedItem, Postdot};
 use crate::scan::scan;
-use crate::set_spots::{push_heads, push_items};
+use crate::set_dots::{push_heads, push_items};
 use crate::sets::{Filled, Record, Sets};
-use flatgrammar::{DottedRule, Flat, Item, Tables, spots, whole_root};
+use flatgrammar::{DottedRule, Flat, Item, Tables, dots, whole_root};
 use letters::Letter;
 use ruletable::Memory;
 use std::alloc::Global;
@@ -109,18 +109,18 @@ impl ItemChart {
 
     /// Returns the dotted rules of the items of set `j`, each once or more; none if there is no such set. `Memory` if
     /// an allocation fails.
-    pub fn spots(&self, j: usize) -> Result<Vec<DottedRule>, Memory>
-        ensures { IfOk result (λ spots. AreSpotsOf (set_at self.now j) spots.items) }
+    pub fn dots(&self, j: usize) -> Result<Vec<DottedRule>, Memory>
+        ensures { IfOk result (λ dots. AreDotsOf (set_at self.now j) dots.items) }
     {
-        let mut spots = Vec::new(self.alloc);
+        let mut dots = Vec::new(self.alloc);
         match &self.tables {
-            None => Ok(spots),
+            None => Ok(dots),
             Some(tables) => match self.sets.get(j) {
-                None => Ok(spots),
+                None => Ok(dots),
                 Some(kept_set) => {
-                    push_heads(tables, kept_set.records(), &mut spots)?;
-                    push_items(kept_set.items(), &mut spots)?;
-                    Ok(spots)
+                    push_heads(tables, kept_set.records(), &mut dots)?;
+                    push_items(kept_set.items(), &mut dots)?;
+                    Ok(dots)
                 }
             },
         }
@@ -172,7 +172,7 @@ fn scan_last<L: Letter>(
     items: &mut Items,
 ) -> Result<(), Memory>
     requires length { length sets.now ≤ length line.now }
-    requires lists { AreSpotLists flat.now }
+    requires lists { AreDotLists flat.now }
     requires readers { AreReaders flat.now sets.now readers.now }
     requires different { (k : ℕ) (f : kept_set) → slice_get sets.now k ≡ Some f → AreDifferent (view flat.now k f) }
     requires empty { items.old.items ≡ [] }
@@ -205,7 +205,7 @@ fn fill_sets<L: Letter>(
     requires nulls { AreNulls (flat_of flat.now) flat.now.nulls.items }
     requires tables { AreTables flat.now }
     requires alone { AreAlone flat.now }
-    requires lists { AreSpotLists flat.now }
+    requires lists { AreDotLists flat.now }
     requires no_heads { kept.old.heads ≡ [] }
     requires homes { AreHomes flat.now }
     requires no_items { kept.old.items.items ≡ [] }
@@ -241,13 +241,13 @@ fn fill_sets<L: Letter>(
     Ok(true)
 }
 
-fn in_spots(spots: &[DottedRule], number: usize, item: Item) -> bool
-    ensures { IsTrue result ↔ In item (map (item_at number) spots.now) }
+fn in_dots(dots: &[DottedRule], number: usize, item: Item) -> bool
+    ensures { IsTrue result ↔ In item (map (item_at number) dots.now) }
 {
-    for spot in spots {
+    for dot in dots {
         let other = Item {
-            node: spot.node,
-            step: spot.step,
+            node: dot.node,
+            step: dot.step,
             origin: number,
         };
         if same(item, other) {
@@ -261,7 +261,7 @@ fn in_heads(flat: &Tables, records: &[Record], number: usize, item: Item) -> boo
     ensures { IsTrue result ↔ In item (expand (block_of flat.now) number (heads_of records.now)) }
 {
     for record in records {
-        if in_spots(spots(flat, record.head), number, item) {
+        if in_dots(dots(flat, record.head), number, item) {
             return true;
         }
     }
@@ -309,12 +309,13 @@ fn judge_by<L: Letter>(
     requires exact { AreExact tables.value }
     requires none { sets ≡ [] }
     requires empty { chart.old ≡ [] }
-    ensures sets { IfOk result (λ told. IfSome told (λ _. (j : ℕ) → IsSet (flat_of tables.value)
+    ensures sets { IfOk result (λ reported. IfSome reported (λ _. (j : ℕ) → IsSet (flat_of tables.value)
         (map L.number line.now) j (set_at chart.new j))) }
-    ensures answer { IfOk result (λ told. IfSome told (λ yes. IsTrue yes ↔ Holds (flat_of tables.value)
+    ensures answer { IfOk result (λ reported. IfSome reported (λ yes. IsTrue yes ↔ Holds (flat_of tables.value)
         (map L.number line.now) (length line.now) (Place.at (flat_of tables.value).whole 1) 0)) }
-    ensures none { IfOk result (λ told. IfNone told (chart.new ≡ [])) }
-    ensures more { IfOk result (λ told. IfNone told (HaveMoreItems (flat_of tables.value) (map L.number line.now)
+    ensures none { IfOk result (λ reported. IfNone reported (chart.new ≡ [])) }
+    ensures more { IfOk result (λ reported. IfNone reported (HaveMoreItems (flat_of tables.value)
+        (map L.number line.now)
         most)) }
     ensures empty { OnErr result (chart.new ≡ []) }
 {
@@ -345,12 +346,13 @@ pub fn judge_within<L: Letter>(
     most: usize,
 ) -> Result<Option<bool>, Memory>
     requires { length line.now ≤ flat.now.limit }
-    ensures sets { IfOk result (λ told. IfSome told (λ _. (j : ℕ) → IsSet flat.now (map L.number line.now) j
+    ensures sets { IfOk result (λ reported. IfSome reported (λ _. (j : ℕ) → IsSet flat.now (map L.number line.now) j
         (set_at chart.new j))) }
-    ensures answer { IfOk result (λ told. IfSome told (λ yes. IsTrue yes ↔ Holds flat.now (map L.number line.now)
+    ensures answer { IfOk result (λ reported. IfSome reported (λ yes. IsTrue yes
+        ↔ Holds flat.now (map L.number line.now)
         (length line.now) (Place.at flat.now.whole 1) 0)) }
-    ensures none { IfOk result (λ told. IfNone told (chart.new ≡ [])) }
-    ensures more { IfOk result (λ told. IfNone told (HaveMoreItems flat.now (map L.number line.now) most)) }
+    ensures none { IfOk result (λ reported. IfNone reported (chart.new ≡ [])) }
+    ensures more { IfOk result (λ reported. IfNone reported (HaveMoreItems flat.now (map L.number line.now) most)) }
     ensures empty { OnErr result (chart.new ≡ []) }
 {
     let (sets, kept) = chart.take_kept();

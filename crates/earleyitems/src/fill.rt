@@ -9,7 +9,7 @@ ghost use Rattle.earleyitems.specs.Worklist.{AdvancesNullable};
 ghost use Rattle.earleyitems.specs.ItemSets.{Adds, IsAdvanced, waiting_in, IsCompleted};
 ghost use Rattle.flatgrammar.specs.Blocks.{block_of, item_at, begin_count, IsHead, IsLate, AreTables, AreAlone};
 ghost use Rattle.flatgrammar.specs.Blocks.{AreHomes};
-ghost use Rattle.flatgrammar.specs.declared.block.DottedRule as code_spot;
+ghost use Rattle.flatgrammar.specs.declared.block.DottedRule as code_dot;
 ghost use Rattle.earleyitems.specs.Waiting.{Chain, AreWaiting, AreWaitingAll, BeginHere, BeginAll};
 ghost use Rattle.flatgrammar.specs.declared.flat_item.Item as code_item;
 ghost use Rattle.flatgrammar.specs.declared.tables.Tables as code_flat;
@@ -25,7 +25,7 @@ use crate::postdot::{HomedItem, Postdot, keep_caller, keep_reader};
 use crate::sets::Sets;
 use crate::waiters::Waiter;
 use flatgrammar::{
-    Deed, DottedRule, Item, Tables, call, calls, deed_of, null, passes, sole_caller, spots,
+    DottedRule, Item, Operation, Tables, call, calls, dots, null, operation_of, passes, sole_caller,
 };
 use ruletable::Memory;
 
@@ -156,12 +156,12 @@ fn advance(
     flat: &Tables,
     sets: &Sets,
     at: HomedItem,
-    deed: Deed,
+    operation: Operation,
     set: &mut Items,
 ) -> Result<(), Memory>
-    requires called { deed.called ≡ call_of flat.now at.item }
-    requires done { deed.done ≡ done_of flat.now at.item }
-    requires takes { deed.takes ≡ takes_of flat.now at.item }
+    requires called { operation.called ≡ call_of flat.now at.item }
+    requires done { operation.done ≡ done_of flat.now at.item }
+    requires takes { operation.takes ≡ takes_of flat.now at.item }
     requires alone { AreAlone flat.now }
     requires begun { BeginAll flat.now sets.now }
     requires waiting { AreWaitingAll flat.now sets.now }
@@ -174,8 +174,15 @@ fn advance(
         → IsHome flat.now rows at.item at.home → AreItemsHomed flat.now rows set.old
         → AreItemsHomed flat.now rows set.new) }
 {
-    advance_nullable(flat, at.item, deed.called, deed.takes, at.home, set)?;
-    complete(flat, sets, at, deed.done, set)?;
+    advance_nullable(
+        flat,
+        at.item,
+        operation.called,
+        operation.takes,
+        at.home,
+        set,
+    )?;
+    complete(flat, sets, at, operation.done, set)?;
     Ok(())
 }
 
@@ -190,23 +197,18 @@ fn predict_all(calls: &[usize], heads: &mut Heads) -> Result<(), Memory>
 }
 
 /// Adds dotted rules with an origin.
-fn add_spots(
-    spots: &[DottedRule],
-    origin: usize,
-    home: usize,
-    set: &mut Items,
-) -> Result<(), Memory>
-    ensures added { IfOk result (λ done. Adds (λ a. In a (map (item_at origin) spots.now)) set.old.items
+fn add_dots(dots: &[DottedRule], origin: usize, home: usize, set: &mut Items) -> Result<(), Memory>
+    ensures added { IfOk result (λ done. Adds (λ a. In a (map (item_at origin) dots.now)) set.old.items
         set.new.items) }
     ensures homes { IfOk result (λ done. (flat : code_flat.Tables) (rows : List (List ℕ))
-        → ((p : code_spot.DottedRule) → In p spots.now → IsHome flat rows (item_at origin p) home)
+        → ((p : code_dot.DottedRule) → In p dots.now → IsHome flat rows (item_at origin p) home)
         → AreItemsHomed flat rows set.old → AreItemsHomed flat rows set.new) }
 {
-    for spot in spots {
+    for dot in dots {
         set.add(
             Item {
-                node: spot.node,
-                step: spot.step,
+                node: dot.node,
+                step: dot.step,
                 origin,
             },
             home,
@@ -249,11 +251,11 @@ fn process_item(
         → AreReadersHomed flat.now rows postdot.old.readers.items
         → AreReadersHomed flat.now rows postdot.new.readers.items) }
 {
-    let deed = deed_of(flat, at.item);
-    predict(deed.called, heads)?;
-    keep_caller(at, deed.called, &mut postdot.callers)?;
-    keep_reader(at, deed.reads, &mut postdot.readers)?;
-    advance(flat, sets, at, deed, items)?;
+    let operation = operation_of(flat, at.item);
+    predict(operation.called, heads)?;
+    keep_caller(at, operation.called, &mut postdot.callers)?;
+    keep_reader(at, operation.reads, &mut postdot.readers)?;
+    advance(flat, sets, at, operation, items)?;
     Ok(())
 }
 
@@ -270,12 +272,12 @@ fn process_head(
     ensures items { IfOk result (λ done. Adds (λ a. In a (map (item_at origin) (block_of flat.now head).passes))
         items.old.items items.new.items) }
     ensures homes { IfOk result (λ done. (rows : List (List ℕ))
-        → ((p : code_spot.DottedRule) → In p (block_of flat.now head).passes
+        → ((p : code_dot.DottedRule) → In p (block_of flat.now head).passes
         → IsHome flat.now rows (item_at origin p) home)
         → AreItemsHomed flat.now rows items.old → AreItemsHomed flat.now rows items.new) }
 {
     predict_all(calls(flat, head), heads)?;
-    add_spots(passes(flat, head), origin, home, items)?;
+    add_dots(passes(flat, head), origin, home, items)?;
     Ok(())
 }
 
@@ -332,7 +334,7 @@ pub(crate) fn fill(
             item_index += 1;
         } else if head_index < heads.len() {
             let head = heads.at(head_index);
-            let Some(sum) = blocks.checked_add(spots(flat, head).len()) else {
+            let Some(sum) = blocks.checked_add(dots(flat, head).len()) else {
                 return Err(Memory);
             };
             blocks = sum;

@@ -136,10 +136,10 @@ fn push(
 {
     let bucket = item_bucket(buckets.len(), item);
     let index = list.len();
-    let told = base + index + 1;
+    let reported = base + index + 1;
     set_entry(links, index, last)?;
     list.push(item)?;
-    buckets[bucket] = told;
+    buckets[bucket] = reported;
     Ok(())
 }
 
@@ -183,11 +183,11 @@ fn relink(
 {
     for i in 0..list.len() {
         let bucket = item_bucket(buckets.len(), list[i]);
-        let Some(told) = base.checked_add(i + 1) else {
+        let Some(reported) = base.checked_add(i + 1) else {
             return Err(Memory);
         };
         links[i] = buckets[bucket].saturating_sub(base);
-        buckets[bucket] = told;
+        buckets[bucket] = reported;
     }
     Ok(())
 }

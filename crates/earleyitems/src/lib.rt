@@ -9,7 +9,7 @@ mod item;
 mod items;
 mod postdot;
 mod scan;
-mod set_spots;
+mod set_dots;
 mod sets;
 mod waiters;
 

@@ -4,12 +4,12 @@ ghost use Rattle.std.specs.Prelude.{List, slice_index_or};
 ghost use Rattle.std.specs.Prelude.{◌∷◌};
 ghost use Rattle.flatgrammar.specs.NodeSteps.{IfSomeSet};
 ghost use Rattle.flatgrammar.specs.Places.{In, AreDifferent};
-ghost use Rattle.flatgrammar.specs.declared.block.DottedRule as code_spot;
+ghost use Rattle.flatgrammar.specs.declared.block.DottedRule as code_dot;
 ghost use Rattle.earleyitems.specs.ItemSets.{Adds};
 ghost use Rattle.earleyitems.specs.ScannedItems.{IsScannedItem, AreScannedItems};
 ghost use Rattle.earleyitems.specs.Chosen.{items_of, ReadsSome, AreChosen};
 ghost use Rattle.flatgrammar.specs.TableViews.{read_of};
-ghost use Rattle.flatgrammar.specs.Blocks.{block_of, item_at, AreSpotLists, AreHomes};
+ghost use Rattle.flatgrammar.specs.Blocks.{block_of, item_at, AreDotLists, AreHomes};
 ghost use Rattle.earleyitems.specs.ItemHomes.{IsHome, AreItemsHomed, AreReadersHomed};
 ghost use Rattle.earleyitems.specs.SetViews.{expand, view};
 ghost use Rattle.earleyitems.specs.EarleySets.{heads_of};
@@ -61,7 +61,7 @@ fn scan_items(flat: &Tables, value: u32, from: &[HomedItem], set: &mut Items) ->
 }
 
 /// Scans a symbol for the dotted rules of a closure.
-fn scan_spots(
+fn scan_dots(
     flat: &Tables,
     value: u32,
     from: &[DottedRule],
@@ -72,16 +72,16 @@ fn scan_spots(
     ensures added { IfOk result (λ done. AreScannedItems flat.now value (map (item_at origin) from.now) set.old.items
         set.new.items) }
     ensures homes { IfOk result (λ done. (rows : List (List ℕ))
-        → ((p : code_spot.DottedRule) → In p from.now → IsHome flat.now rows (item_at origin p) home)
+        → ((p : code_dot.DottedRule) → In p from.now → IsHome flat.now rows (item_at origin p) home)
         → AreItemsHomed flat.now rows set.old → AreItemsHomed flat.now rows set.new) }
 {
-    for spot in from {
+    for dot in from {
         scan_item(
             flat,
             value,
             Item {
-                node: spot.node,
-                step: spot.step,
+                node: dot.node,
+                step: dot.step,
                 origin,
             },
             home,
@@ -99,7 +99,7 @@ fn scan_heads(
     origin: usize,
     set: &mut Items,
 ) -> Result<(), Memory>
-    requires lists { AreSpotLists flat.now }
+    requires lists { AreDotLists flat.now }
     requires homes { AreHomes flat.now }
     ensures added { IfOk result (λ done. AreScannedItems flat.now value (expand (block_of flat.now) origin (heads_of
         records.now)) set.old.items set.new.items) }
@@ -108,7 +108,7 @@ fn scan_heads(
 {
     for (home, record) in records.iter().enumerate() {
         let readers = readers(flat, record.head, value);
-        scan_spots(flat, value, readers, origin, home, set)?;
+        scan_dots(flat, value, readers, origin, home, set)?;
     }
     Ok(())
 }
@@ -123,7 +123,7 @@ pub(crate) fn scan<L: Letter>(
     origin: usize,
     set: &mut Items,
 ) -> Result<(), Memory>
-    requires lists { AreSpotLists flat.now }
+    requires lists { AreDotLists flat.now }
     requires readers { AreChosen (ReadsSome flat.now) from.now.items (items_of readers.now) }
     requires different { AreDifferent (view flat.now origin from.now) }
     requires empty { set.old.items ≡ [] }

@@ -1,6 +1,6 @@
 //! The sets of a line, one after another.
 ghost use Rattle.std.specs.Prelude.{◌≡◌, ◌++◌, ◌∷◌, ℕ, List, [], length, slice_get, slice_index_or, Some, IfOk, OnOk};
-ghost use Rattle.flatgrammar.specs.Blocks.{block_of, AreHomes, AreSpotLists};
+ghost use Rattle.flatgrammar.specs.Blocks.{block_of, AreHomes, AreDotLists};
 ghost use Rattle.earleyitems.specs.Chosen.{AreCallers};
 ghost use Rattle.earleyitems.specs.SetViews.{expand};
 ghost use Rattle.earleyitems.specs.EarleySets.{EarleySet as kept_set, set_in, sets_in, AreBounds, AreStored, GoesOn};
@@ -116,7 +116,7 @@ fn store(
     number: usize,
     stores: &mut Stores,
 ) -> Result<SetBounds, Memory>
-    requires lists { AreSpotLists flat.now }
+    requires lists { AreDotLists flat.now }
     requires callers { AreCallers flat.now filled.items.now filled.callers.now }
     requires blocks { (j : ℕ) → filled.blocks ≡ length (expand (block_of flat.now) j filled.heads.now) }
     requires homes { AreHomes flat.now }
@@ -159,7 +159,7 @@ fn add_set(
     stores: &mut Stores,
 ) -> Result<(), Memory>
     requires stored { AreStored stores.old bounds.old.items }
-    requires lists { AreSpotLists flat.now }
+    requires lists { AreDotLists flat.now }
     requires callers { AreCallers flat.now filled.items.now filled.callers.now }
     requires blocks { (j : ℕ) → filled.blocks ≡ length (expand (block_of flat.now) j filled.heads.now) }
     requires homes { AreHomes flat.now }
@@ -236,7 +236,7 @@ impl Sets {
     /// more, or if an allocation fails; there is no set then.
     #[inline(always)]
     pub(crate) fn push(&mut self, flat: &Tables, filled: Filled<'_>) -> Result<(), Memory>
-        requires lists { AreSpotLists flat.now }
+        requires lists { AreDotLists flat.now }
         requires callers { AreCallers flat.now filled.items.now filled.callers.now }
         requires blocks { (j : ℕ) → filled.blocks ≡ length (expand (block_of flat.now) j filled.heads.now) }
         requires homes { AreHomes flat.now }

@@ -1,8 +1,8 @@
 //! The waiting lists of a set: for each prediction the items that its completion adds.
 ghost use Rattle.std.specs.Prelude.{◌≡◌, ◌+◌, ◌++◌, ◌∷◌, ℕ, List, [], length, map, drop, slice_index_or, Some, IfOk};
-ghost use Rattle.flatgrammar.specs.Blocks.{block_of, AreAsks, AreHomes, AreSpotLists};
+ghost use Rattle.flatgrammar.specs.Blocks.{block_of, AreAsks, AreHomes, AreDotLists};
 ghost use Rattle.flatgrammar.specs.Places.{In};
-ghost use Rattle.flatgrammar.specs.declared.spot_list.Ask as code_ask;
+ghost use Rattle.flatgrammar.specs.declared.dot_list.Ask as code_ask;
 ghost use Rattle.flatgrammar.specs.TableViews.{call_of};
 ghost use Rattle.flatgrammar.specs.declared.tables.Tables as code_flat;
 ghost use Rattle.flatgrammar.specs.declared.flat_item.Item as code_item;
@@ -83,7 +83,7 @@ fn list_call_sites(
 {
     for site in from {
         let item = Item {
-            node: site.spot.node,
+            node: site.dot.node,
             step: site.next,
             origin,
         };
@@ -102,7 +102,7 @@ fn list_blocks(
     waiters: &mut Vec<Waiter>,
 ) -> Result<(), Memory>
     requires long { length records.old ≡ length heads.now }
-    requires lists { AreSpotLists flat.now }
+    requires lists { AreDotLists flat.now }
     requires homes { AreHomes flat.now }
     ensures long { length records.new ≡ length records.old }
     ensures same { AreSameHeads records.old records.new }
@@ -158,7 +158,7 @@ fn list_all(
     records: &mut [Record],
     waiters: &mut Vec<Waiter>,
 ) -> Result<(), Memory>
-    requires lists { AreSpotLists flat.now }
+    requires lists { AreDotLists flat.now }
     requires homes { AreHomes flat.now }
     requires callers { AreCalls flat.now callers.now }
     requires long { length records.old ≡ length heads.now }
@@ -207,7 +207,7 @@ pub(crate) fn list_waiters(
     records: &mut Vec<Record>,
     waiters: &mut Vec<Waiter>,
 ) -> Result<IndexRange, Memory>
-    requires lists { AreSpotLists flat.now }
+    requires lists { AreDotLists flat.now }
     requires homes { AreHomes flat.now }
     requires callers { AreCalls flat.now callers.now }
     ensures records { GoesOn records.old.items records.new.items }

@@ -138,7 +138,7 @@ pub extern "C" fn fanquber_abnf_open(
 #[unsafe(no_mangle)]
 pub extern "C" fn fanquber_abnf_judge(alloc: Global, place: &mut CJudge, line: &[u8]) -> CAnswer
     ensures same { place.new.judge.held ≡ place.old.judge.held }
-    ensures told { IsJudgeCall line.now result place.old.judge.held }
+    ensures reported { IsJudgeCall line.now result place.old.judge.held }
 {
     capi::abnf_judge(alloc, place, line)
 }

@@ -49,15 +49,15 @@ pub record Grows {R : Type 0} (remaining : R → Option (List ℕ)) (old new : F
   pub stays : (flow_of old ≡ Open) ⊎ ((flow_of new ≡ flow_of old) × (more ≡ []) × (reader_of new ≡ reader_of old))
 
 -- What is to come is what the reader told: its end, its failure, or that it gave as much as an input may have.
-abbrev pub IsToldBy : Option (List ℕ) → Bool → Bool → ℕ → Flow → Type 0
-IsToldBy remaining failed ended allowance Open = (failed ≡ false) × (ended ≡ false)
-IsToldBy remaining failed ended allowance Ended = (failed ≡ false) × (ended ≡ true) × IsAtEnd remaining
+abbrev pub IsReportedBy : Option (List ℕ) → Bool → Bool → ℕ → Flow → Type 0
+IsReportedBy remaining failed ended allowance Open = (failed ≡ false) × (ended ≡ false)
+IsReportedBy remaining failed ended allowance Ended = (failed ≡ false) × (ended ≡ true) × IsAtEnd remaining
     × (0 < allowance)
-IsToldBy remaining failed ended allowance Broken = (failed ≡ true) ⊎ ((failed ≡ false) × (allowance ≡ 0))
+IsReportedBy remaining failed ended allowance Broken = (failed ≡ true) ⊎ ((failed ≡ false) × (allowance ≡ 0))
 
 -- A feed says of its reader what that told.
 abbrev pub IsTrueOfReader : {R : Type 0} → (R → Option (List ℕ)) → (R → Bool) → (R → Bool) → Feed R → Type 0
-IsTrueOfReader remaining failed ended f = IsToldBy (remaining (reader_of f)) (failed (reader_of f))
+IsTrueOfReader remaining failed ended f = IsReportedBy (remaining (reader_of f)) (failed (reader_of f))
     (ended (reader_of f)) (allowance_of f) (flow_of f)
 
 -- Why a feed holds no more: it is full, or the reader ended or broke before.

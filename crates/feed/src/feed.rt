@@ -5,7 +5,7 @@ ghost use Rattle.std.specs.Borrow.{sem};
 ghost use Rattle.std.specs.List.{refill};
 ghost use Rattle.circular_buffer.specs.Buffer.{buffer};
 ghost use Rattle.memchr.specs.Find.{IsFirstByte, is_byte};
-ghost use Rattle.ruletable.specs.Writing.{IsBeginning};
+ghost use Rattle.ruletable.specs.Writing.{IsPrefixOf};
 ghost use Rattle.feed.specs.Feed.{Grows, IsHeld, IsTrueOfReader, SameLoan, allowance_of, bytes_of, capacity_of};
 ghost use Rattle.feed.specs.Feed.{flow_of, input_limit, loan_of, reader_of};
 ghost use Rattle.feed.specs.Window.{LendsWindow};
@@ -81,11 +81,11 @@ impl<'a, R: Source> Feed<'a, R> {
     fn pull(&mut self, buffer: &mut [u8])
         requires room { length (bytes_of self.old) < capacity_of self.old }
         requires open { flow_of self.old ≡ Flow.Open }
-        requires told { IsTrueOfReader R.remaining R.failed R.ended self.old }
+        requires reported { IsTrueOfReader R.remaining R.failed R.ended self.old }
         requires buffer { 0 < length buffer.old }
         ensures loan { SameLoan self.old self.new }
         ensures grows { Grows R.remaining self.old self.new }
-        ensures told { IsTrueOfReader R.remaining R.failed R.ended self.new }
+        ensures reported { IsTrueOfReader R.remaining R.failed R.ended self.new }
         ensures goes { flow_of self.new ≡ Flow.Open → length (bytes_of self.old) < length (bytes_of self.new) }
         ensures few { length (bytes_of self.new) ≤ length (bytes_of self.old) + length buffer.old }
     {
@@ -111,10 +111,10 @@ impl<'a, R: Source> Feed<'a, R> {
     fn pull_few(&mut self)
         requires room { length (bytes_of self.old) < capacity_of self.old }
         requires open { flow_of self.old ≡ Flow.Open }
-        requires told { IsTrueOfReader R.remaining R.failed R.ended self.old }
+        requires reported { IsTrueOfReader R.remaining R.failed R.ended self.old }
         ensures loan { SameLoan self.old self.new }
         ensures grows { Grows R.remaining self.old self.new }
-        ensures told { IsTrueOfReader R.remaining R.failed R.ended self.new }
+        ensures reported { IsTrueOfReader R.remaining R.failed R.ended self.new }
         ensures goes { flow_of self.new ≡ Flow.Open → length (bytes_of self.old) < length (bytes_of self.new) }
         ensures few { length (bytes_of self.new) ≤ length (bytes_of self.old) + 32 }
     {
@@ -127,10 +127,10 @@ impl<'a, R: Source> Feed<'a, R> {
     fn pull_many(&mut self)
         requires room { length (bytes_of self.old) < capacity_of self.old }
         requires open { flow_of self.old ≡ Flow.Open }
-        requires told { IsTrueOfReader R.remaining R.failed R.ended self.old }
+        requires reported { IsTrueOfReader R.remaining R.failed R.ended self.old }
         ensures loan { SameLoan self.old self.new }
         ensures grows { Grows R.remaining self.old self.new }
-        ensures told { IsTrueOfReader R.remaining R.failed R.ended self.new }
+        ensures reported { IsTrueOfReader R.remaining R.failed R.ended self.new }
         ensures goes { flow_of self.new ≡ Flow.Open → length (bytes_of self.old) < length (bytes_of self.new) }
         ensures few { length (bytes_of self.new) ≤ length (bytes_of self.old) + 4096 }
     {
@@ -145,7 +145,7 @@ impl<'a, R: Source> Feed<'a, R> {
         requires { IsTrueOfReader R.remaining R.failed R.ended self.old }
         ensures loan { SameLoan self.old self.new }
         ensures grows { Grows R.remaining self.old self.new }
-        ensures told { IsTrueOfReader R.remaining R.failed R.ended self.new }
+        ensures reported { IsTrueOfReader R.remaining R.failed R.ended self.new }
         ensures few { length (bytes_of self.new) ≤ length (bytes_of self.old) + 4096 }
         ensures held { IfSome result (λ held. (self.new ≡ self.old) × IsHeld self.new held
             × (length (bytes_of self.new) ≤ capacity_of self.new)) }
@@ -177,7 +177,7 @@ impl<'a, R: Source> Feed<'a, R> {
         requires { IsTrueOfReader R.remaining R.failed R.ended self.old }
         ensures loan { SameLoan self.old self.new }
         ensures grows { Grows R.remaining self.old self.new }
-        ensures told { IsTrueOfReader R.remaining R.failed R.ended self.new }
+        ensures reported { IsTrueOfReader R.remaining R.failed R.ended self.new }
         ensures held { IsHeld self.new result }
         ensures within { length (bytes_of self.new) ≤ capacity_of self.new }
     {
@@ -200,7 +200,7 @@ impl<'a, R: Source> Feed<'a, R> {
     /// Returns the first bytes that are held, as many as lie in one piece. Nothing is moved.
     #[inline(always)]
     pub fn front(&self) -> &[u8]
-        ensures { IsBeginning result.now (bytes_of self.now) }
+        ensures { IsPrefixOf result.now (bytes_of self.now) }
     {
         let (front, _) = self.ring.as_slices();
         front

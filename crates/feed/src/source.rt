@@ -1,7 +1,7 @@
 //! Readers.
 ghost use Rattle.std.specs.Prelude.{◌≡◌, ℕ, Option, ◌≤◌, Bool, false, List, length, IfOk};
 ghost use Rattle.std.specs.Io.KnownBytes.{ReadConsumes};
-ghost use Rattle.feed.specs.Ending.{TellsEnd};
+ghost use Rattle.feed.specs.Ending.{ReportsEnd};
 ghost use Rattle.ruletable.specs.Writing.{Flags};
 
 use std::io;
@@ -31,7 +31,7 @@ pub trait Source {
         ensures within { IfOk result (λ n. n ≤ length buffer.new) }
         ensures bytes { ReadConsumes (remaining self.old) (remaining self.new) result buffer.new }
         ensures flag { Flags (failed self.old) (failed self.new) result }
-        ensures end { TellsEnd (ended self.old) (ended self.new) buffer.new result };
+        ensures end { ReportsEnd (ended self.old) (ended self.new) buffer.new result };
 
     /// Returns whether a call has failed.
     fn has_failed(&self) -> bool

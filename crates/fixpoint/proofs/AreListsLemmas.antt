@@ -12,13 +12,13 @@ use Rattle.std.proofs.lemmas.Option.{slice_get_within}
 use Rattle.fixpoint.specs.declared.needs.ListEntry.{ListEntry}
 use Rattle.fixpoint.specs.declared.needs.Users.{Users}
 use Rattle.fixpoint.specs.Demands.{Demand, row_of}
-use Rattle.fixpoint.specs.NeedCounts.{IsQueue, Told}
+use Rattle.fixpoint.specs.NeedCounts.{IsQueue, Reported}
 use Rattle.fixpoint.specs.StepRows.{row_at}
-use Rattle.fixpoint.specs.UserLists.{Chain, end, link, first_of, AreLists, AddsAll, HoldUsersTo, HoldUsers, IsTelling}
+use Rattle.fixpoint.specs.UserLists.{Chain, end, link, first_of, AreLists, AddsAll, HoldUsersTo, HoldUsers, IsReporting}
 use Rattle.fixpoint.proofs.ContainsLemmas.{in_first, in_later}
 use Rattle.fixpoint.proofs.IsDerivedLemmas.{empty_row, added_one, added_none, added_push, users_none, users_next}
 use Rattle.fixpoint.proofs.IsDerivedLemmas.{users_all}
-use Rattle.fixpoint.proofs.ToldLemmas.{other_default, told_none, told_push}
+use Rattle.fixpoint.proofs.ReportedLemmas.{other_default, reported_none, reported_push}
 
 get_before : (xs ys : List ListEntry) (k : ℕ) {l : ListEntry} → slice_get xs k ≡ Some l
     → slice_get (xs ++ ys) k ≡ Some l
@@ -149,27 +149,27 @@ goes_on links l lt at (link {k = k} {l = other} {ns = ns} there le rest) =
     let less = ap (λ v. v.next) same in
     (ns, ap (λ v. v.user ∷ ns) same, omega (arith, le, less), subst (λ v. Chain links v.next ns) same rest)
 
-pub telling_none : (links : List ListEntry) (at : ℕ) (row left order : List ℕ) → Chain links at row →
-    IsQueue left order → IsTelling links at row left order left order
-telling_none links at row left order list q = record {
+pub reporting_none : (links : List ListEntry) (at : ℕ) (row left order : List ℕ) → Chain links at row →
+    IsQueue left order → IsReporting links at row left order left order
+reporting_none links at row left order list q = record {
   front = [];
   rest = row;
   is = refl;
   list = list;
-  told = told_none left order q;
+  reported = reported_none left order q;
 }
 
 -- processing one more
-pub telling_next : {links : List ListEntry} {l : ListEntry} {at : ℕ} {row a o b p c q : List ℕ} → 0 < at →
-    slice_get links (at - 1) ≡ Some l → IsTelling links at row a o b p → Told (l.user ∷ []) b p c q →
-    IsTelling links l.next row a o c q
-telling_next {links} {l} {at} {row} {a} {o} {b} {p} {c} {q} lt here t s =
+pub reporting_next : {links : List ListEntry} {l : ListEntry} {at : ℕ} {row a o b p c q : List ℕ} → 0 < at →
+    slice_get links (at - 1) ≡ Some l → IsReporting links at row a o b p → Reported (l.user ∷ []) b p c q →
+    IsReporting links l.next row a o c q
+reporting_next {links} {l} {at} {row} {a} {o} {b} {p} {c} {q} lt here t s =
     let g = goes_on links l lt here t.list in record {
       front = t.front ++ l.user ∷ [];
       rest = g.0;
       is = t.is ∙ ap (λ v. t.front ++ v) g.1 ∙ sym (append_assoc t.front (l.user ∷ []) g.0);
       list = g.3;
-      told = told_push t.front l.user a o b p c q t.told s;
+      reported = reported_push t.front l.user a o b p c q t.reported s;
     }
 
 chain_end : (links : List ListEntry) (at : ℕ) (ns : List ℕ) → at ≤ 0 → Chain links at ns → ns ≡ []
@@ -177,27 +177,28 @@ chain_end links at ns le end = refl
 chain_end links at ns le (link {k = k} here low rest) = absurd (omega (arith, le))
 
 -- at the end of the list the whole row was processed
-pub telling_done : {links : List ListEntry} {at : ℕ} {row a o b p : List ℕ} → at ≤ 0 → IsTelling links at row a o b p →
-    Told row a o b p
-telling_done {links} {at} {row} {a} {o} {b} {p} le t =
+pub reporting_done : {links : List ListEntry} {at : ℕ} {row a o b p : List ℕ} → at ≤ 0
+    → IsReporting links at row a o b p →
+    Reported row a o b p
+reporting_done {links} {at} {row} {a} {o} {b} {p} le t =
     let none : t.rest ≡ [] = chain_end links at t.rest le t.list in
-    subst (λ v. Told v a o b p) (sym (t.is ∙ ap (λ v. t.front ++ v) none ∙ append-nil t.front)) t.told
+    subst (λ v. Reported v a o b p) (sym (t.is ∙ ap (λ v. t.front ++ v) none ∙ append-nil t.front)) t.reported
 
 -- the list that is processed goes on with a link
-pub telling_within : {links : List ListEntry} {at : ℕ} {row a o b p : List ℕ} → IsTelling links at row a o b p →
+pub reporting_within : {links : List ListEntry} {at : ℕ} {row a o b p : List ℕ} → IsReporting links at row a o b p →
     at ≤ length links
-telling_within {links} t = first_within links t.list
+reporting_within {links} t = first_within links t.list
 
-pub telling_falls : {links : List ListEntry} {l : ListEntry} {at : ℕ} {row a o b p : List ℕ} → 0 < at →
-    slice_get links (at - 1) ≡ Some l → IsTelling links at row a o b p → l.next < at
-telling_falls {links} {l} lt here t = (goes_on links l lt here t.list).2
+pub reporting_falls : {links : List ListEntry} {l : ListEntry} {at : ℕ} {row a o b p : List ℕ} → 0 < at →
+    slice_get links (at - 1) ≡ Some l → IsReporting links at row a o b p → l.next < at
+reporting_falls {links} {l} lt here t = (goes_on links l lt here t.list).2
 
 in_middle : (front ns : List ℕ) (n : ℕ) → Contains (front ++ n ∷ ns) n
 in_middle [] ns n = in_first n ns
 in_middle (m ∷ front) ns n = in_later m n (front ++ n ∷ ns) (in_middle front ns n)
 
 -- the user of that link stands in the row
-pub telling_user : {links : List ListEntry} {l : ListEntry} {at : ℕ} {row a o b p : List ℕ} → 0 < at →
-    slice_get links (at - 1) ≡ Some l → IsTelling links at row a o b p → Contains row l.user
-telling_user {links} {l} lt here t = let g = goes_on links l lt here t.list in
+pub reporting_user : {links : List ListEntry} {l : ListEntry} {at : ℕ} {row a o b p : List ℕ} → 0 < at →
+    slice_get links (at - 1) ≡ Some l → IsReporting links at row a o b p → Contains row l.user
+reporting_user {links} {l} lt here t = let g = goes_on links l lt here t.list in
     subst (λ v. Contains v l.user) (sym (t.is ∙ ap (λ v. t.front ++ v) g.1)) (in_middle t.front g.0 l.user)

@@ -15,14 +15,14 @@ use Rattle.fixpoint.proofs.ContainsLemmas.{none_of, only_one, in_first}
 use Rattle.fixpoint.specs.Distances.{AreDistances}
 use Rattle.fixpoint.specs.Fills.{AreBacksTo, IsNext, SetsBacks}
 use Rattle.fixpoint.specs.ShortChains.{AreBacks, Back}
-use Rattle.fixpoint.proofs.DistanceLemmas.{distance_told}
-use Rattle.fixpoint.proofs.FillsLemmas.{none_told, told_at}
+use Rattle.fixpoint.proofs.DistanceLemmas.{distance_reported}
+use Rattle.fixpoint.proofs.FillsLemmas.{none_reported, reported_at}
 
 pub untold_not : (far : List (Option ℕ)) (n d : ℕ) → n < length far → get_or far n None ≡ None → At far n (Some d) → ⊥
 untold_not far n d lt is h = let e = sym h ∙ (slice_get-get_or far n None lt ∙ ap Some is) in cc e
 
-pub told_here : (far : List (Option ℕ)) (n d : ℕ) → n < length far → get_or far n None ≡ Some d → At far n (Some d)
-told_here far n d lt is = slice_get-get_or far n None lt ∙ ap Some is
+pub reported_here : (far : List (Option ℕ)) (n d : ℕ) → n < length far → get_or far n None ≡ Some d → At far n (Some d)
+reported_here far n d lt is = slice_get-get_or far n None lt ∙ ap Some is
 
 pub next_by : (far : List (Option ℕ)) (n m d e : ℕ) → At far n (Some d) → At far m (Some e) → d + 1 ≡ e → IsNext far n m
 next_by far n m d e a b is = record {
@@ -47,13 +47,13 @@ sets_none far n backs = record {
   all = λ v h k. absurd (none_of v h);
 }
 
-pub sets_told : (far : List (Option ℕ)) (n m : ℕ) (backs : List (Option ℕ)) → m < length backs
+pub sets_reported : (far : List (Option ℕ)) (n m : ℕ) (backs : List (Option ℕ)) → m < length backs
     → (get_or backs m None ≡ None → ⊥) → SetsBacks far n (m ∷ []) backs backs
-sets_told far n m backs lt told = record {
+sets_reported far n m backs lt reported = record {
   count = refl;
   kept = λ v u h. h;
   only = λ v u h. inl h;
-  all = λ v h k. subst (λ z. (u : ℕ) × At backs z (Some u)) (only_one m v h) (told_at backs m lt told);
+  all = λ v h k. subst (λ z. (u : ℕ) × At backs z (Some u)) (only_one m v h) (reported_at backs m lt reported);
 }
 
 pub sets_far : (far : List (Option ℕ)) (n m : ℕ) (backs : List (Option ℕ)) → (IsNext far n m → ⊥)
@@ -117,7 +117,7 @@ sets_push far n m row a b c g h = record {
     was : (v : ℕ) → At b v None → ((w : ℕ) × At b v (Some w)) ⊎ At a v None
     was v k = ⊎_elim
         (λ blank. inr blank)
-        (λ told. inl (told.0, g.kept v told.0 told.1))
+        (λ reported. inl (reported.0, g.kept v reported.0 reported.1))
         (either v (let lt = slice_get_within b v None k in let e = g.count in omega (arith, lt, e)))
       where
         case : (v : ℕ) (o : Option ℕ) → At a v o → At a v None ⊎ ((w : ℕ) × At a v (Some w))
@@ -138,7 +138,7 @@ module _ (rows : List (List ℕ)) (s : ℕ) where
       → backs ≡ replicate count None → AreBacksTo rows s backs 0
   backs_start count backs size full fresh = record {
     count = full ∙ size;
-    sound = λ v u h. absurd (none_told count v u (subst (λ z. At z v (Some u)) fresh h));
+    sound = λ v u h. absurd (none_reported count v u (subst (λ z. At z v (Some u)) fresh h));
     whole = λ v u lt near. absurd (omega (arith, lt));
   }
 
@@ -165,8 +165,8 @@ module _ (rows : List (List ℕ)) (s : ℕ) where
         (λ less. let w = k.whole v u less near in (w.0, g.kept v w.0 w.1))
         (λ le. let e : u ≡ i = omega (arith, lt, le) in g.all v (subst (λ z. Step rows z v) e near.step) (record {
           d = near.n;
-          first = subst (λ z. At far z (Some near.n)) e (distance_told rows s far u near.n dist near.near);
-          second = distance_told rows s far v (suc near.n) dist near.far;
+          first = subst (λ z. At far z (Some near.n)) e (distance_reported rows s far u near.n dist near.near);
+          second = distance_reported rows s far v (suc near.n) dist near.far;
         }))
         (cases_lt u i);
   }
@@ -180,5 +180,5 @@ module _ (rows : List (List ℕ)) (s : ℕ) where
     count = k.count;
     sound = k.sound;
     whole = λ v u near. k.whole v u (let lt = slice_get_within far u (Some near.n)
-        (distance_told rows s far u near.n dist near.near) in let e = dist.count in omega (arith, lt, e)) near;
+        (distance_reported rows s far u near.n dist near.near) in let e = dist.count in omega (arith, lt, e)) near;
   }

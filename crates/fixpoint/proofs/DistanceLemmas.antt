@@ -28,8 +28,8 @@ module _ (rows : List (List ℕ)) (s : ℕ) where
   }
 
   -- a distance is recorded
-  pub distance_told : (far : List (Option ℕ)) (v n : ℕ) → AreDistances rows s far → Distance rows s v n
+  pub distance_reported : (far : List (Option ℕ)) (v n : ℕ) → AreDistances rows s far → Distance rows s v n
       → At far v (Some n)
-  distance_told far v n a d =
+  distance_reported far v n a d =
       let w = a.whole v n d.chain in
       subst (λ m. At far v (Some m)) (distance_is_one v w.0 n (a.sound v w.0 w.1) d) w.1

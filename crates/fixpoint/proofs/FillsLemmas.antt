@@ -19,9 +19,9 @@ some_of : (o : Option ℕ) → (o ≡ None → ⊥) → (n : ℕ) × (o ≡ Some
 some_of None h = absurd (h refl)
 some_of (Some n) h = (n, refl)
 
-pub told_at : (far : List (Option ℕ)) (m : ℕ) → m < length far → (get_or far m None ≡ None → ⊥)
+pub reported_at : (far : List (Option ℕ)) (m : ℕ) → m < length far → (get_or far m None ≡ None → ⊥)
     → (n : ℕ) × At far m (Some n)
-told_at far m lt h = let k = some_of (get_or far m None) h in (k.0, slice_get-get_or far m None lt ∙ ap Some k.1)
+reported_at far m lt h = let k = some_of (get_or far m None) h in (k.0, slice_get-get_or far m None lt ∙ ap Some k.1)
 
 pub untold_count_set : (far : List (Option ℕ)) (i d : ℕ) → i < length far → get_or far i None ≡ None
     → untold_count (set far i (Some d)) + 1 ≡ untold_count far
@@ -45,13 +45,13 @@ meets_none d far queue = record {
 
 pub meets_old : (x d : ℕ) (far : List (Option ℕ)) (queue : List ℕ) → x < length far
     → (get_or far x None ≡ None → ⊥) → Queues (x ∷ []) d far queue far queue
-meets_old x d far queue lt told = record {
+meets_old x d far queue lt reported = record {
   count = refl;
   added = [];
   is = sym (append-nil queue);
   kept = λ v n h. h;
   only = λ v n h. inl h;
-  all = λ v h. subst (λ w. (n : ℕ) × At far w (Some n)) (only_one x v h) (told_at far x lt told);
+  all = λ v h. subst (λ w. (n : ℕ) × At far w (Some n)) (only_one x v h) (reported_at far x lt reported);
   new = λ v h. absurd (none_of v h);
   left = refl;
 }
@@ -62,7 +62,7 @@ meets_new x d far queue lt untold = record {
   count = length-set far x (Some d);
   added = x ∷ [];
   is = refl;
-  kept = λ v n h. set_other far x v (Some d) (Some n) (λ e. not_told n (subst (λ w. At far w (Some n)) e h)) h;
+  kept = λ v n h. set_other far x v (Some d) (Some n) (λ e. not_reported n (subst (λ w. At far w (Some n)) e h)) h;
   only = λ v n h. ⊎_elim
       (λ here. inr (
         subst (λ w. Contains (x ∷ []) w) (sym here.0) (in_first x []),
@@ -77,8 +77,8 @@ meets_new x d far queue lt untold = record {
   left = let u = untold_count_set far x d lt untold in let l = length-append queue (x ∷ []) in omega (arith, u, l);
 }
   where
-    not_told : (n : ℕ) → At far x (Some n) → ⊥
-    not_told n h = let e = sym h ∙ (slice_get-get_or far x None lt ∙ ap Some untold) in cc e
+    not_reported : (n : ℕ) → At far x (Some n) → ⊥
+    not_reported n h = let e = sym h ∙ (slice_get-get_or far x None lt ∙ ap Some untold) in cc e
 
 pub meets_push : (row : List ℕ) (x d : ℕ) (a b c : List (Option ℕ)) (q r t : List ℕ) → Queues row d a q b r
     → Queues (x ∷ []) d b r c t → Queues (row ++ x ∷ []) d a q c t
@@ -99,7 +99,7 @@ meets_push row x d a b c q r t g h = record {
       (λ new. inr (
         subst (λ w. Contains (row ++ x ∷ []) w) (only_one x v new.0) (Contains-push row x),
         new.1,
-        behind v new.2,
+        after v new.2,
       ))
       (h.only v n k);
   all = λ v k. ⊎_elim
@@ -113,8 +113,8 @@ meets_push row x d a b c q r t g h = record {
   left = h.left ∙ g.left;
 }
   where
-    behind : (v : ℕ) → Contains h.added v → Contains (g.added ++ h.added) v
-    behind v k = let at = get_in h.added v k in
+    after : (v : ℕ) → Contains h.added v → Contains (g.added ++ h.added) v
+    after v k = let at = get_in h.added v k in
         in_get (g.added ++ h.added) (length g.added + at.0) v (at_append_right g.added h.added at.0 v at.1)
 
     old_or_new : (v : ℕ) → Contains (g.added ++ h.added) v
@@ -130,10 +130,10 @@ pub meets_next : (row : List ℕ) (i x d : ℕ) {a b c : List (Option ℕ)} {q r
 meets_next row i x d {a} {b} {c} {q} {r} {t} lt is g h =
     rw (add-one i, take-suc row i 0, sym is) (meets_push (take i row) x d a b c q r t g h)
 
-pub none_told : (count v k : ℕ) → At (replicate count None) v (Some k) → ⊥
-none_told zero v k h = cc h
-none_told (suc count) zero k h = cc h
-none_told (suc count) (suc v) k h = none_told count v k h
+pub none_reported : (count v k : ℕ) → At (replicate count None) v (Some k) → ⊥
+none_reported zero v k h = cc h
+none_reported (suc count) zero k h = cc h
+none_reported (suc count) (suc v) k h = none_reported count v k h
 
 module _ (rows : List (List ℕ)) (s : ℕ) where
   -- the start alone is in the queue
@@ -152,17 +152,17 @@ module _ (rows : List (List ℕ)) (s : ℕ) where
     near = λ p v w i j le at h k. let e = is_zero w j k in omega (arith, e);
   }
     where
-      not_told : (v n : ℕ) → At a v (Some n) → ⊥
-      not_told v n h = none_told count v n (subst (λ z. At z v (Some n)) fresh h)
+      not_reported : (v n : ℕ) → At a v (Some n) → ⊥
+      not_reported v n h = none_reported count v n (subst (λ z. At z v (Some n)) fresh h)
 
       is_zero : (v n : ℕ) → At b v (Some n) → n ≡ 0
-      is_zero v n h = ⊎_elim (λ old. absurd (not_told v n old)) (λ new. new.1) (g.only v n h)
+      is_zero v n h = ⊎_elim (λ old. absurd (not_reported v n old)) (λ new. new.1) (g.only v n h)
 
       is_start : (v n : ℕ) → At b v (Some n) → s ≡ v
-      is_start v n h = ⊎_elim (λ old. absurd (not_told v n old)) (λ new. only_one s v new.0) (g.only v n h)
+      is_start v n h = ⊎_elim (λ old. absurd (not_reported v n old)) (λ new. only_one s v new.0) (g.only v n h)
 
       is_added : (v n : ℕ) → At b v (Some n) → Contains g.added v
-      is_added v n h = ⊎_elim (λ old. absurd (not_told v n old)) (λ new. new.2) (g.only v n h)
+      is_added v n h = ⊎_elim (λ old. absurd (not_reported v n old)) (λ new. new.2) (g.only v n h)
 
       whole : queue ≡ g.added
       whole = g.is ∙ ap (λ z. z ++ g.added) empty
@@ -173,7 +173,7 @@ module _ (rows : List (List ℕ)) (s : ℕ) where
       waits : (v : ℕ) → Contains g.added v → Waits queue 0 v
       waits v h = let at = get_in g.added v h in record {
         place = at.0;
-        behind = omega arith;
+        after = omega arith;
         at = subst (λ z. At z at.0 v) (sym whole) at.1;
       }
 
@@ -198,15 +198,15 @@ module _ (rows : List (List ℕ)) (s : ℕ) where
     old_at p v h = subst (λ z. At z p v) (sym g.is) (at_append_left q g.added p v h)
 
     -- the distance of a number that stood in the queue is as it was
-    old_told : (p v i : ℕ) → At q p v → At b v (Some i) → At a v (Some i)
-    old_told p v i h t = let w = k.queued p v h in
+    old_reported : (p v i : ℕ) → At q p v → At b v (Some i) → At a v (Some i)
+    old_reported p v i h t = let w = k.queued p v h in
         let e : Some w.0 ≡ Some i = at_one b v (Some w.0) (Some i) (g.kept v w.0 w.1) t in
         let f : w.0 ≡ i = cc e in
         subst (λ z. At a v (Some z)) f w.1
 
     -- the distance of a number that stands later is the new one
-    new_told : (v i : ℕ) → Contains g.added v → At b v (Some i) → i ≡ d + 1
-    new_told v i h t = let e : Some i ≡ Some (d + 1) = at_one b v (Some i) (Some (d + 1)) t (g.new v h) in cc e
+    new_reported : (v i : ℕ) → Contains g.added v → At b v (Some i) → i ≡ d + 1
+    new_reported v i h t = let e : Some i ≡ Some (d + 1) = at_one b v (Some i) (Some (d + 1)) t (g.new v h) in cc e
 
     -- no distance is beyond the new one
     near_head : (w j : ℕ) → At b w (Some j) → j ≤ d + 1
@@ -227,8 +227,8 @@ module _ (rows : List (List ℕ)) (s : ℕ) where
         let f : d ≡ m = cc e in
         subst (λ z. LeadsNear rows b v z) f (subst (λ z. LeadsNear rows b z d) same head_leads_near)
         ))
-        (λ lt. inl (record { place = w.place; behind = omega (arith, lt); at = old_at w.place v w.at }))
-        (split w.place head w.behind)
+        (λ lt. inl (record { place = w.place; after = omega (arith, lt); at = old_at w.place v w.at }))
+        (split w.place head w.after)
       where
         split : (p h : ℕ) → h ≤ p → (p ≡ h) ⊎ (h < p)
         split zero zero le = inl refl
@@ -255,7 +255,7 @@ module _ (rows : List (List ℕ)) (s : ℕ) where
           (k.done v m old))
           (λ new. inl (let at = get_in g.added v new.2 in let lt = head_inside in record {
             place = length q + at.0;
-            behind = omega (arith, lt);
+            after = omega (arith, lt);
             at = subst (λ z. At z (length q + at.0) v) (sym g.is) (at_append_right q g.added at.0 v at.1);
           }))
           (g.only v m t);
@@ -269,22 +269,22 @@ module _ (rows : List (List ℕ)) (s : ℕ) where
           (old_or_new p v h);
       sorted = λ p p' v w i j le lf at bt t u. ⊎_elim
           (λ old. ⊎_elim
-          (λ old'. k.sorted p p' v w i j (omega (arith, le)) lf old old' (old_told p v i old t)
-          (old_told p' w j old' u))
-          (λ new'. let e = new_told w j new'.1 u in let f = near_head v i t in omega (arith, e, f))
+          (λ old'. k.sorted p p' v w i j (omega (arith, le)) lf old old' (old_reported p v i old t)
+          (old_reported p' w j old' u))
+          (λ new'. let e = new_reported w j new'.1 u in let f = near_head v i t in omega (arith, e, f))
           (old_or_new p' w bt))
           (λ new. ⊎_elim
           (λ old'. let x = new.0 in let y = slice_get_within q p' w old' in absurd (omega (arith, x, y, lf)))
-          (λ new'. let e = new_told v i new.1 t in let f = new_told w j new'.1 u in omega (arith, e, f))
+          (λ new'. let e = new_reported v i new.1 t in let f = new_reported w j new'.1 u in omega (arith, e, f))
           (old_or_new p' w bt))
           (old_or_new p v at);
       near = λ p v w i j le at t u. ⊎_elim
-          (λ old. let o = old_told p v i old t in ⊎_elim
+          (λ old. let o = old_reported p v i old t in ⊎_elim
           (λ old'. k.near p v w i j (omega (arith, le)) old o old')
           (λ new'. let x = k.sorted head p n v d i (omega arith) (omega (arith, le)) here old far o in
           let e = new'.1 in omega (arith, x, e))
           (g.only w j u))
-          (λ new. let e = new_told v i new.1 t in let f = near_head w j u in omega (arith, e, f))
+          (λ new. let e = new_reported v i new.1 t in let f = near_head w j u in omega (arith, e, f))
           (old_or_new p v at);
     }
 
@@ -294,7 +294,7 @@ module _ (rows : List (List ℕ)) (s : ℕ) where
   module _ (far : List (Option ℕ)) (queue : List ℕ) (head : ℕ) (k : IsFilling rows s far queue head)
       (end : length queue ≤ head) where
     none_waits : (v : ℕ) → Waits queue head v → ⊥
-    none_waits v w = let lt = slice_get_within queue w.place v w.at in let le = w.behind in omega (arith, lt, le, end)
+    none_waits v w = let lt = slice_get_within queue w.place v w.at in let le = w.after in omega (arith, lt, le, end)
 
     reached_within : (v n : ℕ) → Steps rows s v n → (d : ℕ) × At far v (Some d) × (d ≤ n)
     reached_within v n no_step = (0, k.start, omega arith)
@@ -323,20 +323,20 @@ head_at queue head n lt is = slice_get-get_or queue head n lt ∙ ap Some (sym i
 
 pub far_at : (far : List (Option ℕ)) (n d : ℕ) (o : Option ℕ) → n < length far → o ≡ get_or far n o → o ≡ Some d
     → At far n (Some d)
-far_at far n d o lt is told = slice_get-get_or far n o lt ∙ ap Some (sym is ∙ told)
+far_at far n d o lt is reported = slice_get-get_or far n o lt ∙ ap Some (sym is ∙ reported)
 
 module _ (rows : List (List ℕ)) (s : ℕ) (far : List (Option ℕ)) (queue : List ℕ) (head n : ℕ)
     (k : IsFilling rows s far queue head) (here : At queue head n) where
   -- the number at the head has a distance, which is not beyond the head
-  pub head_told : (d : ℕ) × At far n (Some d) × (d ≤ head)
-  head_told = k.queued head n here
+  pub head_reported : (d : ℕ) × At far n (Some d) × (d ≤ head)
+  head_reported = k.queued head n here
 
   pub head_within : n < length far
-  head_within = let w = head_told in slice_get_within far n (Some w.0) w.1
+  head_within = let w = head_reported in slice_get_within far n (Some w.0) w.1
 
   pub head_low : (d : ℕ) → At far n (Some d) → d ≤ head
   head_low d t =
-      let w = head_told in
+      let w = head_reported in
       let e : Some w.0 ≡ Some d = at_one far n (Some w.0) (Some d) w.1 t in
       let f : w.0 ≡ d = cc e in
       let l = w.2 in

@@ -12,7 +12,7 @@ use Rattle.std.proofs.Math.Seq.{take-suc}
 use Rattle.fixpoint.proofs.ContainsLemmas.{in_get}
 use Rattle.fixpoint.specs.Demands.{Demand, All, One, row_of, IsMet, IsDerived}
 use Rattle.fixpoint.specs.NeedCounts.{once, times, met, count_of, counts_of, left_of, Added, AreUsersTo, AreUsers}
-use Rattle.fixpoint.specs.NeedCounts.{IsQueue, Told, IsComing}
+use Rattle.fixpoint.specs.NeedCounts.{IsQueue, Reported, IsComing}
 use Rattle.fixpoint.specs.StepRows.{row_at}
 use Rattle.fixpoint.proofs.TimesLemmas.{once_same, once_other, times-append, times_in, in_times, times_take}
 use Rattle.fixpoint.proofs.TimesLemmas.{times_earlier, one_place, met_push, met_none, met_mono, met_all, all_met}
@@ -151,7 +151,7 @@ module _ (needs : List Demand) where
           omega (arith, m, g, e, l)
 
   pub coming_next : (users : List (List ℕ)) (a o b p : List ℕ) (i m : ℕ) → AreUsers needs users →
-      IsComing needs a o i → slice_get o i ≡ Some m → Told (row_at users m) a o b p → IsComing needs b p (i + 1)
+      IsComing needs a o i → slice_get o i ≡ Some m → Reported (row_at users m) a o b p → IsComing needs b p (i + 1)
   coming_next users a o b p i m u g at t = record {
     count = t.count ∙ g.count;
     queue = t.queue;

@@ -20,5 +20,5 @@ pub mod ReachLemmas
 pub mod RowsOfLemmas
 pub mod TallyLemmas
 pub mod TimesLemmas
-pub mod ToldLemmas
+pub mod ReportedLemmas
 pub mod TurnsLemmas

@@ -33,10 +33,10 @@ module _ (rows : List (List ℕ)) (w : Way) (t p : ℕ) (parts' : List Part) whe
       closed = k.closed;
       forth = k.forth;
       back = λ i j n m lt g h same. ⊎_elim
-          (λ behind. ⊎_elim
+          (λ after. ⊎_elim
           (λ before. leads_joined rows (lead j m h)
           (k.back i p n t before g at_t (λ l s at below above. same l s (stays l s at above) below
-          (omega (arith, above, behind)))))
+          (omega (arith, above, after)))))
           (λ le. ⊎_elim
           (λ is. subst (λ v. Leads rows m v) (at_one w.path i t n (subst (λ v. At w.path v t) is at_t) g) (lead j m h))
           (λ ne. leads_joined rows (lead j m h) (k.forth p i t n (omega (arith, le, ne)) at_t g))

@@ -10,7 +10,7 @@ use Rattle.fixpoint.specs.Distances.{AreDistances}
 use Rattle.fixpoint.specs.Fills.{IsLess, IsNearestBelow, IsNearestIfAny}
 use Rattle.fixpoint.specs.ShortChains.{IsChainIfReached, IsLastBack, IsRoundIfAny, IsWayBack}
 use Rattle.fixpoint.specs.declared.rounds.Near.{Near}
-use Rattle.fixpoint.proofs.DistanceLemmas.{distance_told}
+use Rattle.fixpoint.proofs.DistanceLemmas.{distance_reported}
 use Rattle.fixpoint.proofs.ShortChainsLemmas.{chain_is_one}
 
 module _ (rows : List (List ℕ)) (s : ℕ) (far : List (Option ℕ)) where
@@ -86,20 +86,20 @@ module _ (rows : List (List ℕ)) (s : ℕ) where
   last_found far count u n are all h = record {
     n = n;
     way = record { far = are.sound u n h.at; step = h.step };
-    nearest = λ w m back. h.nearest w m (within w m back) (distance_told rows s far w m are back.far) back.step;
-    first = λ w back. h.first w (within w n back) (distance_told rows s far w n are back.far) back.step;
+    nearest = λ w m back. h.nearest w m (within w m back) (distance_reported rows s far w m are back.far) back.step;
+    first = λ w back. h.first w (within w n back) (distance_reported rows s far w n are back.far) back.step;
   }
     where
       within : (w m : ℕ) → IsWayBack rows s w m → w < count
       within w m back =
-          let lt = slice_get_within far w (Some m) (distance_told rows s far w m are back.far) in
+          let lt = slice_get_within far w (Some m) (distance_reported rows s far w m are back.far) in
           let k = are.count in
           omega (arith, lt, k, all)
 
   pub none_back : (far : List (Option ℕ)) (count : ℕ) → AreDistances rows s far → count ≡ length rows
       → IsNearestIfAny rows s far count None → (u n : ℕ) → IsWayBack rows s u n → ⊥
   none_back far count are all h u n back =
-      let at = distance_told rows s far u n are back.far in
+      let at = distance_reported rows s far u n are back.far in
       let lt = slice_get_within far u (Some n) at in
       let k = are.count in
       h u n (omega (arith, lt, k, all)) at back.step

@@ -6,7 +6,7 @@ use Rattle.std.proofs.lemmas.List.{append-nil, reverse-append}
 use Rattle.fixpoint.specs.Way.{At}
 use Rattle.fixpoint.specs.Distances.{Steps, no_step, Distance}
 use Rattle.fixpoint.specs.Fills.{Down, top, below}
-use Rattle.fixpoint.specs.ShortChains.{AreBacks, Back, ChainTo, at_start, behind, IsChainIfReached}
+use Rattle.fixpoint.specs.ShortChains.{AreBacks, Back, ChainTo, at_start, after, IsChainIfReached}
 use Rattle.fixpoint.proofs.DistanceLemmas.{distance_is_one, last_is_nearer, last_step, no_step_stays}
 use Rattle.fixpoint.proofs.DistanceLemmas.{start_is_near}
 
@@ -19,18 +19,18 @@ module _ (rows : List (List ℕ)) (s : ℕ) where
 
   chains_are_one : (v w : ℕ) (a b : List ℕ) → v ≡ w → ChainTo rows s v a → ChainTo rows s w b → a ≡ b
   chains_are_one v w a b is at_start at_start = refl
-  chains_are_one v w a b is at_start (behind {u = u} x c) =
+  chains_are_one v w a b is at_start (after {u = u} x c) =
       absurd (none_before_start u (subst (λ z. Back rows s z u) (sym is) x))
-  chains_are_one v w a b is (behind {u = u} x c) at_start =
+  chains_are_one v w a b is (after {u = u} x c) at_start =
       absurd (none_before_start u (subst (λ z. Back rows s z u) is x))
-  chains_are_one v w a b is (behind {u = u} {ns = ns} x c) (behind {u = t} {ns = ms} y d) =
+  chains_are_one v w a b is (after {u = u} {ns = ns} x c) (after {u = t} {ns = ms} y d) =
       let e : ns ≡ ms = chains_are_one u t ns ms (back_is_one v u t x (subst (λ z. Back rows s z t) (sym is) y)) c d in
       ap (λ z. z ++ v ∷ []) e ∙ ap (λ z. ms ++ z ∷ []) is
 
   -- a chain is one of steps
   chain_leads : (v : ℕ) (a : List ℕ) → ChainTo rows s v a → (n : ℕ) × Steps rows s v n
   chain_leads v a at_start = (0, no_step)
-  chain_leads v a (behind x c) = (suc x.nearer.n, x.nearer.far.chain)
+  chain_leads v a (after x c) = (suc x.nearer.n, x.nearer.far.chain)
 
   pub chain_is_one : (v : ℕ) (a b : Option (List ℕ)) → IsChainIfReached rows s v a → IsChainIfReached rows s v b → a ≡ b
   chain_is_one v None None c d = refl
@@ -40,16 +40,16 @@ module _ (rows : List (List ℕ)) (s : ℕ) where
 
   pub chain_is_short : (v n : ℕ) (a : List ℕ) → ChainTo rows s v a → Distance rows s v n → length a ≡ n + 1
   chain_is_short v n a at_start d = let e = distance_is_one rows s s n 0 d (start_is_near rows s) in omega (arith, e)
-  chain_is_short v n a (behind {u = u} {ns = ns} x c) d =
+  chain_is_short v n a (after {u = u} {ns = ns} x c) d =
       let e = distance_is_one rows s v n (suc x.nearer.n) d x.nearer.far in
       let l = chain_is_short u x.nearer.n ns c x.nearer.near in
       let k = length-append ns (v ∷ []) in
       omega (arith, e, l, k)
 
   -- a number that is not the start has one before it
-  pub back_told : (backs : List (Option ℕ)) (v n : ℕ) → AreBacks rows s backs → Distance rows s v (suc n)
+  pub back_reported : (backs : List (Option ℕ)) (v n : ℕ) → AreBacks rows s backs → Distance rows s v (suc n)
       → (u : ℕ) × At backs v (Some u)
-  back_told backs v n b d = let l = last_step rows s v n d.chain in b.whole v l.0 (record {
+  back_reported backs v n b d = let l = last_step rows s v n d.chain in b.whole v l.0 (record {
     n = n;
     far = d;
     near = last_is_nearer rows s l.0 v n d l.1 l.2;
@@ -66,7 +66,7 @@ module _ (rows : List (List ℕ)) (s : ℕ) where
       → ChainTo rows s n (ms ++ reverse ns)
   chain_on n at ns ms top c = rw (append-nil ms) c
   chain_on n at ns ms (below {at = v} {ns = old} down b) c =
-      let k = chain_on n v old (ms ++ v ∷ []) down (behind b c) in
+      let k = chain_on n v old (ms ++ v ∷ []) down (after b c) in
       rw (reverse-append old (v ∷ []), ← append_assoc ms (v ∷ []) (reverse old)) k
 
   pub chain_whole : (n at : ℕ) (ns : List ℕ) → Down rows s n at ns → Distance rows s at 0

@@ -32,7 +32,7 @@ LeadsNear rows far v n = (m : ℕ) → Step rows v m → (d : ℕ) × At far m (
 -- a number stands in the queue, from the head on
 pub record Waits (queue : List ℕ) (head v : ℕ) : Type 0 where
   pub place : ℕ
-  pub behind : head ≤ place
+  pub after : head ≤ place
   pub at : At queue place v
 
 module _ (rows : List (List ℕ)) (s : ℕ) where
@@ -93,4 +93,4 @@ IsNearestIfAny rows s far i near = MatchOption near
 
 -- the entry of a number in a list
 abbrev pub EntryIs : List (Option ℕ) → ℕ → Option ℕ → Type 0
-EntryIs list n told = (u : ℕ) → At list n (Some u) ↔ (told ≡ Some u)
+EntryIs list n reported = (u : ℕ) → At list n (Some u) ↔ (reported ≡ Some u)

@@ -64,7 +64,7 @@ pub record IsQueue (left order : List ℕ) : Type 0 where
   pub total : waiting left + length order ≡ length left
 
 -- each of these needs fewer, by as often as it stands among them, and those that need no more were added to the order
-pub record Told (users left order left' order' : List ℕ) : Type 0 where
+pub record Reported (users left order left' order' : List ℕ) : Type 0 where
   pub count : length left' ≡ length left
   pub fewer : (n : ℕ) → n < length left → left_of left' n ≡ left_of left n - times users n
   pub queue : IsQueue left' order'

@@ -21,7 +21,7 @@ module _ (rows : List (List ℕ)) (s : ℕ) where
   -- the chain from s to v that has before each number the least one that is a step nearer
   pub data ChainTo : ℕ → List ℕ → Type 0 where
     at_start : ChainTo s (s ∷ [])
-    behind : {v u : ℕ} {ns : List ℕ} → Back v u → ChainTo u ns → ChainTo v (ns ++ v ∷ [])
+    after : {v u : ℕ} {ns : List ℕ} → Back v u → ChainTo u ns → ChainTo v (ns ++ v ∷ [])
 
   -- of each number that is not s and that a chain reaches the one before it, and of the others none
   pub record AreBacks (backs : List (Option ℕ)) : Type 0 where

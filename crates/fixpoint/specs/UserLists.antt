@@ -4,7 +4,7 @@ use Rattle.std.specs.Prelude.{Contains}
 use Rattle.fixpoint.specs.declared.needs.ListEntry.{ListEntry}
 use Rattle.fixpoint.specs.declared.needs.Users.{Users}
 use Rattle.fixpoint.specs.Demands.{Demand}
-use Rattle.fixpoint.specs.NeedCounts.{Added, AreUsersTo, AreUsers, Told}
+use Rattle.fixpoint.specs.NeedCounts.{Added, AreUsersTo, AreUsers, Reported}
 use Rattle.fixpoint.specs.StepRows.{row_at}
 
 -- the list that begins with link k, where k + 1 is given; a list that begins with 0 is empty
@@ -52,9 +52,9 @@ pub record HoldUsers (needs : List Demand) (users : Users) : Type 0 where
   pub needed : AreUsers needs rows
 
 -- a prefix of the row was processed, and its list goes on with the rest
-pub record IsTelling (links : List ListEntry) (at : ℕ) (row left order left' order' : List ℕ) : Type 0 where
+pub record IsReporting (links : List ListEntry) (at : ℕ) (row left order left' order' : List ℕ) : Type 0 where
   pub front : List ℕ
   pub rest : List ℕ
   pub is : row ≡ front ++ rest
   pub list : Chain links at rest
-  pub told : Told front left order left' order'
+  pub reported : Reported front left order left' order'

@@ -35,11 +35,11 @@ pub fn chains_from(alloc: Global, steps: &[&[usize]], from: usize) -> Result<Cha
 }
 
 /// Returns the entry of a number in a list, if it has one.
-pub(crate) fn told(list: &[Option<usize>], n: usize) -> Option<usize>
+pub(crate) fn reported(list: &[Option<usize>], n: usize) -> Option<usize>
     ensures { EntryIs list.now n result }
 {
     match list.get(n) {
-        Some(told) => *told,
+        Some(reported) => *reported,
         None => None,
     }
 }
@@ -54,13 +54,13 @@ impl Chains {
         ensures { IfOk result (λ chain. (rows : List (List ℕ)) (s : ℕ) → AreChains rows s self.now
             → IsChainIfReached rows s n (option_map (λ v. v.items) chain)) }
     {
-        let Some(count) = told(&self.far, n) else {
+        let Some(count) = reported(&self.far, n) else {
             return Ok(None);
         };
         let mut chain = Vec::new(alloc);
         let mut at = n;
         for _step in 0..count {
-            let Some(before) = told(&self.backs, at) else {
+            let Some(before) = reported(&self.backs, at) else {
                 return Ok(None);
             };
             chain.push(at)?;

@@ -2,7 +2,7 @@
 ghost use Rattle.std.specs.Prelude.{◌≡◌, ◌↔◌, ℕ, ◌<◌, Bool, List, [], ◌∷◌, length, map, replicate, IfOk};
 ghost use Rattle.fixpoint.specs.Demands.{Demand, demand_of, demands_of, row_of, AreNeedsWithin, AreNeedsWithinTo};
 ghost use Rattle.fixpoint.specs.Demands.{IsDerived};
-ghost use Rattle.fixpoint.specs.NeedCounts.{count_of, counts_of, AreUsers, IsQueue, Told, IsComing};
+ghost use Rattle.fixpoint.specs.NeedCounts.{count_of, counts_of, AreUsers, IsQueue, Reported, IsComing};
 ghost use Rattle.fixpoint.specs.Least.{AreThoseThatCome, AreMarksOfThose};
 ghost use Rattle.fixpoint.specs.NumberMarks.{AreBelow};
 ghost use Rattle.fixpoint.specs.StepRows.{row_at};
@@ -149,7 +149,7 @@ fn ready(alloc: Global, left: &[usize]) -> Result<Vec<usize>, AllocError>
 fn lower(n: usize, left: &mut [usize], order: &mut Vec<usize>) -> Result<(), AllocError>
     requires within { n < length left.old }
     requires queue { IsQueue left.old order.old.items }
-    ensures { IfOk result (λ _. Told (n ∷ []) left.old order.old.items left.new order.new.items) }
+    ensures { IfOk result (λ _. Reported (n ∷ []) left.old order.old.items left.new order.new.items) }
 {
     let before = left[n];
     if before > 0 {
@@ -162,7 +162,7 @@ fn lower(n: usize, left: &mut [usize], order: &mut Vec<usize>) -> Result<(), All
 }
 
 // Takes one off what each number of the list of `m` still needs.
-fn tell(
+fn report(
     users: &Users,
     m: usize,
     left: &mut [usize],
@@ -172,7 +172,7 @@ fn tell(
     requires lists { AreListsWithin users.now (length left.old) }
     requires queue { IsQueue left.old order.old.items }
     ensures { IfOk result (λ _. (rows : List (List ℕ)) → AreLists users.now rows
-        → Told (row_at rows m) left.old order.old.items left.new order.new.items) }
+        → Reported (row_at rows m) left.old order.old.items left.new order.new.items) }
 {
     let mut at = users.firsts[m];
     while at > 0 {
@@ -193,7 +193,7 @@ fn run(users: &Users, left: &mut [usize], order: &mut Vec<usize>) -> Result<(), 
 {
     let mut place = 0;
     while place < order.len() {
-        tell(users, order[place], left, order)?;
+        report(users, order[place], left, order)?;
         place += 1;
     }
     Ok(())

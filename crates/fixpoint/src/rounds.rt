@@ -3,7 +3,7 @@ ghost use Rattle.std.specs.Prelude.{◌≡◌, ◌↔◌, Bool, Contains, length
 ghost use Rattle.fixpoint.specs.StepRows.{slices_of};
 ghost use Rattle.fixpoint.specs.Fills.{IsLess, IsNearestIfAny};
 
-use crate::chains::told;
+use crate::chains::reported;
 
 /// A number with its distance.
 #[derive(Clone, Copy)]
@@ -38,7 +38,7 @@ pub(crate) fn nearest_before(far: &[Option<usize>], steps: &[&[usize]], from: us
     let mut best: Option<Near> = None;
     for number in 0..steps.len() {
         if leads_to(steps[number], from) {
-            if let Some(far) = told(far, number) {
+            if let Some(far) = reported(far, number) {
                 if is_nearer(far, best) {
                     best = Some(Near { number, far });
                 }

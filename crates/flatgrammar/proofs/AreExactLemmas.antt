@@ -5,20 +5,20 @@ use Rattle.flatgrammar.specs.declared.flat_node.Node as code_node
 use Rattle.flatgrammar.specs.declared.block.DottedRule.{DottedRule}
 use Rattle.flatgrammar.specs.declared.block.Block as code_block
 use Rattle.flatgrammar.specs.declared.inner.Inner.{Inner}
-use Rattle.flatgrammar.specs.declared.spot_list.SpotList.{SpotList}
+use Rattle.flatgrammar.specs.declared.dot_list.DotList.{DotList}
 use Rattle.flatgrammar.specs.declared.tables.Tables as code_flat
 use Rattle.flatgrammar.specs.FlatViews.{nodes_of}
 use Rattle.flatgrammar.specs.NodeSteps.{flat_of}
 use Rattle.flatgrammar.specs.Places.{In}
 use Rattle.flatgrammar.specs.Roots.{AreRoots}
 use Rattle.flatgrammar.specs.TableViews.{GiveRoots, AreNulls}
-use Rattle.flatgrammar.specs.Blocks.{Block, AreSpotLists, AreExact, AreHomes, home_of}
+use Rattle.flatgrammar.specs.Blocks.{Block, AreDotLists, AreExact, AreHomes, home_of}
 use Rattle.flatgrammar.specs.Inners.{AreInners}
 use Rattle.flatgrammar.specs.HeadBlocks.{IsCalled, IsPast, SomeOf, Grows, IsAtHome, AreHeadBlocks}
 use Rattle.flatgrammar.proofs.HeadBlockLemmas.{head_tables, inners_alone}
 
 abbrev pub tables : Vec code_node.Node Global → Vec ℕ Global → Vec (Option ℕ) Global → Vec Bool Global
-    → Vec (Option Inner) Global → Vec code_block.Block Global → Vec SpotList Global → ℕ → ℕ → code_flat.Tables
+    → Vec (Option Inner) Global → Vec code_block.Block Global → Vec DotList Global → ℕ → ℕ → code_flat.Tables
 tables nodes bodies roots nulls inners blocks lists whole limit =
     record {
       nodes = nodes;
@@ -34,14 +34,14 @@ tables nodes bodies roots nulls inners blocks lists whole limit =
 
 module _ (nodes : Vec code_node.Node Global) (bodies : Vec ℕ Global) (roots : Vec (Option ℕ) Global)
     (nulls : Vec Bool Global) (nobody inners : Vec (Option Inner) Global)
-    (none blocks : Vec code_block.Block Global) (unlisted lists : Vec SpotList Global) (whole limit : ℕ)
+    (none blocks : Vec code_block.Block Global) (unlisted lists : Vec DotList Global) (whole limit : ℕ)
     (ns : List code_node.Node) (bs : List ℕ) (is_ns : ns ≡ nodes.items) (is_bs : bs ≡ bodies.items)
     (are_roots : AreRoots (nodes_of ns) bs roots.items)
     (are_nulls : AreNulls (record { nodes = nodes_of nodes.items; bodies = bodies.items; whole = whole; limit = limit })
     nulls.items)
     (are_inners : AreInners (tables nodes bodies roots nulls nobody none unlisted whole limit) inners.items)
     (made : AreHeadBlocks (tables nodes bodies roots nulls nobody none unlisted whole limit) inners.items blocks.items)
-    (are_lists : AreSpotLists (tables nodes bodies roots nulls inners blocks lists whole limit)) where
+    (are_lists : AreDotLists (tables nodes bodies roots nulls inners blocks lists whole limit)) where
   gives_roots : GiveRoots (flat_of (tables nodes bodies roots nulls inners blocks lists whole limit)) roots.items
   gives_roots = let r = subst (λ v. AreRoots (nodes_of nodes.items) v roots.items) is_bs
       (subst (λ v. AreRoots (nodes_of v) bs roots.items) is_ns are_roots) in
@@ -64,7 +64,7 @@ module _ (nodes : Vec code_node.Node Global) (bodies : Vec ℕ Global) (roots : 
       → Grows (tables nodes bodies roots nulls nobody none unlisted whole limit) inners.items P old new →
       Grows (tables nodes bodies roots nulls inners blocks lists whole limit) inners.items P old new
   same_grows P old new g = record {
-    spots = g.spots;
+    dots = g.dots;
     calls = λ t. ((λ h. to_call t (((g.calls t).0) h)), (λ h. (g.calls t).1 (from_call t h)));
     passes = λ r. ((λ h. to_pass r (((g.passes r).0) h)), (λ h. (g.passes r).1 (from_pass r h)));
     different = g.different;
@@ -76,7 +76,7 @@ module _ (nodes : Vec code_node.Node Global) (bodies : Vec ℕ Global) (roots : 
           inners.items p t)
       to_call t (inl h) = inl h
       to_call t (inr s) = inr (record {
-        spot = s.spot;
+        dot = s.dot;
         stands = s.stands;
         is = record { next = s.is.next; call = s.is.call; own = s.is.own };
       })
@@ -87,7 +87,7 @@ module _ (nodes : Vec code_node.Node Global) (bodies : Vec ℕ Global) (roots : 
           inners.items p t)
       from_call t (inl h) = inl h
       from_call t (inr s) = inr (record {
-        spot = s.spot;
+        dot = s.dot;
         stands = s.stands;
         is = record { next = s.is.next; call = s.is.call; own = s.is.own };
       })
@@ -97,7 +97,7 @@ module _ (nodes : Vec code_node.Node Global) (bodies : Vec ℕ Global) (roots : 
           In r old.passes ⊎ SomeOf P (λ p. IsPast (tables nodes bodies roots nulls inners blocks lists whole limit) p r)
       to_pass r (inl h) = inl h
       to_pass r (inr s) = inr (record {
-        spot = s.spot;
+        dot = s.dot;
         stands = s.stands;
         is = record {
           root = s.is.root;
@@ -115,7 +115,7 @@ module _ (nodes : Vec code_node.Node Global) (bodies : Vec ℕ Global) (roots : 
           p r)
       from_pass r (inl h) = inl h
       from_pass r (inr s) = inr (record {
-        spot = s.spot;
+        dot = s.dot;
         stands = s.stands;
         is = record {
           root = s.is.root;
@@ -130,7 +130,7 @@ module _ (nodes : Vec code_node.Node Global) (bodies : Vec ℕ Global) (roots : 
   -- a block has the nodes of its head
   are_homes : AreHomes (tables nodes bodies roots nulls inners blocks lists whole limit)
   are_homes = record {
-    spots = λ h p at. at_home h p (((made h).spots p).0 at);
+    dots = λ h p at. at_home h p (((made h).dots p).0 at);
     passes = λ h p at. past_home h p (((made h).passes p).0 at);
     inners = λ t inner is. sym (are_inners t inner is).home;
   }

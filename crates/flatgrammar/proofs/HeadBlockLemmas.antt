@@ -12,7 +12,7 @@ use Rattle.flatgrammar.specs.declared.tables.Tables as code_flat
 use Rattle.flatgrammar.specs.declared.flat_node.Node as code_node
 use Rattle.flatgrammar.specs.TableViews.{call_of, count_in, whole_root, GiveRoots, null_of, takes_of}
 use Rattle.flatgrammar.specs.NodeSteps.{flat_of}
-use Rattle.flatgrammar.specs.Blocks.{Block, spot, item_at, inner_in, begin_count, call_at, Inside, IsPassing, IsBlock}
+use Rattle.flatgrammar.specs.Blocks.{Block, dot, item_at, inner_in, begin_count, call_at, Inside, IsPassing, IsBlock}
 use Rattle.flatgrammar.specs.Blocks.{block_in, block_of, IsHead, IsLate, AreTables, IsAlone}
 use Rattle.flatgrammar.specs.Inners.{inner_at, home_in, AreInners}
 use Rattle.flatgrammar.specs.Blocks.{home_or}
@@ -58,9 +58,9 @@ module _ (flat : code_flat.Tables) (inners : List (Option Inner)) where
 
   pub passed_one : (p : DottedRule) (t l : ℕ) → call_at flat p ≡ Some (t, l) → null_of flat t ≡ true
       → takes_of flat (item_at 0 p) ≡ false → (l ≡ p.step → ⊥) →
-      (r : DottedRule) → IsPast flat p r ↔ (r ≡ spot p.node l)
+      (r : DottedRule) → IsPast flat p r ↔ (r ≡ dot p.node l)
   passed_one p t l call null free moves r = (
-    (λ c. same_spot c.node (ap (λ v. v.1) (some_same (sym c.call ∙ call)))),
+    (λ c. same_dot c.node (ap (λ v. v.1) (some_same (sym c.call ∙ call)))),
     (λ same. record {
       root = t;
       call = call ∙ ap (λ v. Some (t, v)) (sym (ap (λ v. v.step) same));
@@ -71,11 +71,11 @@ module _ (flat : code_flat.Tables) (inners : List (Option Inner)) where
     }),
   )
     where
-      same_spot : r.node ≡ p.node → r.step ≡ l → r ≡ spot p.node l
-      same_spot n s = ap (λ v. spot v r.step) n ∙ ap (λ v. spot p.node v) s
+      same_dot : r.node ≡ p.node → r.step ≡ l → r ≡ dot p.node l
+      same_dot n s = ap (λ v. dot v r.step) n ∙ ap (λ v. dot p.node v) s
 
   one_of : (p : DottedRule) (Q : DottedRule → Type 0) → SomeOf (λ q. q ≡ p) Q ↔ Q p
-  one_of p Q = ((λ s. subst (λ v. Q v) s.stands s.is), (λ h. record { spot = p; stands = refl; is = h }))
+  one_of p Q = ((λ s. subst (λ v. Q v) s.stands s.is), (λ h. record { dot = p; stands = refl; is = h }))
 
   or_of : {A B C : Type 0} → B ↔ C → (A ⊎ B) ↔ (A ⊎ C)
   or_of {A = A} {B = B} {C = C} e = ((λ h. to h), (λ h. from h))
@@ -95,23 +95,23 @@ module _ (flat : code_flat.Tables) (inners : List (Option Inner)) where
   iff_back e = (e.1, e.0)
 
   -- one more dotted rule
-  pub grows_one : (p : DottedRule) (old new : Block) → new.spots ≡ old.spots ++ p ∷ []
+  pub grows_one : (p : DottedRule) (old new : Block) → new.dots ≡ old.dots ++ p ∷ []
       → ((t : ℕ) → In t new.calls ↔ (In t old.calls ⊎ IsCalled flat inners p t)) →
       ((r : DottedRule) → In r new.passes ↔ (In r old.passes ⊎ IsPast flat p r))
       → Grows flat inners (λ q. q ≡ p) old new
   grows_one p old new is calls passes = record {
-    spots = one_more old.spots new.spots p (λ q. q ≡ p) is (λ q. ((λ h. h), (λ h. h)));
+    dots = one_more old.dots new.dots p (λ q. q ≡ p) is (λ q. ((λ h. h), (λ h. h)));
     calls = λ t. iff_both (calls t) (or_of (iff_back (one_of p (λ q. IsCalled flat inners q t))));
     passes = λ r. iff_both (passes r) (or_of (iff_back (one_of p (λ q. IsPast flat q r))));
-    different = λ d apart. subst (λ v. AreDifferent v) (sym is) (different_end p old.spots (apart p refl) d);
+    different = λ d apart. subst (λ v. AreDifferent v) (sym is) (different_end p old.dots (apart p refl) d);
   }
 
   pub grows_none : (P : DottedRule → Type 0) (block : Block) → ((p : DottedRule) → P p → ⊥)
       → Grows flat inners P block block
   grows_none P block never = record {
-    spots = no_more block.spots P never;
-    calls = λ t. no_more block.calls (λ u. SomeOf P (λ p. IsCalled flat inners p u)) (λ u s. never s.spot s.stands) t;
-    passes = λ r. no_more block.passes (λ u. SomeOf P (λ p. IsPast flat p u)) (λ u s. never s.spot s.stands) r;
+    dots = no_more block.dots P never;
+    calls = λ t. no_more block.calls (λ u. SomeOf P (λ p. IsCalled flat inners p u)) (λ u s. never s.dot s.stands) t;
+    passes = λ r. no_more block.passes (λ u. SomeOf P (λ p. IsPast flat p u)) (λ u s. never s.dot s.stands) r;
     different = λ d apart. d;
   }
 
@@ -119,11 +119,11 @@ module _ (flat : code_flat.Tables) (inners : List (Option Inner)) where
   pub grows_then : (P Q R : DottedRule → Type 0) (a b c : Block) → ((p : DottedRule) → R p ↔ (P p ⊎ Q p))
       → ((p : DottedRule) → P p → Q p → ⊥) → Grows flat inners P a b → Grows flat inners Q b c → Grows flat inners R a c
   grows_then P Q R a b c parts apart g h = record {
-    spots = λ p. thrice (g.spots p) (h.spots p) (parts p);
+    dots = λ p. thrice (g.dots p) (h.dots p) (parts p);
     calls = λ t. thrice (g.calls t) (h.calls t) (some_parts (λ p. IsCalled flat inners p t));
     passes = λ r. thrice (g.passes r) (h.passes r) (some_parts (λ p. IsPast flat p r));
     different = λ d far. h.different (g.different d (λ p is. far p ((parts p).1 (inl is))))
-        (λ p is i. between p is (((g.spots p).0) i) far);
+        (λ p is i. between p is (((g.dots p).0) i) far);
   }
     where
       thrice : {X Y Z V W U : Type 0} → Y ↔ (X ⊎ V) → Z ↔ (Y ⊎ W) → U ↔ (V ⊎ W) → Z ↔ (X ⊎ U)
@@ -146,17 +146,17 @@ module _ (flat : code_flat.Tables) (inners : List (Option Inner)) where
           from (inr s) = new (u.0 s)
 
       some_parts : (S : DottedRule → Type 0) → SomeOf R S ↔ (SomeOf P S ⊎ SomeOf Q S)
-      some_parts S = ((λ s. to s ((parts s.spot).0 s.stands)), (λ s. from s))
+      some_parts S = ((λ s. to s ((parts s.dot).0 s.stands)), (λ s. from s))
         where
-          to : (s : SomeOf R S) → P s.spot ⊎ Q s.spot → SomeOf P S ⊎ SomeOf Q S
-          to s (inl h) = inl (record { spot = s.spot; stands = h; is = s.is })
-          to s (inr h) = inr (record { spot = s.spot; stands = h; is = s.is })
+          to : (s : SomeOf R S) → P s.dot ⊎ Q s.dot → SomeOf P S ⊎ SomeOf Q S
+          to s (inl h) = inl (record { dot = s.dot; stands = h; is = s.is })
+          to s (inr h) = inr (record { dot = s.dot; stands = h; is = s.is })
 
           from : SomeOf P S ⊎ SomeOf Q S → SomeOf R S
-          from (inl s) = record { spot = s.spot; stands = (parts s.spot).1 (inl s.stands); is = s.is }
-          from (inr s) = record { spot = s.spot; stands = (parts s.spot).1 (inr s.stands); is = s.is }
+          from (inl s) = record { dot = s.dot; stands = (parts s.dot).1 (inl s.stands); is = s.is }
+          from (inr s) = record { dot = s.dot; stands = (parts s.dot).1 (inr s.stands); is = s.is }
 
-      between : (p : DottedRule) → Q p → In p a.spots ⊎ P p → ((p : DottedRule) → R p → In p a.spots → ⊥) → ⊥
+      between : (p : DottedRule) → Q p → In p a.dots ⊎ P p → ((p : DottedRule) → R p → In p a.dots → ⊥) → ⊥
       between p q (inl i) far = far p ((parts p).1 (inr q)) i
       between p q (inr is) far = apart p is q
 
@@ -176,21 +176,21 @@ module _ (flat : code_flat.Tables) (inners : List (Option Inner)) where
       (λ p h. let lt = h.1 in absurd (omega (arith, lt)))
 
   pub node_more : (n k : ℕ) (a b c : Block) → Grows flat inners (λ p. (p.node ≡ n) × (p.step < k)) a b
-      → Grows flat inners (λ q. q ≡ spot n k) b c →
+      → Grows flat inners (λ q. q ≡ dot n k) b c →
       Grows flat inners (λ p. (p.node ≡ n) × (p.step < k + 1)) a c
   node_more n k a b c g h =
-      grows_then (λ p. (p.node ≡ n) × (p.step < k)) (λ q. q ≡ spot n k) (λ p. (p.node ≡ n) × (p.step < k + 1)) a b c
+      grows_then (λ p. (p.node ≡ n) × (p.step < k)) (λ q. q ≡ dot n k) (λ p. (p.node ≡ n) × (p.step < k + 1)) a b c
       (λ p. ((λ r. to p r (cases_lt p.step k)), (λ s. from p s)))
       (λ p r same. let lt = r.1 in let e : p.step ≡ k = ap (λ v. v.step) same in absurd (omega (arith, lt, e))) g h
     where
       to : (p : DottedRule) → (p.node ≡ n) × (p.step < k + 1) → (p.step < k) ⊎ (k ≤ p.step)
           → ((p.node ≡ n) × (p.step < k))
-          ⊎ (p ≡ spot n k)
+          ⊎ (p ≡ dot n k)
       to p r (inl lt) = inl (r.0, lt)
       to p r (inr le) = let lt = r.1 in let e : p.step ≡ k = omega (arith, lt, le) in
-          inr (ap (λ v. spot v p.step) r.0 ∙ ap (λ v. spot n v) e)
+          inr (ap (λ v. dot v p.step) r.0 ∙ ap (λ v. dot n v) e)
 
-      from : (p : DottedRule) → ((p.node ≡ n) × (p.step < k)) ⊎ (p ≡ spot n k) → (p.node ≡ n) × (p.step < k + 1)
+      from : (p : DottedRule) → ((p.node ≡ n) × (p.step < k)) ⊎ (p ≡ dot n k) → (p.node ≡ n) × (p.step < k + 1)
       from p (inl r) = let lt = r.1 in (r.0, omega (arith, lt))
       from p (inr same) = let e : p.step ≡ k = ap (λ v. v.step) same in (ap (λ v. v.node) same, omega (arith, e))
 
@@ -294,12 +294,12 @@ module _ (flat : code_flat.Tables) (inners : List (Option Inner)) where
 module _ (flat : code_flat.Tables) (roots : GiveRoots (flat_of flat) flat.roots.items) (inners : List (Option Inner))
     (are : AreInners flat inners)
     (made : (h : ℕ) → Grows flat inners (IsAtHome flat inners h) (block_in None) (block_of flat h)) where
-  spot_stands : (h : ℕ) (p : DottedRule) → home_in inners p.node ≡ h → p.step < begin_count flat p.node
-      → In p (block_of flat h).spots
-  spot_stands h p home lt = ((made h).spots p).1 (inr (home, lt))
+  dot_stands : (h : ℕ) (p : DottedRule) → home_in inners p.node ≡ h → p.step < begin_count flat p.node
+      → In p (block_of flat h).dots
+  dot_stands h p home lt = ((made h).dots p).1 (inr (home, lt))
 
-  at_home : (h : ℕ) (p : DottedRule) → In p (block_of flat h).spots → IsAtHome flat inners h p
-  at_home h p i = by (((made h).spots p).0 i)
+  at_home : (h : ℕ) (p : DottedRule) → In p (block_of flat h).dots → IsAtHome flat inners h p
+  at_home h p i = by (((made h).dots p).0 i)
     where
       by : In p [] ⊎ IsAtHome flat inners h p → IsAtHome flat inners h p
       by (inl none) = elim none [ ]
@@ -312,40 +312,40 @@ module _ (flat : code_flat.Tables) (roots : GiveRoots (flat_of flat) flat.roots.
   home_own t is = ap (λ v. home_or v t) is
 
   is_head : (t : ℕ) → inner_at inners t ≡ None → IsHead flat t
-  is_head t is k lt = spot_stands t (spot t k) (home_own t is) lt
+  is_head t is k lt = dot_stands t (dot t k) (home_own t is) lt
 
   -- wherever the head of a node is predicted, the node begins
   inside_home : (fuel t k : ℕ) → length inners ≤ t + fuel → k < begin_count flat t
-      → Inside flat (home_in inners t) (spot t k)
+      → Inside flat (home_in inners t) (dot t k)
   inside_home zero t k le lt =
       let past : inner_at inners t ≡ None = ap (λ v. inner_in v) (past_get inners t (omega (arith, le))) in
-      subst (λ v. Inside flat v (spot t k)) (sym (home_own t past)) (Inside.begun lt)
+      subst (λ v. Inside flat v (dot t k)) (sym (home_own t past)) (Inside.begun lt)
   inside_home (suc fuel) t k le lt = by (inner_at inners t) refl
       (λ i is. let up = (are t i is).above in inside_home fuel i.node i.step (omega (arith, le, up))
       (are t i is).begins)
     where
       by : (o : Option Inner) → inner_at inners t ≡ o
-          → ((i : Inner) → inner_at inners t ≡ Some i → Inside flat (home_in inners i.node) (spot i.node i.step))
-          → Inside flat (home_in inners t) (spot t k)
-      by None is rec = subst (λ v. Inside flat v (spot t k)) (sym (home_own t is)) (Inside.begun lt)
-      by (Some i) is rec = subst (λ v. Inside flat v (spot t k)) (sym (home_up t i is))
+          → ((i : Inner) → inner_at inners t ≡ Some i → Inside flat (home_in inners i.node) (dot i.node i.step))
+          → Inside flat (home_in inners t) (dot t k)
+      by None is rec = subst (λ v. Inside flat v (dot t k)) (sym (home_own t is)) (Inside.begun lt)
+      by (Some i) is rec = subst (λ v. Inside flat v (dot t k)) (sym (home_up t i is))
           (Inside.called (rec i is) (are t i is).call lt)
 
-  called_in : (h : ℕ) (from : DottedRule) (t l : ℕ) → In from (block_of flat h).spots
+  called_in : (h : ℕ) (from : DottedRule) (t l : ℕ) → In from (block_of flat h).dots
       → call_at flat from ≡ Some (t, l) →
-      In t (block_of flat h).calls ⊎ ((k : ℕ) → k < begin_count flat t → In (spot t k) (block_of flat h).spots)
+      In t (block_of flat h).calls ⊎ ((k : ℕ) → k < begin_count flat t → In (dot t k) (block_of flat h).dots)
   called_in h from t l lies call = by (inner_at inners t) refl
     where
       by : (o : Option Inner) → inner_at inners t ≡ o → In t (block_of flat h).calls
-          ⊎ ((k : ℕ) → k < begin_count flat t → In (spot t k) (block_of flat h).spots)
+          ⊎ ((k : ℕ) → k < begin_count flat t → In (dot t k) (block_of flat h).dots)
       by None is = inl (((made h).calls t).1 (inr (record {
-        spot = from;
+        dot = from;
         stands = at_home h from lies;
         is = record { next = l; call = call; own = is };
       })))
       by (Some i) is =
           let only = (are t i is).only from.node from.step l call in
-          inr (λ k lt. spot_stands h (spot t k) (home_up t i is
+          inr (λ k lt. dot_stands h (dot t k) (home_up t i is
           ∙ (ap (λ v. home_in inners v) only.0 ∙ (at_home h from lies).0)) lt)
 
   calling_from : (h t : ℕ) → In t (block_of flat h).calls
@@ -373,16 +373,16 @@ module _ (flat : code_flat.Tables) (roots : GiveRoots (flat_of flat) flat.roots.
         (inside_home (length inners) p.node p.step (omega arith) at.1);
     called = λ t c. called_in h c.from t c.next c.stands c.call;
     calls = λ t i. let s = calling_from h t i in record {
-      from = s.spot;
-      stands = spot_stands h s.spot s.stands.0 s.stands.1;
+      from = s.dot;
+      stands = dot_stands h s.dot s.stands.0 s.stands.1;
       next = s.is.next;
       call = s.is.call;
     };
     passed = λ r p. passed r p (equal_or r.step p.from.step);
     passes = λ r i. let s = passing_from h r i in
         record {
-          from = s.spot;
-          stands = spot_stands h s.spot s.stands.0 s.stands.1;
+          from = s.dot;
+          stands = dot_stands h s.dot s.stands.0 s.stands.1;
           root = s.is.root;
           call = s.is.call;
           null = s.is.null;
@@ -390,18 +390,18 @@ module _ (flat : code_flat.Tables) (roots : GiveRoots (flat_of flat) flat.roots.
           node = s.is.node;
         };
     late = λ r i lt. let s = passing_from h r i in
-        calls_late flat (called_of flat roots (item_at 0 s.spot) s.is.root r.step s.is.call).calls s.is.moves
+        calls_late flat (called_of flat roots (item_at 0 s.dot) s.is.root r.step s.is.call).calls s.is.moves
         (subst (λ v. r.step < begin_count flat v) s.is.node lt);
     different = (made h).different tt (λ p is i. elim i [ ]);
   }
     where
-      passed : (r : DottedRule) (p : IsPassing flat (block_of flat h).spots r) → (r.step ≡ p.from.step)
-          ⊎ (r.step ≡ p.from.step → ⊥) → In r (block_of flat h).passes ⊎ In r (block_of flat h).spots
+      passed : (r : DottedRule) (p : IsPassing flat (block_of flat h).dots r) → (r.step ≡ p.from.step)
+          ⊎ (r.step ≡ p.from.step → ⊥) → In r (block_of flat h).passes ⊎ In r (block_of flat h).dots
       passed r p (inl same) =
-          let is : r ≡ p.from = ap (λ v. spot v r.step) p.node ∙ ap (λ v. spot p.from.node v) same in
-          inr (subst (λ v. In v (block_of flat h).spots) (sym is) p.stands)
+          let is : r ≡ p.from = ap (λ v. dot v r.step) p.node ∙ ap (λ v. dot p.from.node v) same in
+          inr (subst (λ v. In v (block_of flat h).dots) (sym is) p.stands)
       passed r p (inr moves) = inl (((made h).passes r).1 (inr (record {
-        spot = p.from;
+        dot = p.from;
         stands = at_home h p.from p.stands;
         is = record { root = p.root; call = p.call; null = p.null; free = p.free; node = p.node; moves = moves };
       })))
@@ -417,8 +417,8 @@ module _ (flat : code_flat.Tables) (roots : GiveRoots (flat_of flat) flat.roots.
           (subst (λ v. v < begin_count flat i.node) only.1 (are t i is).begins)))
       by (Some i) is (inr back) =
           let only = (are t i is).only a.node a.step l call in
-          let here : call_at flat (spot i.node i.step) ≡ call_of flat a = ap (λ v. call_at flat (spot v i.step)) only.0
-          ∙ ap (λ v. call_at flat (spot a.node v)) only.1 in
+          let here : call_at flat (dot i.node i.step) ≡ call_of flat a = ap (λ v. call_at flat (dot v i.step)) only.0
+          ∙ ap (λ v. call_at flat (dot a.node v)) only.1 in
           let next : i.next ≡ a.step = ap (λ v. v.1) (some_same (sym (are t i is).call ∙ (here ∙ back.1))) in
           absurd ((are t i is).moves (next ∙ sym only.1))
 
@@ -441,7 +441,7 @@ module _ (flat : code_flat.Tables) (roots : GiveRoots (flat_of flat) flat.roots.
 
   pub inners_alone : (t : ℕ) (i : Inner) → inner_at inners t ≡ Some i → IsAlone flat t i
   inners_alone t i is = let one = are t i is in record {
-    stands = spot_stands i.head (spot i.node i.step) (sym one.home) one.begins;
+    stands = dot_stands i.head (dot i.node i.step) (sym one.home) one.begins;
     begins = one.begins;
     call = one.call;
     moves = one.moves;

@@ -12,7 +12,7 @@ use Rattle.flatgrammar.specs.declared.flat_node.Node as code_node
 use Rattle.flatgrammar.specs.declared.inner.Inner.{Inner}
 use Rattle.flatgrammar.specs.declared.tables.Tables as code_flat
 use Rattle.flatgrammar.specs.TableViews.{root_in, rooted, called_by}
-use Rattle.flatgrammar.specs.Blocks.{spot, inner_in, call_at}
+use Rattle.flatgrammar.specs.Blocks.{dot, inner_in, call_at}
 use Rattle.flatgrammar.specs.Inners.{allows, allows_in, AreCallers, inner_at, IsInner, AreInners}
 use Rattle.flatgrammar.specs.Blocks.{home_or}
 use Rattle.flatgrammar.proofs.CallOfLemmas.{some_same, equal_or, get_below}
@@ -64,7 +64,7 @@ callee_cases Nothing k s l is = absurd cc
 
 -- what a place calls is the root of a first step's member, or of the operand of turns
 pub called_cases : (flat : code_flat.Tables) (node : code_node.Node) (n k t l : ℕ) → slice_get flat.nodes.items n
-    ≡ Some node → call_at flat (spot n k) ≡ Some (t, l) →
+    ≡ Some node → call_at flat (dot n k) ≡ Some (t, l) →
     (k < call_count (node_of node)) ⊎ ((m : ℕ) × (turned (node_of node) ≡ Some m)
     × (root_in (slice_get flat.roots.items m) l ≡ Some (t, l)))
 called_cases flat node n k t l at call =
@@ -90,7 +90,7 @@ called_cases flat node n k t l at call =
 
 -- a node that is not there calls nothing
 pub none_called : (flat : code_flat.Tables) (n k t l : ℕ) → slice_get flat.nodes.items n ≡ None
-    → call_at flat (spot n k) ≡ Some (t, l) → ⊥
+    → call_at flat (dot n k) ≡ Some (t, l) → ⊥
 none_called flat n k t l at call = never (subst (λ v. called_by flat.roots.items v k ≡ Some (t, l)) at call)
   where
     never : ◌≡◌ {A = Option (ℕ × ℕ)} None (Some (t, l)) → ⊥
@@ -105,7 +105,7 @@ read_at (x ∷ xs) (suc k) v lt is = read_at xs k v (let less : k < length xs = 
 
 pub allowed_at : (flat : code_flat.Tables) (callers : List Caller) (t : ℕ) (caller : Caller) → AreCallers flat callers
     → t < length callers → caller ≡ slice_index_or callers t caller →
-    (n k l : ℕ) → call_at flat (spot n k) ≡ Some (t, l) → allows caller n k
+    (n k l : ℕ) → call_at flat (dot n k) ≡ Some (t, l) → allows caller n k
 allowed_at flat callers t caller are lt is n k l call = subst (λ v. allows_in v n k) (read_at callers t caller lt is)
     (are n k t l call)
 

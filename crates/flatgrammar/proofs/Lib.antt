@@ -8,5 +8,5 @@ pub mod NodeStepsLemmas
 pub mod PlacesLemmas
 pub mod RootLemmas
 pub mod SliceGetLemmas
-pub mod SpotListLemmas
+pub mod DotListLemmas
 pub mod WalkLemmas

@@ -112,10 +112,10 @@ module _ (nodes : List Node) (bodies : List ℕ) (firsts : List Way) (first : Ar
       omega (arith, lt, count)
 
   module _ (ways : List Way) (are : AreWays firsts ways) (all : (s : ℕ) → s < length ways → IsFound ways s) where
-    root_told : (s u : ℕ) (w : Way) → slice_get ways s ≡ Some w → root_of w ≡ Some u
+    root_reported : (s u : ℕ) (w : Way) → slice_get ways s ≡ Some w → root_of w ≡ Some u
         → slice_get ways s ≡ Some (Found (Some u))
-    root_told s u (On t) is h = absurd (cc h)
-    root_told s u (Found r) is h = is ∙ ap (λ v. Some (Found v)) h
+    root_reported s u (On t) is h = absurd (cc h)
+    root_reported s u (Found r) is h = is ∙ ap (λ v. Some (Found v)) h
 
     found_one : {s u : ℕ} → LeadsTo firsts s u → slice_get ways s ≡ Some (Found (Some u))
     found_one (arrived {s = s} {u = u} is) = are.kept s (Some u) is
@@ -136,7 +136,7 @@ module _ (nodes : List Node) (bodies : List ℕ) (firsts : List Way) (first : Ar
     are_roots = record {
       count = length-map ways root_of ∙ are.count ∙ first.count;
       sound = λ s t h. let from = mapped_from root_of ways s (Some t) h in
-          is_root (are.sound s t (root_told s t from.0 from.1 from.2));
+          is_root (are.sound s t (root_reported s t from.0 from.1 from.2));
       whole = λ s t root. slice_get-map root_of ways s
           ∙ ap (λ o. option_map root_of o) (found_one (leads_to root));
     }

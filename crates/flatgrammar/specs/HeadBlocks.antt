@@ -25,18 +25,18 @@ pub record IsPast (flat : code_flat.Tables) (p r : DottedRule) : Type 0 where
   pub moves : r.step ≡ p.step → ⊥
 
 pub record SomeOf (P Q : DottedRule → Type 0) : Type 0 where
-  pub spot : DottedRule
-  pub stands : P spot
-  pub is : Q spot
+  pub dot : DottedRule
+  pub stands : P dot
+  pub is : Q dot
 
 -- new has what old has, and the dotted rules of P with what they ask for
 pub record Grows (flat : code_flat.Tables) (inners : List (Option Inner)) (P : DottedRule
     → Type 0) (old new : Block) : Type
     0 where
-  pub spots : (p : DottedRule) → In p new.spots ↔ (In p old.spots ⊎ P p)
+  pub dots : (p : DottedRule) → In p new.dots ↔ (In p old.dots ⊎ P p)
   pub calls : (t : ℕ) → In t new.calls ↔ (In t old.calls ⊎ SomeOf P (λ p. IsCalled flat inners p t))
   pub passes : (r : DottedRule) → In r new.passes ↔ (In r old.passes ⊎ SomeOf P (λ p. IsPast flat p r))
-  pub different : AreDifferent old.spots → ((p : DottedRule) → P p → In p old.spots → ⊥) → AreDifferent new.spots
+  pub different : AreDifferent old.dots → ((p : DottedRule) → P p → In p old.dots → ⊥) → AreDifferent new.dots
 
 -- where a node begins
 abbrev pub BeginsAt : code_flat.Tables → ℕ → DottedRule → Type 0

@@ -5,7 +5,7 @@ use Rattle.flatgrammar.specs.declared.callers.Caller.TheVariants.{Nobody, One, M
 use Rattle.flatgrammar.specs.declared.inner.Inner.{Inner}
 use Rattle.flatgrammar.specs.declared.tables.Tables as code_flat
 use Rattle.flatgrammar.specs.TableViews.{whole_root}
-use Rattle.flatgrammar.specs.Blocks.{spot, inner_in, home_or, begin_count, call_at}
+use Rattle.flatgrammar.specs.Blocks.{dot, inner_in, home_or, begin_count, call_at}
 
 -- what calls a node may be that place
 abbrev pub allows : Caller → ℕ → ℕ → Type 0
@@ -23,7 +23,7 @@ StillAllow old new = (t n k : ℕ) → allows_in (slice_get old t) n k → allow
 
 -- the places that call a node are allowed for it
 abbrev pub AreCallers : code_flat.Tables → List Caller → Type 0
-AreCallers flat callers = (n k t l : ℕ) → call_at flat (spot n k) ≡ Some (t, l) → allows_in (slice_get callers t) n k
+AreCallers flat callers = (n k t l : ℕ) → call_at flat (dot n k) ≡ Some (t, l) → allows_in (slice_get callers t) n k
 
 abbrev pub inner_at : List (Option Inner) → ℕ → Option Inner
 inner_at inners t = inner_in (slice_get inners t)
@@ -37,11 +37,11 @@ pub record IsInner (flat : code_flat.Tables) (inners : List (Option Inner)) (t :
   pub above : t < inner.node
   pub within : inner.head < length flat.nodes.items
   pub begins : inner.step < begin_count flat inner.node
-  pub call : call_at flat (spot inner.node inner.step) ≡ Some (t, inner.next)
+  pub call : call_at flat (dot inner.node inner.step) ≡ Some (t, inner.next)
   pub moves : inner.next ≡ inner.step → ⊥
   pub home : inner.head ≡ home_in inners inner.node
   pub whole : whole_root flat ≡ Some t → ⊥
-  pub only : (n k l : ℕ) → call_at flat (spot n k) ≡ Some (t, l) → (inner.node ≡ n) × (inner.step ≡ k)
+  pub only : (n k l : ℕ) → call_at flat (dot n k) ≡ Some (t, l) → (inner.node ≡ n) × (inner.step ≡ k)
 
 abbrev pub AreInners : code_flat.Tables → List (Option Inner) → Type 0
 AreInners flat inners = (t : ℕ) (inner : Inner) → inner_at inners t ≡ Some inner → IsInner flat inners t inner

@@ -16,7 +16,7 @@ pub struct DottedRule {
 #[derive(Drop)]
 pub struct Block {
     /// The dotted rules at which the root and the nodes inlined into it begin.
-    pub spots: Vec<DottedRule>,
+    pub dots: Vec<DottedRule>,
     /// The roots with closures of their own that these call.
     pub calls: Vec<usize>,
     /// The dotted rules after calls of nullable roots that may take no symbol.

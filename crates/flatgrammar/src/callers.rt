@@ -1,7 +1,7 @@
 //! The callers of each node.
 ghost use Rattle.std.specs.Prelude.{◌≡◌, ◌<◌, ℕ, Some, IfOk, length, slice_get};
 ghost use Rattle.flatgrammar.specs.TableViews.{root_in};
-ghost use Rattle.flatgrammar.specs.Blocks.{spot, call_at};
+ghost use Rattle.flatgrammar.specs.Blocks.{dot, call_at};
 ghost use Rattle.flatgrammar.specs.Inners.{allows, allows_in, StillAllow, AreCallers};
 
 use crate::block::DottedRule;
@@ -23,24 +23,24 @@ pub(crate) enum Caller {
 }
 
 // Returns what calls a node that one more place calls.
-fn with_spot(caller: Caller, spot: DottedRule) -> Caller
+fn with_dot(caller: Caller, dot: DottedRule) -> Caller
     ensures old { (n k : ℕ) → allows caller n k → allows result n k }
-    ensures new { allows result spot.node spot.step }
+    ensures new { allows result dot.node dot.step }
 {
     match caller {
-        Caller::Nobody => Caller::One(spot),
+        Caller::Nobody => Caller::One(dot),
         _ => Caller::Many,
     }
 }
 
 // Notes that a place calls a root.
-fn mark(callers: &mut [Caller], root: usize, spot: DottedRule)
+fn mark(callers: &mut [Caller], root: usize, dot: DottedRule)
     ensures count { length callers.new ≡ length callers.old }
     ensures still { StillAllow callers.old callers.new }
-    ensures here { allows_in (slice_get callers.new root) spot.node spot.step }
+    ensures here { allows_in (slice_get callers.new root) dot.node dot.step }
 {
     if root < callers.len() {
-        let caller = with_spot(callers[root], spot);
+        let caller = with_dot(callers[root], dot);
         callers[root] = caller;
     }
 }
@@ -60,7 +60,7 @@ fn mark_many(callers: &mut [Caller], root: usize)
 fn mark_place(flat: &Tables, node: usize, step: usize, callers: &mut [Caller])
     ensures count { length callers.new ≡ length callers.old }
     ensures still { StillAllow callers.old callers.new }
-    ensures here { (t l : ℕ) → call_at flat.now (spot node step) ≡ Some (t, l)
+    ensures here { (t l : ℕ) → call_at flat.now (dot node step) ≡ Some (t, l)
         → allows_in (slice_get callers.new t) node step }
 {
     let item = Item {
@@ -77,7 +77,7 @@ fn mark_place(flat: &Tables, node: usize, step: usize, callers: &mut [Caller])
 fn mark_places(flat: &Tables, node: usize, count: usize, callers: &mut [Caller])
     ensures count { length callers.new ≡ length callers.old }
     ensures still { StillAllow callers.old callers.new }
-    ensures here { (k t l : ℕ) → k < count → call_at flat.now (spot node k) ≡ Some (t, l)
+    ensures here { (k t l : ℕ) → k < count → call_at flat.now (dot node k) ≡ Some (t, l)
         → allows_in (slice_get callers.new t) node k }
 {
     for step in 0..count {
@@ -101,7 +101,7 @@ fn mark_turns(flat: &Tables, operand: usize, callers: &mut [Caller])
 fn mark_node(flat: &Tables, node: usize, callers: &mut [Caller])
     ensures count { length callers.new ≡ length callers.old }
     ensures still { StillAllow callers.old callers.new }
-    ensures here { (k t l : ℕ) → call_at flat.now (spot node k) ≡ Some (t, l)
+    ensures here { (k t l : ℕ) → call_at flat.now (dot node k) ≡ Some (t, l)
         → allows_in (slice_get callers.new t) node k }
 {
     if let Some(at) = flat.nodes.get(node) {

@@ -8,11 +8,11 @@ ghost use Rattle.flatgrammar.specs.Operands.{AreOrdered};
 ghost use Rattle.flatgrammar.specs.Roots.{Root};
 ghost use Rattle.flatgrammar.specs.TableViews.{AreNulls};
 
+use crate::dot_list::dot_lists;
 use crate::flat_node::Node;
 use crate::head_block::head_blocks;
 use crate::inner::find_inners;
 use crate::roots::find_roots;
-use crate::spot_list::spot_lists;
 use crate::tables::Tables;
 use ruletable::Memory;
 use std::alloc::Global;
@@ -82,7 +82,7 @@ impl Flat {
         let blocks = head_blocks(alloc, &tables, &inners)?;
         tables.inners = inners;
         tables.blocks = blocks;
-        let lists = spot_lists(alloc, &tables)?;
+        let lists = dot_lists(alloc, &tables)?;
         tables.lists = lists;
         let tables = Rc::new(alloc, tables)?;
         Ok(Flat { tables })

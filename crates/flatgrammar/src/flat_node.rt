@@ -152,7 +152,7 @@ fn is_enough(least: u32, most: Option<u32>, step: usize) -> bool
 
 /// The actions of a node at a step.
 #[derive(Clone, Copy)]
-pub(crate) struct NodeDeed {
+pub(crate) struct NodeOperation {
     /// The node that it calls, and the step after the call.
     pub(crate) called: Option<(usize, usize)>,
     /// Whether the node is complete there.
@@ -161,16 +161,16 @@ pub(crate) struct NodeDeed {
 
 /// Returns the actions of a node at a step.
 #[inline(always)]
-pub(crate) fn node_deed(node: &Node, step: usize) -> NodeDeed
+pub(crate) fn node_operation(node: &Node, step: usize) -> NodeOperation
     ensures called { result.called ≡ callee (node_of node.now) step }
     ensures done { result.done ≡ is_done (node_of node.now) step }
 {
     match node {
-        Node::Letters(sets) => NodeDeed {
+        Node::Letters(sets) => NodeOperation {
             called: None,
             done: step == sets.len(),
         },
-        Node::Concat(members) => NodeDeed {
+        Node::Concat(members) => NodeOperation {
             called: if step < members.len() {
                 Some((members[step], step + 1))
             } else {
@@ -178,7 +178,7 @@ pub(crate) fn node_deed(node: &Node, step: usize) -> NodeDeed
             },
             done: step == members.len(),
         },
-        Node::Alt(members) => NodeDeed {
+        Node::Alt(members) => NodeOperation {
             called: if step < members.len() {
                 Some((members[step], members.len() + step))
             } else {
@@ -190,19 +190,19 @@ pub(crate) fn node_deed(node: &Node, step: usize) -> NodeDeed
             least,
             most,
             operand,
-        } => NodeDeed {
+        } => NodeOperation {
             called: turn(*least, *most, *operand, step),
             done: is_enough(*least, *most, step),
         },
-        Node::Turns { most, operand } => NodeDeed {
+        Node::Turns { most, operand } => NodeOperation {
             called: turn(0, *most, *operand, step),
             done: is_enough(0, *most, step),
         },
-        Node::Opt(operand) => NodeDeed {
+        Node::Opt(operand) => NodeOperation {
             called: if step == 0 { Some((*operand, 2)) } else { None },
             done: step == 1 || step == 2,
         },
-        Node::Name(_) | Node::Nothing => NodeDeed {
+        Node::Name(_) | Node::Nothing => NodeOperation {
             called: None,
             done: false,
         },
@@ -214,7 +214,7 @@ pub(crate) fn node_deed(node: &Node, step: usize) -> NodeDeed
 pub(crate) fn callee(node: &Node, step: usize) -> Option<(usize, usize)>
     ensures { result ≡ callee (node_of node.now) step }
 {
-    node_deed(node, step).called
+    node_operation(node, step).called
 }
 
 /// Returns how many first steps of a node may call something, its iterations left out.

@@ -1,6 +1,6 @@
 //! Closures of roots: where they and the nodes inlined into them begin.
 ghost use Rattle.std.specs.Prelude.{◌≡◌, ◌↔◌, ◌⊎◌, ◌<◌, ℕ, Some, None, IfOk, length, slice_get};
-ghost use Rattle.flatgrammar.specs.declared.block.DottedRule as spots;
+ghost use Rattle.flatgrammar.specs.declared.block.DottedRule as dots;
 ghost use Rattle.flatgrammar.specs.declared.inner.Inner as inner;
 ghost use Rattle.flatgrammar.specs.Places.{In};
 ghost use Rattle.flatgrammar.specs.Blocks.{block_in};
@@ -18,15 +18,15 @@ use std::alloc::Global;
 fn add_call(
     flat: &Tables,
     inners: &[Option<Inner>],
-    spot: DottedRule,
+    dot: DottedRule,
     calls: &mut Vec<usize>,
 ) -> Result<(), Memory>
     ensures { IfOk result (λ _. (t : ℕ) → In t calls.new.items
-        ↔ (In t calls.old.items ⊎ IsCalled flat.now inners.now spot t)) }
+        ↔ (In t calls.old.items ⊎ IsCalled flat.now inners.now dot t)) }
 {
     let item = Item {
-        node: spot.node,
-        step: spot.step,
+        node: dot.node,
+        step: dot.step,
         origin: 0,
     };
     let Some((root, _)) = call(flat, item) else {
@@ -43,13 +43,13 @@ fn add_call(
 
 // Adds the dotted rule after a call of a nullable root, unless it is the one that calls, or what is called has to take
 // a letter.
-fn add_pass(flat: &Tables, spot: DottedRule, passes: &mut Vec<DottedRule>) -> Result<(), Memory>
-    ensures { IfOk result (λ _. (r : spots.DottedRule) → In r passes.new.items
-        ↔ (In r passes.old.items ⊎ IsPast flat.now spot r)) }
+fn add_pass(flat: &Tables, dot: DottedRule, passes: &mut Vec<DottedRule>) -> Result<(), Memory>
+    ensures { IfOk result (λ _. (r : dots.DottedRule) → In r passes.new.items
+        ↔ (In r passes.old.items ⊎ IsPast flat.now dot r)) }
 {
     let item = Item {
-        node: spot.node,
-        step: spot.step,
+        node: dot.node,
+        step: dot.step,
         origin: 0,
     };
     let Some((root, next)) = call(flat, item) else {
@@ -58,29 +58,29 @@ fn add_pass(flat: &Tables, spot: DottedRule, passes: &mut Vec<DottedRule>) -> Re
     if takes_letter(flat, item) || !null(flat, root) {
         return Ok(());
     }
-    if next == spot.step {
+    if next == dot.step {
         return Ok(());
     }
     passes.push(DottedRule {
-        node: spot.node,
+        node: dot.node,
         step: next,
     })?;
     Ok(())
 }
 
 // Adds a dotted rule, and what it asks for.
-fn add_spot(
+fn add_dot(
     flat: &Tables,
     inners: &[Option<Inner>],
-    spot: DottedRule,
+    dot: DottedRule,
     block: &mut Block,
 ) -> Result<(), Memory>
-    ensures { IfOk result (λ _. Grows flat.now inners.now (λ p. p ≡ spot) (block_in (Some block.old))
+    ensures { IfOk result (λ _. Grows flat.now inners.now (λ p. p ≡ dot) (block_in (Some block.old))
         (block_in (Some block.new))) }
 {
-    block.spots.push(spot)?;
-    add_call(flat, inners, spot, &mut block.calls)?;
-    add_pass(flat, spot, &mut block.passes)?;
+    block.dots.push(dot)?;
+    add_call(flat, inners, dot, &mut block.calls)?;
+    add_pass(flat, dot, &mut block.passes)?;
     Ok(())
 }
 
@@ -95,7 +95,7 @@ fn add_node(
         (block_in (Some block.new))) }
 {
     for step in 0..begin_steps(flat, node) {
-        add_spot(flat, inners, DottedRule { node, step }, block)?;
+        add_dot(flat, inners, DottedRule { node, step }, block)?;
     }
     Ok(())
 }
@@ -108,7 +108,7 @@ fn empty_blocks(alloc: Global, count: usize) -> Result<Vec<Block>, Memory>
     let mut blocks = Vec::new(alloc);
     for _ in 0..count {
         blocks.push(Block {
-            spots: Vec::new(alloc),
+            dots: Vec::new(alloc),
             calls: Vec::new(alloc),
             passes: Vec::new(alloc),
         })?;

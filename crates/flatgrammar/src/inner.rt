@@ -1,6 +1,6 @@
 //! Inlined nodes: one dotted rule alone calls each, where another node begins.
 ghost use Rattle.std.specs.Prelude.{◌≡◌, ◌↔◌, ℕ, Some, IsTrue, IfOk, IfSome};
-ghost use Rattle.flatgrammar.specs.Blocks.{spot, begin_count, call_at};
+ghost use Rattle.flatgrammar.specs.Blocks.{dot, begin_count, call_at};
 ghost use Rattle.flatgrammar.specs.TableViews.{whole_root as the_whole};
 ghost use Rattle.flatgrammar.specs.Inners.{inner_at as the_inner, home_in, allows, IsInner, AreInners};
 
@@ -66,7 +66,7 @@ fn is_whole(flat: &Tables, root: usize) -> bool
 
 // Returns the place that alone calls a node, if the node can stand in the block of another.
 fn inner_of(flat: &Tables, caller: Caller, inners: &[Option<Inner>], node: usize) -> Option<Inner>
-    requires { (n k l : ℕ) → call_at flat.now (spot n k) ≡ Some (node, l) → allows caller n k }
+    requires { (n k l : ℕ) → call_at flat.now (dot n k) ≡ Some (node, l) → allows caller n k }
     ensures { IfSome result (λ inner. IsInner flat.now inners.now node inner) }
 {
     let Caller::One(place) = caller else {

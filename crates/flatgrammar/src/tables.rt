@@ -5,11 +5,11 @@ ghost use Rattle.flatgrammar.specs.TableViews.{call_of, done_of, null_of, takes_
 ghost use Rattle.flatgrammar.specs.Blocks.{block_of, inner_of, lists_of, readers_of as the_readers_of};
 
 use crate::block::{Block, DottedRule};
+use crate::dot_list::{Ask, DotList};
 use crate::flat_item::Item;
 use crate::flat_node;
-use crate::flat_node::{Node, callee, may_read, node_deed, takes};
+use crate::flat_node::{Node, callee, may_read, node_operation, takes};
 use crate::inner::{Inner, inner_at};
-use crate::spot_list::{Ask, SpotList};
 
 /// A lowered grammar, with all that judging looks up by node.
 ///
@@ -30,7 +30,7 @@ pub struct Tables {
     /// Of each node the closure of its prediction; empty for an inlined node.
     pub blocks: Vec<Block>,
     /// Of each closure the dotted rules that call or read.
-    pub lists: Vec<SpotList>,
+    pub lists: Vec<DotList>,
     /// The node of the augmented start.
     pub whole: usize,
     /// The most symbols of a line.
@@ -70,7 +70,7 @@ pub fn takes_letter(flat: &Tables, item: Item) -> bool
 
 /// The actions of an item's dotted rule.
 #[derive(Clone, Copy)]
-pub struct Deed {
+pub struct Operation {
     /// The root that it calls, and the step after the call.
     pub called: Option<(usize, usize)>,
     /// Whether its node is complete there.
@@ -83,24 +83,24 @@ pub struct Deed {
 
 /// Returns the actions of an item's dotted rule. It looks the node up once.
 #[inline(always)]
-pub fn deed_of(flat: &Tables, item: Item) -> Deed
+pub fn operation_of(flat: &Tables, item: Item) -> Operation
     ensures called { result.called ≡ call_of flat.now item }
     ensures done { result.done ≡ done_of flat.now item }
     ensures takes { result.takes ≡ takes_of flat.now item }
     ensures reads { IsTrue result.reads ↔ (read_of flat.now item ≢ None) }
 {
     match flat.nodes.get(item.node) {
-        None => Deed {
+        None => Operation {
             called: None,
             done: false,
             takes: false,
             reads: false,
         },
         Some(node) => {
-            let deed = node_deed(node, item.step);
-            Deed {
-                called: rooted(flat, deed.called),
-                done: deed.done,
+            let operation = node_operation(node, item.step);
+            Operation {
+                called: rooted(flat, operation.called),
+                done: operation.done,
                 takes: takes(node),
                 reads: may_read(node, item.step),
             }
@@ -119,11 +119,11 @@ pub fn null(flat: &Tables, root: usize) -> bool
 }
 
 /// Returns the dotted rules of a root's closure.
-pub fn spots(flat: &Tables, head: usize) -> &[DottedRule]
-    ensures { result.now ≡ (block_of flat.now head).spots }
+pub fn dots(flat: &Tables, head: usize) -> &[DottedRule]
+    ensures { result.now ≡ (block_of flat.now head).dots }
 {
     match flat.blocks.get(head) {
-        Some(block) => &block.spots,
+        Some(block) => &block.dots,
         None => &[],
     }
 }

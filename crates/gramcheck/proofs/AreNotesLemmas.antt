@@ -7,7 +7,7 @@ use Rattle.std.specs.Str.{bytes_eq}
 use Rattle.std.specs.List.{list_any}
 use Rattle.std.proofs.Math.Bool.{or-false}
 use Rattle.std.proofs.lemmas.Bool.{both_ways, cases_Bool, or_right, or_cases}
-use Rattle.std.proofs.lemmas.Bool.Decides.{eqb_tells}
+use Rattle.std.proofs.lemmas.Bool.Decides.{eqb_decides}
 use Rattle.std.proofs.lemmas.List.{length-map}
 use Rattle.std.proofs.lemmas.Option.{slice_get-map, slice_get_within}
 use Rattle.std.proofs.lemmas.Simd.{map-map}
@@ -86,11 +86,11 @@ module _ (rules : List Rule) (id : ℕ) (n : List ℕ) (at : slice_get (rule_nam
     (unique : (i : ℕ) → slice_get (rule_names rules) i ≡ Some n → i ≡ id) where
   at-one : (i : ℕ) (r : Option (List ℕ)) → slice_get (rule_names rules) i ≡ r → is_among Exact (option_to_list r) n
       ≡ (i == id)
-  at-one i None h = elim (eqb_tells i id) [
+  at-one i None h = elim (eqb_decides i id) [
     | inl e ↦ absurd (let here = subst (λ (k : ℕ). slice_get (rule_names rules) k ≡ None) e.1 h in cc (at, here))
     | inr e ↦ sym (e.0)
   ]
-  at-one i (Some m) h = or-false (bytes_eq n m) ∙ elim (eqb_tells i id) [
+  at-one i (Some m) h = or-false (bytes_eq n m) ∙ elim (eqb_decides i id) [
     | inl e ↦
         let here = subst (λ (k : ℕ). slice_get (rule_names rules) k ≡ Some m) e.1 h in
         let is : n ≡ m = cc (at, here) in
@@ -137,14 +137,15 @@ module _ (rules : List Rule) (own : (id : ℕ) (name : List ℕ) → slice_get (
   marks-again numbers again marks = record {
     count = marks.count_is;
     exact = λ id rule at. (
-      λ on. among-contains (names_at rules numbers) rule.name (told id rule at ∙ on),
-      λ is. sym (told id rule at) ∙ contains-among (names_at rules numbers) rule.name is,
+      λ on. among-contains (names_at rules numbers) rule.name (reported id rule at ∙ on),
+      λ is. sym (reported id rule at) ∙ contains-among (names_at rules numbers) rule.name is,
     );
   }
     where
-      told : (id : ℕ) (rule : Rule) → slice_get rules id ≡ Some rule → is_among Exact (names_at rules numbers) rule.name
+      reported : (id : ℕ) (rule : Rule) → slice_get rules id ≡ Some rule
+          → is_among Exact (names_at rules numbers) rule.name
           ≡ get_or again id false
-      told id rule at =
+      reported id rule at =
           let here = name-at rules id rule at in
           at-ids rules id rule.name here (λ i other. let a = own i rule.name other in let b = own id rule.name here in
           cc (a, b)) numbers
@@ -214,9 +215,9 @@ module _ (rules : List Rule) (start : Option (List ℕ)) (numbers : List ℕ) (m
   undefined-names = uses.all ∙ news-start start rules (names_used rules)
 
 -- all notes
-told-of : (rules : List Rule) (f : List ℕ → Said) (marks : List Bool) → map f (chosen marks (rule_names rules))
+reported-of : (rules : List Rule) (f : List ℕ → Said) (marks : List Bool) → map f (chosen marks (rule_names rules))
     ≡ map (λ rule. f rule.name) (chosen marks rules)
-told-of rules f marks = ap (map f) (chosen-map (λ rule. rule.name) marks rules)
+reported-of rules f marks = ap (map f) (chosen-map (λ rule. rule.name) marks rules)
     ∙ map-map f (λ rule. rule.name) (chosen marks rules)
 
 pub are-notes : (rules : List Rule) (start : Option (List ℕ)) (redefined : List ℕ)
@@ -240,10 +241,10 @@ are-notes rules start redefined again unused recursive looping notes agains outs
   are_recursive = those-chosen _ rules recursive lefts;
   are_looping = those-chosen _ rules looping loops;
   all = h ∙ rw (
-    told-of rules (said Redefined) again,
-    told-of rules (said Unused) unused,
-    told-of rules (said LeftRecursion) recursive,
-    told-of rules (said Loop) looping,
+    reported-of rules (said Redefined) again,
+    reported-of rules (said Unused) unused,
+    reported-of rules (said LeftRecursion) recursive,
+    reported-of rules (said Loop) looping,
   ) refl;
 }
 
@@ -255,5 +256,5 @@ pub redefinitions-are : (rules : List Rule) (redefined : List ℕ) (again : List
 redefinitions-are rules redefined again notes marks h = record {
   redefined = chosen again rules;
   are_redefined = those-chosen _ rules again marks;
-  all = h ∙ told-of rules (said Redefined) again;
+  all = h ∙ reported-of rules (said Redefined) again;
 }

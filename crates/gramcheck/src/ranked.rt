@@ -89,10 +89,10 @@ fn tables_of(alloc: Global, cut: &Cut, start: usize) -> Result<Tables, Memory>
         cut.now.bodies.items → ArePrintMarks rules (shapes_of cut.now.nodes.items) t.printing.items)
         × AreCuts (shapes_of cut.now.nodes.items) t.templates.places.items t.templates.cuts.items
         × AreMarks start (shapes_of cut.now.nodes.items) cut.now.bodies.items
-        (node_marks (marks_of (shapes_of cut.now.nodes.items) t.keys.nodes.items t.keys.behind.items))
-        (tail_marks (marks_of (shapes_of cut.now.nodes.items) t.keys.nodes.items t.keys.behind.items))
+        (node_marks (marks_of (shapes_of cut.now.nodes.items) t.keys.nodes.items t.keys.after.items))
+        (tail_marks (marks_of (shapes_of cut.now.nodes.items) t.keys.nodes.items t.keys.after.items))
         × AreByteTables (shapes_of cut.now.nodes.items) cut.now.bodies.items
-        (marks_of (shapes_of cut.now.nodes.items) t.keys.nodes.items t.keys.behind.items)
+        (marks_of (shapes_of cut.now.nodes.items) t.keys.nodes.items t.keys.after.items)
         t.by_byte.places.items t.by_byte.runs.items t.by_byte.choices.items) }
 {
     let printing = print_marks(alloc, &cut.nodes, &cut.bodies)?;
@@ -102,7 +102,7 @@ fn tables_of(alloc: Global, cut: &Cut, start: usize) -> Result<Tables, Memory>
         nodes: &cut.nodes,
         bodies: &cut.bodies,
         keys: &keys.nodes,
-        behind: &keys.behind,
+        after: &keys.after,
     };
     let by_byte = find_tables(alloc, &marked)?;
     Ok(Tables {

@@ -87,17 +87,17 @@ impl Model for SoundPeg {
       nodes = p.nodes.items;
       bodies = p.bodies.items;
       ranks = p.ranks.items;
-      keys = marks_of (shapes_of p.nodes.items) p.keys.nodes.items p.keys.behind.items;
+      keys = marks_of (shapes_of p.nodes.items) p.keys.nodes.items p.keys.after.items;
     } };
 
     ghost invariant = { λ p. IsRanked (rules_of p.rules) p.start (shapes_of p.nodes.items) p.bodies.items p.ranks.items
         × ArePrintMarks (rules_of p.rules) (shapes_of p.nodes.items) p.printing.items
         × AreCuts (shapes_of p.nodes.items) p.templates.places.items p.templates.cuts.items
         × AreMarks p.start (shapes_of p.nodes.items) p.bodies.items
-        (node_marks (marks_of (shapes_of p.nodes.items) p.keys.nodes.items p.keys.behind.items))
-        (tail_marks (marks_of (shapes_of p.nodes.items) p.keys.nodes.items p.keys.behind.items))
+        (node_marks (marks_of (shapes_of p.nodes.items) p.keys.nodes.items p.keys.after.items))
+        (tail_marks (marks_of (shapes_of p.nodes.items) p.keys.nodes.items p.keys.after.items))
         × AreByteTables (shapes_of p.nodes.items) p.bodies.items
-        (marks_of (shapes_of p.nodes.items) p.keys.nodes.items p.keys.behind.items)
+        (marks_of (shapes_of p.nodes.items) p.keys.nodes.items p.keys.after.items)
         p.by_byte.places.items p.by_byte.runs.items p.by_byte.choices.items
         × AreNumbered (rules_of p.rules) (shapes_of p.nodes.items) p.bodies.items };
 }
@@ -116,10 +116,10 @@ impl SoundPeg {
         requires templates { AreCuts (shapes_of cut.nodes.items) tables.templates.places.items
             tables.templates.cuts.items }
         requires keys { AreMarks start (shapes_of cut.nodes.items) cut.bodies.items
-            (node_marks (marks_of (shapes_of cut.nodes.items) tables.keys.nodes.items tables.keys.behind.items))
-            (tail_marks (marks_of (shapes_of cut.nodes.items) tables.keys.nodes.items tables.keys.behind.items)) }
+            (node_marks (marks_of (shapes_of cut.nodes.items) tables.keys.nodes.items tables.keys.after.items))
+            (tail_marks (marks_of (shapes_of cut.nodes.items) tables.keys.nodes.items tables.keys.after.items)) }
         requires by_byte { AreByteTables (shapes_of cut.nodes.items) cut.bodies.items
-            (marks_of (shapes_of cut.nodes.items) tables.keys.nodes.items tables.keys.behind.items)
+            (marks_of (shapes_of cut.nodes.items) tables.keys.nodes.items tables.keys.after.items)
             tables.by_byte.places.items tables.by_byte.runs.items tables.by_byte.choices.items }
         requires numbered { AreNumbered (rules_of rules) (shapes_of cut.nodes.items) cut.bodies.items }
         ensures rules { result.rules ≡ rules }
@@ -228,7 +228,7 @@ impl SoundPeg {
         ensures { result ≡ tail_marks self.now.keys n i }
     {
         match self.nodes.get(n) {
-            Some(node) => is_key_from(node, &self.keys.behind, i),
+            Some(node) => is_key_from(node, &self.keys.after, i),
             None => false,
         }
     }

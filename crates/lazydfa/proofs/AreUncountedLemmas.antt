@@ -30,10 +30,10 @@ none_to_next nodes k node at_k never before s b m lt is = by (cases_lt s k)
     by (inl less) = before s b m less is
     by (inr le) =
         let here : s ≡ k = omega (arith, le, lt) in
-        let told : slice_get (nodes_of nodes) k ≡ Some (node_of node) =
+        let reported : slice_get (nodes_of nodes) k ≡ Some (node_of node) =
         slice_get-map node_of nodes k ∙ ap (λ v. option_map node_of v) at_k in
         let both : Some (node_of node) ≡ Some (Turns (Some b) m) =
-        sym told ∙ subst (λ v. slice_get (nodes_of nodes) v ≡ Some (Turns (Some b) m)) here is in
+        sym reported ∙ subst (λ v. slice_get (nodes_of nodes) v ≡ Some (Turns (Some b) m)) here is in
         let same : node_of node ≡ Turns (Some b) m = cc both in
         never (b, m, same)
 

@@ -13,7 +13,7 @@ use Rattle.flatgrammar.proofs.SliceGetLemmas.{push_cases}
 use Rattle.lazydfa.specs.declared.conts.Cont.{Cont}
 use Rattle.lazydfa.specs.Conts.{stack_back, stack_of, AreOlder, AreKept, IsIdOf, Adds, IsAdded, Begun, CallMoves}
 use Rattle.lazydfa.specs.Conts.{after, Goes, EndsAlone}
-use Rattle.flatgrammar.specs.Blocks.{begin_count, item_at, spot}
+use Rattle.flatgrammar.specs.Blocks.{begin_count, item_at, dot}
 use Rattle.flatgrammar.specs.TableViews.{call_of, done_of}
 use Rattle.flatgrammar.specs.declared.tables.Tables as code_flat
 
@@ -196,7 +196,7 @@ adds_as conts P Q a b to from adds = record {
 }
 
 pub called_adds : (tables : code_flat.Tables) (n k root next : ℕ) (conts : List Cont) (under mid : List Place)
-    (a b : List ℕ) → call_of tables (item_at 0 (spot n k)) ≡ Some (root, next) → mid ≡ after tables n next under
+    (a b : List ℕ) → call_of tables (item_at 0 (dot n k)) ≡ Some (root, next) → mid ≡ after tables n next under
     → Adds conts (Begun root (begin_count tables root) mid) a b → Adds conts (CallMoves tables n k under) a b
 called_adds tables n k root next conts under mid a b called is adds =
     adds_as conts (Begun root (begin_count tables root) mid) (CallMoves tables n k under) a b
@@ -251,7 +251,7 @@ adds_end conts P Q a b c id le adds one sub here split =
 
 module _ (tables : code_flat.Tables) (n k : ℕ) (below stack : List Place) (stack_is : stack ≡ at n k ∷ below) where
   pub goes_call : (conts : List Cont) (a b : List ℕ)
-      → (done_of tables (item_at 0 (spot n k)) ≡ false) ⊎ (below ≡ []) →
+      → (done_of tables (item_at 0 (dot n k)) ≡ false) ⊎ (below ≡ []) →
       Adds conts (CallMoves tables n k below) a b → Adds conts (Goes tables stack) a b
   goes_call conts a b which adds =
       subst (λ v. Adds conts (Goes tables v) a b) (sym stack_is)
@@ -262,12 +262,12 @@ module _ (tables : code_flat.Tables) (n k : ℕ) (below stack : List Place) (sta
       by s (inl m) = m
       by s (inr e) = absurd (never which e.0 e.2)
         where
-          never : (done_of tables (item_at 0 (spot n k)) ≡ false) ⊎ (below ≡ [])
-              → done_of tables (item_at 0 (spot n k)) ≡ true → (below ≡ [] → ⊥) → ⊥
+          never : (done_of tables (item_at 0 (dot n k)) ≡ false) ⊎ (below ≡ [])
+              → done_of tables (item_at 0 (dot n k)) ≡ true → (below ≡ [] → ⊥) → ⊥
           never (inl no_end) yes_end some = absurd (cc (no_end, yes_end))
           never (inr none) yes_end some = some none
 
-  pub goes_end : (conts : List Cont) (a b c : List ℕ) (id : ℕ) → done_of tables (item_at 0 (spot n k)) ≡ true
+  pub goes_end : (conts : List Cont) (a b c : List ℕ) (id : ℕ) → done_of tables (item_at 0 (dot n k)) ≡ true
       → (below ≡ [] → ⊥) → id ≤ length conts → stack_of conts id ≡ below →
       Adds conts (CallMoves tables n k below) a b → IsAdded b c id → Adds conts (Goes tables stack) a c
   goes_end conts a b c id done some le is adds one =
@@ -279,14 +279,14 @@ module _ (tables : code_flat.Tables) (n k : ℕ) (below stack : List Place) (sta
       by s (inl m) = inl m
       by s (inr e) = inr (e.1 ∙ sym is)
 
-  pub ends_not : (done_of tables (item_at 0 (spot n k)) ≡ false) ⊎ (below ≡ [] → ⊥) → EndsAlone tables stack → ⊥
+  pub ends_not : (done_of tables (item_at 0 (dot n k)) ≡ false) ⊎ (below ≡ [] → ⊥) → EndsAlone tables stack → ⊥
   ends_not which e = by which (subst (λ v. EndsAlone tables v) stack_is e)
     where
-      by : (done_of tables (item_at 0 (spot n k)) ≡ false) ⊎ (below ≡ [] → ⊥) → EndsAlone tables (at n k ∷ below) → ⊥
+      by : (done_of tables (item_at 0 (dot n k)) ≡ false) ⊎ (below ≡ [] → ⊥) → EndsAlone tables (at n k ∷ below) → ⊥
       by (inl no_end) e = absurd (cc (no_end, e.0))
       by (inr some) e = some e.1
 
-  pub ends_so : done_of tables (item_at 0 (spot n k)) ≡ true → below ≡ [] → EndsAlone tables stack
+  pub ends_so : done_of tables (item_at 0 (dot n k)) ≡ true → below ≡ [] → EndsAlone tables stack
   ends_so done none = subst (λ v. EndsAlone tables v) (sym stack_is) (done, none)
 
 pub goes_nowhere : (tables : code_flat.Tables) (conts : List Cont) (stack : List Place) (a : List ℕ) → stack ≡ []

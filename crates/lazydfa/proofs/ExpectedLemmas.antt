@@ -27,7 +27,7 @@ use Rattle.lazydfa.specs.declared.expected.Expected.{Expected}
 use Rattle.lazydfa.proofs.IsAtLemmas.{plain_front}
 use Rattle.lazydfa.proofs.IsOverLemmas.{plain_below}
 use Rattle.lazydfa.proofs.IsTrackLemmas.{row_state}
-use Rattle.lazydfa.proofs.MoveLemmas.{tells_last}
+use Rattle.lazydfa.proofs.MoveLemmas.{marks_last}
 
 -- a place on top reads, whatever is below it
 reads_above : (flat : Flat) (p : Place) (below other : List Place) → IsReading flat (p ∷ below)
@@ -63,35 +63,35 @@ module _ (tables : code_flat.Tables) (roots : GiveRoots (flat_of tables) tables.
     within = is.within;
     item = λ some.
         let r = is.tracks.reached some in
-        reached_item (flat_of tables) uncounted x (last_of tables) (tells_last tables roots) r.0 r.1;
+        reached_item (flat_of tables) uncounted x (last_of tables) (marks_last tables roots) r.0 r.1;
     last = λ m past most item.
         is.dead (omega (arith, past, most)) m past
-        (item_reached (flat_of tables) uncounted x (last_of tables) (tells_last tables roots) item);
+        (item_reached (flat_of tables) uncounted x (last_of tables) (marks_last tables roots) item);
   }
 
   end_held : (at_stop.state.ended ≡ true) ↔ Holds (flat_of tables) x stop.at (at (flat_of tables).whole 1) 0
   end_held = (
-    λ ended. accepted_holds (flat_of tables) uncounted x (last_of tables) (tells_last tables roots) one.0 one.1
+    λ ended. accepted_holds (flat_of tables) uncounted x (last_of tables) (marks_last tables roots) one.0 one.1
         (at_stop.front.accepts.1 (ended, inl (none_below ended))),
     λ held. (at_stop.front.accepts.0
-        (holds_accepted (flat_of tables) uncounted x (last_of tables) (tells_last tables roots) one.0 one.1 held)).0,
+        (holds_accepted (flat_of tables) uncounted x (last_of tables) (marks_last tables roots) one.0 one.1 held)).0,
   )
 
-  module _ (spots : List DottedRule) (are : AreTopsOf memo.cache.conts.items.items at_stop.state.tops.items spots) where
-    spot_held : (s : DottedRule) → In s spots → (i : ℕ) × Holds (flat_of tables) x stop.at (at s.node s.step) i
-    spot_held s stands =
+  module _ (dots : List DottedRule) (are : AreTopsOf memo.cache.conts.items.items at_stop.state.tops.items dots) where
+    dot_held : (s : DottedRule) → In s dots → (i : ℕ) × Holds (flat_of tables) x stop.at (at s.node s.step) i
+    dot_held s stands =
         let t = are.sound s stands in
         let top : IsStackOf memo.cache.conts.items.items at_stop.state.tops.items (at s.node s.step ∷ t.2) =
         record { id = t.0; stands = t.1; is = sym t.3 } in
         let below = below_of memo.cache.conts.items.items memo.parts.items in
-        top_held (flat_of tables) uncounted x (last_of tables) (tells_last tables roots)
+        top_held (flat_of tables) uncounted x (last_of tables) (marks_last tables roots)
         ((plain_stop.reading (at s.node s.step ∷ (t.2 ++ below))
         (reads_above (flat_of tables) (at s.node s.step) t.2 (t.2 ++ below) (plain_stop.all_read _ top))).1
         (record { top = at s.node s.step ∷ t.2; is = top; stack_is = refl }))
 
     lifted_in : (s : DottedRule) (below : List Place)
         → Lifted (IsStackOf memo.cache.conts.items.items at_stop.state.tops.items)
-        (below_of memo.cache.conts.items.items memo.parts.items) (at s.node s.step ∷ below) → In s spots
+        (below_of memo.cache.conts.items.items memo.parts.items) (at s.node s.step ∷ below) → In s dots
     lifted_in s below l =
         let t = top_of (flat_of tables) l.top (plain_stop.all_read l.top l.is) in
         let both : at s.node s.step ∷ below ≡ t.0 ∷ (t.1 ++ below_of memo.cache.conts.items.items memo.parts.items) =
@@ -99,11 +99,11 @@ module _ (tables : code_flat.Tables) (roots : GiveRoots (flat_of tables) tables.
         let same : t.0 ≡ at s.node s.step = cc both in
         are.whole s l.is.id t.1 l.is.stands (sym l.is.is ∙ (t.2 ∙ ap (λ v. v ∷ t.1) same))
 
-    readers_at : AreReadersAt (flat_of tables) x stop.at spots
+    readers_at : AreReadersAt (flat_of tables) x stop.at dots
     readers_at = record {
-      held = spot_held;
+      held = dot_held;
       all = λ s i set r held rd.
-          let h = reader_reached (flat_of tables) uncounted x (last_of tables) (tells_last tables roots) held rd in
+          let h = reader_reached (flat_of tables) uncounted x (last_of tables) (marks_last tables roots) held rd in
           lifted_in s h.0 ((plain_stop.reading (at s.node s.step ∷ h.0) (reading rd)).0 h.1);
     }
 
@@ -118,17 +118,17 @@ module _ (tables : code_flat.Tables) (roots : GiveRoots (flat_of tables) tables.
       cc both
 
   pub expected_there : (k : ℕ) (got : State) → k ≡ stop.row / (length samples + 1)
-      → slice_get memo.cache.states.items k ≡ Some got → (told : Expected) → told.after ≡ stop.at
-      → told.ends ≡ got.ended → AreTopsOf memo.cache.conts.items.items got.tops.items told.spots.items
-      → IsExpected (flat_of tables) x told
-  expected_there k got place there told after ends spots =
+      → slice_get memo.cache.states.items k ≡ Some got → (reported : Expected) → reported.after ≡ stop.at
+      → reported.ends ≡ got.ended → AreTopsOf memo.cache.conts.items.items got.tops.items reported.dots.items
+      → IsExpected (flat_of tables) x reported
+  expected_there k got place there reported after ends dots =
       let same = state_there k got place there in
       record {
         last = subst (λ v. IsLastSet (flat_of tables) x v) (sym after) last_set;
-        readers = subst (λ v. AreReadersAt (flat_of tables) x v told.spots.items) (sym after)
-            (readers_at told.spots.items
-            (subst (λ v. AreTopsOf memo.cache.conts.items.items v.tops.items told.spots.items) same spots));
-        end = subst (λ v. IsTrue told.ends ↔ Holds (flat_of tables) x v (at (flat_of tables).whole 1) 0) (sym after)
+        readers = subst (λ v. AreReadersAt (flat_of tables) x v reported.dots.items) (sym after)
+            (readers_at reported.dots.items
+            (subst (λ v. AreTopsOf memo.cache.conts.items.items v.tops.items reported.dots.items) same dots));
+        end = subst (λ v. IsTrue reported.ends ↔ Holds (flat_of tables) x v (at (flat_of tables).whole 1) 0) (sym after)
             (subst (λ v. (v ≡ true) ↔ Holds (flat_of tables) x stop.at (at (flat_of tables).whole 1) 0)
             (sym (ends ∙ ap (λ v. v.ended) same)) end_held);
       }

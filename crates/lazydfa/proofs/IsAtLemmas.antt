@@ -30,9 +30,9 @@ use Rattle.letterclasses.specs.ClassBounds.{IsClassOf}
 use Rattle.lazydfa.specs.RunVerdicts.{IsReached}
 use Rattle.std.specs.Option.{option_flatten}
 use Rattle.lazydfa.proofs.AreCachedLemmas.{cached_state, cached_conts}
-use Rattle.lazydfa.proofs.MoveLemmas.{whole_begun, from_goes, to_goes, done_told, told_done}
+use Rattle.lazydfa.proofs.MoveLemmas.{whole_begun, from_goes, to_goes, done_reported, reported_done}
 use Rattle.letterclasses.proofs.LiftLemmas.{rests_empty}
-use Rattle.lazydfa.proofs.TellLemmas.{transition_next, told_top, top_told, to_read, from_read}
+use Rattle.lazydfa.proofs.ReportLemmas.{transition_next, reported_top, top_reported, to_read, from_read}
 use Rattle.letterclasses.proofs.FrontLemmas.{taken_by_tops, next_front, nothing_below, not_ended, split_plain}
 use Rattle.lazydfa.proofs.AreCachedLemmas.{stack_on, stack_off, goes_as, grown_at}
 
@@ -205,7 +205,7 @@ module _ (tables : code_flat.Tables) (roots : GiveRoots (flat_of tables) tables.
           (subst (λ v. IsTransition tables d new v.tops.items new push.read false)
           (sym (same_state push.from push.from_is)) push.is)))
           push.split.tops_are
-          (λ top h. told_top tables top (subst (λ v. TopReads tables v) (sym h.is)
+          (λ top h. reported_top tables top (subst (λ v. TopReads tables v) (sym h.is)
           (push.split.all_read h.id h.stands))));
     }
 
@@ -257,7 +257,7 @@ module _ (tables : code_flat.Tables) (roots : GiveRoots (flat_of tables) tables.
     to_reach (on {stack = s} h g) = st.moved (to_reach h) (from_goes tables roots s g)
 
     ends_so : (p : Place) → IsDoneAt (flat_of tables) p → EndsAlone tables (p ∷ [])
-    ends_so (at n k) d = (done_told tables roots d, refl)
+    ends_so (at n k) d = (done_reported tables roots d, refl)
 
     accepted_so : (stack : List Place) → Reach (flat_of tables) (last_of tables) x 0 stack → EndsAlone tables stack
         → Accepts (flat_of tables) (last_of tables) x 0
@@ -265,7 +265,7 @@ module _ (tables : code_flat.Tables) (roots : GiveRoots (flat_of tables) tables.
     accepted_so (at n k ∷ below) h e = record {
       place = at n k;
       reached = subst (λ v. Reach (flat_of tables) (last_of tables) x 0 (at n k ∷ v)) e.1 h;
-      done = told_done tables roots n k (slice_get tables.nodes.items n) refl e.0;
+      done = reported_done tables roots n k (slice_get tables.nodes.items n) refl e.0;
     }
 
     pub at_start : (conts : List Cont) (states : List State) (t : ℕ) → IsStartAt tables conts states t
@@ -277,12 +277,12 @@ module _ (tables : code_flat.Tables) (roots : GiveRoots (flat_of tables) tables.
         reading = λ stack r. (
           λ h. inl (record {
             top = stack;
-            is = (s.start.tops_are stack).1 (top_told tables r, from_reach h refl);
+            is = (s.start.tops_are stack).1 (top_reported tables r, from_reach h refl);
             stack_is = sym (append-nil stack);
           }),
           λ h. back stack r h,
         );
-        all_read = λ top h. told_top tables top ((s.start.tops_are top).0 h).0;
+        all_read = λ top h. reported_top tables top ((s.start.tops_are top).0 h).0;
         accepts = (
           λ a. (s.start.ended_is.1 (a.place ∷ [], from_reach a.reached refl, ends_so a.place a.done), inl refl),
           λ h. let e = s.start.ended_is.0 h.0 in accepted_so e.0 (to_reach e.1) e.2,
@@ -299,7 +299,7 @@ module _ (tables : code_flat.Tables) (roots : GiveRoots (flat_of tables) tables.
             (to_reach ((s.start.tops_are h.top).0 h.is).1)
         back stack r (inr h) =
             absurd (subst (λ v. TopReads tables v) (rests_empty (flat_of tables) (last_of tables) h.1)
-            (top_told tables r))
+            (top_reported tables r))
 
   module _ (x : List ℕ) (old new : List Cont) (states more : List State) (kept : AreKept old new)
       (grown : AreGrown states more) (s j c k : ℕ) (below : List Place) (at_j : IsAt tables old states s x j below)

@@ -48,7 +48,7 @@ module _ (tables : code_flat.Tables) (first : List Cont) (given : List ℕ) wher
       → IsClosing tables first given conts ids count ended → slice_get ids count ≡ Some id → AreKept conts new
       → Adds new (Goes tables (stack_of conts id)) ids more → (IsTrue now ↔ EndsAlone tables (stack_of conts id))
       → IsClosing tables first given new more (count + 1) (now || ended)
-  closing_more conts new ids more count id ended now c at_count kept adds tells = record {
+  closing_more conts new ids more count id ended now c at_count kept adds reports = record {
     kept = kept_both first conts new c.kept kept;
     within = λ other h. within other (cases other h);
     sound = λ other h. sound other (cases other h);
@@ -117,7 +117,7 @@ module _ (tables : code_flat.Tables) (first : List Cont) (given : List ℕ) wher
         omega arith,
         at_more count id at_count,
         subst (λ v. EndsAlone tables v)
-            (sym (still count id at_count)) (tells.0 (truly is_now)),
+            (sym (still count id at_count)) (reports.0 (truly is_now)),
       )
         where
           truly : true ≡ now → IsTrue now
@@ -143,7 +143,7 @@ module _ (tables : code_flat.Tables) (first : List Cont) (given : List ℕ) wher
           or_right false b h = h
       from_end k other lt is e (inr le) =
           let old = old_at k other lt is in
-          or_left now ended (tells.1 (subst (λ v. EndsAlone tables v)
+          or_left now ended (reports.1 (subst (λ v. EndsAlone tables v)
           (still k other old ∙ ap (λ v. stack_of conts v) (sym (same_at k other le lt old))) e))
         where
           or_left : (a b : Bool) → IsTrue a → (a || b) ≡ true

@@ -185,9 +185,9 @@ settled_start tables roots x conts states parts t none start = record {
 pub settled_running : (tables : code_flat.Tables) (conts : List Cont) (states : List State) (parts : List ℕ) (s : ℕ)
     (x : List ℕ) (j : ℕ) (ended : Bool) → ((got : State) → slice_get states s ≡ Some got → ended ≡ got.ended)
     → ended ≡ false → IsOver tables conts states parts s x j → IsSettled tables conts states parts s x j
-settled_running tables conts states parts s x j ended tells runs over = record {
+settled_running tables conts states parts s x j ended reports runs over = record {
   over = over;
-  plain = λ ended_is. absurd (let e = tells over.at.state over.at.is in cc (e, runs, ended_is));
+  plain = λ ended_is. absurd (let e = reports over.at.state over.at.is in cc (e, runs, ended_is));
 }
 
 pub settled_empty : (tables : code_flat.Tables) (conts : List Cont) (states : List State) (parts left : List ℕ) (s : ℕ)

@@ -21,7 +21,7 @@ use Rattle.lazydfa.specs.declared.cache.State.{State}
 use Rattle.lazydfa.specs.Conts.{last_of}
 use Rattle.lazydfa.specs.Cached.{IsAt}
 use Rattle.lazydfa.specs.RunVerdicts.{IsOne, IsReached, IsRunVerdict}
-use Rattle.lazydfa.proofs.MoveLemmas.{tells_last}
+use Rattle.lazydfa.proofs.MoveLemmas.{marks_last}
 
 -- a letter's number
 pub number_at : {A : Type 0} (f : A → ℕ) (xs : List A) (k : ℕ) (a : A) (v : ℕ) → k < length xs → a ≡ get_or xs k a
@@ -67,18 +67,19 @@ module _ (tables : code_flat.Tables) (roots : GiveRoots (flat_of tables) tables.
   pub verdict_of_run : (verdict : Verdict) → IsRunVerdict (flat_of tables) (last_of tables) x verdict
       → IsFlatVerdict (flat_of tables) x verdict
   verdict_of_run Yes accepts =
-      accepted_holds (flat_of tables) uncounted x (last_of tables) (tells_last tables roots) one.0 one.1 accepts
+      accepted_holds (flat_of tables) uncounted x (last_of tables) (marks_last tables roots) one.0 one.1 accepts
   verdict_of_run (No n) is = (
-    λ derives. is.0 (holds_accepted (flat_of tables) uncounted x (last_of tables) (tells_last tables roots) one.0 one.1
+    λ derives. is.0 (holds_accepted (flat_of tables) uncounted x (last_of tables)
+        (marks_last tables roots) one.0 one.1
         derives),
     record {
       within = is.1.within;
       item = λ some.
           let r = is.1.reached some in
-          reached_item (flat_of tables) uncounted x (last_of tables) (tells_last tables roots) r.0 r.1;
+          reached_item (flat_of tables) uncounted x (last_of tables) (marks_last tables roots) r.0 r.1;
       last = λ m past most item.
           is.1.last_is m past most
-          (item_reached (flat_of tables) uncounted x (last_of tables) (tells_last tables roots) item);
+          (item_reached (flat_of tables) uncounted x (last_of tables) (marks_last tables roots) item);
     },
   )
 

@@ -18,7 +18,7 @@ use Rattle.lazydfa.specs.Cached.{AreCached, IsCell}
 use Rattle.letterclasses.specs.ClassBounds.{AreClasses, IsClassOf}
 use Rattle.lazydfa.specs.declared.glide.Track.{Track}
 use Rattle.lazydfa.specs.declared.memo.Memo.{Memo}
-use Rattle.lazydfa.specs.Hops.{IsEndAt, IsHopTo, IsTaken, StaysBy, StaysOver, last_word}
+use Rattle.lazydfa.specs.Transitions.{IsEndAt, IsTransitionTo, IsTaken, StaysBy, StaysOver, last_word}
 use Rattle.lazydfa.specs.Memos.{IsEndOf, IsMemo, IsOver, IsSettled, IsRunStop, IsTrack}
 use Rattle.lazydfa.specs.RunVerdicts.{IsReached, IsRunVerdict}
 use Rattle.lazydfa.specs.StackParts.{below_of}
@@ -71,7 +71,7 @@ module _ (tables : code_flat.Tables) (roots : GiveRoots (flat_of tables) tables.
 module _ (tables : code_flat.Tables) (roots : GiveRoots (flat_of tables) tables.roots.items) (samples : List ℕ)
     (memo : Memo) (is_memo : IsMemo tables samples memo) (x : List ℕ) (row j c k next : ℕ)
     (before : IsTrack tables samples memo x (record { row = row; at = j })) (letter : slice_get x j ≡ Some c)
-    (class : IsClassOf (flat_of tables) samples c k) (word : slice_get memo.hops.items (row + k) ≡ Some next)
+    (class : IsClassOf (flat_of tables) samples c k) (word : slice_get memo.transitions.items (row + k) ≡ Some next)
     (below : next < 2 ^ 31) where
   class_within : k < length samples
   class_within = slice_get_within samples k class.sample class.is
@@ -85,66 +85,73 @@ module _ (tables : code_flat.Tables) (roots : GiveRoots (flat_of tables) tables.
   word_class : (row + k) % (length samples + 1) ≡ k
   word_class = class_is before.state k (length samples + 1) (row + k) class_fits word_place
 
-  hop_is : IsHopTo tables samples memo.cache.conts.items.items memo.cache.states.items (row + k) next
-  hop_is =
-      (is_memo.hops (row + k) next word).leads (subst (λ v. v < length samples) (sym word_class) class_within) below
+  transition_is : IsTransitionTo tables samples memo.cache.conts.items.items memo.cache.states.items (row + k) next
+  transition_is =
+      (is_memo.transitions (row + k) next word).leads (subst (λ v. v < length samples) (sym word_class) class_within)
+      below
 
   cell_known : (d : ℕ) → slice_get samples k ≡ Some d
-      → IsCell tables d memo.cache.conts.items.items memo.cache.states.items before.state (To hop_is.to)
+      → IsCell tables d memo.cache.conts.items.items memo.cache.states.items before.state (To transition_is.to)
   cell_known d sample =
-      subst (λ v. IsCell tables d memo.cache.conts.items.items memo.cache.states.items v (To hop_is.to))
+      subst (λ v. IsCell tables d memo.cache.conts.items.items memo.cache.states.items v (To transition_is.to))
       (row_is before.state k (length samples + 1) (row + k) class_fits word_place)
-      (hop_is.leads d (subst (λ v. slice_get samples v ≡ Some d) (sym word_class) sample))
+      (transition_is.leads d (subst (λ v. slice_get samples v ≡ Some d) (sym word_class) sample))
 
-  track_to : IsSettled tables memo.cache.conts.items.items memo.cache.states.items memo.parts.items hop_is.to x (j + 1)
+  track_to : IsSettled tables memo.cache.conts.items.items memo.cache.states.items memo.parts.items transition_is.to x
+      (j + 1)
       → IsTrack tables samples memo x (record { row = next; at = j + 1 })
   track_to settled = record {
-    state = hop_is.to;
-    row = hop_is.row;
+    state = transition_is.to;
+    row = transition_is.row;
     runs = settled;
     reached = λ _. next_reached tables roots samples memo.cache.conts.items.items memo.cache.states.items
-        memo.cache.cells.items is_memo.cached memo.parts.items x before.state j c k hop_is.to before.runs letter class
+        memo.cache.cells.items is_memo.cached memo.parts.items x before.state j c k transition_is.to before.runs letter
+        class
         cell_known;
   }
 
   track_bare : memo.parts.items ≡ [] → IsTrack tables samples memo x (record { row = next; at = j + 1 })
   track_bare none =
       track_to (next_bare tables roots samples memo.cache.conts.items.items memo.cache.states.items
-      memo.cache.cells.items is_memo.cached memo.parts.items x before.state j c k hop_is.to before.runs letter class
+      memo.cache.cells.items is_memo.cached memo.parts.items x before.state j c k transition_is.to before.runs letter
+      class
       cell_known none)
 
-  track_running : slice_get memo.hops.items (next + length samples) ≡ Some 0
+  track_running : slice_get memo.transitions.items (next + length samples) ≡ Some 0
       → IsTrack tables samples memo x (record { row = next; at = j + 1 })
   track_running last =
-      let place : next + length samples ≡ hop_is.to * (length samples + 1) + length samples =
-      ap (λ v. v + length samples) hop_is.row in
+      let place : next + length samples ≡ transition_is.to * (length samples + 1) + length samples =
+      ap (λ v. v + length samples) transition_is.row in
       let wider : length samples < length samples + 1 = omega arith in
-      let end = (is_memo.hops (next + length samples) 0 last).runs
-      (class_is hop_is.to (length samples) (length samples + 1) (next + length samples) wider place) refl in
+      let end = (is_memo.transitions (next + length samples) 0 last).runs
+      (class_is transition_is.to (length samples) (length samples + 1) (next + length samples) wider place) refl in
       track_to (next_running tables roots samples memo.cache.conts.items.items memo.cache.states.items
-      memo.cache.cells.items is_memo.cached memo.parts.items x before.state j c k hop_is.to before.runs letter class
+      memo.cache.cells.items is_memo.cached memo.parts.items x before.state j c k transition_is.to before.runs letter
+      class
       cell_known end.state (subst (λ v. slice_get memo.cache.states.items v ≡ Some end.state)
-      (row_is hop_is.to (length samples) (length samples + 1) (next + length samples) wider place) end.is) end.ended_is)
+      (row_is transition_is.to (length samples) (length samples + 1) (next + length samples) wider place) end.is)
+      end.ended_is)
 
   track_same : next ≡ row → IsTrack tables samples memo x (record { row = next; at = j + 1 })
   track_same back =
       let wider : 0 < length samples + 1 = omega arith in
-      let there : next ≡ hop_is.to * (length samples + 1) + 0 = let r = hop_is.row in omega (arith, r) in
+      let there : next ≡ transition_is.to * (length samples + 1) + 0 = let r = transition_is.row in omega (arith, r) in
       let here : next ≡ before.state * (length samples + 1) + 0 = let r = before.row in omega (arith, r, back) in
       track_to (next_same tables roots samples memo.cache.conts.items.items memo.cache.states.items
-      memo.cache.cells.items is_memo.cached memo.parts.items x before.state j c k hop_is.to before.runs letter class
-      cell_known (sym (row_is hop_is.to 0 (length samples + 1) next wider there)
+      memo.cache.cells.items is_memo.cached memo.parts.items x before.state j c k transition_is.to before.runs letter
+      class
+      cell_known (sym (row_is transition_is.to 0 (length samples + 1) next wider there)
       ∙ row_is before.state 0 (length samples + 1) next wider here))
 
 module _ (tables : code_flat.Tables) (roots : GiveRoots (flat_of tables) tables.roots.items) (samples : List ℕ)
     (memo : Memo) (is_memo : IsMemo tables samples memo) (x : List ℕ) where
-  pub hop_taken : (row j c k next : ℕ) (bare : Bool) → (bare ≡ true → memo.parts.items ≡ [])
+  pub transition_taken : (row j c k next : ℕ) (bare : Bool) → (bare ≡ true → memo.parts.items ≡ [])
       → IsTrack tables samples memo x (record { row = row; at = j }) → slice_get x j ≡ Some c
-      → IsClassOf (flat_of tables) samples c k → IsTaken memo.hops.items (length samples) bare (row + k) next
+      → IsClassOf (flat_of tables) samples c k → IsTaken memo.transitions.items (length samples) bare (row + k) next
       → IsTrack tables samples memo x (record { row = next; at = j + 1 })
-  hop_taken row j c k next bare none before letter class taken = by taken.2
+  transition_taken row j c k next bare none before letter class taken = by taken.2
     where
-      by : (bare ≡ true) ⊎ (slice_get memo.hops.items (next + length samples) ≡ Some 0)
+      by : (bare ≡ true) ⊎ (slice_get memo.transitions.items (next + length samples) ≡ Some 0)
           → IsTrack tables samples memo x (record { row = next; at = j + 1 })
       by (inl is) =
           track_bare tables roots samples memo is_memo x row j c k next before letter class taken.0 taken.1 (none is)
@@ -154,7 +161,7 @@ module _ (tables : code_flat.Tables) (roots : GiveRoots (flat_of tables) tables.
   -- by symbols that lead from a row to that row
   module _ (low : List ℕ) (classes : AreClasses (flat_of tables) low samples) (row from : ℕ) (below : row < 2 ^ 31)
     where
-      stays_more : (n : ℕ) → from + n ≤ length x → StaysOver low samples memo.hops.items x row from (from + n)
+      stays_more : (n : ℕ) → from + n ≤ length x → StaysOver low samples memo.transitions.items x row from (from + n)
           → IsTrack tables samples memo x (record { row = row; at = from })
           → IsTrack tables samples memo x (record { row = row; at = from + n })
       stays_more zero within stays track =
@@ -169,50 +176,51 @@ module _ (tables : code_flat.Tables) (roots : GiveRoots (flat_of tables) tables.
           refl)
 
       pub stays_taken : (to : ℕ) → from ≤ to → to ≤ length x
-          → StaysOver low samples memo.hops.items x row from to
+          → StaysOver low samples memo.transitions.items x row from to
           → IsTrack tables samples memo x (record { row = row; at = from })
           → IsTrack tables samples memo x (record { row = row; at = to })
       stays_taken to le within stays track =
           let same : from + (to - from) ≡ to = omega (arith, le) in
           subst (λ v. IsTrack tables samples memo x (record { row = row; at = v })) same
           (stays_more (to - from) (omega (arith, same, within))
-          (subst (λ v. StaysOver low samples memo.hops.items x row from v) (sym same) stays) track)
+          (subst (λ v. StaysOver low samples memo.transitions.items x row from v) (sym same) stays) track)
 
 -- symbols that lead from a row to that row
-module _ (low samples hops x : List ℕ) (row : ℕ) where
-  pub none_stay : (at : ℕ) → StaysOver low samples hops x row at at
+module _ (low samples transitions x : List ℕ) (row : ℕ) where
+  pub none_stay : (at : ℕ) → StaysOver low samples transitions x row at at
   none_stay at j v le lt is = absurd (omega (arith, le, lt))
 
-  pub stays_both : (from mid to : ℕ) → StaysOver low samples hops x row from mid
-      → StaysOver low samples hops x row mid to → StaysOver low samples hops x row from to
+  pub stays_both : (from mid to : ℕ) → StaysOver low samples transitions x row from mid
+      → StaysOver low samples transitions x row mid to → StaysOver low samples transitions x row from to
   stays_both from mid to first second j v le lt is = by (cases_lt j mid)
     where
-      by : (j < mid) ⊎ (mid ≤ j) → StaysBy low samples hops row v
+      by : (j < mid) ⊎ (mid ≤ j) → StaysBy low samples transitions row v
       by (inl less) = first j v le less is
       by (inr more) = second j v more lt is
 
   one_stays : (j at v a : ℕ) → j ≡ at → slice_get x at ≡ Some a → slice_get x j ≡ Some v
-      → StaysBy low samples hops row a → StaysBy low samples hops row v
+      → StaysBy low samples transitions row a → StaysBy low samples transitions row v
   one_stays j at v a here first is stays =
       let both : Some a ≡ Some v = sym first ∙ subst (λ w. slice_get x w ≡ Some v) here is in
       let same : a ≡ v = cc both in
-      subst (λ w. StaysBy low samples hops row w) same stays
+      subst (λ w. StaysBy low samples transitions row w) same stays
 
   pub four_stay : (at a b c d : ℕ) → slice_get x at ≡ Some a → slice_get x (at + 1) ≡ Some b
-      → slice_get x (at + 2) ≡ Some c → slice_get x (at + 3) ≡ Some d → StaysBy low samples hops row a
-      → StaysBy low samples hops row b → StaysBy low samples hops row c → StaysBy low samples hops row d
-      → StaysOver low samples hops x row at (at + 4)
+      → slice_get x (at + 2) ≡ Some c → slice_get x (at + 3) ≡ Some d → StaysBy low samples transitions row a
+      → StaysBy low samples transitions row b → StaysBy low samples transitions row c
+      → StaysBy low samples transitions row d
+      → StaysOver low samples transitions x row at (at + 4)
   four_stay at a b c d is_a is_b is_c is_d stays_a stays_b stays_c stays_d j v le lt is = by (cases_lt j (at + 1))
     where
-      third : at + 2 ≤ j → (j < at + 3) ⊎ (at + 3 ≤ j) → StaysBy low samples hops row v
+      third : at + 2 ≤ j → (j < at + 3) ⊎ (at + 3 ≤ j) → StaysBy low samples transitions row v
       third ge (inl less) = one_stays j (at + 2) v c (omega (arith, ge, less)) is_c is stays_c
       third ge (inr more) = one_stays j (at + 3) v d (omega (arith, more, lt)) is_d is stays_d
 
-      second : at + 1 ≤ j → (j < at + 2) ⊎ (at + 2 ≤ j) → StaysBy low samples hops row v
+      second : at + 1 ≤ j → (j < at + 2) ⊎ (at + 2 ≤ j) → StaysBy low samples transitions row v
       second ge (inl less) = one_stays j (at + 1) v b (omega (arith, ge, less)) is_b is stays_b
       second ge (inr more) = third more (cases_lt j (at + 3))
 
-      by : (j < at + 1) ⊎ (at + 1 ≤ j) → StaysBy low samples hops row v
+      by : (j < at + 1) ⊎ (at + 1 ≤ j) → StaysBy low samples transitions row v
       by (inl less) = one_stays j at v a (omega (arith, le, less)) is_a is stays_a
       by (inr more) = second more (cases_lt j (at + 2))
 
@@ -290,6 +298,6 @@ module _ (tables : code_flat.Tables) (samples : List ℕ) (memo : Memo) (is_memo
       (ap (λ v. v + length samples) place)
 
   pub last_says : (ended : Bool)
-      → slice_get memo.hops.items (row + length samples) ≡ Some (last_word ended) → ended ≡ got.ended
-  last_says true word = end_says true ((is_memo.hops (row + length samples) 1 word).ends last_class refl)
-  last_says false word = end_says false ((is_memo.hops (row + length samples) 0 word).runs last_class refl)
+      → slice_get memo.transitions.items (row + length samples) ≡ Some (last_word ended) → ended ≡ got.ended
+  last_says true word = end_says true ((is_memo.transitions (row + length samples) 1 word).ends last_class refl)
+  last_says false word = end_says false ((is_memo.transitions (row + length samples) 0 word).runs last_class refl)

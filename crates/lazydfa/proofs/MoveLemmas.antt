@@ -7,7 +7,7 @@ use Rattle.flatgrammar.specs.Flat.{Node, Name, Flat, Place, at, Set, Begins, Rea
 use Rattle.flatgrammar.specs.Flat.{name_starts}
 use Rattle.flatgrammar.specs.Flat.{Reads, reads, Calls, calls}
 use Rattle.flatgrammar.specs.Blocks as blocks
-use Rattle.flatgrammar.specs.Blocks.{item_at, spot}
+use Rattle.flatgrammar.specs.Blocks.{item_at, dot}
 use Rattle.flatgrammar.specs.declared.tables.Tables as code_flat
 use Rattle.flatgrammar.specs.declared.flat_node.Node as code_node
 use Rattle.flatgrammar.specs.FlatViews.{node_of}
@@ -20,7 +20,18 @@ use Rattle.flatgrammar.proofs.CallOfLemmas.{done_tests, calling_callee, begin_be
 use Rattle.flatgrammar.proofs.CallOfLemmas.{begun_starts}
 use Rattle.flatgrammar.proofs.NodeStepsLemmas.{done_is}
 use Rattle.letterclasses.specs.Stacks as st
-use Rattle.letterclasses.specs.Stacks.{IsDoneAt, is_done, TellsLast, Moves, call, tail_call, Led, led, moves, LedToEnd}
+use Rattle.letterclasses.specs.Stacks.{
+  IsDoneAt,
+  is_done,
+  MarksLast,
+  Moves,
+  call,
+  tail_call,
+  Led,
+  led,
+  moves,
+  LedToEnd,
+}
 use Rattle.lazydfa.specs.Conts.{Begun, last_by, last_of, after, Goes, GoesOn, here, on}
 
 record StartsAt (flat : Flat) (s : ℕ) (p : Place) : Type 0 where
@@ -70,7 +81,7 @@ bool_cases false = inr refl
 module _ (tables : code_flat.Tables) (roots : GiveRoots (flat_of tables) tables.roots.items) where
   call_is : (n k : ℕ) {t l root : ℕ} {node : Node} → slice_get (flat_of tables).nodes n ≡ Some node → Calling node k t l
       → Root (flat_of tables).nodes (flat_of tables).bodies t root
-      → call_of tables (item_at 0 (spot n k)) ≡ Some (root, l)
+      → call_of tables (item_at 0 (dot n k)) ≡ Some (root, l)
   call_is n k {t = t} {l = l} {root = root} {node = node} is c r =
       let u = get_unmap node_of tables.nodes.items n node is in
       let called_is : callee (node_of u.from) k ≡ Some (t, l) = ap (λ v. callee v k) u.is ∙ calling_callee c in
@@ -82,30 +93,30 @@ module _ (tables : code_flat.Tables) (roots : GiveRoots (flat_of tables) tables.
       let u = get_unmap node_of tables.nodes.items b.root b.node b.stands in
       rw u.at (subst (λ v. b.step < begin_count v) (sym u.is) (begin_below b.begun))
 
-  pub done_told : {n k : ℕ} → IsDoneAt (flat_of tables) (at n k) → done_of tables (item_at 0 (spot n k)) ≡ true
-  done_told (is_done {s = n} {k = k} {node = node} is d) =
+  pub done_reported : {n k : ℕ} → IsDoneAt (flat_of tables) (at n k) → done_of tables (item_at 0 (dot n k)) ≡ true
+  done_reported (is_done {s = n} {k = k} {node = node} is d) =
       let u = get_unmap node_of tables.nodes.items n node is in
       ap (λ v. done_in v k) u.at ∙ (ap (λ v. node_steps.is_done v k) u.is ∙ done_tests d)
 
-  pub told_done : (n k : ℕ) (o : Option code_node.Node) → slice_get tables.nodes.items n ≡ o → done_in o k ≡ true
+  pub reported_done : (n k : ℕ) (o : Option code_node.Node) → slice_get tables.nodes.items n ≡ o → done_in o k ≡ true
       → IsDoneAt (flat_of tables) (at n k)
-  told_done n k None is h = absurd (cc h)
-  told_done n k (Some c) is h = is_done (get_map node_of tables.nodes.items n is) (done_is (node_of c) k h)
+  reported_done n k None is h = absurd (cc h)
+  reported_done n k (Some c) is h = is_done (get_map node_of tables.nodes.items n is) (done_is (node_of c) k h)
 
-  pub tells_last : TellsLast (flat_of tables) (last_of tables)
-  tells_last = record {
+  pub marks_last : MarksLast (flat_of tables) (last_of tables)
+  marks_last = record {
     done = λ p h. by p h;
     no_read = λ p r set h rd. not_read p rd h;
     no_call = λ p r start s h c begin. not_called p c begin h;
   }
     where
       by : (p : Place) → last_of tables p ≡ true → IsDoneAt (flat_of tables) p
-      by (at n k) h = told_done n k (slice_get tables.nodes.items n) refl (last_parts _ _ _ h).1
+      by (at n k) h = reported_done n k (slice_get tables.nodes.items n) refl (last_parts _ _ _ h).1
 
       not_read : (p : Place) {r : Place} {set : Set} → Reads (flat_of tables) p set r → last_of tables p ≡ true → ⊥
       not_read p (reads {s = n} {k = k} {set = set} {node = node} is (Reading.letter there)) h =
           let u = get_unmap node_of tables.nodes.items n node is in
-          let some : read_of tables (item_at 0 (spot n k)) ≡ Some set =
+          let some : read_of tables (item_at 0 (dot n k)) ≡ Some set =
           ap (λ v. read_in v k) u.at ∙ (ap (λ v. read_at v k) u.is ∙ there) in
           absurd (let none = (last_parts _ _ _ h).2 in cc (none, some))
 
@@ -144,12 +155,12 @@ module _ (tables : code_flat.Tables) (roots : GiveRoots (flat_of tables) tables.
   to_goes (st.return {p = p} {r = r} {below = below} d) = ends p r below d
     where
       ends : (p r : Place) (below : List Place) → IsDoneAt (flat_of tables) p → Goes tables (p ∷ r ∷ below) (r ∷ below)
-      ends (at n k) r below d = inr (done_told d, refl, λ none. cc none)
+      ends (at n k) r below d = inr (done_reported d, refl, λ none. cc none)
 
   pub from_goes : (a : List Place) {b : List Place} → Goes tables a b → Moves (flat_of tables) (last_of tables) a b
   from_goes [] g = absurd g
   from_goes (at n k ∷ below) {b} (inl m) =
-      let c = called_of tables roots (item_at 0 (spot n k)) m.root m.next m.called in
+      let c = called_of tables roots (item_at 0 (dot n k)) m.root m.next m.called in
       let s = begun_starts tables roots m.root m.begun.step c.callee (slice_get tables.nodes.items m.root) refl
       m.begun.begins c.rooted in
       subst (λ v. Moves (flat_of tables) (last_of tables) (at n k ∷ below) v) (sym m.begun.is)
@@ -164,7 +175,7 @@ module _ (tables : code_flat.Tables) (roots : GiveRoots (flat_of tables) tables.
   from_goes (at n k ∷ below) (inr e) = by below e.1 e.2
     where
       done : IsDoneAt (flat_of tables) (at n k)
-      done = told_done n k (slice_get tables.nodes.items n) refl e.0
+      done = reported_done n k (slice_get tables.nodes.items n) refl e.0
 
       by : {b : List Place} (below : List Place) → b ≡ below → (below ≡ [] → ⊥)
           → Moves (flat_of tables) (last_of tables) (at n k ∷ below) b

@@ -17,8 +17,8 @@ use Rattle.lazydfa.specs.Spines.{IsMoveOn, AreMoved}
 use Rattle.lazydfa.specs.StackParts.{PutsBack}
 use Rattle.lazydfa.proofs.ContsLemmas.{kept_stack, kept_within, stack_none}
 use Rattle.lazydfa.proofs.AreCachedLemmas.{stack_on, stack_off, goes_as}
-use Rattle.lazydfa.proofs.MoveLemmas.{from_goes, to_goes, done_told, told_done}
-use Rattle.lazydfa.proofs.TellLemmas.{top_told, told_top}
+use Rattle.lazydfa.proofs.MoveLemmas.{from_goes, to_goes, done_reported, reported_done}
+use Rattle.lazydfa.proofs.ReportLemmas.{top_reported, reported_top}
 
 pub added_within : (none given : List ℕ) (part : ℕ) (conts : List Cont) → none ≡ [] → part ≤ length conts
     → IsAdded none given part → (id : ℕ) → Contains given id → id ≤ length conts
@@ -60,9 +60,10 @@ module _ (tables : code_flat.Tables) (old mid new : List Cont) (kept : AreKept o
       m.is ∙ (ap (λ v. v ++ stack_of mid part) (base_is top id h m)
       ∙ ap (λ v. stack_of old top ++ v) (kept_stack old mid kept part part_in))
 
-  next_told : (s : List Place) → IsStackOf new next s → Lifted (IsStackOf old tops) (stack_of old part) s
+  next_reported : (s : List Place) → IsStackOf new next s → Lifted (IsStackOf old tops) (stack_of old part) s
       ⊎ (TopReads tables s × GoesOn tables Part s)
-  next_told s h = by (Contains-append_cases read moved.added h.id (subst (λ v. Contains v h.id) moved.grown h.stands))
+  next_reported s h = by (Contains-append_cases read moved.added h.id
+      (subst (λ v. Contains v h.id) moved.grown h.stands))
     where
       by : Contains read h.id ⊎ Contains moved.added h.id → Lifted (IsStackOf old tops) (stack_of old part) s
           ⊎ (TopReads tables s × GoesOn tables Part s)
@@ -82,16 +83,16 @@ module _ (tables : code_flat.Tables) (old mid new : List Cont) (kept : AreKept o
             stack_is = h.is ∙ moved_is m.0 h.id m.1 m.2;
           })
 
-  told_next : (s : List Place) → Lifted (IsStackOf old tops) (stack_of old part) s
+  reported_next : (s : List Place) → Lifted (IsStackOf old tops) (stack_of old part) s
       ⊎ (TopReads tables s × GoesOn tables Part s) → IsStackOf new next s
-  told_next s (inl l) =
+  reported_next s (inl l) =
       let m = moved.all l.is.id l.is.stands in
       record {
         id = m.0;
         stands = subst (λ v. Contains v m.0) (sym moved.grown) (Contains-append_right read moved.added m.0 m.1);
         is = l.stack_is ∙ (ap (λ v. v ++ stack_of old part) l.is.is ∙ sym (moved_is l.is.id m.0 l.is.stands m.2));
       }
-  told_next s (inr h) =
+  reported_next s (inr h) =
       let a = (closure.stacks s).1 (goes_as tables Part (IsStackOf old given) of_part s h.1) in
       let in_read = readers.all a.id a.stands (subst (λ v. TopReads tables v) a.is h.0) in
       record {
@@ -108,7 +109,7 @@ module _ (tables : code_flat.Tables) (old mid new : List Cont) (kept : AreKept o
   puts_back = record {
     within = λ id h. next_within id (Contains-append_cases read moved.added id
         (subst (λ v. Contains v id) moved.grown h));
-    tops_are = λ s. (λ h. next_told s h, λ h. told_next s h);
+    tops_are = λ s. (λ h. next_reported s h, λ h. reported_next s h);
     ended_is = (
       λ h. let e = closure.ended_is.0 h in
           (e.0, goes_as tables (IsStackOf old given) Part to_part e.0 ((closure.stacks e.0).0 e.1), e.2),
@@ -203,14 +204,14 @@ module _ (tables : code_flat.Tables) (roots : GiveRoots (flat_of tables) tables.
           × (Lifted (IsStackOf first tops) (stack_of first part) s
           ⊎ Led (flat_of tables) (last_of tables) (PartOf first part) s)
       there s (inl l) = (reads_on_top tables l.top (stack_of first part) s (read l.top l.is) l.stack_is, inl l)
-      there s (inr h) = (told_top tables s h.0, inr (to_led (PartOf first part) h.1))
+      there s (inr h) = (reported_top tables s h.0, inr (to_led (PartOf first part) h.1))
 
       back : (s : List Place) → IsReading (flat_of tables) s → Lifted (IsStackOf first tops) (stack_of first part) s
           ⊎ Led (flat_of tables) (last_of tables) (PartOf first part) s
           → Lifted (IsStackOf first tops) (stack_of first part) s
           ⊎ (TopReads tables s × GoesOn tables (PartOf first part) s)
       back s r (inl l) = inl l
-      back s r (inr h) = inr (top_told tables r, from_led (PartOf first part) h)
+      back s r (inr h) = inr (top_reported tables r, from_led (PartOf first part) h)
 
       to_end : (s : List Place) → GoesOn tables (PartOf first part) s → EndsAlone tables s
           → LedToEnd (flat_of tables) (last_of tables) (PartOf first part)
@@ -218,10 +219,10 @@ module _ (tables : code_flat.Tables) (roots : GiveRoots (flat_of tables) tables.
       to_end (at n k ∷ below) h e = record {
         place = at n k;
         led_to = to_led (PartOf first part) (subst (λ v. GoesOn tables (PartOf first part) (at n k ∷ v)) e.1 h);
-        done = told_done tables roots n k (slice_get tables.nodes.items n) refl e.0;
+        done = reported_done tables roots n k (slice_get tables.nodes.items n) refl e.0;
       }
 
       from_end : (p : Place) → Led (flat_of tables) (last_of tables) (PartOf first part) (p ∷ [])
           → IsDoneAt (flat_of tables) p
           → (s : List Place) × GoesOn tables (PartOf first part) s × EndsAlone tables s
-      from_end (at n k) h d = (at n k ∷ [], from_led (PartOf first part) h, (done_told tables roots d, refl))
+      from_end (at n k) h d = (at n k ∷ [], from_led (PartOf first part) h, (done_reported tables roots d, refl))

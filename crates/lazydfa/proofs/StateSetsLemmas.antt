@@ -23,7 +23,7 @@ use Rattle.lazydfa.specs.StateSets.{StateSet, StateSets}
 use Rattle.lazydfa.proofs.AreCachedLemmas.{grown_at, transition_kept}
 use Rattle.lazydfa.proofs.ContsLemmas.{kept_same, kept_stack}
 use Rattle.lazydfa.proofs.IsAtLemmas.{at_start, front_as}
-use Rattle.lazydfa.proofs.TellLemmas.{transition_next}
+use Rattle.lazydfa.proofs.ReportLemmas.{transition_next}
 
 pub contained_at : {A : Type 0} (xs : List A) (k : ℕ) (x : A) → slice_get xs k ≡ Some x → Contains xs x
 contained_at [] k x is = absurd (cc is)

@@ -8,7 +8,7 @@ use Rattle.std.proofs.lemmas.List.Elements.{Contains-append_left, Contains-appen
 use Rattle.std.proofs.lemmas.Option.{slice_get_within}
 use Rattle.std.specs.Prelude.{slice_get, Some, Contains}
 use Rattle.flatgrammar.specs.Flat.{Place, at}
-use Rattle.flatgrammar.specs.Blocks.{item_at, spot}
+use Rattle.flatgrammar.specs.Blocks.{item_at, dot}
 use Rattle.flatgrammar.specs.NodeSteps.{IfSomeSet}
 use Rattle.flatgrammar.specs.TableViews.{read_of}
 use Rattle.flatgrammar.specs.declared.tables.Tables as code_flat
@@ -25,13 +25,13 @@ module _ (tables : code_flat.Tables) (c : ℕ) where
       adds_none conts (ReadsOn tables c stack) a (λ s g. subst (λ v. ReadsOn tables c v s) none g)
 
   pub reads_not : (conts : List Cont) (stack : List Place) (n k : ℕ) (below : List Place) (a : List ℕ)
-      → stack ≡ at n k ∷ below → (IfSomeSet (read_of tables (item_at 0 (spot n k))) c → ⊥) →
+      → stack ≡ at n k ∷ below → (IfSomeSet (read_of tables (item_at 0 (dot n k))) c → ⊥) →
       Adds conts (ReadsOn tables c stack) a a
   reads_not conts stack n k below a is never =
       adds_none conts (ReadsOn tables c stack) a (λ s g. never (subst (λ v. ReadsOn tables c v s) is g).0)
 
   pub reads_one : (old new : List Cont) (stack : List Place) (n k : ℕ) (below : List Place) (id : ℕ) (a b : List ℕ)
-      → stack ≡ at n k ∷ below → AreKept old new → IfSomeSet (read_of tables (item_at 0 (spot n k))) c
+      → stack ≡ at n k ∷ below → AreKept old new → IfSomeSet (read_of tables (item_at 0 (dot n k))) c
       → IsIdOf new id (at n (k + 1) ∷ below) → IsAdded a b id → Adds new (ReadsOn tables c stack) a b
   reads_one old new stack n k below id a b is kept reads is_id one =
       subst (λ v. Adds new (ReadsOn tables c v) a b) (sym is)
@@ -258,8 +258,8 @@ module _ (tables : code_flat.Tables) (conts : List Cont) (ids : List ℕ) where
   pub readers_kept : (count id : ℕ) (readers new : List ℕ) (asked : Bool) → slice_get ids count ≡ Some id
       → ((asked ≡ true) ↔ TopReads tables (stack_of conts id)) → (asked ≡ true → new ≡ readers ++ id ∷ [])
       → (asked ≡ false → new ≡ readers) → ReadersFirst count readers → ReadersFirst (count + 1) new
-  readers_kept count id readers new true is tells grown left r = readers_more count id readers new is (tells.0 refl)
+  readers_kept count id readers new true is reports grown left r = readers_more count id readers new is (reports.0 refl)
       (grown refl) r
-  readers_kept count id readers new false is tells grown left r =
+  readers_kept count id readers new false is reports grown left r =
       subst (λ v. ReadersFirst (count + 1) v) (sym (left refl))
-      (readers_past count id readers is (λ t. let f = tells.1 t in absurd (cc f)) r)
+      (readers_past count id readers is (λ t. let f = reports.1 t in absurd (cc f)) r)

@@ -3,7 +3,7 @@ use Rattle.std.specs.Prelude.{◌≡◌, ◌≢◌, ◌↔◌, ◌⊎◌, ℕ, �
 use Rattle.std.specs.Prelude.{◌∷◌, ◌++◌}
 use Rattle.std.specs.Prelude.{length, reverse, slice_get, Option, Some, None, Contains}
 use Rattle.flatgrammar.specs.Flat.{Place, at, Set}
-use Rattle.flatgrammar.specs.Blocks.{begin_count, item_at, spot}
+use Rattle.flatgrammar.specs.Blocks.{begin_count, item_at, dot}
 use Rattle.flatgrammar.specs.NodeSteps.{IfSomeSet}
 use Rattle.flatgrammar.specs.Places.{In}
 use Rattle.flatgrammar.specs.TableViews.{call_of, done_of, read_of}
@@ -64,8 +64,8 @@ last_by (Some called) done set = false
 
 abbrev pub last_of : code_flat.Tables → Place → Bool
 last_of tables (at n k) =
-    last_by (call_of tables (item_at 0 (spot n k))) (done_of tables (item_at 0 (spot n k)))
-    (read_of tables (item_at 0 (spot n k)))
+    last_by (call_of tables (item_at 0 (dot n k))) (done_of tables (item_at 0 (dot n k)))
+    (read_of tables (item_at 0 (dot n k)))
 
 -- what is left to do in a node, before what is below
 abbrev pub after : code_flat.Tables → ℕ → ℕ → List Place → List Place
@@ -75,19 +75,19 @@ after tables n next below = if last_of tables (at n next) then below else at n n
 pub record CallMoves (tables : code_flat.Tables) (n k : ℕ) (below stack : List Place) : Type 0 where
   pub root : ℕ
   pub next : ℕ
-  pub called : call_of tables (item_at 0 (spot n k)) ≡ Some (root, next)
+  pub called : call_of tables (item_at 0 (dot n k)) ≡ Some (root, next)
   pub begun : Begun root (begin_count tables root) (after tables n next below) stack
 
 -- what a stack goes on to without a letter
 abbrev pub Goes : code_flat.Tables → List Place → List Place → Type 0
 Goes tables [] stack = ⊥
 Goes tables (at n k ∷ below) stack = CallMoves tables n k below stack
-    ⊎ ((done_of tables (item_at 0 (spot n k)) ≡ true) × (stack ≡ below) × (below ≡ [] → ⊥))
+    ⊎ ((done_of tables (item_at 0 (dot n k)) ≡ true) × (stack ≡ below) × (below ≡ [] → ⊥))
 
 -- one place alone, where its node is done
 abbrev pub EndsAlone : code_flat.Tables → List Place → Type 0
 EndsAlone tables [] = ⊥
-EndsAlone tables (at n k ∷ below) = (done_of tables (item_at 0 (spot n k)) ≡ true) × (below ≡ [])
+EndsAlone tables (at n k ∷ below) = (done_of tables (item_at 0 (dot n k)) ≡ true) × (below ≡ [])
 
 -- what is led to from stacks without a letter
 pub data GoesOn (tables : code_flat.Tables) (from : List Place → Type 0) : List Place → Type 0 where
@@ -122,7 +122,7 @@ pub record IsClosure (tables : code_flat.Tables) (first : List Cont) (given : Li
 -- what a stack comes to by a letter
 abbrev pub ReadsOn : code_flat.Tables → ℕ → List Place → List Place → Type 0
 ReadsOn tables c [] next = ⊥
-ReadsOn tables c (at n k ∷ below) next = IfSomeSet (read_of tables (item_at 0 (spot n k))) c
+ReadsOn tables c (at n k ∷ below) next = IfSomeSet (read_of tables (item_at 0 (dot n k))) c
     × (next ≡ at n (k + 1) ∷ below)
 
 -- a letter leads on from one of the ids
@@ -135,7 +135,7 @@ pub record ReadsFrom (tables : code_flat.Tables) (c : ℕ) (conts : List Cont) (
 -- something is read on top
 abbrev pub TopReads : code_flat.Tables → List Place → Type 0
 TopReads tables [] = ⊥
-TopReads tables (at n k ∷ below) = read_of tables (item_at 0 (spot n k)) ≢ None
+TopReads tables (at n k ∷ below) = read_of tables (item_at 0 (dot n k)) ≢ None
 
 -- of ids those on whose top something is read
 pub record AreReaders (tables : code_flat.Tables) (conts : List Cont) (ids readers : List ℕ) : Type 0 where
@@ -152,8 +152,8 @@ pub record IsTransition (tables : code_flat.Tables) (c : ℕ) (first : List Cont
       × EndsAlone tables stack)
 
 -- the dotted rules on top of the stacks of ids
-pub record AreTopsOf (conts : List Cont) (ids : List ℕ) (spots : List DottedRule) : Type 0 where
-  pub sound : (s : DottedRule) → In s spots → (id : ℕ) × Contains ids id × (below : List Place)
+pub record AreTopsOf (conts : List Cont) (ids : List ℕ) (dots : List DottedRule) : Type 0 where
+  pub sound : (s : DottedRule) → In s dots → (id : ℕ) × Contains ids id × (below : List Place)
       × (stack_of conts id ≡ at s.node s.step ∷ below)
   pub whole : (s : DottedRule) (id : ℕ) (below : List Place) → Contains ids id
-      → stack_of conts id ≡ at s.node s.step ∷ below → In s spots
+      → stack_of conts id ≡ at s.node s.step ∷ below → In s dots

@@ -8,13 +8,13 @@ use Rattle.flatgrammar.specs.declared.block.DottedRule.{DottedRule}
 use Rattle.lazydfa.specs.declared.expected.Expected.{Expected}
 
 -- dotted rules of the items of set n: all that read a symbol, and no others than of that set
-pub record AreReadersAt (flat : Flat) (x : List ℕ) (n : ℕ) (spots : List DottedRule) : Type 0 where
-  pub held : (s : DottedRule) → In s spots → (i : ℕ) × Holds flat x n (at s.node s.step) i
+pub record AreReadersAt (flat : Flat) (x : List ℕ) (n : ℕ) (dots : List DottedRule) : Type 0 where
+  pub held : (s : DottedRule) → In s dots → (i : ℕ) × Holds flat x n (at s.node s.step) i
   pub all : (s : DottedRule) (i : ℕ) (set : Set) (r : Place) → Holds flat x n (at s.node s.step) i
-      → Reads flat (at s.node s.step) set r → In s spots
+      → Reads flat (at s.node s.step) set r → In s dots
 
 -- the last set with an item, its dotted rules that read, and whether it holds the whole's end with origin 0
-pub record IsExpected (flat : Flat) (x : List ℕ) (told : Expected) : Type 0 where
-  pub last : IsLastSet flat x told.after
-  pub readers : AreReadersAt flat x told.after told.spots.items
-  pub end : IsTrue told.ends ↔ Holds flat x told.after (at flat.whole 1) 0
+pub record IsExpected (flat : Flat) (x : List ℕ) (reported : Expected) : Type 0 where
+  pub last : IsLastSet flat x reported.after
+  pub readers : AreReadersAt flat x reported.after reported.dots.items
+  pub end : IsTrue reported.ends ↔ Holds flat x reported.after (at flat.whole 1) 0

@@ -1,7 +1,7 @@
 pub mod Cached
 pub mod Conts
 pub mod ExpectedSets
-pub mod Hops
+pub mod Transitions
 pub mod Memos
 pub mod RunVerdicts
 pub mod Spines

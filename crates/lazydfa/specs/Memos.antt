@@ -13,7 +13,7 @@ use Rattle.lazydfa.specs.declared.run.RunStep.TheVariants.{To, Dead, Over}
 use Rattle.lazydfa.specs.Conts.{last_of}
 use Rattle.lazydfa.specs.Cached.{IsCache, IsAt}
 use Rattle.letterclasses.specs.ClassBounds.{AreClasses}
-use Rattle.lazydfa.specs.Hops.{AreHops}
+use Rattle.lazydfa.specs.Transitions.{AreTransitions}
 use Rattle.lazydfa.specs.StackParts.{PutsBack, AreParts, below_of}
 use Rattle.lazydfa.specs.RunVerdicts.{IsReached}
 
@@ -42,7 +42,8 @@ AreUnfolds tables conts states unfolds = (k : ℕ) (u : Unfold) → slice_get un
 pub record IsMemo (tables : code_flat.Tables) (samples : List ℕ) (memo : Memo) : Type 0 where
   pub cached : IsCache tables samples memo.cache
   pub unfolds : AreUnfolds tables memo.cache.conts.items.items memo.cache.states.items memo.unfolds.items
-  pub hops : AreHops tables samples memo.cache.conts.items.items memo.cache.states.items memo.hops.items
+  pub transitions : AreTransitions tables samples memo.cache.conts.items.items memo.cache.states.items
+      memo.transitions.items
 
 -- a state is the front after the first j letters, over the parts
 pub record IsOver (tables : code_flat.Tables) (conts : List Cont) (states : List State) (parts : List ℕ) (s : ℕ)

@@ -3,7 +3,7 @@ use Rattle.std.specs.Prelude.{◌≡◌, ℕ, Bool, List, [], ◌++◌, map, sli
 use Rattle.flatgrammar.specs.Flat.{Flat, Place}
 use Rattle.flatgrammar.specs.NodeSteps.{flat_of}
 use Rattle.flatgrammar.specs.declared.tables.Tables as code_flat
-use Rattle.letterclasses.specs.Stacks.{AreUncounted, IsFront, IsNext, TellsLast}
+use Rattle.letterclasses.specs.Stacks.{AreUncounted, IsFront, IsNext, MarksLast}
 use Rattle.lazydfa.specs.declared.conts.Cont.{Cont}
 use Rattle.lazydfa.specs.declared.cache.State.{State}
 use Rattle.lazydfa.specs.Conts.{last_of, stack_of, IsTransition}
@@ -31,7 +31,7 @@ pub record AreStatesOf (flat : Flat) (sets : StateSets) : Type 0 where
   pub none : sets.states ≡ []
   pub one : IsOne flat
   pub uncounted : AreUncounted flat
-  pub tail_places : TellsLast flat (last_in sets)
+  pub tail_places : MarksLast flat (last_in sets)
 
 -- states were added
 pub record AreMoreStates (old new : StateSets) : Type 0 where

@@ -14,7 +14,7 @@ use crate::cache::Cache;
 use crate::chains::HashChains;
 use crate::close::Ids;
 use crate::conts::Conts;
-use crate::expected::{Expected, spots_of};
+use crate::expected::{Expected, dots_of};
 use crate::memo::Memo;
 use crate::run::{ClassTable, run, verdict_at};
 use flatgrammar::{Flat, Node, Tables, Verdict};
@@ -108,7 +108,7 @@ pub(crate) fn empty_memo(alloc: Global, nodes: usize, room: usize) -> Memo
     ensures conts { result.cache.conts.items.items ≡ [] }
     ensures states { result.cache.states.items ≡ [] }
     ensures cells { result.cache.cells.items ≡ [] }
-    ensures hops { result.hops.items ≡ [] }
+    ensures transitions { result.transitions.items ≡ [] }
     ensures unfolds { result.unfolds.items ≡ [] }
 {
     let most = nodes.saturating_mul(4).saturating_add(16_384);
@@ -120,7 +120,7 @@ pub(crate) fn empty_memo(alloc: Global, nodes: usize, room: usize) -> Memo
             },
             ids: Ids {
                 items: Vec::new(alloc),
-                spots: Vec::new(alloc),
+                dots: Vec::new(alloc),
                 most,
             },
             states: Vec::new(alloc),
@@ -128,7 +128,7 @@ pub(crate) fn empty_memo(alloc: Global, nodes: usize, room: usize) -> Memo
             cells: Vec::new(alloc),
             budget: Budget::of(nodes, room),
         },
-        hops: Vec::new(alloc),
+        transitions: Vec::new(alloc),
         unfolds: Vec::new(alloc),
         chains: HashChains::new(alloc),
         parts: Vec::new(alloc),
@@ -171,7 +171,7 @@ impl Automaton {
     #[inline(always)]
     pub fn judge<L: Letter>(&mut self, line: &[L]) -> Result<Option<bool>, Memory>
         ensures same { self.new ≡ self.old }
-        ensures answer { IfOk result (λ told. IfSome told (λ yes. IsTrue yes ↔ DerivesLine self.old
+        ensures answer { IfOk result (λ reported. IfSome reported (λ yes. IsTrue yes ↔ DerivesLine self.old
             (map L.number line.now))) }
     {
         match self.viable(line)? {
@@ -185,7 +185,7 @@ impl Automaton {
     #[inline(always)]
     pub fn viable<L: Letter>(&mut self, line: &[L]) -> Result<Option<Verdict>, Memory>
         ensures same { self.new ≡ self.old }
-        ensures verdict { IfOk result (λ told. IfSome told (IsFlatVerdict self.old (map L.number line.now))) }
+        ensures verdict { IfOk result (λ reported. IfSome reported (IsFlatVerdict self.old (map L.number line.now))) }
     {
         let classes = ClassTable {
             low: &self.classes.low,
@@ -202,7 +202,7 @@ impl Automaton {
     /// `judge`.
     pub fn expected<L: Letter>(&mut self, line: &[L]) -> Result<Option<Expected>, Memory>
         ensures same { self.new ≡ self.old }
-        ensures told { IfOk result (λ told. IfSome told (IsExpected self.old (map L.number line.now))) }
+        ensures reported { IfOk result (λ reported. IfSome reported (IsExpected self.old (map L.number line.now))) }
     {
         let classes = ClassTable {
             low: &self.classes.low,
@@ -215,10 +215,10 @@ impl Automaton {
         let Some(state) = cache.states.get(stop.row / (classes.samples.len() + 1)) else {
             return Ok(None);
         };
-        let spots = spots_of(self.alloc, &cache.conts, &state.tops)?;
+        let dots = dots_of(self.alloc, &cache.conts, &state.tops)?;
         Ok(Some(Expected {
             after: stop.at,
-            spots,
+            dots,
             ends: state.ended,
         }))
     }

@@ -7,19 +7,19 @@ ghost use Rattle.lazydfa.specs.Conts.{AreKept, AreOlder, Adds, IsAdded, stack_of
 ghost use Rattle.lazydfa.specs.Conts.{after, Goes, EndsAlone, IsClosure};
 
 use crate::conts::{Cont, Conts, id_of};
-use flatgrammar::{Item, Tables, begin_steps, deed_of};
+use flatgrammar::{Item, Tables, begin_steps, operation_of};
 use ruletable::Memory;
 
 /// A set of ids of continuations, which is also the worklist of a closure.
 ///
-/// It is a sparse set: `spots[id]` may say anything unless `items` has `id` at that index. So emptying it clears
-/// `items` alone. No contract relies on `spots`.
+/// It is a sparse set: `dots[id]` may say anything unless `items` has `id` at that index. So emptying it clears
+/// `items` alone. No contract relies on `dots`.
 #[derive(Drop)]
 pub(crate) struct Ids {
     /// The members, in the order in which they were added.
     pub(crate) items: Vec<usize>,
     /// Of each id where it may stand in `items`.
-    pub(crate) spots: Vec<usize>,
+    pub(crate) dots: Vec<usize>,
     /// The most members that a closure may visit.
     pub(crate) most: usize,
 }
@@ -34,8 +34,8 @@ pub(crate) fn empty(ids: &mut Ids)
 fn stands(ids: &Ids, id: usize) -> bool
     ensures { IsTrue result → Contains ids.now.items.items id }
 {
-    match ids.spots.get(id) {
-        Some(spot) => match ids.items.get(*spot) {
+    match ids.dots.get(id) {
+        Some(dot) => match ids.items.get(*dot) {
             Some(found) => *found == id,
             None => false,
         },
@@ -44,12 +44,12 @@ fn stands(ids: &Ids, id: usize) -> bool
 }
 
 // Notes where a number stands. `Memory` if an allocation fails.
-fn note_spot(spots: &mut Vec<usize>, id: usize, spot: usize) -> Result<(), Memory> {
-    if id >= spots.len() {
-        spots.resize(id.saturating_mul(2).saturating_add(64), 0usize)?;
+fn note_dot(dots: &mut Vec<usize>, id: usize, dot: usize) -> Result<(), Memory> {
+    if id >= dots.len() {
+        dots.resize(id.saturating_mul(2).saturating_add(64), 0usize)?;
     }
-    if id < spots.len() {
-        spots[id] = spot;
+    if id < dots.len() {
+        dots[id] = dot;
     }
     Ok(())
 }
@@ -61,9 +61,9 @@ pub(crate) fn add(ids: &mut Ids, id: usize) -> Result<(), Memory>
     if stands(ids, id) {
         return Ok(());
     }
-    let spot = ids.items.len();
+    let dot = ids.items.len();
     ids.items.push(id)?;
-    note_spot(&mut ids.spots, id, spot)?;
+    note_dot(&mut ids.dots, id, dot)?;
     Ok(())
 }
 
@@ -99,7 +99,7 @@ pub(crate) fn enter(
 fn is_last(tables: &Tables, node: usize, step: usize) -> bool
     ensures { result ≡ last_of tables.now (Place.at node step) }
 {
-    let deed = deed_of(
+    let operation = operation_of(
         tables,
         Item {
             node,
@@ -107,7 +107,7 @@ fn is_last(tables: &Tables, node: usize, step: usize) -> bool
             origin: 0,
         },
     );
-    deed.called.is_none() && deed.done && !deed.reads
+    operation.called.is_none() && operation.done && !operation.reads
 }
 
 /// Returns the id of what is left to do in a node, before what is below.
@@ -145,7 +145,7 @@ fn call_on(tables: &Tables, cont: Cont, conts: &mut Conts, ids: &mut Ids) -> Res
     ensures adds { IfOk result (λ done. Adds conts.new.items.items (CallMoves tables.now cont.node cont.step
         (stack_of conts.old.items.items cont.next)) ids.old.items.items ids.new.items.items) }
 {
-    let deed = deed_of(
+    let operation = operation_of(
         tables,
         Item {
             node: cont.node,
@@ -153,7 +153,7 @@ fn call_on(tables: &Tables, cont: Cont, conts: &mut Conts, ids: &mut Ids) -> Res
             origin: 0,
         },
     );
-    if let Some((root, next)) = deed.called {
+    if let Some((root, next)) = operation.called {
         let below = after(tables, cont.node, next, cont.next, conts)?;
         enter(tables, root, below, conts, ids)?;
     }
@@ -187,7 +187,7 @@ fn expand(tables: &Tables, id: usize, conts: &mut Conts, ids: &mut Ids) -> Resul
     }
     let cont = cont_at(conts, id);
     call_on(tables, cont, conts, ids)?;
-    let deed = deed_of(
+    let operation = operation_of(
         tables,
         Item {
             node: cont.node,
@@ -195,7 +195,7 @@ fn expand(tables: &Tables, id: usize, conts: &mut Conts, ids: &mut Ids) -> Resul
             origin: 0,
         },
     );
-    if !deed.done {
+    if !operation.done {
         return Ok(false);
     }
     if cont.next == 0 {
@@ -221,8 +221,9 @@ pub(crate) fn close(
 ) -> Result<Option<bool>, Memory>
     requires within { (id : ℕ) → Contains ids.old.items.items id → id ≤ length conts.old.items.items }
     requires older { AreOlder conts.old.items.items }
-    ensures kept { IfOk result (λ told. AreKept conts.old.items.items conts.new.items.items) }
-    ensures closure { IfOk result (λ told. IfSome told (IsClosure tables.now conts.old.items.items ids.old.items.items
+    ensures kept { IfOk result (λ reported. AreKept conts.old.items.items conts.new.items.items) }
+    ensures closure { IfOk result (λ reported. IfSome reported (IsClosure tables.now conts.old.items.items
+        ids.old.items.items
         conts.new.items.items ids.new.items.items)) }
 {
     let mut ended = false;

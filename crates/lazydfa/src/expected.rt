@@ -14,30 +14,30 @@ pub struct Expected {
     /// How many symbols that prefix has.
     pub after: usize,
     /// The dotted rules that read the symbols that can follow, each once or more.
-    pub spots: Vec<DottedRule>,
+    pub dots: Vec<DottedRule>,
     /// Whether the line may end there.
     pub ends: bool,
 }
 
 /// Returns the dotted rules on top of continuations. `Memory` if an allocation fails.
-pub(crate) fn spots_of(
+pub(crate) fn dots_of(
     alloc: Global,
     conts: &Conts,
     tops: &[usize],
 ) -> Result<Vec<DottedRule>, Memory>
     requires within { (id : ℕ) → Contains tops.now id → id ≤ length conts.now.items.items }
     requires older { AreOlder conts.now.items.items }
-    ensures { IfOk result (λ spots. AreTopsOf conts.now.items.items tops.now spots.items) }
+    ensures { IfOk result (λ dots. AreTopsOf conts.now.items.items tops.now dots.items) }
 {
-    let mut spots = Vec::new(alloc);
+    let mut dots = Vec::new(alloc);
     for top in tops {
         if *top > 0 {
             let cont = cont_at(conts, *top);
-            spots.push(DottedRule {
+            dots.push(DottedRule {
                 node: cont.node,
                 step: cont.step,
             })?;
         }
     }
-    Ok(spots)
+    Ok(dots)
 }

@@ -13,7 +13,7 @@ use std::alloc::Global;
 
 /// Returns where the cell of a state and a class stands.
 #[inline(always)]
-pub(crate) fn spot(state: usize, classes: usize, class: usize) -> Option<usize>
+pub(crate) fn dot(state: usize, classes: usize, class: usize) -> Option<usize>
     ensures { IfSome result (λ at. at ≡ state * classes + class) }
 {
     let row = state.checked_mul(classes)?;
@@ -35,7 +35,7 @@ pub(crate) fn look(
     if class >= samples.len() {
         return Cell::Over;
     }
-    let Some(at) = spot(state, samples.len(), class) else {
+    let Some(at) = dot(state, samples.len(), class) else {
         return Cell::Over;
     };
     match cache.cells.get(at) {
@@ -63,7 +63,7 @@ fn write(
     if class >= samples.len() {
         return;
     }
-    if let Some(at) = spot(state, samples.len(), class) {
+    if let Some(at) = dot(state, samples.len(), class) {
         if at < cache.cells.len() {
             cache.cells[at] = cell;
         }
@@ -94,8 +94,8 @@ fn lead(
     if !any_reads(tables, tops, value, &cache.conts) {
         return Ok(Cell::Dead);
     }
-    let told = transition(alloc, tables, tops, value, &mut cache.conts, &mut cache.ids)?;
-    let Some(front) = told else {
+    let reported = transition(alloc, tables, tops, value, &mut cache.conts, &mut cache.ids)?;
+    let Some(front) = reported else {
         return Ok(Cell::Over);
     };
     if let Some(split) = split_off(alloc, tables, &mut cache.conts, &front)? {

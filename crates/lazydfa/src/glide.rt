@@ -1,10 +1,10 @@
 //! The inner loop of a run: it fills no cell, and pushes or puts back no part.
 ghost use Rattle.std.specs.Prelude.{◌≡◌, ◌≤◌, ◌<◌, ◌+◌, ◌^◌, [], IsTrue, length, map};
 ghost use Rattle.lazydfa.specs.Memos.{GlidesOver};
-ghost use Rattle.lazydfa.specs.Hops.{StaysBy, StaysOver};
+ghost use Rattle.lazydfa.specs.Transitions.{StaysBy, StaysOver};
 
-use crate::hops::{leads_back, next_row};
 use crate::memo::Memo;
+use crate::transitions::{leads_back, next_row};
 use letterclasses::class_of;
 use letters::Letter;
 
@@ -14,7 +14,7 @@ const LONG: usize = 256;
 /// How far a run over a line has come.
 #[derive(Clone, Copy)]
 pub(crate) struct Track {
-    /// The index of the first word of the state's row in `hops`.
+    /// The index of the first word of the state's row in `transitions`.
     pub(crate) row: usize,
     /// How many symbols of the line led to that state.
     pub(crate) at: usize,
@@ -22,42 +22,48 @@ pub(crate) struct Track {
 
 // Returns whether a letter leads from the state of a row to that state.
 #[inline(always)]
-fn stays<L: Letter>(hops: &[u32], low: &[u8; 256], samples: &[u32], letter: L, row: usize) -> bool
-    ensures { IsTrue result → StaysBy low.now samples.now hops.now row (L.number letter) }
+fn stays<L: Letter>(
+    transitions: &[u32],
+    low: &[u8; 256],
+    samples: &[u32],
+    letter: L,
+    row: usize,
+) -> bool
+    ensures { IsTrue result → StaysBy low.now samples.now transitions.now row (L.number letter) }
 {
-    leads_back(hops, row, class_of(low, samples, letter.value()))
+    leads_back(transitions, row, class_of(low, samples, letter.value()))
 }
 
 // Returns whether the next four letters lead from the state of a row to that state.
 #[inline(always)]
 fn stay_four<L: Letter>(
-    hops: &[u32],
+    transitions: &[u32],
     low: &[u8; 256],
     samples: &[u32],
     line: &[L],
     from: Track,
 ) -> bool
     requires within { from.at + 4 ≤ length line.now }
-    ensures { IsTrue result → StaysOver low.now samples.now hops.now (map L.number line.now) from.row from.at
+    ensures { IsTrue result → StaysOver low.now samples.now transitions.now (map L.number line.now) from.row from.at
         (from.at + 4) }
 {
-    if !stays(hops, low, samples, line[from.at], from.row) {
+    if !stays(transitions, low, samples, line[from.at], from.row) {
         return false;
     }
-    if !stays(hops, low, samples, line[from.at + 1], from.row) {
+    if !stays(transitions, low, samples, line[from.at + 1], from.row) {
         return false;
     }
-    if !stays(hops, low, samples, line[from.at + 2], from.row) {
+    if !stays(transitions, low, samples, line[from.at + 2], from.row) {
         return false;
     }
-    stays(hops, low, samples, line[from.at + 3], from.row)
+    stays(transitions, low, samples, line[from.at + 3], from.row)
 }
 
 // Goes on by four letters while they lead from the state of a row to that state, if that is to be tried, and returns
 // where that stops.
 #[inline(always)]
 fn stay_on<L: Letter>(
-    hops: &[u32],
+    transitions: &[u32],
     low: &[u8; 256],
     samples: &[u32],
     line: &[L],
@@ -67,12 +73,12 @@ fn stay_on<L: Letter>(
     requires within { from.at ≤ length line.now }
     ensures within { result ≤ length line.now }
     ensures further { from.at ≤ result }
-    ensures stays { StaysOver low.now samples.now hops.now (map L.number line.now) from.row from.at result }
+    ensures stays { StaysOver low.now samples.now transitions.now (map L.number line.now) from.row from.at result }
 {
     let row = from.row;
     let mut at = from.at;
     'fours: while is_tried && line.len() - at >= 4 {
-        if !stay_four(hops, low, samples, line, Track { row, at }) {
+        if !stay_four(transitions, low, samples, line, Track { row, at }) {
             return at;
         }
         at += 4;
@@ -96,11 +102,11 @@ fn glide_short<L: Letter>(
     ensures further { from.at ≤ result.at }
     ensures glides { GlidesOver low.now samples.now memo.now (map L.number line.now) from result }
 {
-    let hops = memo.hops.as_slice();
+    let transitions = memo.transitions.as_slice();
     let mut track = from;
     while track.at < line.len() {
         let class = class_of(low, samples, line[track.at].value());
-        let Some(row) = next_row(hops, samples.len(), is_bare, track.row, class) else {
+        let Some(row) = next_row(transitions, samples.len(), is_bare, track.row, class) else {
             return track;
         };
         track = Track {
@@ -126,11 +132,11 @@ fn glide_long<L: Letter>(
     ensures glides { GlidesOver low.now samples.now memo.now (map L.number line.now) from result }
 {
     let is_bare = memo.parts.len() == 0;
-    let hops = memo.hops.as_slice();
+    let transitions = memo.transitions.as_slice();
     let mut track = from;
     while track.at < line.len() {
         let class = class_of(low, samples, line[track.at].value());
-        let Some(row) = next_row(hops, samples.len(), is_bare, track.row, class) else {
+        let Some(row) = next_row(transitions, samples.len(), is_bare, track.row, class) else {
             return track;
         };
         let is_tried = row == track.row;
@@ -140,7 +146,7 @@ fn glide_long<L: Letter>(
         };
         track = Track {
             row,
-            at: stay_on(hops, low, samples, line, next, is_tried),
+            at: stay_on(transitions, low, samples, line, next, is_tried),
         };
     }
     track

@@ -10,13 +10,13 @@ mod conts;
 mod expected;
 mod fill;
 mod glide;
-mod hops;
 mod memo;
 mod parts;
 mod run;
 mod spines;
 mod states;
 mod transition;
+mod transitions;
 
 pub use automaton::Automaton;
 pub use expected::Expected;

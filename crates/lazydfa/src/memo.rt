@@ -25,8 +25,9 @@ pub(crate) struct Unfold {
 
 /// All that an automaton keeps between lines, and the stack of shared suffixes of the line that is read.
 ///
-/// `cache` has the states and transitions. `hops` repeats its transitions that lead to a state, in one word each, so
-/// that a run reads a single vector (`hops.rt`).
+/// `cache` has the states and transitions. `transitions` repeats its transitions that lead to a state, in one word
+/// each, so
+/// that a run reads a single vector (`transitions.rt`).
 ///
 /// A recursive rule would give a state for each depth. So a suffix that all stacks of a state share goes onto `parts`
 /// if it has a dotted rule twice, and deep states become equal. Once the state above a suffix has ended, the run pops
@@ -36,7 +37,7 @@ pub(crate) struct Memo {
     /// The states and transitions.
     pub(crate) cache: Cache,
     /// The cached transitions: a row for each state, with a word for each class and one for the end.
-    pub(crate) hops: Vec<u32>,
+    pub(crate) transitions: Vec<u32>,
     /// The resumed states known so far.
     pub(crate) unfolds: Vec<Unfold>,
     /// Hash chains that find a resumed state.
@@ -50,11 +51,11 @@ pub(crate) fn forget_all(memo: &mut Memo)
     ensures conts { memo.new.cache.conts.items.items ≡ [] }
     ensures states { memo.new.cache.states.items ≡ [] }
     ensures cells { memo.new.cache.cells.items ≡ [] }
-    ensures hops { memo.new.hops.items ≡ [] }
+    ensures transitions { memo.new.transitions.items ≡ [] }
     ensures unfolds { memo.new.unfolds.items ≡ [] }
 {
     forget(&mut memo.cache);
-    memo.hops.clear();
+    memo.transitions.clear();
     memo.unfolds.clear();
     memo.chains.clear();
 }
@@ -108,9 +109,9 @@ fn state_over(
     part: usize,
 ) -> Result<Option<usize>, Memory>
     requires cached { IsCache tables.now samples.now cache.old }
-    ensures cached { IfOk result (λ told. IsCache tables.now samples.now cache.new) }
-    ensures grows { IfOk result (λ told. Grows cache.old cache.new) }
-    ensures is { IfOk result (λ told. IfSome told (IsUnfold tables.now cache.new.conts.items.items
+    ensures cached { IfOk result (λ reported. IsCache tables.now samples.now cache.new) }
+    ensures grows { IfOk result (λ reported. Grows cache.old cache.new) }
+    ensures is { IfOk result (λ reported. IfSome reported (IsUnfold tables.now cache.new.conts.items.items
         cache.new.states.items state part)) }
 {
     if !may_fill(cache) || state >= cache.states.len() {
@@ -120,8 +121,8 @@ fn state_over(
         return Ok(None);
     }
     let tops = cache.states[state].tops.as_slice();
-    let told = put_back(alloc, tables, &mut cache.conts, &mut cache.ids, tops, part)?;
-    let Some(front) = told else {
+    let reported = put_back(alloc, tables, &mut cache.conts, &mut cache.ids, tops, part)?;
+    let Some(front) = reported else {
         return Ok(None);
     };
     cache.budget.spend(cache.ids.items.len().saturating_add(1));
@@ -141,14 +142,14 @@ fn unfold_anew(
     part: usize,
 ) -> Result<Option<usize>, Memory>
     requires memo { IsMemo tables.now samples.now memo.old }
-    ensures memo { IfOk result (λ told. IsMemo tables.now samples.now memo.new) }
-    ensures grows { IfOk result (λ told. Grows memo.old.cache memo.new.cache) }
+    ensures memo { IfOk result (λ reported. IsMemo tables.now samples.now memo.new) }
+    ensures grows { IfOk result (λ reported. Grows memo.old.cache memo.new.cache) }
     ensures parts { memo.new.parts ≡ memo.old.parts }
-    ensures is { IfOk result (λ told. IfSome told (IsUnfold tables.now memo.new.cache.conts.items.items
+    ensures is { IfOk result (λ reported. IfSome reported (IsUnfold tables.now memo.new.cache.conts.items.items
         memo.new.cache.states.items state part)) }
 {
-    let told = state_over(alloc, tables, samples, &mut memo.cache, state, part)?;
-    let Some(to) = told else {
+    let reported = state_over(alloc, tables, samples, &mut memo.cache, state, part)?;
+    let Some(to) = reported else {
         return Ok(None);
     };
     memo.unfolds.push(Unfold { state, part, to })?;
@@ -168,10 +169,10 @@ pub(crate) fn unfolded(
     part: usize,
 ) -> Result<Option<usize>, Memory>
     requires memo { IsMemo tables.now samples.now memo.old }
-    ensures memo { IfOk result (λ told. IsMemo tables.now samples.now memo.new) }
-    ensures grows { IfOk result (λ told. Grows memo.old.cache memo.new.cache) }
+    ensures memo { IfOk result (λ reported. IsMemo tables.now samples.now memo.new) }
+    ensures grows { IfOk result (λ reported. Grows memo.old.cache memo.new.cache) }
     ensures parts { memo.new.parts ≡ memo.old.parts }
-    ensures is { IfOk result (λ told. IfSome told (IsUnfold tables.now memo.new.cache.conts.items.items
+    ensures is { IfOk result (λ reported. IfSome reported (IsUnfold tables.now memo.new.cache.conts.items.items
         memo.new.cache.states.items state part)) }
 {
     if let Some(to) = find(&memo.unfolds, &memo.chains, state, part) {

@@ -123,9 +123,9 @@ pub(crate) fn split_off(
 ) -> Result<Option<Split>, Memory>
     requires within { (id : ℕ) → Contains front.now.tops.items id → id ≤ length conts.old.items.items }
     requires older { AreOlder conts.old.items.items }
-    ensures kept { IfOk result (λ told. AreKept conts.old.items.items conts.new.items.items) }
-    ensures running { IfOk result (λ told. IfSome told (λ split. front.now.ended ≡ false)) }
-    ensures is { IfOk result (λ told. IfSome told (λ split. IsSplitOff tables.now conts.new.items.items
+    ensures kept { IfOk result (λ reported. AreKept conts.old.items.items conts.new.items.items) }
+    ensures running { IfOk result (λ reported. IfSome reported (λ split. front.now.ended ≡ false)) }
+    ensures is { IfOk result (λ reported. IfSome reported (λ split. IsSplitOff tables.now conts.new.items.items
         front.now.tops.items split.tops.items split.part)) }
 {
     let part = common_part(conts, &front.tops);
@@ -160,8 +160,9 @@ pub(crate) fn put_back(
     requires within { (id : ℕ) → Contains tops.now id → id ≤ length conts.old.items.items }
     requires part { part ≤ length conts.old.items.items }
     requires older { AreOlder conts.old.items.items }
-    ensures kept { IfOk result (λ told. AreKept conts.old.items.items conts.new.items.items) }
-    ensures is { IfOk result (λ told. IfSome told (λ front. PutsBack tables.now conts.old.items.items tops.now part
+    ensures kept { IfOk result (λ reported. AreKept conts.old.items.items conts.new.items.items) }
+    ensures is { IfOk result (λ reported. IfSome reported (λ front. PutsBack tables.now conts.old.items.items tops.now
+        part
         conts.new.items.items front.tops.items front.ended)) }
 {
     empty(ids);

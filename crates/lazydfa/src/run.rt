@@ -14,11 +14,11 @@ ghost use Rattle.lazydfa.specs.RunVerdicts.{IsRunVerdict};
 use crate::cache::{Cache, Cell, has_ended, state_of};
 use crate::close::{Ids, close, empty, enter};
 use crate::conts::Conts;
-use crate::fill::{fill, look, may_fill, spot};
+use crate::fill::{dot, fill, look, may_fill};
 use crate::glide::{Track, glide};
-use crate::hops::{end_of, note_hop};
 use crate::memo::{Memo, forget_all, unfolded};
 use crate::transition::{Closure, readers};
+use crate::transitions::{end_of, note_transition};
 use flatgrammar::{Tables, Verdict, whole_root};
 use letterclasses::class_of;
 use letters::Letter;
@@ -34,8 +34,9 @@ fn first_front(
     ids: &mut Ids,
 ) -> Result<Option<Closure>, Memory>
     requires older { AreOlder conts.old.items.items }
-    ensures kept { IfOk result (λ told. AreKept conts.old.items.items conts.new.items.items) }
-    ensures is { IfOk result (λ told. IfSome told (λ front. IsStart tables.now conts.new.items.items front.tops.items
+    ensures kept { IfOk result (λ reported. AreKept conts.old.items.items conts.new.items.items) }
+    ensures is { IfOk result (λ reported. IfSome reported (λ front. IsStart tables.now conts.new.items.items
+        front.tops.items
         front.ended)) }
 {
     let Some(root) = whole_root(tables) else {
@@ -69,8 +70,8 @@ fn make_start(
     if !may_fill(cache) {
         return Ok(false);
     }
-    let told = first_front(alloc, tables, &mut cache.conts, &mut cache.ids)?;
-    let Some(front) = told else {
+    let reported = first_front(alloc, tables, &mut cache.conts, &mut cache.ids)?;
+    let Some(front) = reported else {
         cache.budget.is_shut = true;
         return Ok(false);
     };
@@ -134,8 +135,8 @@ fn settle(
 ) -> Result<Option<usize>, Memory>
     requires roots { GiveRoots (flat_of tables.now) tables.now.roots.items }
     requires memo { IsMemo tables.now samples.now memo.old }
-    ensures memo { IfOk result (λ told. IsMemo tables.now samples.now memo.new) }
-    ensures settled { IfOk result (λ told. IfSome told (λ t. (x : List ℕ) (j : ℕ) →
+    ensures memo { IfOk result (λ reported. IsMemo tables.now samples.now memo.new) }
+    ensures settled { IfOk result (λ reported. IfSome reported (λ t. (x : List ℕ) (j : ℕ) →
         RunsOver tables.now memo.old state x j → RunsAt tables.now memo.new t x j)) }
 {
     let mut now = state;
@@ -181,7 +182,14 @@ fn take_step(
 {
     match cell_of(alloc, tables, samples, &mut memo.cache, state, class)? {
         Cell::To(t) => {
-            note_hop(&memo.cache, samples.len(), &mut memo.hops, state, class, t)?;
+            note_transition(
+                &memo.cache,
+                samples.len(),
+                &mut memo.transitions,
+                state,
+                class,
+                t,
+            )?;
             match settle(alloc, tables, samples, memo, t)? {
                 Some(settled) => Ok(RunStep::To(settled)),
                 None => Ok(RunStep::Over),
@@ -202,7 +210,7 @@ fn prepare(memo: &mut Memo, letters: usize)
     ensures conts { memo.new.cache.conts.items ≡ memo.old.cache.conts.items }
     ensures states { memo.new.cache.states ≡ memo.old.cache.states }
     ensures cells { memo.new.cache.cells ≡ memo.old.cache.cells }
-    ensures hops { memo.new.hops ≡ memo.old.hops }
+    ensures transitions { memo.new.transitions ≡ memo.old.transitions }
     ensures unfolds { memo.new.unfolds ≡ memo.old.unfolds }
     ensures parts { memo.new.parts.items ≡ [] }
 {
@@ -215,7 +223,7 @@ fn prepare(memo: &mut Memo, letters: usize)
 fn ends_at(memo: &Memo, samples: &[u32], row: usize) -> bool
     ensures { IsEndOf samples.now memo.now row result }
 {
-    match end_of(&memo.hops, samples.len(), row) {
+    match end_of(&memo.transitions, samples.len(), row) {
         Some(ended) => ended,
         None => has_ended(&memo.cache, row / (samples.len() + 1)),
     }
@@ -261,8 +269,8 @@ fn go_on<L: Letter>(
     requires memo { IsMemo tables.now classes.samples.now memo.old }
     requires within { from.at ≤ length line.now }
     requires tracks { IsTrack tables.now classes.samples.now memo.old (map L.number line.now) from }
-    ensures memo { IfOk result (λ told. IsMemo tables.now classes.entry.samples.now memo.new) }
-    ensures stops { IfOk result (λ told. IfSome told (IsRunStop tables.now classes.entry.samples.now memo.new
+    ensures memo { IfOk result (λ reported. IsMemo tables.now classes.entry.samples.now memo.new) }
+    ensures stops { IfOk result (λ reported. IfSome reported (IsRunStop tables.now classes.entry.samples.now memo.new
         (map L.number line.now))) }
 {
     let low = classes.low;
@@ -273,7 +281,7 @@ fn go_on<L: Letter>(
         let class = class_of(low, samples, line[track.at].value());
         match take_step(alloc, tables, samples, memo, track.row / stride, class)? {
             RunStep::To(t) => {
-                let Some(row) = spot(t, stride, 0) else {
+                let Some(row) = dot(t, stride, 0) else {
                     return Ok(None);
                 };
                 let next = Track {
@@ -306,8 +314,8 @@ fn follow<L: Letter>(
     requires roots { GiveRoots (flat_of tables.now) tables.now.roots.items }
     requires classes { AreClasses (flat_of tables.now) classes.low.now classes.samples.now }
     requires memo { IsMemo tables.now classes.samples.now memo.old }
-    ensures memo { IfOk result (λ told. IsMemo tables.now classes.entry.samples.now memo.new) }
-    ensures stops { IfOk result (λ told. IfSome told (IsRunStop tables.now classes.entry.samples.now memo.new
+    ensures memo { IfOk result (λ reported. IsMemo tables.now classes.entry.samples.now memo.new) }
+    ensures stops { IfOk result (λ reported. IfSome reported (IsRunStop tables.now classes.entry.samples.now memo.new
         (map L.number line.now))) }
 {
     let samples = classes.samples;
@@ -335,11 +343,11 @@ pub(crate) fn run<L: Letter>(
     requires classes { AreClasses (flat_of tables.now) classes.low.now classes.samples.now }
     requires memo { IsMemo tables.now classes.samples.now memo.old }
     ensures memo { IsMemo tables.now classes.entry.samples.now memo.new }
-    ensures stops { IfOk result (λ told. IfSome told (IsRunStop tables.now classes.entry.samples.now memo.new
+    ensures stops { IfOk result (λ reported. IfSome reported (IsRunStop tables.now classes.entry.samples.now memo.new
         (map L.number line.now))) }
 {
     match follow(alloc, tables, classes, memo, line) {
-        Ok(told) => Ok(told),
+        Ok(reported) => Ok(reported),
         Err(error) => {
             forget_all(memo);
             Err(error)

@@ -72,17 +72,17 @@ fn lead_whole(
     value: u32,
 ) -> Result<Option<usize>, Memory>
     requires cached { IsCache tables.now [] cache.old }
-    ensures cached { IfOk result (λ told. IsCache tables.now [] cache.new) }
-    ensures grows { IfOk result (λ told. Grows cache.old cache.new) }
-    ensures is { IfOk result (λ told. IfSome told (IsLed tables.now value cache.new.conts.items.items
+    ensures cached { IfOk result (λ reported. IsCache tables.now [] cache.new) }
+    ensures grows { IfOk result (λ reported. Grows cache.old cache.new) }
+    ensures is { IfOk result (λ reported. IfSome reported (IsLed tables.now value cache.new.conts.items.items
         cache.new.states.items state)) }
 {
     if state >= cache.states.len() || !may_fill(cache) {
         return Ok(None);
     }
     let tops = cache.states[state].tops.as_slice();
-    let told = transition(alloc, tables, tops, value, &mut cache.conts, &mut cache.ids)?;
-    let Some(front) = told else {
+    let reported = transition(alloc, tables, tops, value, &mut cache.conts, &mut cache.ids)?;
+    let Some(front) = reported else {
         return Ok(None);
     };
     let t = state_of(cache, 0, in_order(front))?;
@@ -110,8 +110,8 @@ impl States {
 
     /// Returns the number of the start state; `None` if there is no room for it. `Memory` if an allocation fails.
     pub fn start(&mut self) -> Result<Option<usize>, Memory>
-        ensures more { IfOk result (λ told. AreMoreStates self.old self.new) }
-        ensures is { IfOk result (λ told. IfSome told (IsStartState self.new)) }
+        ensures more { IfOk result (λ reported. AreMoreStates self.old self.new) }
+        ensures is { IfOk result (λ reported. IfSome reported (IsStartState self.new)) }
     {
         match begin(self.alloc, &self.tables, &[], &mut self.cache) {
             Ok(true) => Ok(Some(0)),
@@ -126,11 +126,11 @@ impl States {
     /// Returns the number of the state that a symbol leads to from another. It has no stack where nothing reads the
     /// symbol. `None` if there is no such state, or no room for more. `Memory` if an allocation fails.
     pub fn next(&mut self, state: usize, value: u32) -> Result<Option<usize>, Memory>
-        ensures more { IfOk result (λ told. AreMoreStates self.old self.new) }
-        ensures is { IfOk result (λ told. IfSome told (IsNextState self.new value state)) }
+        ensures more { IfOk result (λ reported. AreMoreStates self.old self.new) }
+        ensures is { IfOk result (λ reported. IfSome reported (IsNextState self.new value state)) }
     {
         match lead_whole(self.alloc, &self.tables, &mut self.cache, state, value) {
-            Ok(told) => Ok(told),
+            Ok(reported) => Ok(reported),
             Err(fault) => {
                 forget(&mut self.cache);
                 Err(fault)

@@ -6,7 +6,7 @@ ghost use Rattle.lazydfa.specs.Conts.{stack_of};
 
 use crate::close::{Ids, add, close, cont_at, empty};
 use crate::conts::{Cont, Conts, id_of};
-use flatgrammar::{Item, Tables, deed_of, reads};
+use flatgrammar::{Item, Tables, operation_of, reads};
 use ruletable::Memory;
 use std::alloc::Global;
 
@@ -90,7 +90,7 @@ pub(crate) fn top_reads(tables: &Tables, id: usize, conts: &Conts) -> bool
         return false;
     }
     let cont = cont_at(conts, id);
-    deed_of(
+    operation_of(
         tables,
         Item {
             node: cont.node,
@@ -142,8 +142,9 @@ pub(crate) fn transition(
 ) -> Result<Option<Closure>, Memory>
     requires within { (id : ℕ) → Contains tops.now id → id ≤ length conts.old.items.items }
     requires older { AreOlder conts.old.items.items }
-    ensures kept { IfOk result (λ told. AreKept conts.old.items.items conts.new.items.items) }
-    ensures is { IfOk result (λ told. IfSome told (λ front. IsTransition tables.now value conts.old.items.items tops.now
+    ensures kept { IfOk result (λ reported. AreKept conts.old.items.items conts.new.items.items) }
+    ensures is { IfOk result (λ reported. IfSome reported (λ front. IsTransition tables.now value conts.old.items.items
+        tops.now
         conts.new.items.items front.tops.items front.ended)) }
 {
     empty(ids);

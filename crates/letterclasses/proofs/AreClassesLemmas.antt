@@ -66,8 +66,8 @@ module _ {A B : Type 0} (f : A → B) (P : List ℕ → B → Type 0)
       by (inl less) = grow old new b more (before i b less is)
       by (inr le) =
           let here : i ≡ k = omega (arith, le, lt) in
-          let told : slice_get (map f xs) k ≡ Some (f x) = slice_get-map f xs k ∙ ap (λ v. option_map f v) at_k in
-          let both : Some (f x) ≡ Some b = sym told ∙ subst (λ v. slice_get (map f xs) v ≡ Some b) here is in
+          let reported : slice_get (map f xs) k ≡ Some (f x) = slice_get-map f xs k ∙ ap (λ v. option_map f v) at_k in
+          let both : Some (f x) ≡ Some b = sym reported ∙ subst (λ v. slice_get (map f xs) v ≡ Some b) here is in
           let same : f x ≡ b = cc both in
           subst (λ v. P new v) same split
 
@@ -109,25 +109,25 @@ module _ (flat : Flat) (bounds : List ℕ) (split : AreNodesSplit bounds flat.no
     abbrev sample : ℕ
     sample = get_or bounds k 0
 
-    free_behind : (i : ℕ) → sample < i → i ≤ c → IsFree bounds i
-    free_behind i lo hi = record { none = λ h. by h.0 h.1 h.2 (cases_lt h.0 above) }
+    free_after : (i : ℕ) → sample < i → i ≤ c → IsFree bounds i
+    free_after i lo hi = record { none = λ h. by h.0 h.1 h.2 (cases_lt h.0 above) }
       where
         by : (m : ℕ) → m < length bounds → get_or bounds m i ≡ i → (m < above) ⊎ (above ≤ m) → ⊥
         by m lt is (inl before) =
             let le = ordered m k 0 (omega (arith, before, last)) (omega (arith, within, last)) in
             let same = get_or_default bounds m i 0 lt in
             omega (arith, le, same, is, lo)
-        by m lt is (inr behind) =
-            let more = leb-false (get_or bounds m i) c (point.1 m i behind lt) in
+        by m lt is (inr after) =
+            let more = leb-false (get_or bounds m i) c (point.1 m i after lt) in
             omega (arith, more, is, hi)
 
-    pub class_told : IsClassOf flat bounds c k
-    class_told = record {
+    pub class_reported : IsClassOf flat bounds c k
+    class_reported = record {
       sample = sample;
       is = slice_get-get_or bounds k 0 (omega (arith, within, last));
       alike = joined_alike c sample fits (
         leb-true sample c (point.0 k 0 (omega arith) (omega (arith, last))),
-        λ i lo hi. free_behind i lo hi,
+        λ i lo hi. free_after i lo hi,
       );
     }
 
@@ -139,7 +139,7 @@ class_found flat bounds parted c above fits within point class is = by (cases_lt
   where
     by : (0 < above) ⊎ (above ≤ 0) → IsClassOf flat bounds c class
     by (inl some) =
-        class_told flat bounds parted.split parted.ordered c class above fits within (omega (arith, some, is)) point
+        class_reported flat bounds parted.split parted.ordered c class above fits within (omega (arith, some, is)) point
     by (inr none) = absurd (parted.first (record {
       none = λ h.
           let lt = h.1 in

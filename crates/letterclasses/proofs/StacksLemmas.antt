@@ -1,5 +1,5 @@
 -- Stacks and item sets hold the same places, and accept the same lines.
--- Serves: stacks_tell, judge.
+-- Serves: stacks_decide, judge.
 use Rattle.std.proofs.Common.{◌≡◌, ℕ, ◌+◌, ◌<◌, ◌≤◌, List, [], ◌∷◌, refl, sym, ◌∙◌, ap, subst, arith}
 use Rattle.std.proofs.Common.{◌⊎◌, inl, inr}
 use Rattle.std.proofs.lemmas.Bool.{cases_lt}
@@ -10,7 +10,7 @@ use Rattle.flatgrammar.specs.Flat.{name_starts, Ends, ends, name_ends, Reads, re
 use Rattle.flatgrammar.specs.Holds.{HasItem}
 use Rattle.flatgrammar.specs.Holds.{Holds, begins, called, has_read, returned}
 use Rattle.letterclasses.specs.Stacks as st
-use Rattle.letterclasses.specs.Stacks.{node_at, AreUncounted, IsDoneAt, is_done, TellsLast, Moves, call, tail_call}
+use Rattle.letterclasses.specs.Stacks.{node_at, AreUncounted, IsDoneAt, is_done, MarksLast, Moves, call, tail_call}
 use Rattle.letterclasses.specs.Stacks.{Reach, Accepts}
 
 bool_cases : (b : Bool) → (b ≡ true) ⊎ (b ≡ false)
@@ -109,7 +109,7 @@ module _ (flat : Flat) where
           by (inl never) = returned h e g c (λ t. absurd (never t))
           by (inr same) = free same (cases_lt k j)
 
-      module _ (last : Place → Bool) (tells : TellsLast flat last) where
+      module _ (last : Place → Bool) (reports : MarksLast flat last) where
         -- what was called as s in set i goes on in these places
         data Under : ℕ → ℕ → List Place → Type 0 where
           bottom : Under 0 flat.whole []
@@ -133,7 +133,7 @@ module _ (flat : Flat) where
         back_ends c ea = λ p same d. ea p (same ∙ calls_node c) d
 
         hidden_end : {u s : ℕ} {q r : Place} → Calls flat q s r → EndsAs u (node_at q) → last r ≡ true → Ends flat r u
-        hidden_end {r = r} c ea is = ea r (calls_node c) (tells.done r is)
+        hidden_end {r = r} c ea is = ea r (calls_node c) (reports.done r is)
 
         pop_into : {i s j : ℕ} {p r : Place} {below : List Place} → Holds flat x j p i → Ends flat p s
             → Under i s (r ∷ below) → Stands j r below
@@ -256,7 +256,7 @@ module _ (flat : Flat) where
           where
             by : IsAt j q below → IsAt (j + 1) r below
             by (inl g) = inl (Reach.has_read g rd is lies)
-            by (inr g) = absurd (tells.no_read q r set g.0 rd)
+            by (inr g) = absurd (reports.no_read q r set g.0 rd)
         climb_up {j = j} (returned {i = i} {k = k} {s = s} {q = q} {r = r} {p = p} h e g c takes) below b =
             from (λ v g. climb_up h v g) (climb_up g below (λ p same d. b p (same ∙ sym (calls_node c)) d))
             (bool_cases (last r))
@@ -264,7 +264,7 @@ module _ (flat : Flat) where
             from : ((v : List Place) → IsBegun k (node_at p) v → IsAt j p v) → IsAt k q below
                 → (last r ≡ true) ⊎ (last r ≡ false) → IsAt j r below
             from up (inr none) l = let b = began_so h in
-                absurd (tells.no_call q r b.place s none.0 c (ends_start e b.place b.node b.begin))
+                absurd (reports.no_call q r b.place s none.0 c (ends_start e b.place b.node b.begin))
             from up (inl a) (inl is) = inr (
               is,
               at_done below (up below
@@ -283,7 +283,7 @@ module _ (flat : Flat) where
             let b = base_of h in from b.below (climb_up h b.below b.begun) (bool_cases (last r))
           where
             from : (below : List Place) → IsAt j q below → (last r ≡ true) ⊎ (last r ≡ false) → Base j (node_at p)
-            from below (inr none) l = absurd (tells.no_call q r p s none.0 c st)
+            from below (inr none) l = absurd (reports.no_call q r p s none.0 c st)
             from below (inl a) (inl is) = record {
               below = below;
               begun = λ p' same d. Reach.moved a (tail_call c (starts_start st p' same d) is);
@@ -315,7 +315,7 @@ module _ (flat : Flat) where
           where
             by : (below : List Place) → IsAt j p below → (below : List Place) × Reach flat last x j (p ∷ below)
             by below (inl g) = (below, g)
-            by below (inr g) = absurd (tells.no_read p r set g.0 rd)
+            by below (inr g) = absurd (reports.no_read p r set g.0 rd)
 
         pub holds_accepted : {j : ℕ} (body : ℕ) → slice_get flat.nodes flat.whole ≡ Some (Concat (body ∷ []))
             → Holds flat x j (at flat.whole 1) 0 → Accepts flat last x j

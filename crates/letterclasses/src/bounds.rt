@@ -11,22 +11,22 @@ pub(crate) struct Bounds {
     /// The numbers, in the order in which they were added.
     pub(crate) numbers: Vec<u32>,
     /// Of each number below 256 the index where it may stand in `numbers`. No contract relies on it.
-    spots: [usize; 256],
+    dots: [usize; 256],
 }
 
 /// Returns no number. It takes no memory.
 pub(crate) fn empty_bounds(alloc: Global) -> Bounds {
     Bounds {
         numbers: Vec::new(alloc),
-        spots: [0; 256],
+        dots: [0; 256],
     }
 }
 
 fn is_bound(bounds: &Bounds, number: u32) -> bool
     ensures { IsTrue result → Contains bounds.now.numbers.items number }
 {
-    match bounds.spots.get(number as usize) {
-        Some(spot) => match bounds.numbers.get(*spot) {
+    match bounds.dots.get(number as usize) {
+        Some(dot) => match bounds.numbers.get(*dot) {
             Some(found) => *found == number,
             None => false,
         },
@@ -41,10 +41,10 @@ pub(crate) fn add_bound(number: u32, bounds: &mut Bounds) -> Result<(), Memory>
     if is_bound(bounds, number) {
         return Ok(());
     }
-    let spot = bounds.numbers.len();
+    let dot = bounds.numbers.len();
     bounds.numbers.push(number)?;
     if number < 256 {
-        bounds.spots[number as usize] = spot;
+        bounds.dots[number as usize] = dot;
     }
     Ok(())
 }

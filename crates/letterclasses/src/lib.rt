@@ -7,4 +7,4 @@ mod classes;
 mod stacks;
 
 pub use classes::{Classes, class_of, find_classes};
-pub use stacks::{a_letter_leads_on, parts_are_moved, stacks_tell};
+pub use stacks::{a_letter_leads_on, parts_are_moved, stacks_decide};

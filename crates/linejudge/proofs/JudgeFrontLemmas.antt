@@ -4,15 +4,24 @@ use Rattle.std.proofs.Common.{◌≡◌, ℕ, suc, ◌+◌, ◌≤◌, Bool, tru
 use Rattle.std.proofs.Common.{refl, sym, ◌∙◌, ap, arith, subst, append_assoc}
 use Rattle.std.proofs.lemmas.List.{append-nil, drop-append-le, drop-drop}
 use Rattle.memchr.specs.Find.{IsFirstByte, is_byte}
-use Rattle.ruletable.specs.Writing.{IsBeginning}
+use Rattle.ruletable.specs.Writing.{IsPrefixOf}
 use Rattle.feed.specs.declared.held.Flow.{Flow}
 use Rattle.toolrun.specs.Agrees.{Agrees}
 use Rattle.toolrun.specs.Input.{Input}
 use Rattle.toolrun.proofs.AgreesLemmas.{rest_is}
 use Rattle.toolrun.proofs.ExplainedIfLemmas.{if_not_asked}
-use Rattle.linejudge.specs.InputLines.{GoesBy, Lines, StandsAt, behind, kept_line, kept_size, printed_line, one_more}
+use Rattle.linejudge.specs.InputLines.{
+  GoesBy,
+  Lines,
+  StandsAt,
+  position_after,
+  kept_line,
+  kept_size,
+  printed_line,
+  one_more,
+}
 use Rattle.linejudge.specs.InputLines.{with_end}
-use Rattle.linejudge.specs.LineRefusals.{Refusals, ToldUpTo, is_told, none_after, one_told}
+use Rattle.linejudge.specs.LineRefusals.{Refusals, ReportedUpTo, is_reported, none_after, one_reported}
 use Rattle.linejudge.specs.LineSteps.{AddsLines}
 use Rattle.linejudge.specs.declared.answers.Answer.{Answer}
 use Rattle.linejudge.specs.declared.line.LineForm.{LineForm}
@@ -39,37 +48,40 @@ found_stands form input start len n s front rest is here within (before, found) 
       within = omega (arith, split.2, short);
     })))
 
-module _ (Told : List ℕ → Answer → Type 0) (asked : Bool) (Refusal : List ℕ → ℕ → List ℕ → Type 0) (form : LineForm)
+module _ (Reported : List ℕ → Answer → Type 0) (asked : Bool) (Refusal : List ℕ → ℕ → List ℕ → Type 0) (form : LineForm)
     (input : Input) where
-  pub goes_nowhere : (at : LinePosition) → AddsLines Told asked Refusal form input at at []
-  goes_nowhere at = record { lines = λ text l. rw append-nil l; refusals = λ lacks told r. r }
+  pub goes_nowhere : (at : LinePosition) → AddsLines Reported asked Refusal form input at at []
+  goes_nowhere at = record { lines = λ text l. rw append-nil l; refusals = λ lacks reported r. r }
 
   -- a line of which nothing is explained
-  told_on : asked ≡ false → (lacks : Bool) (at : LinePosition) (told line : List ℕ) (n : ℕ) (said : Answer)
-      → ToldUpTo Told asked Refusal form input lacks at told → GoesBy form input at line n → Told line said
-      → ToldUpTo Told asked Refusal form input lacks (behind at n said) told
-  told_on not false at told line n said r stands says =
-      subst (λ t. Refusals Told asked Refusal form input (behind at n said) t) (append-nil told)
-      (one_told at told line n said [] r stands says
-      (if_not_asked (is_told asked at.refused said) (Refusal line (at.count + 1)) (rw not refl)))
-  told_on not true at told line n said r stands says = none_after at told line n said r stands says
+  reported_on : asked ≡ false → (lacks : Bool) (at : LinePosition) (reported line : List ℕ) (n : ℕ) (said : Answer)
+      → ReportedUpTo Reported asked Refusal form input lacks at reported → GoesBy form input at line n
+      → Reported line said
+      → ReportedUpTo Reported asked Refusal form input lacks (position_after at n said) reported
+  reported_on not false at reported line n said r stands says =
+      subst (λ t. Refusals Reported asked Refusal form input (position_after at n said) t) (append-nil reported)
+      (one_reported at reported line n said [] r stands says
+      (if_not_asked (is_reported asked at.refused said) (Refusal line (at.count + 1)) (rw not refl)))
+  reported_on not true at reported line n said r stands says = none_after at reported line n said r stands says
 
   pub goes_one_on : asked ≡ false → (old at : LinePosition) (added line : List ℕ) (n : ℕ) (said : Answer)
-      → AddsLines Told asked Refusal form input old at added → GoesBy form input at line n → Told line said
-      → AddsLines Told asked Refusal form input old (behind at n said)
+      → AddsLines Reported asked Refusal form input old at added → GoesBy form input at line n → Reported line said
+      → AddsLines Reported asked Refusal form input old (position_after at n said)
       (added ++ printed_line form (at.count + 1) line said)
   goes_one_on not old at added line n said goes stands says = record {
-    lines = λ text l. subst (λ t. Lines Told form input (behind at n said) t)
+    lines = λ text l. subst (λ t. Lines Reported form input (position_after at n said) t)
         (append_assoc text added (printed_line form (at.count + 1) line said))
         (one_more at (text ++ added) line n said (goes.lines text l) stands says);
-    refusals = λ lacks told r. told_on not lacks at told line n said (goes.refusals lacks told r) stands says;
+    refusals = λ lacks reported r. reported_on not lacks at reported line n said
+        (goes.refusals lacks reported r) stands says;
   }
 
   -- a batch of lines that was judged in bytes at the front of what is held
   pub batch_goes : {flow : Flow} (before items front added : List ℕ) (at next : LinePosition) → length before ≡ at.place
-      → IsBeginning front items → Agrees (before ++ items) flow input →
+      → IsPrefixOf front items → Agrees (before ++ items) flow input →
       ((input : Input) (rest : List ℕ) → drop at.place input.bytes ≡ front ++ rest
-      → AddsLines Told asked Refusal form input at next added) → AddsLines Told asked Refusal form input at next added
+      → AddsLines Reported asked Refusal form input at next added) →
+      AddsLines Reported asked Refusal form input at next added
   batch_goes before items front added at next here (rest, is) agrees goes =
       goes input (rest ++ agrees.more) (rest_is before items here agrees ∙ ap (λ t. t ++ agrees.more) is
       ∙ append_assoc front rest agrees.more)

@@ -7,16 +7,24 @@ use Rattle.std.proofs.lemmas.List.{append-nil}
 use Rattle.std.specs.Io.KnownBytes.{Appends, Consumes}
 use Rattle.ruletable.specs.Writing.{AppendsPart, Flags}
 use Rattle.ruletable.specs.declared.sink.WriteFault.{WriteFault}
-use Rattle.ruletable.proofs.AppendsLemmas.{Appends-join, Appends-kept, AppendsPart-join, IsBeginning-nil}
-use Rattle.ruletable.proofs.AppendsLemmas.{IsBeginning-same}
-use Rattle.feed.specs.Feed.{IsToldBy, input_limit}
+use Rattle.ruletable.proofs.AppendsLemmas.{Appends-join, Appends-kept, AppendsPart-join, IsPrefixOf-nil}
+use Rattle.ruletable.proofs.AppendsLemmas.{IsPrefixOf-same}
+use Rattle.feed.specs.Feed.{IsReportedBy, input_limit}
 use Rattle.feed.specs.declared.held.Flow.{Flow}
 use Rattle.toolrun.specs.Agrees.{Agrees}
 use Rattle.toolrun.specs.Explained.{ExplainedIf}
 use Rattle.toolrun.specs.Input.{Input}
 use Rattle.toolrun.specs.Reply.{Reply, cut_reply, explained_reply}
 use Rattle.toolrun.specs.RunEnd.{more_refused}
-use Rattle.toolrun.specs.RunSteps.{Begins, EndsTold, HasToldRun, Replies, cut_short, replied_told, unexplained}
+use Rattle.toolrun.specs.RunSteps.{
+  Begins,
+  EndsReported,
+  HasReportedRun,
+  Replies,
+  cut_short,
+  replied_reported,
+  unexplained,
+}
 use Rattle.toolrun.specs.Status.{code_of}
 use Rattle.toolrun.specs.Stop.{message_of, status_of}
 use Rattle.toolrun.specs.Stopped.{Fulfils}
@@ -26,13 +34,21 @@ use Rattle.toolrun.specs.declared.ending.Ending.TheVariants.{Plain, Explained, U
 use Rattle.toolrun.specs.declared.stop.Stop.{Stop}
 use Rattle.toolrun.specs.declared.stop.Stop.TheVariants.{NoMemory}
 use Rattle.toolrun.proofs.ExplainedIfLemmas.{if_asked, if_not_asked, not_asked_nothing}
-use Rattle.toolrun.proofs.StopsAsLemmas.{run_told, did_not_tell}
-use Rattle.linejudge.specs.InputLines.{GoesBy, LinesEnd, Lines, at_front, behind, printed_line, none, one_more}
+use Rattle.toolrun.proofs.StopsAsLemmas.{run_reported, did_not_report}
+use Rattle.linejudge.specs.InputLines.{GoesBy, LinesEnd, Lines, at_front, position_after, printed_line, none, one_more}
 use Rattle.linejudge.specs.InputLines.{place_taken, taken_at}
 use Rattle.linejudge.specs.LineRefusals.{CutRefusals, EndsAt, LinesReply, LinesStates, LinesTo, NeverLacks, Refusals}
-use Rattle.linejudge.specs.LineRefusals.{RunPoint, SameButWhy, TellsTo, ToldUpTo, WhyTo, count_untold, is_told}
-use Rattle.linejudge.specs.LineRefusals.{none_after, none_told, one_lacks, one_told, stop_lines, taken_by}
-use Rattle.linejudge.specs.LineSteps.{AddsBy, AddsLines, IsStep, IsToldEnding, StepText, of_end, of_line}
+use Rattle.linejudge.specs.LineRefusals.{
+  RunPoint,
+  SameButWhy,
+  ReportsTo,
+  ReportedUpTo,
+  WhyTo,
+  count_untold,
+  is_reported,
+}
+use Rattle.linejudge.specs.LineRefusals.{none_after, none_reported, one_lacks, one_reported, stop_lines, taken_by}
+use Rattle.linejudge.specs.LineSteps.{AddsBy, AddsLines, IsStep, IsReportedEnding, StepText, of_end, of_line}
 use Rattle.linejudge.specs.declared.answers.Answer.{Answer}
 use Rattle.linejudge.specs.declared.line.LineForm.{LineForm}
 use Rattle.linejudge.specs.declared.line_loop.LineStep.TheVariants.{Answers, Stops}
@@ -40,43 +56,45 @@ use Rattle.linejudge.specs.declared.reached.LinePosition.{LinePosition}
 use Rattle.linejudge.specs.declared.reached.Explanations.{Explanations}
 use Rattle.linejudge.proofs.LinesLemmas.{lines_go_on, goes_further}
 
-module _ (Told : List ℕ → Answer → Type 0) (asked : Bool) (Refusal : List ℕ → ℕ → List ℕ → Type 0) (form : LineForm)
+module _ (Reported : List ℕ → Answer → Type 0) (asked : Bool) (Refusal : List ℕ → ℕ → List ℕ → Type 0) (form : LineForm)
     (input : Input) where
   abbrev Runs : ℕ → Option (List ℕ) → Option (List ℕ) → Result Ending WriteFault → Type 0
-  Runs taken a b r = HasToldRun (LinesTo Told form input) (EndsAt form input) (taken_by form.limit input)
-      (TellsTo Told asked Refusal form input) (WhyTo asked input) (NeverLacks input) taken a b r
+  Runs taken a b r = HasReportedRun (LinesTo Reported form input) (EndsAt form input) (taken_by form.limit input)
+      (ReportsTo Reported asked Refusal form input) (WhyTo asked input) (NeverLacks input) taken a b r
 
   abbrev EndsSo : RunPoint → List ℕ → Ending → Type 0
-  EndsSo point last ending = EndsTold (LinesTo Told form input) (EndsAt form input) (taken_by form.limit input)
-      (TellsTo Told asked Refusal form input) (WhyTo asked input) (NeverLacks input) point last ending
+  EndsSo point last ending = EndsReported (LinesTo Reported form input) (EndsAt form input) (taken_by form.limit input)
+      (ReportsTo Reported asked Refusal form input) (WhyTo asked input) (NeverLacks input) point last ending
 
   -- where it is not asked, no line is explained
-  untold_lines : asked ≡ false → (at : LinePosition) (told : List ℕ) → Refusals Told asked Refusal form input at told
-      → told ≡ []
-  untold_lines not at told none_told = refl
-  untold_lines not at told (one_told before first line n said text lines stands says tells) =
+  untold_lines : asked ≡ false → (at : LinePosition) (reported : List ℕ)
+      → Refusals Reported asked Refusal form input at reported
+      → reported ≡ []
+  untold_lines not at reported none_reported = refl
+  untold_lines not at reported (one_reported before first line n said text lines stands says reports) =
       let nothing : first ≡ [] = untold_lines not before first lines in
-      let none : text ≡ [] = not_asked_nothing (is_told asked before.refused said) (Refusal line (before.count + 1))
-      text (rw not refl) tells in
+      let none : text ≡ [] = not_asked_nothing (is_reported asked before.refused said) (Refusal line (before.count + 1))
+      text (rw not refl) reports in
       rw (nothing, none) refl
 
   -- .. and no explanation is missing
-  nothing_lacks : asked ≡ false → (at : LinePosition) (told : List ℕ)
-      → CutRefusals Told asked Refusal form input at told → ⊥
-  nothing_lacks not at told (one_lacks before first line n said lines stands says is) =
-      let none : is_told asked before.refused said ≡ false = rw not refl in absurd (cc)
-  nothing_lacks not at told (none_after before all line n said lines stands says) =
+  nothing_lacks : asked ≡ false → (at : LinePosition) (reported : List ℕ)
+      → CutRefusals Reported asked Refusal form input at reported → ⊥
+  nothing_lacks not at reported (one_lacks before first line n said lines stands says is) =
+      let none : is_reported asked before.refused said ≡ false = rw not refl in absurd (cc)
+  nothing_lacks not at reported (none_after before all line n said lines stands says) =
       nothing_lacks not before all lines
 
-  none_told_by : asked ≡ false → (b : Bool) (at : LinePosition) (told : List ℕ)
-      → ToldUpTo Told asked Refusal form input b at told → told ≡ []
-  none_told_by not false at told first = untold_lines not at told first
-  none_told_by not true at told first = absurd (nothing_lacks not at told first)
+  none_reported_by : asked ≡ false → (b : Bool) (at : LinePosition) (reported : List ℕ)
+      → ReportedUpTo Reported asked Refusal form input b at reported → reported ≡ []
+  none_reported_by not false at reported first = untold_lines not at reported first
+  none_reported_by not true at reported first = absurd (nothing_lacks not at reported first)
 
-  all_untold : asked ≡ false → (point : RunPoint) (told : List ℕ) → TellsTo Told asked Refusal form input point told
-      → told ≡ []
-  all_untold not point told tells =
-      tells.is ∙ rw (none_told_by not point.lacks point.at tells.first tells.refusals, not) refl
+  all_untold : asked ≡ false → (point : RunPoint) (reported : List ℕ)
+      → ReportsTo Reported asked Refusal form input point reported
+      → reported ≡ []
+  all_untold not point reported reports =
+      reports.is ∙ rw (none_reported_by not point.lacks point.at reports.first reports.refusals, not) refl
 
   -- nothing explains where it is not asked
   nothing_explains : (b : Bool) (Why : List ℕ → Type 0) (why : List ℕ) → b ≡ false → why ≡ [] → ExplainedIf b Why why
@@ -94,25 +112,25 @@ module _ (Told : List ℕ → Answer → Type 0) (asked : Bool) (Refusal : List 
   some_lines false lines = ([], refl)
 
   -- the explanations after one more line
-  told_more : (o b : Bool) (at : LinePosition) (line : List ℕ) (n : ℕ) (said : Answer) (old new : List ℕ)
-      → ToldUpTo Told asked Refusal form input o at old → GoesBy form input at line n → Told line said
-      → AddsBy Told asked Refusal o b at line said old new
-      → ToldUpTo Told asked Refusal form input b (behind at n said) new
-  told_more false false at line n said old new lines stands says adds =
-      subst (λ t. Refusals Told asked Refusal form input (behind at n said) t) (sym adds.added)
-      (one_told at old line n said adds.text lines stands says adds.is)
-  told_more false true at line n said old new lines stands says (is, same) =
-      subst (λ t. CutRefusals Told asked Refusal form input (behind at n said) t) (sym same)
+  reported_more : (o b : Bool) (at : LinePosition) (line : List ℕ) (n : ℕ) (said : Answer) (old new : List ℕ)
+      → ReportedUpTo Reported asked Refusal form input o at old → GoesBy form input at line n → Reported line said
+      → AddsBy Reported asked Refusal o b at line said old new
+      → ReportedUpTo Reported asked Refusal form input b (position_after at n said) new
+  reported_more false false at line n said old new lines stands says adds =
+      subst (λ t. Refusals Reported asked Refusal form input (position_after at n said) t) (sym adds.added)
+      (one_reported at old line n said adds.text lines stands says adds.is)
+  reported_more false true at line n said old new lines stands says (is, same) =
+      subst (λ t. CutRefusals Reported asked Refusal form input (position_after at n said) t) (sym same)
       (one_lacks at old line n said lines stands says is)
-  told_more true false at line n said old new lines stands says (lacks, same) = absurd (cc)
-  told_more true true at line n said old new lines stands says (lacks, same) =
-      subst (λ t. CutRefusals Told asked Refusal form input (behind at n said) t) (sym same)
+  reported_more true false at line n said old new lines stands says (lacks, same) = absurd (cc)
+  reported_more true true at line n said old new lines stands says (lacks, same) =
+      subst (λ t. CutRefusals Reported asked Refusal form input (position_after at n said) t) (sym same)
       (none_after at old line n said lines stands says)
 
   -- a reply, at a point
   on_point : (b : Bool) (reply : Reply)
-      → Replies (Lines Told form input) (LinesEnd form input) (place_taken form.limit input) reply
-      → Replies (LinesTo Told form input) (EndsAt form input) (taken_by form.limit input) reply
+      → Replies (Lines Reported form input) (LinesEnd form input) (place_taken form.limit input) reply
+      → Replies (LinesTo Reported form input) (EndsAt form input) (taken_by form.limit input) reply
   on_point b reply r = record {
     point = record { at = r.point; lacks = b };
     before = r.before;
@@ -127,8 +145,9 @@ module _ (Told : List ℕ → Answer → Type 0) (asked : Bool) (Refusal : List 
   }
 
   -- .. and without its point
-  off_point : (reply : Reply) → Replies (LinesTo Told form input) (EndsAt form input) (taken_by form.limit input) reply
-      → Replies (Lines Told form input) (LinesEnd form input) (place_taken form.limit input) reply
+  off_point : (reply : Reply) → Replies (LinesTo Reported form input) (EndsAt form input)
+      (taken_by form.limit input) reply
+      → Replies (Lines Reported form input) (LinesEnd form input) (place_taken form.limit input) reply
   off_point reply r = record {
     point = r.point.at;
     before = r.before;
@@ -147,88 +166,91 @@ module _ (Told : List ℕ → Answer → Type 0) (asked : Bool) (Refusal : List 
   and_true false = refl
 
   -- a run states its reply where no allocation fails
-  pub whole_states : (reply : Reply) → LinesReply Told asked Refusal form input reply
-      → LinesStates Told asked Refusal form input reply
+  pub whole_states : (reply : Reply) → LinesReply Reported asked Refusal form input reply
+      → LinesStates Reported asked Refusal form input reply
   unfolding on_point
-  whole_states reply r = replied_told reply (record {
+  whole_states reply r = replied_reported reply (record {
     plain = r.plain;
     replies = on_point false r.plain r.replies;
     before = r.before;
-    tells = record {
-      first = r.tells.first;
-      refusals = r.tells.refusals;
-      is = subst (λ (b : Bool). r.before ≡ r.tells.first ++ more_refused (count_untold b r.replies.point.refused))
-          (sym (and_true asked)) r.tells.is;
+    reports = record {
+      first = r.reports.first;
+      refusals = r.reports.refusals;
+      is = subst (λ (b : Bool). r.before ≡ r.reports.first ++ more_refused (count_untold b r.replies.point.refused))
+          (sym (and_true asked)) r.reports.is;
     };
     why = r.why;
     explains = subst (λ (b : Bool). ExplainedIf b (λ t. t ≡ stop_lines r.replies.stop) r.why)
         (sym (and_true asked)) r.explains;
-    told = r.told;
+    reported = r.reported;
   })
 
   -- where no allocation fails but in an explanation, a run states its reply without explanations, but for these
-  pub same_but_why : (reply : Reply) → LinesStates Told asked Refusal form input reply → reply.status ≢ 5 →
-      (plain : Reply) × Replies (Lines Told form input) (LinesEnd form input) (place_taken form.limit input) plain
+  pub same_but_why : (reply : Reply) → LinesStates Reported asked Refusal form input reply → reply.status ≢ 5 →
+      (plain : Reply) × Replies (Lines Reported form input) (LinesEnd form input) (place_taken form.limit input) plain
       × SameButWhy asked reply plain
-  same_but_why reply (replied_told r g) ample = (
+  same_but_why reply (replied_reported r g) ample = (
     g.plain,
     off_point g.plain g.replies,
     record {
-      out = ap (λ a. a.out) g.told;
-      status = ap (λ a. a.status) g.told;
-      taken = ap (λ a. a.taken) g.told;
+      out = ap (λ a. a.out) g.reported;
+      status = ap (λ a. a.status) g.reported;
+      taken = ap (λ a. a.taken) g.reported;
       err = λ unasked.
-          let before = all_untold unasked g.replies.point g.before g.tells in
+          let before = all_untold unasked g.replies.point g.before g.reports in
           let why : g.why ≡ [] = not_asked_nothing (asked && not g.replies.point.lacks)
           (λ t. t ≡ stop_lines g.replies.stop) g.why (rw unasked refl) g.explains in
-          ap (λ a. a.err) g.told ∙ rw (before, why) (append-nil g.plain.err);
+          ap (λ a. a.err) g.reported ∙ rw (before, why) (append-nil g.plain.err);
     },
   )
-  same_but_why reply (unexplained plain replies told tells lack) ample = absurd lack
-  same_but_why reply (cut_short point out told all before tells replies front) ample = absurd (ample refl)
+  same_but_why reply (unexplained plain replies reported reports lack) ample = absurd lack
+  same_but_why reply (cut_short point out reported all before reports replies front) ample = absurd (ample refl)
 
-  module _ (at : LinePosition) (old mid : Option (List ℕ)) (text : List ℕ) (told : Explanations)
-      (lines : Lines Told form input at text)
-      (refusals : ToldUpTo Told asked Refusal form input told.lacks at told.text.items) (wrote : Appends old mid text)
+  module _ (at : LinePosition) (old mid : Option (List ℕ)) (text : List ℕ) (reported : Explanations)
+      (lines : Lines Reported form input at text)
+      (refusals : ReportedUpTo Reported asked Refusal form input reported.lacks at reported.text.items)
+      (wrote : Appends old mid text)
     where
       abbrev here : RunPoint
-      here = record { at = at; lacks = told.lacks }
+      here = record { at = at; lacks = reported.lacks }
 
       pub one_more_line : (new : Option (List ℕ)) (more : Explanations) (said : Answer) (n : ℕ)
-          → IsStep Told asked Refusal form input at mid new told more (Ok (Answers said n)) →
-          (longer : List ℕ) × Lines Told form input (behind at n said) longer
-          × ToldUpTo Told asked Refusal form input more.lacks (behind at n said) more.text.items
+          → IsStep Reported asked Refusal form input at mid new reported more (Ok (Answers said n)) →
+          (longer : List ℕ) × Lines Reported form input (position_after at n said) longer
+          × ReportedUpTo Reported asked Refusal form input more.lacks (position_after at n said) more.text.items
           × Appends old new longer
       one_more_line new more said n (line, stands, says, adds, writes) = (
         text ++ printed_line form (at.count + 1) line said,
         one_more at text line n said lines stands says,
-        told_more told.lacks more.lacks at line n said told.text.items more.text.items refusals stands says adds,
+        reported_more reported.lacks more.lacks at line n said reported.text.items more.text.items refusals stands says
+            adds,
         Appends-join old mid new text (printed_line form (at.count + 1) line said) wrote writes,
       )
 
       -- a batch of lines
       pub more_lines : (next : LinePosition) (new : Option (List ℕ)) (added : List ℕ)
-          → AddsLines Told asked Refusal form input at next added → Appends mid new added →
-          (longer : List ℕ) × Lines Told form input next longer
-          × ToldUpTo Told asked Refusal form input told.lacks next told.text.items × Appends old new longer
+          → AddsLines Reported asked Refusal form input at next added → Appends mid new added →
+          (longer : List ℕ) × Lines Reported form input next longer
+          × ReportedUpTo Reported asked Refusal form input reported.lacks next reported.text.items
+          × Appends old new longer
       more_lines next new added goes writes = (
         text ++ added,
         goes.lines text lines,
-        goes.refusals told.lacks told.text.items refusals,
+        goes.refusals reported.lacks reported.text.items refusals,
         Appends-join old mid new text added wrote writes,
       )
 
       -- the explanations there, where it is asked
-      all_told : asked ≡ true → (all : List ℕ)
-          → all ≡ told.text.items ++ more_refused (count_untold (not told.lacks) at.refused)
-          → TellsTo Told asked Refusal form input here all
-      all_told is all same = record { first = told.text.items; refusals = refusals; is = same ∙ rw is refl }
+      all_reported : asked ≡ true → (all : List ℕ)
+          → all ≡ reported.text.items ++ more_refused (count_untold (not reported.lacks) at.refused)
+          → ReportsTo Reported asked Refusal form input here all
+      all_reported is all same = record { first = reported.text.items; refusals = refusals; is = same ∙ rw is refl }
 
-      nothing_told : asked ≡ false → TellsTo Told asked Refusal form input here []
-      nothing_told not = record {
-        first = told.text.items;
+      nothing_reported : asked ≡ false → ReportsTo Reported asked Refusal form input here []
+      nothing_reported not = record {
+        first = reported.text.items;
         refusals = refusals;
-        is = rw (none_told_by not told.lacks at told.text.items refusals, not) refl;
+        is = rw (none_reported_by not reported.lacks at reported.text.items refusals, not) refl;
       }
 
       -- what explains the stop there
@@ -243,52 +265,52 @@ module _ (Told : List ℕ → Answer → Type 0) (asked : Bool) (Refusal : List 
           (either : ((stop ≡ NoMemory) × (last ≡ [])) ⊎ LinesEnd form input at last stop) where
         ends_plainly : asked ≡ false → EndsSo here last (Plain stop)
         ends_plainly not_asked = (
-          nothing_told not_asked,
+          nothing_reported not_asked,
           elim either [
             | inl (refused, nothing) ↦ inl (record { refused = refused; nothing = nothing; unexplained = refl })
             | inr ends ↦ inr (
               ends,
-              if_not_asked (asked && not told.lacks) (λ t. t ≡ stop_lines stop) (rw not_asked refl),
+              if_not_asked (asked && not reported.lacks) (λ t. t ≡ stop_lines stop) (rw not_asked refl),
             )
           ],
         )
 
-        ends_so : asked ≡ true → (ending : Ending) → IsToldEnding told.lacks
-            (told.text.items ++ more_refused (count_untold (not told.lacks) at.refused)) stop ending
+        ends_so : asked ≡ true → (ending : Ending) → IsReportedEnding reported.lacks
+            (reported.text.items ++ more_refused (count_untold (not reported.lacks) at.refused)) stop ending
             → EndsSo here last ending
-        ends_so is (Plain it) told_so = absurd told_so
+        ends_so is (Plain it) reported_so = absurd reported_so
         ends_so is (Explained before it why) (all, same, lines_are) = rw same (
-          all_told is _ all,
+          all_reported is _ all,
           elim either [
             | inl (refused, nothing) ↦ inl (record {
               refused = refused;
               nothing = nothing;
-              unexplained = lines_are ∙ ap (λ v. if told.lacks then [] else stop_lines v) refused
-                  ∙ no_lines told.lacks;
+              unexplained = lines_are ∙ ap (λ v. if reported.lacks then [] else stop_lines v) refused
+                  ∙ no_lines reported.lacks;
             })
-            | inr ends ↦ inr (ends, why_there stop why.items told.lacks is lines_are)
+            | inr ends ↦ inr (ends, why_there stop why.items reported.lacks is lines_are)
           ],
         )
-        ends_so is (Unexplained before it) told_so = absurd told_so
+        ends_so is (Unexplained before it) reported_so = absurd reported_so
 
         ends_by : (b : Bool) → asked ≡ b → (ending : Ending) → (asked ≡ false → ending ≡ Plain stop)
-            → (asked ≡ true → IsToldEnding told.lacks
-            (told.text.items ++ more_refused (count_untold (not told.lacks) at.refused)) stop ending)
+            → (asked ≡ true → IsReportedEnding reported.lacks
+            (reported.text.items ++ more_refused (count_untold (not reported.lacks) at.refused)) stop ending)
             → EndsSo here last ending
-        ends_by true is ending plain told_so = ends_so is ending (told_so is)
-        ends_by false is ending plain told_so = rw (plain is) (ends_plainly is)
+        ends_by true is ending plain reported_so = ends_so is ending (reported_so is)
+        ends_by false is ending plain reported_so = rw (plain is) (ends_plainly is)
 
       pub stops_there : (new : Option (List ℕ)) (more : Explanations) (taken : ℕ) (stop : Stop) (ending : Ending)
-          → IsStep Told asked Refusal form input at mid new told more (Ok (Stops stop))
+          → IsStep Reported asked Refusal form input at mid new reported more (Ok (Stops stop))
           → (asked ≡ false → ending ≡ Plain stop)
-          → (asked ≡ true → IsToldEnding more.lacks
+          → (asked ≡ true → IsReportedEnding more.lacks
           (more.text.items ++ more_refused (count_untold (not more.lacks) at.refused)) stop ending)
           → taken ≡ taken_at form.limit input at.place → Runs taken old new (Ok ending)
-      stops_there new more taken stop ending (same, either) plain told_so took =
-          let ends : asked ≡ true → IsToldEnding told.lacks
-          (told.text.items ++ more_refused (count_untold (not told.lacks) at.refused)) stop ending =
-          λ is. subst (λ (t : Explanations). IsToldEnding t.lacks
-          (t.text.items ++ more_refused (count_untold (not t.lacks) at.refused)) stop ending) same (told_so is) in
+      stops_there new more taken stop ending (same, either) plain reported_so took =
+          let ends : asked ≡ true → IsReportedEnding reported.lacks
+          (reported.text.items ++ more_refused (count_untold (not reported.lacks) at.refused)) stop ending =
+          λ is. subst (λ (t : Explanations). IsReportedEnding t.lacks
+          (t.text.items ++ more_refused (count_untold (not t.lacks) at.refused)) stop ending) same (reported_so is) in
           elim either [
             | inl (refused, kept) ↦ (
               here,
@@ -311,22 +333,22 @@ module _ (Told : List ℕ → Answer → Type 0) (asked : Bool) (Refusal : List 
           ]
 
       -- the output fails in the text of more lines
-      module _ (decided : (line : List ℕ) → (said : Answer) × Told line said) (new : Option (List ℕ)) (taken : ℕ)
+      module _ (decided : (line : List ℕ) → (said : Answer) × Reported line said) (new : Option (List ℕ)) (taken : ℕ)
           (fault : WriteFault) (took : taken ≤ taken_at form.limit input at.place) where
         fails_at : (next : LinePosition) (b : Bool) (added more : List ℕ) → at.place ≤ next.place
-            → Lines Told form input next (text ++ added)
-            → ToldUpTo Told asked Refusal form input b next more → AppendsPart mid new added
+            → Lines Reported form input next (text ++ added)
+            → ReportedUpTo Reported asked Refusal form input b next more → AppendsPart mid new added
             → Runs taken old new (Err fault)
-        fails_at next b added more le further told_there part =
-            let goes = goes_further Told form input decided at.place next (text ++ added) le further in
+        fails_at next b added more le further reported_there part =
+            let goes = goes_further Reported form input decided at.place next (text ++ added) le further in
             let all : List ℕ = more ++ more_refused (count_untold (asked && not b) next.refused) in (
               text ++ added,
               record {
                 reply = cut_reply all (text ++ added) goes.reply.taken;
                 states = cut_short (record { at = next; lacks = b }) (text ++ added) all goes.reply further
-                    (record { first = more; refusals = told_there; is = refl }) (on_point b goes.reply goes.replies)
+                    (record { first = more; refusals = reported_there; is = refl }) (on_point b goes.reply goes.replies)
                     goes.front;
-                front = IsBeginning-same (text ++ added);
+                front = IsPrefixOf-same (text ++ added);
                 taken = omega (arith, took, goes.taken);
               },
               AppendsPart-join old mid new text added wrote part,
@@ -336,8 +358,9 @@ module _ (Told : List ℕ → Answer → Type 0) (asked : Bool) (Refusal : List 
         fails_last : (last : List ℕ) (stop : Stop) → LinesEnd form input at last stop → AppendsPart mid new last
             → Runs taken old new (Err fault)
         fails_last last stop ends part =
-            let all : List ℕ = told.text.items ++ more_refused (count_untold (asked && not told.lacks) at.refused) in
-            let why = some_lines (asked && not told.lacks) (stop_lines stop) in
+            let all : List ℕ = reported.text.items ++ more_refused (count_untold
+            (asked && not reported.lacks) at.refused) in
+            let why = some_lines (asked && not reported.lacks) (stop_lines stop) in
             let plain : Reply = record {
               out = text ++ last;
               err = message_of stop;
@@ -347,7 +370,7 @@ module _ (Told : List ℕ → Answer → Type 0) (asked : Bool) (Refusal : List 
               text ++ last,
               record {
                 reply = explained_reply all plain why.0;
-                states = replied_told (explained_reply all plain why.0) (record {
+                states = replied_reported (explained_reply all plain why.0) (record {
                   plain = plain;
                   replies = record {
                     point = here;
@@ -362,47 +385,50 @@ module _ (Told : List ℕ → Answer → Type 0) (asked : Bool) (Refusal : List 
                     taken = refl;
                   };
                   before = all;
-                  tells = record { first = told.text.items; refusals = refusals; is = refl };
+                  reports = record { first = reported.text.items; refusals = refusals; is = refl };
                   why = why.0;
                   explains = why.1;
-                  told = refl;
+                  reported = refl;
                 });
-                front = IsBeginning-same (text ++ last);
+                front = IsPrefixOf-same (text ++ last);
                 taken = took;
               },
               AppendsPart-join old mid new text last wrote part,
             )
 
-        fails_in : (added : List ℕ) (more : Explanations) → StepText Told asked Refusal form input at told more added
+        fails_in : (added : List ℕ) (more : Explanations) → StepText Reported asked Refusal form input at reported more
+            added
             → AppendsPart mid new added → Runs taken old new (Err fault)
         fails_in added more (of_line line n said stands says adds) part =
-            fails_at (behind at n said) more.lacks added more.text.items (omega arith)
+            fails_at (position_after at n said) more.lacks added more.text.items (omega arith)
             (one_more at text line n said lines stands says)
-            (told_more told.lacks more.lacks at line n said told.text.items more.text.items refusals stands says adds)
+            (reported_more reported.lacks more.lacks at line n said reported.text.items more.text.items refusals stands
+            says adds)
             part
         fails_in added more (of_end last why ends same) part = fails_last last why ends part
 
-        pub fails_there : (more : Explanations) → IsStep Told asked Refusal form input at mid new told more (Err fault)
+        pub fails_there : (more : Explanations) → IsStep Reported asked Refusal form input at mid new reported more
+            (Err fault)
             → Runs taken old new (Err fault)
         fails_there more (added, texts, part) = fails_in added more texts part
 
         pub fails_further : (next : LinePosition) (added : List ℕ) → at.place ≤ next.place
-            → AddsLines Told asked Refusal form input at next added → AppendsPart mid new added
+            → AddsLines Reported asked Refusal form input at next added → AppendsPart mid new added
             → Runs taken old new (Err fault)
         fails_further next added le goes part =
-            fails_at next told.lacks added told.text.items le (goes.lines text lines)
-            (goes.refusals told.lacks told.text.items refusals) part
+            fails_at next reported.lacks added reported.text.items le (goes.lines text lines)
+            (goes.refusals reported.lacks reported.text.items refusals) part
 
-module _ (Told : List ℕ → Answer → Type 0) (asked : Bool) (Refusal : List ℕ → ℕ → List ℕ → Type 0) (form : LineForm)
-    (decided : (line : List ℕ) → (said : Answer) × Told line said) where
-  goes_on : (input : Input) (point : RunPoint) (text : List ℕ) → LinesTo Told form input point text →
-      Begins (LinesTo Told form input) (EndsAt form input) (taken_by form.limit input)
+module _ (Reported : List ℕ → Answer → Type 0) (asked : Bool) (Refusal : List ℕ → ℕ → List ℕ → Type 0) (form : LineForm)
+    (decided : (line : List ℕ) → (said : Answer) × Reported line said) where
+  goes_on : (input : Input) (point : RunPoint) (text : List ℕ) → LinesTo Reported form input point text →
+      Begins (LinesTo Reported form input) (EndsAt form input) (taken_by form.limit input)
       (taken_by form.limit input point) text
   goes_on input point text lines =
-      let goes = lines_go_on Told form input decided point.at text lines in
+      let goes = lines_go_on Reported form input decided point.at text lines in
       record {
         reply = goes.reply;
-        replies = on_point Told asked Refusal form input point.lacks goes.reply goes.replies;
+        replies = on_point Reported asked Refusal form input point.lacks goes.reply goes.replies;
         front = goes.front;
         taken = goes.taken;
       }
@@ -412,36 +438,39 @@ module _ (Told : List ℕ → Answer → Type 0) (asked : Bool) (Refusal : List 
   first_point = record { at = at_front; lacks = false }
 
   -- nothing is explained before the first line
-  nothing_yet : (b : Bool) → asked ≡ b → (input : Input) → TellsTo Told asked Refusal form input first_point []
-  nothing_yet true is input = record { first = []; refusals = none_told; is = rw is refl }
-  nothing_yet false is input = record { first = []; refusals = none_told; is = rw is refl }
+  nothing_yet : (b : Bool) → asked ≡ b → (input : Input) → ReportsTo Reported asked Refusal form input first_point []
+  nothing_yet true is input = record { first = []; refusals = none_reported; is = rw is refl }
+  nothing_yet false is input = record { first = []; refusals = none_reported; is = rw is refl }
 
   -- something is stated for each input
-  pub some_states : (input : Input) → (reply : Reply) × LinesStates Told asked Refusal form input reply
+  pub some_states : (input : Input) → (reply : Reply) × LinesStates Reported asked Refusal form input reply
   some_states input =
       let goes = goes_on input first_point [] none in (
         _,
         cut_short first_point [] [] goes.reply none (nothing_yet asked refl input) goes.replies
-            (IsBeginning-nil goes.reply.out),
+            (IsPrefixOf-nil goes.reply.out),
       )
 
   -- the reader is given back as it was after the last line
   pub lines_were_run : {R : Type 0} (remaining : R → Option (List ℕ)) (failed ended : R → Bool) (old now final : R)
       (out : Stream) (left : ℕ) (flow : Flow)
-      (r : Result Ending WriteFault) → final ≡ now → IsToldBy (remaining now) (failed now) (ended now) left flow →
+      (r : Result Ending WriteFault) → final ≡ now → IsReportedBy (remaining now) (failed now) (ended now) left flow →
       ((seen : List ℕ) × Consumes (remaining old) (remaining now) seen × (left + length seen ≡ input_limit) ×
-      ((input : Input) → Agrees seen flow input → Runs Told asked Refusal form input (length seen) out.old out.new r))
+      ((input : Input) → Agrees seen flow input → Runs Reported asked Refusal form input
+      (length seen) out.old out.new r))
       → Flags out.was out.failed r →
-      Fulfils (LinesStates Told asked Refusal form) (passed remaining failed old final) out r
-  lines_were_run remaining failed ended old now final out left flow r is told run flag =
-      run_told (LinesTo Told form) (EndsAt form) (taken_by form.limit) goes_on (TellsTo Told asked Refusal form)
-      (WhyTo asked) NeverLacks remaining failed ended old now final out left flow r is told run flag
+      Fulfils (LinesStates Reported asked Refusal form) (passed remaining failed old final) out r
+  lines_were_run remaining failed ended old now final out left flow r is reported run flag =
+      run_reported (LinesTo Reported form) (EndsAt form) (taken_by form.limit) goes_on
+      (ReportsTo Reported asked Refusal form)
+      (WhyTo asked) NeverLacks remaining failed ended old now final out left flow r is reported run flag
 
   -- an allocation failed before the first line
   pub no_line_was_run : (r0 s0 : Option (List ℕ)) (r_was r_failed o_was : Bool) →
       let r : Result Ending WriteFault = Ok (Plain NoMemory) in
-      Fulfils (LinesStates Told asked Refusal form) (record { old = r0; new = r0; was = r_was; failed = r_failed })
+      Fulfils (LinesStates Reported asked Refusal form) (record { old = r0; new = r0; was = r_was; failed = r_failed })
       (record { old = s0; new = s0; was = o_was; failed = o_was }) r
   no_line_was_run r0 s0 r_was r_failed o_was =
-      did_not_tell (LinesTo Told form) (EndsAt form) (taken_by form.limit) goes_on (TellsTo Told asked Refusal form)
+      did_not_report (LinesTo Reported form) (EndsAt form) (taken_by form.limit) goes_on
+      (ReportsTo Reported asked Refusal form)
       (WhyTo asked) NeverLacks first_point (λ input. none) (nothing_yet asked refl) r0 s0 r_was r_failed o_was

@@ -13,7 +13,7 @@ use Rattle.toolrun.specs.declared.stop.Stop.TheVariants.{Quiet, LongLine}
 use Rattle.toolrun.specs.declared.stop.Stop.TheVariants as stop
 use Rattle.linejudge.specs.InputLines.{IsNext, StandsAt, with_end, without_end, status_after, broken, overlong}
 use Rattle.linejudge.specs.InputLines.{GoesBy, LinesEnd, is_over, kept_line, kept_size, printed_last}
-use Rattle.linejudge.specs.LineSteps.{Answered, IsStep, StepsBehind, of_end, of_line}
+use Rattle.linejudge.specs.LineSteps.{Answered, IsStep, StepsAfter, of_end, of_line}
 use Rattle.linejudge.specs.declared.answers.Answer.{Answer}
 use Rattle.linejudge.specs.declared.line.Line.TheVariants as line
 use Rattle.linejudge.specs.declared.line.LineForm.{LineForm}
@@ -23,29 +23,29 @@ use Rattle.linejudge.specs.declared.reached.LinePosition.{LinePosition}
 use Rattle.linejudge.specs.declared.reached.Explanations.{Explanations}
 use Rattle.linejudge.proofs.KeptLineLemmas.{kept_is}
 
-module _ (Told : List ℕ → Answer → Type 0) (asked : Bool) (Refusal : List ℕ → ℕ → List ℕ → Type 0) (form : LineForm)
-    (input : Input) (at : LinePosition) (old new : Option (List ℕ)) (told more : Explanations) where
+module _ (Reported : List ℕ → Answer → Type 0) (asked : Bool) (Refusal : List ℕ → ℕ → List ℕ → Type 0) (form : LineForm)
+    (input : Input) (at : LinePosition) (old new : Option (List ℕ)) (reported more : Explanations) where
   abbrev rest : List ℕ
   rest = drop at.place input.bytes
 
   abbrev IsAnswered : List ℕ → List ℕ → Answer → Type 0
-  IsAnswered line text = Answered Told asked Refusal form at line told more text
+  IsAnswered line text = Answered Reported asked Refusal form at line reported more text
 
   -- a line that is answered
   line_is : (line : List ℕ) (n : ℕ) (text : List ℕ) (answered : Result Answer Memory) (r : Result LineStep WriteFault)
-      → GoesBy form input at line n → IfOk answered (IsAnswered line text) → OnErr answered (more ≡ told)
-      → StepsBehind n old new text answered r → IsStep Told asked Refusal form input at old new told more r
+      → GoesBy form input at line n → IfOk answered (IsAnswered line text) → OnErr answered (more ≡ reported)
+      → StepsAfter n old new text answered r → IsStep Reported asked Refusal form input at old new reported more r
   line_is line n text (Ok said) (Ok step) stands is fails (writes, same) =
-      let shown = is.prints in rw same (line, stands, is.is_told, is.adds, rw shown at writes)
+      let shown = is.prints in rw same (line, stands, is.is_reported, is.adds, rw shown at writes)
   line_is line n text (Ok said) (Err fault) stands is fails (part, same) =
-      let shown = is.prints in (_, of_line line n said stands is.is_told is.adds, rw shown at part)
+      let shown = is.prints in (_, of_line line n said stands is.is_reported is.adds, rw shown at part)
   line_is line n text (Err lack) r stands is kept (keeps, same) = rw same (kept, inl (refl, keeps))
 
   -- a line and its end
   pub whole_is : (n : ℕ) (held text : List ℕ) (answered : Result Answer Memory) (r : Result LineStep WriteFault)
       → is_over form at ≡ false → held ≡ take (kept_size form n) rest → IsNext form input at.place (line.Whole n)
-      → IfOk answered (IsAnswered held text) → OnErr answered (more ≡ told)
-      → StepsBehind (n + 1) old new text answered r → IsStep Told asked Refusal form input at old new told more r
+      → IfOk answered (IsAnswered held text) → OnErr answered (more ≡ reported)
+      → StepsAfter (n + 1) old new text answered r → IsStep Reported asked Refusal form input at old new reported more r
   whole_is n held text answered r goes is next answers fails steps =
       let judged : List ℕ = kept_line form (take n rest) in
       let stands : StandsAt form input at.place judged (n + 1) =
@@ -57,28 +57,29 @@ module _ (Told : List ℕ → Answer → Type 0) (asked : Bool) (Refusal : List 
   pub last_is : (n : ℕ) (held text : List ℕ) (answered : Result Answer Memory) (r : Result LineStep WriteFault)
       → is_over form at ≡ false → held ≡ take n rest → IsNext form input at.place (line.Last n)
       → IfOk answered (IsAnswered held text)
-      → OnErr answered (more ≡ told) → StepsBehind n old new text answered r
-      → IsStep Told asked Refusal form input at old new told more r
+      → OnErr answered (more ≡ reported) → StepsAfter n old new text answered r
+      → IsStep Reported asked Refusal form input at old new reported more r
   last_is n held text answered r goes is next answers fails steps =
       let all : held ≡ rest = is ∙ take_all n rest (let len = next.1 in omega (arith, len)) in
       let stands : StandsAt form input at.place rest n =
       subst (λ (k : ℕ). StandsAt form input at.place rest k) next.1 (without_end next.0) in
       line_is rest n text answered r (record { goes = goes; stands = stands }) (rw all at answers) fails steps
 
-module _ (Told : List ℕ → Answer → Type 0) (asked : Bool) (Refusal : List ℕ → ℕ → List ℕ → Type 0) (form : LineForm)
-    (input : Input) (at : LinePosition) (old new : Option (List ℕ)) (told : Explanations) where
+module _ (Reported : List ℕ → Answer → Type 0) (asked : Bool) (Refusal : List ℕ → ℕ → List ℕ → Type 0) (form : LineForm)
+    (input : Input) (at : LinePosition) (old new : Option (List ℕ)) (reported : Explanations) where
   -- no line
   pub long_is : is_over form at ≡ false → IsNext form input at.place line.Overlong
-      → IsStep Told asked Refusal form input at old old told told (Ok (Stops (LongLine (at.count + 1) form.limit)))
+      → IsStep Reported asked Refusal form input at old old reported reported
+      (Ok (Stops (LongLine (at.count + 1) form.limit)))
   long_is goes next = (refl, inr ([], overlong goes next, Appends-same old))
 
   pub end_is : (r : Result LineStep WriteFault) → LinesEnd form input at (printed_last form.printed at)
       (Quiet (status_after at.refused))
       → Writes old new (printed_last form.printed at) r → IfOk r (λ s. s ≡ Stops (Quiet (status_after at.refused)))
-      → IsStep Told asked Refusal form input at old new told told r
+      → IsStep Reported asked Refusal form input at old new reported reported r
   end_is (Ok step) ends writes same = rw same (refl, inr (printed_last form.printed at, ends, writes))
   end_is (Err fault) ends part same = (printed_last form.printed at, of_end _ _ ends refl, part)
 
   pub broken_is : is_over form at ≡ false → IsNext form input at.place line.Broken
-      → IsStep Told asked Refusal form input at old old told told (Ok (Stops stop.Broken))
+      → IsStep Reported asked Refusal form input at old old reported reported (Ok (Stops stop.Broken))
   broken_is goes next = (refl, inr ([], broken goes next, Appends-same old))

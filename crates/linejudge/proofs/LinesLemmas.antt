@@ -6,7 +6,7 @@ use Rattle.std.proofs.Math.Nat.{min-le_left, min-le_right, le-min}
 use Rattle.std.proofs.lemmas.Bool.{cases_lt, cases_eq}
 use Rattle.std.proofs.lemmas.List.{drop_all, take-append-le}
 use Rattle.std.proofs.lemmas.List.Elements.{All-nil, All-cons, All-take}
-use Rattle.ruletable.proofs.AppendsLemmas.{IsBeginning-same, IsBeginning-trans}
+use Rattle.ruletable.proofs.AppendsLemmas.{IsPrefixOf-same, IsPrefixOf-trans}
 use Rattle.toolrun.specs.Input.{Input}
 use Rattle.toolrun.specs.RunSteps.{Begins}
 use Rattle.toolrun.specs.Status.{code_of}
@@ -16,7 +16,7 @@ use Rattle.toolrun.specs.declared.stop.Stop.TheVariants.{Quiet, LongLine, Broken
 use Rattle.linejudge.specs.InputLines.{HasNoEnd, IsEndAt, kept_line, printed_line, printed_last, refused_by}
 use Rattle.linejudge.specs.InputLines.{status_after}
 use Rattle.linejudge.specs.InputLines.{place_taken, taken_at, with_end, without_end, Lines, one_more, LinesEnd, broken}
-use Rattle.linejudge.specs.InputLines.{behind, overlong, finished, is_over, rejected}
+use Rattle.linejudge.specs.InputLines.{position_after, overlong, finished, is_over, rejected}
 use Rattle.linejudge.specs.declared.answers.Answer.{Answer}
 use Rattle.linejudge.specs.declared.answers.Answer.TheVariants.{Yes, No, NoAfter}
 use Rattle.linejudge.specs.declared.line.LineForm.{LineForm}
@@ -52,12 +52,12 @@ pub ends_quietly : (form : LineForm) (input : Input) (at : LinePosition) (b : Bo
 ends_quietly form input at true over is = rejected over
 ends_quietly form input at false goes is = finished goes is
 
-module _ (Told : List ℕ → Answer → Type 0) (form : LineForm) (input : Input) where
+module _ (Reported : List ℕ → Answer → Type 0) (form : LineForm) (input : Input) where
   abbrev rest : ℕ → List ℕ
   rest s = drop s input.bytes
 
   abbrev pub Goes : ℕ → List ℕ → Type 0
-  Goes s text = Begins (Lines Told form input) (LinesEnd form input) (place_taken form.limit input)
+  Goes s text = Begins (Lines Reported form input) (LinesEnd form input) (place_taken form.limit input)
       (taken_at form.limit input s) text
 
   takes_more : (s t n : ℕ) → s ≤ t → taken_at form.limit input t ≤ n → taken_at form.limit input s ≤ n
@@ -67,7 +67,7 @@ module _ (Told : List ℕ → Answer → Type 0) (form : LineForm) (input : Inpu
       let m : taken_at form.limit input s ≤ taken_at form.limit input t = le-min a (omega (arith, b, le)) in
       omega (arith, m, h)
 
-  pub goes_to_stop : (at : LinePosition) (text last : List ℕ) (stop : Stop) → Lines Told form input at text
+  pub goes_to_stop : (at : LinePosition) (text last : List ℕ) (stop : Stop) → Lines Reported form input at text
       → LinesEnd form input at last stop → Goes at.place (text ++ last)
   goes_to_stop at text last stop lines ends = record {
     reply = record {
@@ -88,7 +88,7 @@ module _ (Told : List ℕ → Answer → Type 0) (form : LineForm) (input : Inpu
       status = refl;
       taken = refl;
     };
-    front = IsBeginning-same (text ++ last);
+    front = IsPrefixOf-same (text ++ last);
     taken = omega arith;
   }
 
@@ -96,13 +96,13 @@ module _ (Told : List ℕ → Answer → Type 0) (form : LineForm) (input : Inpu
   goes_from s t text more le h = record {
     reply = h.reply;
     replies = h.replies;
-    front = IsBeginning-trans text (text ++ more) h.reply.out (more, refl) h.front;
+    front = IsPrefixOf-trans text (text ++ more) h.reply.out (more, refl) h.front;
     taken = takes_more s t h.reply.taken le h.taken;
   }
 
-  module _ (decided : (line : List ℕ) → (said : Answer) × Told line said) where
+  module _ (decided : (line : List ℕ) → (said : Answer) × Reported line said) where
     -- the input ends there
-    goes_at_end : (at : LinePosition) (text : List ℕ) → Lines Told form input at text → rest at.place ≡ []
+    goes_at_end : (at : LinePosition) (text : List ℕ) → Lines Reported form input at text → rest at.place ≡ []
         → input.fault ≡ false
         → Goes at.place text
     goes_at_end at text lines empty fine =
@@ -112,21 +112,21 @@ module _ (Told : List ℕ → Answer → Type 0) (form : LineForm) (input : Inpu
         (ends_quietly form input at (is_over form at) refl (empty, fine)))
 
     -- after the last line it does
-    goes_behind_last : (at : LinePosition) (text : List ℕ) → Lines Told form input at text → is_over form at ≡ false
+    goes_after_last : (at : LinePosition) (text : List ℕ) → Lines Reported form input at text → is_over form at ≡ false
         → HasNoEnd form.end (rest at.place) → 0 < length (rest at.place) → length (rest at.place) ≤ form.limit
         → input.fault ≡ false → Goes at.place text
-    goes_behind_last at text lines goes free some le fine =
+    goes_after_last at text lines goes free some le fine =
         let d = decided (rest at.place) in
         let n : ℕ = length (rest at.place) in
         let l = length-drop at.place input.bytes in
         let more = printed_line form (at.count + 1) (rest at.place) d.0 in
         goes_from at.place (at.place + n) text more (omega arith)
-        (goes_at_end (behind at n d.0) (text ++ more)
+        (goes_at_end (position_after at n d.0) (text ++ more)
         (one_more at text (rest at.place) n d.0 lines
         (record { goes = goes; stands = without_end (free, some, le, fine) }) d.1)
         (drop_all (at.place + n) input.bytes (omega (arith, l))) fine)
 
-    goes_ended : (at : LinePosition) (text : List ℕ) → Lines Told form input at text → is_over form at ≡ false
+    goes_ended : (at : LinePosition) (text : List ℕ) → Lines Reported form input at text → is_over form at ≡ false
         → HasNoEnd form.end (rest at.place) → length (rest at.place) ≤ form.limit → (fault : Bool)
         → input.fault ≡ fault →
         (bytes : List ℕ) → rest at.place ≡ bytes → Goes at.place text
@@ -134,9 +134,9 @@ module _ (Told : List ℕ → Answer → Type 0) (form : LineForm) (input : Inpu
         (goes_to_stop at text [] Broken lines (broken goes (free, le, is)))
     goes_ended at text lines goes free le false is [] same = goes_at_end at text lines same is
     goes_ended at text lines goes free le false is (b ∷ bytes) same =
-        goes_behind_last at text lines goes free (let l = ap length same in omega (arith, l)) le is
+        goes_after_last at text lines goes free (let l = ap length same in omega (arith, l)) le is
 
-    lines_go : (fuel : ℕ) (b : Bool) (at : LinePosition) (text : List ℕ) → Lines Told form input at text
+    lines_go : (fuel : ℕ) (b : Bool) (at : LinePosition) (text : List ℕ) → Lines Reported form input at text
         → is_over form at ≡ b
         → length (rest at.place) < fuel → Goes at.place text
     lines_go zero b at text lines is room = absurd (omega (arith, room))
@@ -161,7 +161,7 @@ module _ (Told : List ℕ → Answer → Type 0) (form : LineForm) (input : Inpu
             let l = ap length cut in
             let more = printed_line form (at.count + 1) judged d.0 in
             goes_from at.place (at.place + n) text more (omega arith)
-            (lines_go fuel (is_over form (behind at n d.0)) (behind at n d.0) (text ++ more)
+            (lines_go fuel (is_over form (position_after at n d.0)) (position_after at n d.0) (text ++ more)
             (one_more at text judged n d.0 lines (record {
               goes = goes;
               stands = with_end line (record { after = after; cut = cut; one = one; within = omega arith });
@@ -183,12 +183,12 @@ module _ (Told : List ℕ → Answer → Type 0) (form : LineForm) (input : Inpu
       ]
     ]
 
-    pub lines_go_on : (at : LinePosition) (text : List ℕ) → Lines Told form input at text → Goes at.place text
+    pub lines_go_on : (at : LinePosition) (text : List ℕ) → Lines Reported form input at text → Goes at.place text
     lines_go_on at text lines =
         lines_go (suc (length (rest at.place))) (is_over form at) at text lines refl (omega arith)
 
     -- after more lines no fewer bytes are taken
-    pub goes_further : (s : ℕ) (at : LinePosition) (text : List ℕ) → s ≤ at.place → Lines Told form input at text
+    pub goes_further : (s : ℕ) (at : LinePosition) (text : List ℕ) → s ≤ at.place → Lines Reported form input at text
         → Goes s text
     goes_further s at text le lines =
         let goes = lines_go_on at text lines in record {

@@ -16,10 +16,18 @@ use Rattle.toolrun.proofs.ExplainedIfLemmas.{if-explained}
 use Rattle.toolrun.specs.Status.{code_of}
 use Rattle.toolrun.specs.Stop.{message_of, status_of}
 use Rattle.toolrun.specs.declared.stop.Stop.{Stop}
-use Rattle.linejudge.specs.InputLines.{HasNoEnd, printed_line, behind, place_taken, IsLine, IsLastAt, StandsAt}
+use Rattle.linejudge.specs.InputLines.{HasNoEnd, printed_line, position_after, place_taken, IsLine, IsLastAt, StandsAt}
 use Rattle.linejudge.specs.InputLines.{with_end, without_end, Lines, none, one_more, LinesEnd, broken, overlong}
 use Rattle.linejudge.specs.InputLines.{GoesBy, finished, is_over, kept_line, rejected}
-use Rattle.linejudge.specs.LineRefusals.{LinesReply, Refusals, count_untold, is_told, none_told, one_told, stop_lines}
+use Rattle.linejudge.specs.LineRefusals.{
+  LinesReply,
+  Refusals,
+  count_untold,
+  is_reported,
+  none_reported,
+  one_reported,
+  stop_lines,
+}
 use Rattle.linejudge.specs.declared.answers.Answer.{Answer}
 use Rattle.linejudge.specs.declared.line.LineForm.{LineForm}
 use Rattle.linejudge.specs.declared.reached.LinePosition.{LinePosition}
@@ -129,10 +137,11 @@ module _ (form : LineForm) (input : Input) where
   one_end at last other why end (rejected over) (finished g is) = absurd (cc)
   one_end at last other why end (rejected over) (rejected again) = record { lasts = refl; stops = refl }
 
-module _ (Told : List ℕ → Answer → Type 0) (one_answer : (line : List ℕ) (a b : Answer) → Told line a → Told line b
+module _ (Reported : List ℕ → Answer → Type 0) (one_answer : (line : List ℕ) (a b : Answer) → Reported line a
+    → Reported line b
     → a ≡ b) (form : LineForm) (input : Input) where
   abbrev LinesTo : LinePosition → List ℕ → Type 0
-  LinesTo at text = Lines Told form input at text
+  LinesTo at text = Lines Reported form input at text
 
   -- two places, and the answers up to them, are the same
   record Same (at other : LinePosition) (text more : List ℕ) : Type 0 where
@@ -140,21 +149,24 @@ module _ (Told : List ℕ → Answer → Type 0) (one_answer : (line : List ℕ)
     texts : text ≡ more
 
   -- both go on by a line
-  same_next : (at other : LinePosition) (text more line next : List ℕ) (n m : ℕ) (said told : Answer)
+  same_next : (at other : LinePosition) (text more line next : List ℕ) (n m : ℕ) (said reported : Answer)
       → Same at other text more
-      → StandsAt form input at.place line n → StandsAt form input other.place next m → Told line said → Told next told
-      → Same (behind at n said) (behind other m told) (text ++ printed_line form (at.count + 1) line said)
-      (more ++ printed_line form (other.count + 1) next told)
-  same_next at other text more line next n m said told same h k s t =
+      → StandsAt form input at.place line n → StandsAt form input other.place next m → Reported line said
+      → Reported next reported
+      → Same (position_after at n said) (position_after other m reported)
+      (text ++ printed_line form (at.count + 1) line said)
+      (more ++ printed_line form (other.count + 1) next reported)
+  same_next at other text more line next n m said reported same h k s t =
       let place = same.places in
       let words = same.texts in
       let one = one_stands form input at.place line next n m h
       (subst (λ (v : LinePosition). StandsAt form input v.place next m) (sym place) k) in
       let lines = one.lines in
       let sizes = one.sizes in
-      let answers : said ≡ told = one_answer line said told s (subst (λ (l : List ℕ). Told l told) (sym lines) t) in
+      let answers : said ≡ reported = one_answer line said reported s
+      (subst (λ (l : List ℕ). Reported l reported) (sym lines) t) in
       let numbers : at.count + 1 ≡ other.count + 1 = ap (λ (v : LinePosition). v.count + 1) place in
-      let shown : printed_line form (at.count + 1) line said ≡ printed_line form (other.count + 1) next told =
+      let shown : printed_line form (at.count + 1) line said ≡ printed_line form (other.count + 1) next reported =
       ap (λ k. printed_line form k line said) numbers ∙ ap (λ l. printed_line form (other.count + 1) l said) lines
       ∙ ap (printed_line form (other.count + 1) next) answers in
       record { places = cc; texts = cc }
@@ -167,9 +179,9 @@ module _ (Told : List ℕ → Answer → Type 0) (one_answer : (line : List ℕ)
   same_place at text none other more (one_more before front line n said u is says) e = absurd (omega (arith, e))
   same_place at text (one_more before front line n said u is says) other more none e = absurd (omega (arith, e))
   same_place at text (one_more before front line n said u is says) other more
-      (one_more prior begun next m told v has tells) e =
-      same_next before prior front begun line next n m said told
-      (same_place before front u prior begun v (omega (arith, e))) is.stands has.stands says tells
+      (one_more prior begun next m reported v has reports) e =
+      same_next before prior front begun line next n m said reported
+      (same_place before front u prior begun v (omega (arith, e))) is.stands has.stands says reports
 
   -- after so many lines there is a further one
   record GoesOn (count : ℕ) : Type 0 where
@@ -207,7 +219,7 @@ module _ (Told : List ℕ → Answer → Type 0) (one_answer : (line : List ℕ)
       no_end form input at g.line last g.size why by.goes by.stands ends
 
   abbrev HasReply : Reply → Type 0
-  HasReply reply = Replies (Lines Told form input) (LinesEnd form input) (place_taken form.limit input) reply
+  HasReply reply = Replies (Lines Reported form input) (LinesEnd form input) (place_taken form.limit input) reply
 
   -- two replies end at one place, in one way
   record OneReply (a b : Reply) (r : HasReply a) (q : HasReply b) : Type 0 where
@@ -253,65 +265,67 @@ module _ (Told : List ℕ → Answer → Type 0) (one_answer : (line : List ℕ)
 
   module _ (asked : Bool) (Refusal : List ℕ → ℕ → List ℕ → Type 0) (one_refusal : (line : List ℕ) (number : ℕ)
       (a b : List ℕ) → Refusal line number a → Refusal line number b → a ≡ b) where
-    abbrev ToldTo : LinePosition → List ℕ → Type 0
-    ToldTo at text = Refusals Told asked Refusal form input at text
+    abbrev ReportedTo : LinePosition → List ℕ → Type 0
+    ReportedTo at text = Refusals Reported asked Refusal form input at text
 
     -- both go on by a line, which one text explains
-    tells_next : (at other : LinePosition) (text more line next : List ℕ) (n m : ℕ) (said told : Answer)
+    reports_next : (at other : LinePosition) (text more line next : List ℕ) (n m : ℕ) (said reported : Answer)
         (why lines : List ℕ)
         → Same at other text more → StandsAt form input at.place line n → StandsAt form input other.place next m
-        → Told line said → Told next told
-        → ExplainedIf (is_told asked at.refused said) (Refusal line (at.count + 1)) why
-        → ExplainedIf (is_told asked other.refused told) (Refusal next (other.count + 1)) lines
-        → Same (behind at n said) (behind other m told) (text ++ why) (more ++ lines)
-    tells_next at other text more line next n m said told why lines same h k s t w v =
-        let step = same_next at other text more line next n m said told same h k s t in
+        → Reported line said → Reported next reported
+        → ExplainedIf (is_reported asked at.refused said) (Refusal line (at.count + 1)) why
+        → ExplainedIf (is_reported asked other.refused reported) (Refusal next (other.count + 1)) lines
+        → Same (position_after at n said) (position_after other m reported) (text ++ why) (more ++ lines)
+    reports_next at other text more line next n m said reported why lines same h k s t w v =
+        let step = same_next at other text more line next n m said reported same h k s t in
         let one = one_stands form input at.place line next n m h
         (subst (λ (u : LinePosition). StandsAt form input u.place next m) (sym same.places) k) in
-        let answers : said ≡ told = one_answer line said told s
-        (subst (λ (l : List ℕ). Told l told) (sym one.lines) t) in
-        let other_told = subst (λ (a : Answer). ExplainedIf (is_told asked at.refused a)
+        let answers : said ≡ reported = one_answer line said reported s
+        (subst (λ (l : List ℕ). Reported l reported) (sym one.lines) t) in
+        let other_reported = subst (λ (a : Answer). ExplainedIf (is_reported asked at.refused a)
         (Refusal line (at.count + 1)) lines) (sym answers)
-        (subst (λ (l : List ℕ). ExplainedIf (is_told asked at.refused told) (Refusal l (at.count + 1)) lines)
+        (subst (λ (l : List ℕ). ExplainedIf (is_reported asked at.refused reported) (Refusal l (at.count + 1)) lines)
         (sym one.lines)
-        (subst (λ (u : LinePosition). ExplainedIf (is_told asked u.refused told) (Refusal next (u.count + 1)) lines)
+        (subst (λ (u : LinePosition). ExplainedIf (is_reported asked u.refused reported)
+        (Refusal next (u.count + 1)) lines)
         (sym same.places) v)) in
-        let texts : why ≡ lines = if-explained (is_told asked at.refused said) (Refusal line (at.count + 1))
-        (one_refusal line (at.count + 1)) why lines w other_told in
+        let texts : why ≡ lines = if-explained (is_reported asked at.refused said) (Refusal line (at.count + 1))
+        (one_refusal line (at.count + 1)) why lines w other_reported in
         let words = same.texts in
         record { places = step.places; texts = cc }
 
     -- one text explains the lines to a position
-    same_told : (at : LinePosition) (text : List ℕ) → ToldTo at text → (other : LinePosition) (more : List ℕ)
-        → ToldTo other more
+    same_reported : (at : LinePosition) (text : List ℕ) → ReportedTo at text → (other : LinePosition) (more : List ℕ)
+        → ReportedTo other more
         → at.count ≡ other.count → Same at other text more
-    same_told at text none_told other more none_told e = record { places = refl; texts = refl }
-    same_told at text none_told other more (one_told before front line n said why u is says tells) e =
+    same_reported at text none_reported other more none_reported e = record { places = refl; texts = refl }
+    same_reported at text none_reported other more (one_reported before front line n said why u is says reports) e =
         absurd (omega (arith, e))
-    same_told at text (one_told before front line n said why u is says tells) other more none_told e =
+    same_reported at text (one_reported before front line n said why u is says reports) other more none_reported e =
         absurd (omega (arith, e))
-    same_told at text (one_told before front line n said why u is says tells) other more
-        (one_told prior begun next m told lines v has tell explains) e =
-        tells_next before prior front begun line next n m said told why lines
-        (same_told before front u prior begun v (omega (arith, e))) is.stands has.stands says tell tells explains
+    same_reported at text (one_reported before front line n said why u is says reports) other more
+        (one_reported prior begun next m reported lines v has report explains) e =
+        reports_next before prior front begun line next n m said reported why lines
+        (same_reported before front u prior begun v (omega (arith, e))) is.stands has.stands says report reports
+        explains
 
     -- one reply
-    pub one_lines_reply : (a b : Reply) → LinesReply Told asked Refusal form input a
-        → LinesReply Told asked Refusal form input b → a ≡ b
+    pub one_lines_reply : (a b : Reply) → LinesReply Reported asked Refusal form input a
+        → LinesReply Reported asked Refusal form input b → a ≡ b
     one_lines_reply a b r q =
         let one = one_plain_reply r.plain q.plain r.replies q.replies in
         let plain : r.plain ≡ q.plain = same_reply r.plain q.plain r.replies q.replies one in
         let place = one.same.places in
         let stops = one.ends.stops in
-        let told = same_told r.replies.point r.tells.first r.tells.refusals q.replies.point q.tells.first
-        q.tells.refusals (ap (λ (v : LinePosition). v.count) place) in
-        let first = told.texts in
-        let before : r.before ≡ q.before = r.tells.is
+        let reported = same_reported r.replies.point r.reports.first r.reports.refusals q.replies.point q.reports.first
+        q.reports.refusals (ap (λ (v : LinePosition). v.count) place) in
+        let first = reported.texts in
+        let before : r.before ≡ q.before = r.reports.is
         ∙ ap (λ t. t ++ more_refused (count_untold asked r.replies.point.refused)) first
-        ∙ ap (λ (v : LinePosition). q.tells.first ++ more_refused (count_untold asked v.refused)) place
-        ∙ sym q.tells.is in
+        ∙ ap (λ (v : LinePosition). q.reports.first ++ more_refused (count_untold asked v.refused)) place
+        ∙ sym q.reports.is in
         let why : r.why ≡ q.why = if-explained asked (λ t. t ≡ stop_lines r.replies.stop) (λ x y h k. h ∙ sym k)
         r.why q.why r.explains
         (subst (λ (s : Stop). ExplainedIf asked (λ t. t ≡ stop_lines s) q.why) (sym stops) q.explains) in
-        r.told ∙ ap (λ t. explained_reply t r.plain r.why) before ∙ ap (λ p. explained_reply q.before p r.why) plain
-        ∙ ap (λ w. explained_reply q.before q.plain w) why ∙ sym q.told
+        r.reported ∙ ap (λ t. explained_reply t r.plain r.why) before ∙ ap (λ p. explained_reply q.before p r.why) plain
+        ∙ ap (λ w. explained_reply q.before q.plain w) why ∙ sym q.reported

@@ -87,8 +87,8 @@ abbrev pub at_front : LinePosition
 at_front = record { place = 0; count = 0; refused = 0 }
 
 -- after a line that takes n bytes
-abbrev pub behind : LinePosition → ℕ → Answer → LinePosition
-behind at n said = record {
+abbrev pub position_after : LinePosition → ℕ → Answer → LinePosition
+position_after at n said = record {
   place = at.place + n;
   count = at.count + 1;
   refused = at.refused + refused_by said;
@@ -188,13 +188,13 @@ pub record GoesBy (form : LineForm) (input : Input) (at : LinePosition) (line : 
   pub stands : StandsAt form input at.place line n
 
 -- Told says which answer is that of a line.
-module _ (Told : List ℕ → Answer → Type 0) (form : LineForm) (input : Input) where
+module _ (Reported : List ℕ → Answer → Type 0) (form : LineForm) (input : Input) where
   -- the lines up to a place, and what is printed for them
   pub data Lines : LinePosition → List ℕ → Type 0 where
     none : Lines at_front []
     one_more : (at : LinePosition) (before line : List ℕ) (n : ℕ) (said : Answer) → Lines at before
-        → GoesBy form input at line n → Told line said
-        → Lines (behind at n said) (before ++ printed_line form (at.count + 1) line said)
+        → GoesBy form input at line n → Reported line said
+        → Lines (position_after at n said) (before ++ printed_line form (at.count + 1) line said)
 
 -- how a run ends there, and what is printed then
 pub data LinesEnd (form : LineForm) (input : Input) (at : LinePosition) : List ℕ → Stop → Type 0 where

@@ -9,15 +9,15 @@ use Rattle.toolrun.specs.RunSteps as steps
 use Rattle.toolrun.specs.declared.stop.Stop.{Stop}
 use Rattle.toolrun.specs.declared.stop.Stop.TheVariants.{Quiet, NoMatch, LongUnit, LongLine, Broken, NoMemory, Refused}
 use Rattle.toolrun.specs.declared.stop.Stop.TheVariants.{Unreadable}
-use Rattle.linejudge.specs.InputLines.{GoesBy, LinesEnd, Lines, at_front, behind, place_taken, says_yes}
+use Rattle.linejudge.specs.InputLines.{GoesBy, LinesEnd, Lines, at_front, position_after, place_taken, says_yes}
 use Rattle.linejudge.specs.declared.answers.Answer.{Answer}
 use Rattle.linejudge.specs.declared.line.LineForm.{LineForm}
 use Rattle.linejudge.specs.declared.reached.LinePosition.{LinePosition}
 
 -- Whether a line with that answer, after so many rejected ones, is explained, where that is asked: the first 16
 -- rejected lines are.
-abbrev pub is_told : Bool → ℕ → Answer → Bool
-is_told asked refused said = asked && (not (says_yes said) && nat_lt refused 16)
+abbrev pub is_reported : Bool → ℕ → Answer → Bool
+is_reported asked refused said = asked && (not (says_yes said) && nat_lt refused 16)
 
 -- how many rejected lines are not explained, where that is asked
 abbrev pub count_untold : Bool → ℕ → ℕ
@@ -56,7 +56,7 @@ pub record RunPoint : Type 0 where
 
 -- the lines up to a point, and what is printed for them, where Told says which answer is that of a line
 abbrev pub LinesTo : (List ℕ → Answer → Type 0) → LineForm → Input → RunPoint → List ℕ → Type 0
-LinesTo Told form input point text = Lines Told form input point.at text
+LinesTo Reported form input point text = Lines Reported form input point.at text
 
 -- how a run ends at a point, and what is printed then
 abbrev pub EndsAt : LineForm → Input → RunPoint → List ℕ → Stop → Type 0
@@ -77,44 +77,45 @@ NeverLacks input point stop = ⊥
 
 -- Told says which answer is that of a line, asked whether rejected lines are explained, and Refusal by what, where a
 -- line has that number.
-module _ (Told : List ℕ → Answer → Type 0) (asked : Bool) (Refusal : List ℕ → ℕ → List ℕ → Type 0) where
+module _ (Reported : List ℕ → Answer → Type 0) (asked : Bool) (Refusal : List ℕ → ℕ → List ℕ → Type 0) where
   -- the explanation of a line with that answer at a position
-  abbrev pub TellsLine : LinePosition → List ℕ → Answer → List ℕ → Type 0
-  TellsLine at line said text = ExplainedIf (is_told asked at.refused said) (Refusal line (at.count + 1)) text
+  abbrev pub ReportsLine : LinePosition → List ℕ → Answer → List ℕ → Type 0
+  ReportsLine at line said text = ExplainedIf (is_reported asked at.refused said) (Refusal line (at.count + 1)) text
 
   module _ (form : LineForm) (input : Input) where
     -- the explanations of the lines up to a position
     pub data Refusals : LinePosition → List ℕ → Type 0 where
-      none_told : Refusals at_front []
-      one_told : (at : LinePosition) (before line : List ℕ) (n : ℕ) (said : Answer) (text : List ℕ) → Refusals at before
-          → GoesBy form input at line n → Told line said → TellsLine at line said text
-          → Refusals (behind at n said) (before ++ text)
+      none_reported : Refusals at_front []
+      one_reported : (at : LinePosition) (before line : List ℕ) (n : ℕ) (said : Answer) (text : List ℕ)
+          → Refusals at before
+          → GoesBy form input at line n → Reported line said → ReportsLine at line said text
+          → Refusals (position_after at n said) (before ++ text)
 
     -- the explanations of the lines before one that would be explained, a line in place of its explanation, and nothing
     -- of the lines after it
     pub data CutRefusals : LinePosition → List ℕ → Type 0 where
       one_lacks : (at : LinePosition) (before line : List ℕ) (n : ℕ) (said : Answer) → Refusals at before
-          → GoesBy form input at line n → Told line said → is_told asked at.refused said ≡ true
-          → CutRefusals (behind at n said) (before ++ unexplained_line (at.count + 1))
-      none_after : (at : LinePosition) (told line : List ℕ) (n : ℕ) (said : Answer) → CutRefusals at told
-          → GoesBy form input at line n → Told line said → CutRefusals (behind at n said) told
+          → GoesBy form input at line n → Reported line said → is_reported asked at.refused said ≡ true
+          → CutRefusals (position_after at n said) (before ++ unexplained_line (at.count + 1))
+      none_after : (at : LinePosition) (reported line : List ℕ) (n : ℕ) (said : Answer) → CutRefusals at reported
+          → GoesBy form input at line n → Reported line said → CutRefusals (position_after at n said) reported
 
     -- the explanations of the lines up to a position: all of them, or those before one that is missing
-    abbrev pub ToldUpTo : Bool → LinePosition → List ℕ → Type 0
-    ToldUpTo false at told = Refusals at told
-    ToldUpTo true at told = CutRefusals at told
+    abbrev pub ReportedUpTo : Bool → LinePosition → List ℕ → Type 0
+    ReportedUpTo false at reported = Refusals at reported
+    ReportedUpTo true at reported = CutRefusals at reported
 
     -- and how many more lines are rejected, unless an explanation is missing
-    pub record TellsTo (point : RunPoint) (told : List ℕ) : Type 0 where
+    pub record ReportsTo (point : RunPoint) (reported : List ℕ) : Type 0 where
       pub first : List ℕ
-      pub refusals : ToldUpTo point.lacks point.at first
-      pub is : told ≡ first ++ more_refused (count_untold (asked && not point.lacks) point.at.refused)
+      pub refusals : ReportedUpTo point.lacks point.at first
+      pub is : reported ≡ first ++ more_refused (count_untold (asked && not point.lacks) point.at.refused)
 
     -- the explanations where none is missing
-    pub record Tells (at : LinePosition) (told : List ℕ) : Type 0 where
+    pub record Reports (at : LinePosition) (reported : List ℕ) : Type 0 where
       pub first : List ℕ
       pub refusals : Refusals at first
-      pub is : told ≡ first ++ more_refused (count_untold asked at.refused)
+      pub is : reported ≡ first ++ more_refused (count_untold asked at.refused)
 
     -- what explains a stop there, where that is asked
     abbrev pub WhyStopped : LinePosition → Stop → List ℕ → Type 0
@@ -123,12 +124,14 @@ module _ (Told : List ℕ → Answer → Type 0) (asked : Bool) (Refusal : List 
     -- the lines of the input in turn, the explanations of those that are rejected, and how the run ends; no allocation
     -- fails
     abbrev pub LinesReply : Reply → Type 0
-    LinesReply reply = steps.RepliesTold (Lines Told form input) (LinesEnd form input) (place_taken form.limit input)
-        Tells WhyStopped (λ at stop. ⊥) reply
+    LinesReply reply = steps.RepliesReported (Lines Reported form input) (LinesEnd form input)
+        (place_taken form.limit input)
+        Reports WhyStopped (λ at stop. ⊥) reply
 
     -- So a run states its reply. Where an allocation fails in an explanation, that one is missing and none follows, but
     -- all that the run writes otherwise, and its status, are as ever. Where any other allocation fails, it states the
     -- text of the first lines, and what is told of them.
     abbrev pub LinesStates : Reply → Type 0
-    LinesStates reply = steps.ToldStates (LinesTo Told form input) (EndsAt form input) (taken_by form.limit input)
-        TellsTo (WhyTo asked input) (NeverLacks input) reply
+    LinesStates reply = steps.ReportedStates (LinesTo Reported form input) (EndsAt form input)
+        (taken_by form.limit input)
+        ReportsTo (WhyTo asked input) (NeverLacks input) reply

@@ -3,13 +3,13 @@ ghost use Rattle.std.specs.Prelude.{◌≡◌, ◌≤◌, ◌<◌, ◌+◌, ◌^
 ghost use Rattle.std.specs.Prelude.{IfOk, OnOk, OnErr, IsTrue};
 ghost use Rattle.feed.specs.Feed.{SameFeed, bytes_of};
 ghost use Rattle.linejudge.specs.InputLines.{says_yes};
-ghost use Rattle.linejudge.specs.LineRefusals.{is_told as may_tell};
-ghost use Rattle.linejudge.specs.LineSteps.{Adds, AddsTold, Answered, HasRoom};
+ghost use Rattle.linejudge.specs.LineRefusals.{is_reported as may_report};
+ghost use Rattle.linejudge.specs.LineSteps.{Adds, AddsReported, Answered, HasRoom};
 ghost use Rattle.linejudge.specs.declared.answers.Answer.{Answer};
 
 use crate::line::LineForm;
 use crate::printed::push_line;
-use crate::reached::{Explanations, LinePosition, MAX_TOLD, Reached};
+use crate::reached::{Explanations, LinePosition, MAX_REPORTED, Reached};
 use feed::{Feed, Source};
 use ruletable::Memory;
 
@@ -30,7 +30,7 @@ pub enum Answer {
 /// A judge of lines. `W` is the memory that it works in.
 pub trait Judge<W> {
     /// Which answer is that of a line.
-    ghost told: { Self → List ℕ → Answer → Type 0 };
+    ghost reported: { Self → List ℕ → Answer → Type 0 };
     /// Whether rejected lines are explained.
     ghost explains: { Self → Bool };
     /// Which lines explain a rejected line that has a number.
@@ -45,7 +45,7 @@ pub trait Judge<W> {
         requires served { length line.now ≤ served self.now }
         requires work { works_in self.now work.old }
         ensures work { works_in self.now work.new }
-        ensures told { IfOk result (told self.now line.now) };
+        ensures reported { IfOk result (reported self.now line.now) };
 
     /// Returns whether rejected lines are explained.
     fn is_explained(&self) -> bool
@@ -57,11 +57,11 @@ pub trait Judge<W> {
         requires served { length line.now ≤ served self.now }
         requires work { works_in self.now work.old }
         ensures work { works_in self.now work.new }
-        ensures told { IfOk result (λ why. refusal self.now line.now number why.items) };
+        ensures reported { IfOk result (λ why. refusal self.now line.now number why.items) };
 
     /// States that each line has an answer. It does nothing.
     fn decided(&self)
-        ensures { (line : List ℕ) → (said : Answer) × told self.now line said };
+        ensures { (line : List ℕ) → (said : Answer) × reported self.now line said };
 }
 
 /// Returns whether an answer is yes.
@@ -76,10 +76,10 @@ pub(crate) fn is_yes(said: Answer) -> bool
 }
 
 /// Returns whether a line with that answer, after so many rejected ones, is explained, where that is asked.
-fn is_told(asked: bool, refused: usize, said: Answer) -> bool
-    ensures { result ≡ may_tell asked refused said }
+fn is_reported(asked: bool, refused: usize, said: Answer) -> bool
+    ensures { result ≡ may_report asked refused said }
 {
-    asked && !is_yes(said) && refused < MAX_TOLD
+    asked && !is_yes(said) && refused < MAX_REPORTED
 }
 
 /// Adds the lines that explain a rejected line of that number. `Memory` if an allocation fails; then nothing is added.
@@ -88,47 +88,49 @@ fn push_refusal<W, J: Judge<W>>(
     work: &mut W,
     line: &[u8],
     number: usize,
-    told: &mut Explanations,
+    reported: &mut Explanations,
 ) -> Result<(), Memory>
     requires asked { J.explains judge.now ≡ true }
     requires served { length line.now ≤ J.served judge.now }
     requires work { J.works_in judge.now work.old }
-    requires room { HasRoom told.old }
-    requires whole { told.old.lacks ≡ false }
+    requires room { HasRoom reported.old }
+    requires whole { reported.old.lacks ≡ false }
     ensures work { J.works_in judge.now work.new }
-    ensures room { HasRoom told.new }
-    ensures whole { told.new.lacks ≡ false }
-    ensures ok { OnOk result (Adds (J.refusal judge.now line.now number) told.old.text.items told.new.text.items) }
-    ensures err { OnErr result (told.new.text.items ≡ told.old.text.items) }
+    ensures room { HasRoom reported.new }
+    ensures whole { reported.new.lacks ≡ false }
+    ensures ok { OnOk result (Adds (J.refusal judge.now line.now number) reported.old.text.items
+        reported.new.text.items) }
+    ensures err { OnErr result (reported.new.text.items ≡ reported.old.text.items) }
 {
     let why = judge.explain(work, line, number)?;
-    told.add(why.as_slice())
+    reported.add(why.as_slice())
 }
 
 /// Adds the explanation of a line with that answer at a position, if it has one. Where an allocation fails in it, a
 /// line says so, and after that nothing is added.
-fn tell_line<W, J: Judge<W>>(
+fn report_line<W, J: Judge<W>>(
     judge: &J,
     work: &mut W,
     line: &[u8],
     said: Answer,
     at: LinePosition,
-    told: &mut Explanations,
+    reported: &mut Explanations,
 )
     requires served { length line.now ≤ J.served judge.now }
     requires work { J.works_in judge.now work.old }
     requires counted { at.count + 1 < 2 ^ 64 }
-    requires room { J.explains judge.now ≡ true → HasRoom told.old }
+    requires room { J.explains judge.now ≡ true → HasRoom reported.old }
     ensures work { J.works_in judge.now work.new }
-    ensures room { J.explains judge.now ≡ true → HasRoom told.new }
-    ensures told { AddsTold (J.told judge.now) (J.explains judge.now) (J.refusal judge.now) at line.now said told.old
-        told.new }
+    ensures room { J.explains judge.now ≡ true → HasRoom reported.new }
+    ensures reported { AddsReported (J.reported judge.now) (J.explains judge.now)
+        (J.refusal judge.now) at line.now said reported.old
+        reported.new }
 {
-    if told.lacks || !is_told(judge.is_explained(), at.refused, said) {
+    if reported.lacks || !is_reported(judge.is_explained(), at.refused, said) {
         return;
     }
-    if push_refusal(judge, work, line, at.count + 1, told).is_err() {
-        told.end_at(at.count + 1);
+    if push_refusal(judge, work, line, at.count + 1, reported).is_err() {
+        reported.end_at(at.count + 1);
     }
 }
 
@@ -149,23 +151,23 @@ fn answer_line<W, J: Judge<W>>(
     judge: &J,
     work: &mut W,
     line: FoundLine<'_>,
-    told: &mut Explanations,
+    reported: &mut Explanations,
     text: &mut Vec<u8>,
 ) -> Result<Answer, Memory>
     requires served { length line.bytes.now ≤ J.served judge.now }
     requires work { J.works_in judge.now work.old }
     requires counted { line.at.count + 1 < 2 ^ 64 }
-    requires room { J.explains judge.now ≡ true → HasRoom told.old }
+    requires room { J.explains judge.now ≡ true → HasRoom reported.old }
     ensures work { J.works_in judge.now work.new }
-    ensures room { J.explains judge.now ≡ true → HasRoom told.new }
-    ensures answered { IfOk result (Answered (J.told judge.now) (J.explains judge.now) (J.refusal judge.now)
-        line.entry.form line.entry.at line.entry.bytes.now told.old told.new text.new.items) }
-    ensures err { OnErr result (told.new ≡ told.old) }
+    ensures room { J.explains judge.now ≡ true → HasRoom reported.new }
+    ensures answered { IfOk result (Answered (J.reported judge.now) (J.explains judge.now) (J.refusal judge.now)
+        line.entry.form line.entry.at line.entry.bytes.now reported.old reported.new text.new.items) }
+    ensures err { OnErr result (reported.new ≡ reported.old) }
 {
     let said = judge.judge(work, line.bytes)?;
     text.clear();
     push_line(line.form, line.at.count + 1, line.bytes, said, text)?;
-    tell_line(judge, work, line.bytes, said, line.at, told);
+    report_line(judge, work, line.bytes, said, line.at, reported);
     Ok(said)
 }
 
@@ -193,29 +195,29 @@ pub fn answer_held<W, J: Judge<W>, R: Source>(
     requires served { n ≤ J.served judge.now }
     requires work { J.works_in judge.now work.old }
     requires counted { reached.old.at.count + 1 < 2 ^ 64 }
-    requires room { J.explains judge.now ≡ true → HasRoom reached.old.told }
+    requires room { J.explains judge.now ≡ true → HasRoom reached.old.reported }
     ensures work { J.works_in judge.now work.new }
-    ensures room { J.explains judge.now ≡ true → HasRoom reached.new.told }
+    ensures room { J.explains judge.now ≡ true → HasRoom reached.new.reported }
     ensures same { SameFeed feed.old feed.new }
     ensures at { reached.new.at ≡ reached.old.at }
-    ensures answered { IfOk result (Answered (J.told judge.now) (J.explains judge.now) (J.refusal judge.now) form
-        reached.old.at (take n (bytes_of feed.old)) reached.old.told reached.new.told reached.new.text.items) }
-    ensures err { OnErr result (reached.new.told ≡ reached.old.told) }
+    ensures answered { IfOk result (Answered (J.reported judge.now) (J.explains judge.now) (J.refusal judge.now) form
+        reached.old.at (take n (bytes_of feed.old)) reached.old.reported reached.new.reported reached.new.text.items) }
+    ensures err { OnErr result (reached.new.reported ≡ reached.old.reported) }
 {
     let at = reached.at;
     let front = feed.front();
     if n <= front.len() {
         let bytes = &front[..n];
         let line = FoundLine { bytes, at, form };
-        return answer_line(judge, work, line, &mut reached.told, &mut reached.text);
+        return answer_line(judge, work, line, &mut reached.reported, &mut reached.text);
     }
     if is_copied(feed, n, &mut reached.line) {
         let bytes = reached.line.as_slice();
         let line = FoundLine { bytes, at, form };
-        return answer_line(judge, work, line, &mut reached.told, &mut reached.text);
+        return answer_line(judge, work, line, &mut reached.reported, &mut reached.text);
     }
     let window: &[u8] = feed.window();
     let bytes = &window[..n];
     let line = FoundLine { bytes, at, form };
-    answer_line(judge, work, line, &mut reached.told, &mut reached.text)
+    answer_line(judge, work, line, &mut reached.reported, &mut reached.text)
 }

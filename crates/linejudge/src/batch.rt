@@ -46,7 +46,8 @@ pub(crate) fn judge_front<W, J: Judge<W>>(
     ensures counted { result.count ≤ result.place }
     ensures refused { result.refused ≤ result.count }
     ensures goes_on { (input : Input) (rest : List ℕ) → drop at.place input.bytes ≡ front.now ++ rest →
-        AddsLines (J.told judge.now) (J.explains judge.now) (J.refusal judge.now) form input at result text.new.items }
+        AddsLines (J.reported judge.now) (J.explains judge.now) (J.refusal judge.now) form input at result
+        text.new.items }
 {
     text.clear();
     if judge.is_explained() {
@@ -71,7 +72,7 @@ pub(crate) fn judge_front<W, J: Judge<W>>(
             text.clear();
             return at;
         };
-        next = next.behind(n + 1, said);
+        next = next.position_after(n + 1, said);
         len += n + 1;
     }
     next

@@ -12,4 +12,4 @@ pub use answers::{Answer, Judge};
 pub use line::{Line, LineForm, next_line};
 pub use line_loop::run_lines;
 pub use printed::Printed;
-pub use reached::{LinePosition, MAX_TOLD};
+pub use reached::{LinePosition, MAX_REPORTED};

@@ -83,7 +83,7 @@ fn line_at_once<R: Source>(feed: &mut Feed<'_, R>, form: LineForm) -> Line
     requires { IsTrueOfReader R.remaining R.failed R.ended feed.old }
     ensures loan { SameLoan feed.old feed.new }
     ensures grows { Grows R.remaining feed.old feed.new }
-    ensures told { IsTrueOfReader R.remaining R.failed R.ended feed.new }
+    ensures reported { IsTrueOfReader R.remaining R.failed R.ended feed.new }
     ensures follows { (before : List ℕ) (input : Input) → capacity_of feed.new ≡ form.limit + 1 →
         Agrees (before ++ bytes_of feed.new) (flow_of feed.new) input →
         IsNext form input (length before) result ×
@@ -113,7 +113,7 @@ pub fn next_line<R: Source>(feed: &mut Feed<'_, R>, form: LineForm) -> Line
     requires { IsTrueOfReader R.remaining R.failed R.ended feed.old }
     ensures loan { SameLoan feed.old feed.new }
     ensures grows { Grows R.remaining feed.old feed.new }
-    ensures told { IsTrueOfReader R.remaining R.failed R.ended feed.new }
+    ensures reported { IsTrueOfReader R.remaining R.failed R.ended feed.new }
     ensures follows { (before : List ℕ) (input : Input) → capacity_of feed.new ≡ form.limit + 1 →
         Agrees (before ++ bytes_of feed.new) (flow_of feed.new) input →
         IsNext form input (length before) result ×

@@ -8,23 +8,31 @@ ghost use Rattle.feed.specs.Feed.{input_limit, reader_of};
 ghost use Rattle.toolrun.specs.Agrees.{Agrees};
 ghost use Rattle.toolrun.specs.Input.{Input};
 ghost use Rattle.toolrun.specs.RunEnd.{more_refused};
-ghost use Rattle.toolrun.specs.RunSteps.{HasToldRun};
+ghost use Rattle.toolrun.specs.RunSteps.{HasReportedRun};
 ghost use Rattle.toolrun.specs.Stopped.{Fulfils};
 ghost use Rattle.toolrun.specs.Stream.{passed};
 ghost use Rattle.linejudge.specs.InputLines.{at_front, kept_size, printed_last, status_after, taken_at};
-ghost use Rattle.linejudge.specs.LineRefusals.{EndsAt, LinesStates, LinesTo, NeverLacks, TellsTo, WhyTo, count_untold};
+ghost use Rattle.linejudge.specs.LineRefusals.{
+  EndsAt,
+  LinesStates,
+  LinesTo,
+  NeverLacks,
+  ReportsTo,
+  WhyTo,
+  count_untold,
+};
 ghost use Rattle.linejudge.specs.LineRefusals.{stop_lines, taken_by};
-ghost use Rattle.linejudge.specs.LineSteps.{FitsIn, HasRoom, IsStep, IsToldEnding, StepsBehind};
+ghost use Rattle.linejudge.specs.LineSteps.{FitsIn, HasRoom, IsStep, IsReportedEnding, StepsAfter};
 
 use crate::answers::{Answer, Judge, answer_held};
 use crate::batch::judge_front;
 use crate::line::{Line, LineForm, next_line};
 use crate::printed::write_end;
-use crate::reached::{Explanations, LinePosition, MAX_TOLD, Reached};
+use crate::reached::{Explanations, LinePosition, MAX_REPORTED, Reached};
 use feed::{Feed, Source};
 use ruletable::{Memory, Sink, WriteFault, write_whole};
 use std::alloc::Global;
-use toolrun::{Ending, Stop, ToldRefusals};
+use toolrun::{Ending, ReportedRefusals, Stop};
 
 /// The next step of a run: the answer to a line that takes so many bytes, or a stop.
 #[derive(Clone, Copy)]
@@ -42,7 +50,7 @@ fn step_of<O: Sink>(
     out: &mut O,
 ) -> Result<LineStep, WriteFault>
     requires { O.failed out.old ≡ false }
-    ensures step { StepsBehind len (O.contents out.old) (O.contents out.new) text.now answered result }
+    ensures step { StepsAfter len (O.contents out.old) (O.contents out.new) text.now answered result }
     ensures flag { Flags (O.failed out.old) (O.failed out.new) result }
 {
     let Ok(said) = answered else {
@@ -82,19 +90,19 @@ fn next_step<W, J: Judge<W>, R: Source, O: Sink>(
     requires capacity { capacity_of feed.old ≡ form.limit + 1 }
     requires counted { reached.old.at.count ≤ reached.old.at.place }
     requires within { reached.old.at.place ≤ input_limit }
-    requires told { IsTrueOfReader R.remaining R.failed R.ended feed.old }
-    requires room { J.explains judge.now ≡ true → HasRoom reached.old.told }
+    requires reported { IsTrueOfReader R.remaining R.failed R.ended feed.old }
+    requires room { J.explains judge.now ≡ true → HasRoom reached.old.reported }
     requires out_is_fresh { O.failed out.old ≡ false }
     ensures work { J.works_in judge.now work.new }
-    ensures room { J.explains judge.now ≡ true → HasRoom reached.new.told }
+    ensures room { J.explains judge.now ≡ true → HasRoom reached.new.reported }
     ensures at { reached.new.at ≡ reached.old.at }
     ensures loan { SameLoan feed.old feed.new }
-    ensures told { IsTrueOfReader R.remaining R.failed R.ended feed.new }
+    ensures reported { IsTrueOfReader R.remaining R.failed R.ended feed.new }
     ensures grows { Grows R.remaining feed.old feed.new }
     ensures follows { (before : List ℕ) (input : Input) → length before ≡ reached.old.at.place → Agrees (before
         ++ bytes_of feed.new) (flow_of feed.new) input →
-        IsStep (J.told judge.now) (J.explains judge.now) (J.refusal judge.now) form input reached.old.at
-        (O.contents out.old) (O.contents out.new) reached.old.told reached.new.told result ×
+        IsStep (J.reported judge.now) (J.explains judge.now) (J.refusal judge.now) form input reached.old.at
+        (O.contents out.old) (O.contents out.new) reached.old.reported reached.new.reported result ×
         (length (before ++ bytes_of feed.new) ≤ taken_at form.limit input reached.old.at.place) }
     ensures fits { FitsIn (length (bytes_of feed.new)) result }
     ensures flag { Flags (O.failed out.old) (O.failed out.new) result }
@@ -137,35 +145,44 @@ fn push_stop(stop: Stop, why: &mut Vec<u8>)
 
 /// Returns the ending of a run after so many rejected lines: the explanations of lines, the stop, and the lines that
 /// explain it, unless an explanation is missing.
-fn told_ending(told: Explanations, refused: usize, stop: Stop) -> Ending
-    requires room { HasRoom told }
-    ensures { IsToldEnding told.lacks (told.text.items ++ more_refused (count_untold (not told.lacks) refused)) stop
+fn reported_ending(reported: Explanations, refused: usize, stop: Stop) -> Ending
+    requires room { HasRoom reported }
+    ensures { IsReportedEnding reported.lacks (reported.text.items ++ more_refused
+        (count_untold (not reported.lacks) refused)) stop
         result }
 {
     let Explanations {
         text,
         mut why,
         lacks,
-    } = told;
+    } = reported;
     if lacks {
-        let told = ToldRefusals { text, more: 0 };
-        return Ending::Explained { told, stop, why };
+        let reported = ReportedRefusals { text, more: 0 };
+        return Ending::Explained {
+            reported,
+            stop,
+            why,
+        };
     }
-    let more = refused.saturating_sub(MAX_TOLD);
-    let told = ToldRefusals { text, more };
+    let more = refused.saturating_sub(MAX_REPORTED);
+    let reported = ReportedRefusals { text, more };
     push_stop(stop, &mut why);
-    Ending::Explained { told, stop, why }
+    Ending::Explained {
+        reported,
+        stop,
+        why,
+    }
 }
 
 /// Wraps the stop of a run as its ending. If `asked`, it adds the explanations of rejected lines and of the stop.
 fn ending_at(asked: bool, reached: Reached, stop: Stop) -> Ending
-    requires room { asked ≡ true → HasRoom reached.told }
+    requires room { asked ≡ true → HasRoom reached.reported }
     ensures plain { asked ≡ false → result ≡ Ending.Plain stop }
-    ensures told { asked ≡ true → IsToldEnding reached.told.lacks (reached.told.text.items
-        ++ more_refused (count_untold (not reached.told.lacks) reached.at.refused)) stop result }
+    ensures reported { asked ≡ true → IsReportedEnding reached.reported.lacks (reached.reported.text.items
+        ++ more_refused (count_untold (not reached.reported.lacks) reached.at.refused)) stop result }
 {
     if asked {
-        return told_ending(reached.told, reached.at.refused, stop);
+        return reported_ending(reached.reported, reached.at.refused, stop);
     }
     Ending::Plain(stop)
 }
@@ -185,19 +202,19 @@ fn answer_lines<W, J: Judge<W>, R: Source, O: Sink>(
     requires capacity { capacity_of feed.old ≡ form.limit + 1 }
     requires empty { bytes_of feed.old ≡ [] }
     requires allowance { allowance_of feed.old ≡ input_limit }
-    requires front { (reached.at ≡ at_front) × (reached.told.text.items ≡ []) × (reached.told.lacks ≡ false) }
-    requires room { J.explains judge.now ≡ true → HasRoom reached.told }
-    requires told { IsTrueOfReader R.remaining R.failed R.ended feed.old }
+    requires front { (reached.at ≡ at_front) × (reached.reported.text.items ≡ []) × (reached.reported.lacks ≡ false) }
+    requires room { J.explains judge.now ≡ true → HasRoom reached.reported }
+    requires reported { IsTrueOfReader R.remaining R.failed R.ended feed.old }
     requires out_is_fresh { O.failed out.old ≡ false }
     ensures work { J.works_in judge.now work.new }
     ensures loan { SameLoan feed.old feed.new }
-    ensures told { IsTrueOfReader R.remaining R.failed R.ended feed.new }
+    ensures reported { IsTrueOfReader R.remaining R.failed R.ended feed.new }
     ensures lines { (seen : List ℕ) × Consumes (R.remaining (reader_of feed.old)) (R.remaining
         (reader_of feed.new)) seen ×
         (allowance_of feed.new + length seen ≡ input_limit) ×
         ((input : Input) → Agrees seen (flow_of feed.new) input →
-        HasToldRun (LinesTo (J.told judge.now) form input) (EndsAt form input) (taken_by form.limit input)
-        (TellsTo (J.told judge.now) (J.explains judge.now) (J.refusal judge.now) form input)
+        HasReportedRun (LinesTo (J.reported judge.now) form input) (EndsAt form input) (taken_by form.limit input)
+        (ReportsTo (J.reported judge.now) (J.explains judge.now) (J.refusal judge.now) form input)
         (WhyTo (J.explains judge.now) input) (NeverLacks input) (length seen) (O.contents out.old)
         (O.contents out.new) result) }
     ensures flag { Flags (O.failed out.old) (O.failed out.new) result }
@@ -219,7 +236,7 @@ fn answer_lines<W, J: Judge<W>, R: Source, O: Sink>(
         match next_step(judge, work, form, feed, &mut reached, out) {
             Ok(LineStep::Answers { said, len }) => {
                 feed.skip(len);
-                reached.at = reached.at.behind(len, said);
+                reached.at = reached.at.position_after(len, said);
             }
             Ok(LineStep::Stops(stop)) => {
                 // a run that stops has taken as much as the greatest line takes there
@@ -246,7 +263,7 @@ fn answer_lines<W, J: Judge<W>, R: Source, O: Sink>(
 /// - After a fault of the reader a line is judged only if its end was given; then `Broken`.
 /// - After the last line the run ends with `Done` if all answers are yes, else with `NoMatch`. With `form.stops` it
 ///   ends after the first rejected line, as if that were the last one.
-/// - If the judge explains rejected lines, the ending has the explanations of the first `MAX_TOLD` of them, and how
+/// - If the judge explains rejected lines, the ending has the explanations of the first `MAX_REPORTED` of them, and how
 ///   many more there are. For a line that is too long it has the greatest length that `-l` allows.
 /// - Where an allocation fails in such an explanation, a line says so in its place, nothing after it is explained, and
 ///   the run goes on.
@@ -267,7 +284,7 @@ pub fn run_lines<W, J: Judge<W>, R: Source, O: Sink>(
     requires reader_is_fresh { R.failed reader.old ≡ false }
     requires reader_is_open { R.ended reader.old ≡ false }
     requires out_is_fresh { O.failed out.old ≡ false }
-    ensures { Fulfils (LinesStates (J.told judge.now) (J.explains judge.now) (J.refusal judge.now) form)
+    ensures { Fulfils (LinesStates (J.reported judge.now) (J.explains judge.now) (J.refusal judge.now) form)
         (passed R.remaining R.failed reader.old reader.new) (passed O.contents O.failed out.old out.new) result }
 {
     judge.decided();

@@ -1,6 +1,11 @@
 //! A position after some lines, and the explanations of those that were rejected.
 ghost use Rattle.std.specs.Prelude.{◌≡◌, ◌<◌, ◌+◌, ◌++◌, ◌^◌, [], true, false, IfOk, OnOk, OnErr};
-ghost use Rattle.linejudge.specs.InputLines.{at_front, behind as the_place, refused_by as count_of, status_after};
+ghost use Rattle.linejudge.specs.InputLines.{
+  at_front,
+  position_after as the_place,
+  refused_by as count_of,
+  status_after,
+};
 ghost use Rattle.linejudge.specs.LineRefusals.{unexplained_line};
 ghost use Rattle.linejudge.specs.LineSteps.{HasRoom};
 
@@ -11,7 +16,7 @@ use std::alloc::Global;
 use toolrun::Status;
 
 /// How many rejected lines are explained.
-pub const MAX_TOLD: usize = 16;
+pub const MAX_REPORTED: usize = 16;
 
 /// How many bytes the text of a batch has, or little more.
 pub(crate) const BATCH: usize = 8192;
@@ -34,7 +39,7 @@ const ROOM: usize = 128;
 /// that one is missing, and `why` for the lines that explain a stop.
 #[derive(Drop)]
 pub struct Explanations {
-    /// The explanations of the rejected lines, of at most the first `MAX_TOLD`.
+    /// The explanations of the rejected lines, of at most the first `MAX_REPORTED`.
     pub text: Vec<u8>,
     /// The lines that explain the stop; empty before it.
     pub why: Vec<u8>,
@@ -86,7 +91,7 @@ pub struct Reached {
     /// The position after the last line.
     pub at: LinePosition,
     /// The explanations so far.
-    pub told: Explanations,
+    pub reported: Explanations,
     /// The copy of a line that lies in two pieces.
     pub line: Vec<u8>,
     /// The output for a line, or for a batch of lines.
@@ -97,8 +102,8 @@ impl Reached {
     /// Returns the position before the first line. If explanations are asked for, there is room for them in place of
     /// the buffer for a batch, since no batch is judged then. `Memory` if an allocation fails.
     pub(crate) fn new(alloc: Global, asked: bool) -> Result<Reached, Memory>
-        ensures { IfOk result (λ made. (made.at ≡ at_front) × (made.told.text.items ≡ []) ×
-            (made.told.lacks ≡ false) × (asked ≡ true → HasRoom made.told)) }
+        ensures { IfOk result (λ made. (made.at ≡ at_front) × (made.reported.text.items ≡ []) ×
+            (made.reported.lacks ≡ false) × (asked ≡ true → HasRoom made.reported)) }
     {
         let (batch, room) = if asked { (0, ROOM) } else { (BATCH, 0) };
         let at = LinePosition {
@@ -106,14 +111,14 @@ impl Reached {
             count: 0,
             refused: 0,
         };
-        let told = Explanations {
+        let reported = Explanations {
             text: Vec::with_capacity(alloc, room)?,
             why: Vec::with_capacity(alloc, room)?,
             lacks: false,
         };
         Ok(Reached {
             at,
-            told,
+            reported,
             line: Vec::new(alloc),
             text: Vec::with_capacity(alloc, batch)?,
         })
@@ -133,7 +138,7 @@ fn refused_by(said: Answer) -> usize
 
 impl LinePosition {
     /// Returns the position after a line that takes so many bytes.
-    pub(crate) fn behind(self, len: usize, said: Answer) -> LinePosition
+    pub(crate) fn position_after(self, len: usize, said: Answer) -> LinePosition
         requires place { self.place + len < 2 ^ 64 }
         requires count { self.count + 1 < 2 ^ 64 }
         requires refused { self.refused + 1 < 2 ^ 64 }

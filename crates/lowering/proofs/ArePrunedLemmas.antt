@@ -6,7 +6,7 @@ use Rattle.std.specs.Prelude.{slice_get}
 use Rattle.std.proofs.lemmas.List.{length-map}
 use Rattle.abnfread.specs.Element as e
 use Rattle.abnfread.specs.Element.{Element, Rule, bodies, body_of, id_of}
-use Rattle.abnfcheck.specs.Beginnings.{BeginsMember}
+use Rattle.abnfcheck.specs.Prefixes.{BeginsMember}
 use Rattle.abnfcheck.specs.Derivable.{AreLetters, Derives, RuleDerives}
 use Rattle.abnfcheck.proofs.YieldsLemmas.{letters_both}
 use Rattle.flatgrammar.specs.Flat.{Nothing, Flat}
@@ -14,7 +14,7 @@ use Rattle.lowering.specs.Lowered.{Spells, spells, shows_prose, IsLowered}
 use Rattle.lowering.specs.NullElements.{AreNullAlike}
 use Rattle.lowering.specs.Sizes.{size, sizes}
 use Rattle.flatgrammar.specs.Holds.{HasItem}
-use Rattle.lowering.specs.ToldBeginnings.{TellsBeginnings}
+use Rattle.lowering.specs.GivenPrefixes.{GivesPrefixes}
 use Rattle.flatgrammar.proofs.SliceGetLemmas.{get_below}
 use Rattle.lowering.proofs.RuleDerivesLemmas.{derives_exactly}
 use Rattle.abnfcheck.proofs.RuleIdLemmas.{body_at_id}
@@ -168,9 +168,9 @@ module _ (has : ℕ → Bool) (rules left : List Rule) (pruned : ArePruned has r
           (λ b. has_item has left judged flat lowered x line n le (forth_member x n letters b)),
         )
 
-    pub tells_beginnings : TellsBeginnings has rules judged flat
-    tells_beginnings = record {
-      tells = λ x line letters.
+    pub gives_prefixes : GivesPrefixes has rules judged flat
+    gives_prefixes = record {
+      settles = λ x line letters.
           let exact = derives_exactly has left judged flat lowered x line letters in
           ((λ h. rule_back (exact.0 h)), (λ d. exact.1 (rule_forth letters d)));
       viable = viable_exactly;

@@ -1,5 +1,5 @@
 -- What lies before a step of a node.
--- Serves: items_tell, lower, judge, lower_viable.
+-- Serves: items_decide, lower, judge, lower_viable.
 use Rattle.std.proofs.Common.{◌≡◌, ℕ, zero, suc, ◌+◌, ◌<◌, ◌≤◌, min, Bool, true, false, List, [], ◌∷◌, ◌++◌, map}
 use Rattle.std.proofs.Common.{length, take, refl, sym, ap, subst, arith, append_assoc, length-append, ◌-◌, ◌⊎◌, inl}
 use Rattle.std.proofs.Common.{inr}

@@ -1,5 +1,5 @@
 -- The greatest number of a repetition, if it is within the limit.
--- Serves: items_tell, lower, judge, lower_viable.
+-- Serves: items_decide, lower, judge, lower_viable.
 use Rattle.std.proofs.Common.{◌≡◌, ℕ, suc, ◌<◌, ◌≤◌, Bool, true, false, leb, Option, Some, None, if◌then◌else◌, sym}
 use Rattle.std.proofs.Common.{refl, arith, ◌⊎◌, inl, inr, le-leb}
 use Rattle.std.proofs.lemmas.Bool.{cases_lt}

@@ -6,7 +6,7 @@ use Rattle.std.specs.Prelude.{slice_get}
 use Rattle.std.proofs.lemmas.List.{append-nil}
 use Rattle.abnfread.specs.Element as e
 use Rattle.abnfread.specs.Element.{Element, Rule, bodies, body_of, none, more}
-use Rattle.abnfcheck.specs.Beginnings.{BeginsMember}
+use Rattle.abnfcheck.specs.Prefixes.{BeginsMember}
 use Rattle.abnfcheck.specs.Derivable as der
 use Rattle.abnfcheck.specs.Derivable.{AreLetters, Derives, DerivesAll, all_done, then, RuleDerives}
 use Rattle.abnfcheck.proofs.IsPathLemmas.{here, step}

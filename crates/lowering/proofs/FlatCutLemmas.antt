@@ -24,7 +24,7 @@ none_cut rules limit nodes marks numbers no_nodes no_marks no_numbers =
       spelled = λ id m h. absurd (cc h);
       sized = omega arith;
       ordered = record { before = λ s m node is h. absurd (cc is) };
-      told = record { long = refl; each = λ s mark is. absurd (cc is) };
+      reported = record { long = refl; each = λ s mark is. absurd (cc is) };
     })
 
 sizes_next : (limit : ℕ) (els : List Element) (i : ℕ) (el : Element) → slice_get els i ≡ Some el
@@ -64,7 +64,7 @@ cut_more {rules} {limit} {i} {old} {new} {numbers} {n} {el} c at g = record {
   sized = let one = g.sized in let before = c.sized in let next = sizes_next limit (bodies rules) i el at in
       omega (arith, one, before, next);
   ordered = g.ordered c.ordered;
-  told = g.told c.told;
+  reported = g.reported c.reported;
 }
 
 body_at : (rules : List (table.Rule Elem)) (i : ℕ) (e : Elem) → slice_get (map (λ rule. rule.body) rules) i ≡ Some e

@@ -8,8 +8,8 @@ use Rattle.std.proofs.lemmas.List.{map-append, length-map}
 use Rattle.std.proofs.Math.Seq.{take-suc}
 use Rattle.abnfread.specs.Element as e
 use Rattle.abnfread.specs.Element.{Element, Elements, Rule}
-use Rattle.lowering.specs.NullElements.{Tells, TellsAll, TellsSome}
-use Rattle.lowering.proofs.TellsLemmas.{none_tell, no_alternative_tells, next_tells, next_alternative_tells}
+use Rattle.lowering.specs.NullElements.{Settles, SettlesAll, SettlesSome}
+use Rattle.lowering.proofs.SettlesLemmas.{none_settle, no_alternative_settles, next_settles, next_alternative_settles}
 use Rattle.abnfread.specs.AbnfViews.{elements, elements_of, element_of}
 use Rattle.abnfread.specs.declared.elem.Elem.{Elem}
 use Rattle.flatgrammar.specs.Flat.{Node}
@@ -20,7 +20,7 @@ use Rattle.flatgrammar.specs.declared.flat_node.Node as declared
 use Rattle.flatgrammar.specs.FlatViews.{node_of, nodes_of}
 use Rattle.lowering.specs.Numbers.{Numbers, NumbersAll}
 use Rattle.flatgrammar.specs.Operands.{IsOperand, AreOrdered}
-use Rattle.lowering.specs.Numbers.{IsNodeTold, AreNodesTold}
+use Rattle.lowering.specs.Numbers.{IsNodeReported, AreNodesReported}
 use Rattle.lowering.proofs.SpellAllLemmas.{still_shows, still_spells, still_spell_all, places_push}
 use Rattle.lowering.proofs.SpellAllLemmas.{operand_below}
 use Rattle.flatgrammar.proofs.SliceGetLemmas.{push_cases}
@@ -46,22 +46,23 @@ ordered_push nodes node o below = record { before = λ s m d is h. by s m d h (p
         subst (λ v. m < v) (sym last.0) lt
 
 -- one more node, with the mark of what it shows
-pub told_push : (rules : List Rule) (limit : ℕ) (nodes : List Node) (marks : List Bool) (node : Node) (mark : Bool)
-    (el : Element) → AreNodesTold rules limit nodes marks → Shows rules limit nodes node el → Tells rules mark el →
-    AreNodesTold rules limit (nodes ++ node ∷ []) (marks ++ mark ∷ [])
-told_push rules limit nodes marks node mark el t shown told = record {
+pub reported_push : (rules : List Rule) (limit : ℕ) (nodes : List Node) (marks : List Bool) (node : Node) (mark : Bool)
+    (el : Element) → AreNodesReported rules limit nodes marks → Shows rules limit nodes node el
+    → Settles rules mark el →
+    AreNodesReported rules limit (nodes ++ node ∷ []) (marks ++ mark ∷ [])
+reported_push rules limit nodes marks node mark el t shown reported = record {
   long = (let one = length-append marks (mark ∷ []) in let other = length-append nodes (node ∷ []) in
       let was = t.long in omega (arith, one, other, was));
   each = λ s m is. by s m (push_cases marks mark s m is);
 }
   where
     by : (s : ℕ) (m : Bool) → ((slice_get marks s ≡ Some m) ⊎ ((s ≡ length marks) × (mark ≡ m)))
-        → IsNodeTold rules limit (nodes ++ node ∷ []) s m
+        → IsNodeReported rules limit (nodes ++ node ∷ []) s m
     by s m (inl was) = let h = t.each s m was in
         record {
           el = h.el;
           spelled = still_spells rules limit nodes (node ∷ []) h.spelled;
-          tells = h.tells;
+          settles = h.settles;
         }
     by s m (inr last) =
         let here : length nodes ≡ s = sym (last.0 ∙ t.long) in
@@ -69,7 +70,7 @@ told_push rules limit nodes marks node mark el t shown told = record {
           el = el;
           spelled = spells (subst (λ k. slice_get (nodes ++ node ∷ []) k ≡ Some node) here (at_end nodes node))
               (still_shows rules limit nodes (node ∷ []) shown);
-          tells = subst (λ v. Tells rules v el) last.1 told;
+          settles = subst (λ v. Settles rules v el) last.1 reported;
         }
 
 -- one more node, over what was added before it
@@ -79,11 +80,11 @@ module _ {rules : List Rule} {limit : ℕ} (nodes : List declared.Node) {more : 
     (is_marked : more_marks ≡ marks ++ empty ∷ []) where
   one_more : (first added : List Node) (were : List Bool) → nodes_of nodes ≡ first ++ added
       → (AreOrdered first → AreOrdered (nodes_of nodes))
-      → (AreNodesTold rules limit first were → AreNodesTold rules limit (nodes_of nodes) marks)
+      → (AreNodesReported rules limit first were → AreNodesReported rules limit (nodes_of nodes) marks)
       → places (nodes_of nodes) + width (node_of v) ≤ places first
-      + size limit el → Shows rules limit (nodes_of nodes) (node_of v) el → Tells rules empty el →
+      + size limit el → Shows rules limit (nodes_of nodes) (node_of v) el → Settles rules empty el →
       Numbers rules limit first (nodes_of more) were more_marks n empty el
-  one_more first added were grown ordered told_before sized shown told =
+  one_more first added were grown ordered reported_before sized shown reported =
       let number : n ≡ length (nodes_of nodes) = is ∙ sym (length-map nodes node_of) in
       let at = at_end (nodes_of nodes) (node_of v) in
       rw (nodes_pushed nodes more v is_more, is_marked) (record {
@@ -92,40 +93,42 @@ module _ {rules : List Rule} {limit : ℕ} (nodes : List declared.Node) {more : 
         spelled = spells (subst (λ k. slice_get (nodes_of nodes ++ node_of v ∷ []) k ≡ Some (node_of v)) (sym number)
             at) (still_shows rules limit (nodes_of nodes) (node_of v ∷ []) shown);
         sized = (let all = places_push (nodes_of nodes) (node_of v) in omega (arith, all, sized));
-        tells = told;
+        settles = reported;
         ordered = λ o. ordered_push (nodes_of nodes) (node_of v) (ordered o)
             (λ m h. operand_below rules limit (nodes_of nodes) shown m h);
-        told = λ t. told_push rules limit (nodes_of nodes) marks (node_of v) empty el (told_before t) shown told;
+        reported = λ t. reported_push rules limit (nodes_of nodes) marks (node_of v) empty el
+            (reported_before t) shown reported;
       })
 
   -- a node without operands
   pub leaf_numbers : width (node_of v) ≡ size limit el → Shows rules limit (nodes_of nodes) (node_of v) el
-      → Tells rules empty el → Numbers rules limit (nodes_of nodes) (nodes_of more) marks more_marks n empty el
-  leaf_numbers wide shown told =
+      → Settles rules empty el → Numbers rules limit (nodes_of nodes) (nodes_of more) marks more_marks n empty el
+  leaf_numbers wide shown reported =
       one_more (nodes_of nodes) [] marks (sym (append-nil (nodes_of nodes))) (λ o. o) (λ t. t) (omega (arith, wide))
-      shown told
+      shown reported
 
   -- a node over one operand
   pub numbers_over : {first : List Node} {were : List Bool} {k : ℕ} {c : Bool} {d : Element}
       → Numbers rules limit first (nodes_of nodes) were marks k c d
       → width (node_of v) + size limit d ≤ size limit el →
-      (Tells rules c d → Spells rules limit (nodes_of nodes) k d → Shows rules limit (nodes_of nodes) (node_of v) el)
-      → (Tells rules c d → Tells rules empty el) → Numbers rules limit first (nodes_of more) were more_marks n empty el
-  numbers_over {first} {were} g wide shown told = let sized = g.sized in
-      one_more first g.added were g.grown g.ordered g.told (omega (arith, sized, wide)) (shown g.tells g.spelled)
-      (told g.tells)
+      (Settles rules c d → Spells rules limit (nodes_of nodes) k d → Shows rules limit (nodes_of nodes) (node_of v) el)
+      → (Settles rules c d → Settles rules empty el) → Numbers rules limit first
+      (nodes_of more) were more_marks n empty el
+  numbers_over {first} {were} g wide shown reported = let sized = g.sized in
+      one_more first g.added were g.grown g.ordered g.reported (omega (arith, sized, wide)) (shown g.settles g.spelled)
+      (reported g.settles)
 
   -- a node over members
   pub over_all : {first : List Node} {were : List Bool} {ks : List ℕ} {all any : Bool} {es : Elements}
       → NumbersAll rules limit first (nodes_of nodes) were marks ks all any es
       → (length ks ≡ count es → width (node_of v) + size_all limit es ≡ size limit el) →
       (SpellAll rules limit (nodes_of nodes) ks es → Shows rules limit (nodes_of nodes) (node_of v) el)
-      → (TellsAll rules all es → TellsSome rules any es → Tells rules empty el)
+      → (SettlesAll rules all es → SettlesSome rules any es → Settles rules empty el)
       → Numbers rules limit first (nodes_of more) were more_marks n empty el
-  over_all {first} {were} g wide shown told =
+  over_all {first} {were} g wide shown reported =
       let sized = g.sized in let many = wide (counted g.spelled) in
-      one_more first g.added were g.grown g.ordered g.told (omega (arith, sized, many)) (shown g.spelled)
-      (told g.tell_all g.tell_some)
+      one_more first g.added were g.grown g.ordered g.reported (omega (arith, sized, many)) (shown g.spelled)
+      (reported g.settle_all g.settle_some)
     where
       counted : {ks : List ℕ} {es : Elements} → SpellAll rules limit (nodes_of nodes) ks es → length ks ≡ count es
       counted spell_none = refl
@@ -150,10 +153,10 @@ no_members rules limit xs marks ns is = rw is (record {
   grown = sym (append-nil xs);
   spelled = spell_none;
   sized = omega arith;
-  tell_all = none_tell rules;
-  tell_some = no_alternative_tells rules;
+  settle_all = none_settle rules;
+  settle_some = no_alternative_settles rules;
   ordered = λ o. o;
-  told = λ t. t;
+  reported = λ t. t;
 })
 
 map_next : (es : List Elem) (i : ℕ) (v : Elem) → i < length es → v ≡ get_or es i v → map element_of (take (i + 1) es)
@@ -176,10 +179,10 @@ append_member {rules} {limit} {first} {mid} {new} {were} {between} {are} {ns} {n
       (still_spell_all rules limit mid h.added g.spelled)) h.spelled;
   sized = (let one = g.sized in let other = h.sized in let both = size_push limit es el in
       omega (arith, one, other, both));
-  tell_all = next_tells rules all c es el g.tell_all h.tells;
-  tell_some = next_alternative_tells rules any c es el g.tell_some h.tells;
+  settle_all = next_settles rules all c es el g.settle_all h.settles;
+  settle_some = next_alternative_settles rules any c es el g.settle_some h.settles;
   ordered = λ o. h.ordered (g.ordered o);
-  told = λ t. h.told (g.told t);
+  reported = λ t. h.reported (g.reported t);
 }
 
 pub next_member : {rules : List Rule} {limit : ℕ} {first mid new : List Node} {were between are : List Bool}

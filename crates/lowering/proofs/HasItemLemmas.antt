@@ -6,7 +6,7 @@ use Rattle.std.specs.Prelude.{slice_get, Bool}
 use Rattle.std.proofs.lemmas.List.{length-take-le}
 use Rattle.abnfread.specs.Element as e
 use Rattle.abnfread.specs.Element.{Element, Elements, Rule}
-use Rattle.abnfcheck.specs.Beginnings.{BeginsMember}
+use Rattle.abnfcheck.specs.Prefixes.{BeginsMember}
 use Rattle.abnfcheck.specs.Derivable as der
 use Rattle.abnfcheck.specs.Derivable.{AreLetters, Derives, DerivesAll, DerivesSome, DerivesTimes, all_done, then, this}
 use Rattle.abnfcheck.specs.Derivable.{later, no_more, one_more, RuleDerives}
@@ -132,12 +132,12 @@ module _ (has : ℕ → Bool) (rules : List Rule) (limit : ℕ) (flat : Flat)
     reach_all (then {w = w} {v = v} d ds) (spell_more {m = m} sp all) s ms is k i j o le left u r cut l h =
         let n = next_of ms k left in
         ⊎_elim
-        (λ behind.
-        let at_mid = path_splits (OnLine x) w (subst (λ z. Lies x i z j) behind.1 l) in
+        (λ after.
+        let at_mid = path_splits (OnLine x) w (subst (λ z. Lies x i z j) after.1 l) in
         let once = call_step has rules limit flat bodies x line (calls is (Calling.member n.is))
         (plain_node has rules limit flat bodies x line is (λ t. elim t [ ]))
         (node_runs has rules limit flat bodies x line d m i at_mid.mid sp at_mid.left) o h in
-        reach_all ds all s ms is (k + 1) at_mid.mid j o le n.rest behind.0 r behind.2 at_mid.right once)
+        reach_all ds all s ms is (k + 1) at_mid.mid j o le n.rest after.0 r after.2 at_mid.right once)
         (λ inside. item_reached d m i j le sp u inside.0 inside.1 l
         (λ p st. called h (calls is (Calling.member n.is)) st))
         (append_splits w v u r cut)
@@ -165,15 +165,15 @@ module _ (has : ℕ → Bool) (rules : List Rule) (limit : ℕ) (flat : Flat)
         let on = lies_count x l in
         let n = turn_on c d m t f turned (turn_room t k b d most (omega (arith, few, on, le, line)) within) in
         ⊎_elim
-        (λ behind.
-        let at_mid = path_splits (OnLine x) w (subst (λ z. Lies x i z j) behind.1 l) in
+        (λ after.
+        let at_mid = path_splits (OnLine x) w (subst (λ z. Lies x i z j) after.1 l) in
         let long = lies_count x at_mid.left in
         let some = some_letter never e in
         let once = call_step has rules limit flat bodies x line (calls is n.calling)
         (plain_node has rules limit flat bodies x line is (λ t. elim t [ ]))
         (node_runs has rules limit flat bodies x line e m i at_mid.mid sp at_mid.left) o h in
         reach_times ds s c m b d most is sp never (suc t) n.to at_mid.mid j o le n.turned (within_same t k b within)
-        (omega (arith, few, long, some)) behind.0 r behind.2 at_mid.right once)
+        (omega (arith, few, long, some)) after.0 r after.2 at_mid.right once)
         (λ inside. item_reached e m i j le sp u inside.0 inside.1 l (λ p st. called h (calls is n.calling) st))
         (append_splits w v u r cut)
 
@@ -192,14 +192,14 @@ module _ (has : ℕ → Bool) (rules : List Rule) (limit : ℕ) (flat : Flat)
         let on = lies_count x (step at_i l) in
         let n = take_on limit t k b d m f most (omega (arith, few, on, le, line)) within turned in
         ⊎_elim
-        (λ behind.
-        let at_mid = path_splits (OnLine x) (c ∷ w) (subst (λ z. Lies x i z j) behind.1 (step at_i l)) in
+        (λ after.
+        let at_mid = path_splits (OnLine x) (c ∷ w) (subst (λ z. Lies x i z j) after.1 (step at_i l)) in
         let long = lies_count x at_mid.left in
         let once = call_step has rules limit flat bodies x line (calls is n.calling)
         (λ t. let lt : i < at_mid.mid = omega (arith, long) in lt)
         (node_runs has rules limit flat bodies x line e m i at_mid.mid sp at_mid.left) o h in
         reach_turns ds s m b d most is sp (suc t) n.to at_mid.mid j o le n.turned n.within (within_same t k b within)
-        (omega (arith, few, long)) behind.0 r behind.2 at_mid.right once)
+        (omega (arith, few, long)) after.0 r after.2 at_mid.right once)
         (λ inside. item_reached e m i j le sp (a ∷ u) inside.0 inside.1 (step at_i l)
         (λ p st. called h (calls is n.calling) st))
         (append_splits (c ∷ w) v (a ∷ u) r cut)

@@ -4,37 +4,37 @@ use Rattle.std.proofs.Common.{◌≡◌, ◌↔◌, ℕ, ◌<◌, Bool, true, Li
 use Rattle.abnfread.specs.Element as e
 use Rattle.abnfread.specs.Element.{Element, Rule}
 use Rattle.abnfcheck.specs.Derivable.{AtMost}
-use Rattle.lowering.specs.NullElements.{Tells}
+use Rattle.lowering.specs.NullElements.{Settles}
 use Rattle.flatgrammar.specs.Flat.{Node, Nothing}
 use Rattle.lowering.specs.Lowered.{Shows, shows_reversed}
-use Rattle.lowering.proofs.TellsLemmas.{rep_empty, rep_never, text_tells, values_tell}
+use Rattle.lowering.proofs.SettlesLemmas.{rep_empty, rep_never, text_settles, values_settle}
 
 empty_of_length : (xs : List ℕ) → length xs ≡ 0 → xs ≡ []
 empty_of_length [] is = refl
 empty_of_length (x ∷ xs) is = absurd (omega (arith, is))
 
 pub rep_zero : (rules : List Rule) (a : ℕ) (b : Option ℕ) (el : Element) (z : Bool) → z ≡ true → a ≡ 0 → AtMost a b
-    → Tells rules z (e.Rep a b el)
+    → Settles rules z (e.Rep a b el)
 rep_zero rules a b el z is zero_is within = record {
   yes = λ m. rep_empty rules a b el within (λ lt. absurd (omega (arith, lt, zero_is)));
   no = λ m. absurd (cc (m, is));
 }
 
 pub rep_operand : (rules : List Rule) (a : ℕ) (b : Option ℕ) (el : Element) (c : Bool) → 0 < a → AtMost a b
-    → Tells rules c el → Tells rules c (e.Rep a b el)
+    → Settles rules c el → Settles rules c (e.Rep a b el)
 rep_operand rules a b el c lt within t = record {
   yes = λ m. rep_empty rules a b el within (λ more. t.yes m);
   no = λ m. rep_never rules a b el lt (t.no m);
 }
 
 pub text_marked : (rules : List Rule) (folds : Bool) (t : List ℕ) (mark : Bool) → (mark ≡ true) ↔ (length t ≡ 0)
-    → Tells rules mark (e.Text folds t)
-text_marked rules folds t mark is = text_tells rules folds t mark (λ m. empty_of_length t (is.0 m))
+    → Settles rules mark (e.Text folds t)
+text_marked rules folds t mark is = text_settles rules folds t mark (λ m. empty_of_length t (is.0 m))
     (λ m e. absurd (cc (is.1 (ap length e), m)))
 
 pub values_marked : (rules : List Rule) (vs : List ℕ) (mark : Bool) → (mark ≡ true) ↔ (length vs ≡ 0)
-    → Tells rules mark (e.Values vs)
-values_marked rules vs mark is = values_tell rules vs mark (λ m. empty_of_length vs (is.0 m))
+    → Settles rules mark (e.Values vs)
+values_marked rules vs mark is = values_settle rules vs mark (λ m. empty_of_length vs (is.0 m))
     (λ m e. absurd (cc (is.1 (ap length e), m)))
 
 -- what no number of turns meets

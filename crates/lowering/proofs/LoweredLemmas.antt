@@ -13,19 +13,19 @@ use Rattle.flatgrammar.specs.Flat as flat
 use Rattle.flatgrammar.specs.Flat.{Node, Flat, Place}
 use Rattle.flatgrammar.specs.Holds.{Holds}
 use Rattle.lowering.specs.Lowered.{shows_concat, spell_none, spell_more, IsLowered}
-use Rattle.lowering.specs.NullElements.{Tells}
+use Rattle.lowering.specs.NullElements.{Settles}
 use Rattle.flatgrammar.specs.Places.{places}
 use Rattle.lowering.specs.Sizes.{sizes}
-use Rattle.lowering.proofs.AreNodesToldLemmas.{marks_are_nulls}
+use Rattle.lowering.proofs.AreNodesReportedLemmas.{marks_are_nulls}
 use Rattle.lowering.proofs.RuleDerivesLemmas as judge
-use Rattle.lowering.proofs.TellsLemmas.{none_tell, next_tells, concat_tells}
+use Rattle.lowering.proofs.SettlesLemmas.{none_settle, next_settles, concat_settles}
 use Rattle.flatgrammar.specs.TableViews.{AreNulls}
 use Rattle.flatgrammar.specs.declared.flat_node.Node as declared
 use Rattle.flatgrammar.specs.declared.flat_node.Node.TheVariants as code
 use Rattle.lowering.specs.Numbers.{AreCut}
 use Rattle.flatgrammar.specs.Operands.{AreOrdered}
 use Rattle.flatgrammar.specs.FlatViews.{node_of, nodes_of}
-use Rattle.lowering.proofs.FlatNumbersLemmas.{at_end, nodes_pushed, ordered_push, told_push}
+use Rattle.lowering.proofs.FlatNumbersLemmas.{at_end, nodes_pushed, ordered_push, reported_push}
 use Rattle.lowering.proofs.SpellAllLemmas.{still_spells, places_push, spells_below}
 
 -- what two clauses say of one value
@@ -106,25 +106,27 @@ bodies_within rules limit count old new node marks numbers cut is_new id m h =
     short)
 
 -- the whole derives what its one member does
-whole_tells : (rules : List Rule) (judged : ℕ) (null : Bool) (el : Element) → slice_get (bodies rules) judged ≡ Some el
+whole_settles : (rules : List Rule) (judged : ℕ) (null : Bool) (el : Element) → slice_get (bodies rules) judged
+    ≡ Some el
     → ((has : ℕ → Bool) → (null ≡ true) ↔ RuleDerives has rules judged [])
-    → Tells rules null (e.Concat (e.more el e.none))
-whole_tells rules judged null el at is = concat_tells rules null (e.more el e.none)
-    (next_tells rules true null [] el (none_tell rules) (record {
+    → Settles rules null (e.Concat (e.more el e.none))
+whole_settles rules judged null el at is = concat_settles rules null (e.more el e.none)
+    (next_settles rules true null [] el (none_settle rules) (record {
       yes = λ m has. let r = (is has).0 m in let same : r.body ≡ el = cc (r.is, at) in
           subst (λ v. Derives has rules v []) same r.derives;
       no = λ m has d. let yes = (is has).1 (record { body = el; is = at; derives = d }) in absurd (cc (yes, m));
     }))
 
 -- the marks of the nodes are those of the nullable ones
-pub nulls_told : (rules : List Rule) (limit judged count b d whole : ℕ) (old new : List declared.Node)
+pub nulls_reported : (rules : List Rule) (limit judged count b d whole : ℕ) (old new : List declared.Node)
     (members : Vec ℕ Global) (marks more : List Bool) (null : Bool) (numbers : List ℕ)
     → AreCut rules limit count (nodes_of old) marks numbers → count ≡ length rules →
     new ≡ old ++ code.Concat members ∷ [] → members.items ≡ b ∷ [] → more ≡ marks ++ null ∷ []
     → b ≡ get_or numbers judged d → judged < length rules
     → ((has : ℕ → Bool) → (null ≡ true) ↔ RuleDerives has rules judged [])
     → AreNulls (record { nodes = nodes_of new; bodies = numbers; whole = whole; limit = limit }) more
-nulls_told rules limit judged count b d whole old new members marks more null numbers cut all is_new alone is_more body
+nulls_reported rules limit judged count b d whole old new members marks more null numbers cut all is_new alone is_more
+    body
     within is =
     let long = cut.long in
     let there : slice_get numbers judged ≡ Some b = slice_get-get_or numbers judged d (omega (arith, within, all, long))
@@ -139,11 +141,12 @@ nulls_told rules limit judged count b d whole old new members marks more null nu
       spelled = λ id m h. let g = cut.spelled id m h in
           (g.0, g.1, still_spells rules limit (nodes_of old) (flat.Concat (b ∷ []) ∷ []) g.2);
     })
-    (told_push rules limit (nodes_of old) marks (flat.Concat (b ∷ [])) null (e.Concat (e.more one.0 e.none)) cut.told
-    (shows_concat (spell_more one.2 spell_none)) (whole_tells rules judged null one.0 one.1 is)))
+    (reported_push rules limit (nodes_of old) marks (flat.Concat (b ∷ [])) null
+    (e.Concat (e.more one.0 e.none)) cut.reported
+    (shows_concat (spell_more one.2 spell_none)) (whole_settles rules judged null one.0 one.1 is)))
 
-pub lowered_tells : (rules : List Rule) (judged : ℕ) (f : Flat) → IsLowered rules judged f
+pub lowered_settles : (rules : List Rule) (judged : ℕ) (f : Flat) → IsLowered rules judged f
     → (has : ℕ → Bool) (x : List ℕ)
     → length x ≤ f.limit → AreLetters has x →
     Holds f x (length x) (flat.at f.whole 1) 0 ↔ RuleDerives has rules judged x
-lowered_tells rules judged f low has x line letters = judge.derives_exactly has rules judged f low x line letters
+lowered_settles rules judged f low has x line letters = judge.derives_exactly has rules judged f low x line letters

@@ -1,5 +1,5 @@
 -- What is derived stands as an item.
--- Serves: items_tell, lower, judge, lower_viable.
+-- Serves: items_decide, lower, judge, lower_viable.
 use Rattle.std.proofs.Common.{◌≡◌, ℕ, zero, suc, ◌+◌, ◌<◌, ◌≤◌, min, List, [], ◌∷◌, length, drop, refl, sym, ◌∙◌, ap}
 use Rattle.std.proofs.Common.{subst, arith, length-append, ◌⊎◌, inl, inr}
 use Rattle.std.proofs.lemmas.Bool.{cases_lt}

@@ -1,5 +1,5 @@
 -- How long is what lies in the line.
--- Serves: items_tell, lower, judge, lower_viable.
+-- Serves: items_decide, lower, judge, lower_viable.
 use Rattle.std.proofs.Common.{◌≡◌, ℕ, ◌+◌, ◌≤◌, List, length, arith}
 use Rattle.abnfcheck.proofs.IsPathLemmas.{here, step}
 use Rattle.abnfcheck.proofs.LiesLemmas.{Lies}

@@ -221,21 +221,22 @@ copied_next vs got i d lt is = ap (λ l. l ++ get_or vs i d ∷ []) is
     ∙ sym (ap (λ k. take k vs) (add-one i) ∙ take-suc vs i d lt)
 
 -- names
-module _ (alphabet : Alphabet) (rules : List Rule) (told : List Bool) (are : marks.AreProductive alphabet rules told)
+module _ (alphabet : Alphabet) (rules : List Rule) (reported : List Bool)
+    (are : marks.AreProductive alphabet rules reported)
     (n : List ℕ) where
-  pub name_left : IsMarked told (id_of rules n) → IsProductive (in_alphabet alphabet) rules (e.Name n)
+  pub name_left : IsMarked reported (id_of rules n) → IsProductive (in_alphabet alphabet) rules (e.Name n)
   name_left on =
-      let below = marked_below told (id_of rules n) on in
+      let below = marked_below reported (id_of rules n) on in
       let count = are.count in
-      let r = (are.tells (id_of rules n) (omega (arith, below, count))).0 on in
+      let r = (are.settles (id_of rules n) (omega (arith, below, count))).0 on in
       record { word = r.0; letters = r.1; derives = der.name (body_at_id rules n ∙ r.2.is) r.2.derives }
     where
-      marked_below : (told : List Bool) (id : ℕ) → IsMarked told id → id < length told
+      marked_below : (reported : List Bool) (id : ℕ) → IsMarked reported id → id < length reported
       marked_below [] id on = absurd (cc on)
-      marked_below (t ∷ told) zero on = omega arith
-      marked_below (t ∷ told) (suc id) on = let lt = marked_below told id on in omega (arith, lt)
+      marked_below (t ∷ reported) zero on = omega arith
+      marked_below (t ∷ reported) (suc id) on = let lt = marked_below reported id on in omega (arith, lt)
 
-  pub no_name : (IsMarked told (id_of rules n) → ⊥) → IsProductive (in_alphabet alphabet) rules (e.Name n) → ⊥
+  pub no_name : (IsMarked reported (id_of rules n) → ⊥) → IsProductive (in_alphabet alphabet) rules (e.Name n) → ⊥
   no_name off p = by p.letters p.derives
     where
       by : {w : List ℕ} → AreLetters (in_alphabet alphabet) w → Derives (in_alphabet alphabet) rules (e.Name n) w → ⊥
@@ -243,5 +244,5 @@ module _ (alphabet : Alphabet) (rules : List Rule) (told : List Bool) (are : mar
           let at : slice_get (bodies rules) (id_of rules n) ≡ Some body = sym (body_at_id rules n) ∙ found in
           let below = get_below (bodies rules) (id_of rules n) at in
           let same = length-map rules (λ rule. rule.body) in
-          off ((are.tells (id_of rules n) (omega (arith, below, same))).1
+          off ((are.settles (id_of rules n) (omega (arith, below, same))).1
           (w, all, record { body = body; is = at; derives = d }))

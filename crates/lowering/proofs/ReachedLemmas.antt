@@ -1,5 +1,5 @@
 -- What an item says is derived.
--- Serves: items_tell, lower, judge.
+-- Serves: items_decide, lower, judge.
 use Rattle.std.proofs.Common.{◌≡◌, ℕ, List, [], ◌∷◌, ◌++◌, refl, sym, subst, ◌<◌, ◌≤◌, length, arith}
 use Rattle.std.specs.Prelude.{slice_get, Bool, Some}
 use Rattle.abnfread.specs.Element.{Element, Rule}

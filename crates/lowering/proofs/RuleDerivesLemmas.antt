@@ -1,5 +1,5 @@
 -- The flat grammar derives a line exactly if the rule does.
--- Serves: items_tell, lower, judge.
+-- Serves: items_decide, lower, judge.
 use Rattle.std.proofs.Common.{◌≡◌, ℕ, ◌≤◌, List, [], ◌∷◌, length, refl, sym, subst, ◌↔◌, append-nil}
 use Rattle.std.specs.Prelude.{Bool}
 use Rattle.abnfread.specs.Element as e

@@ -1,5 +1,5 @@
 -- Names, the bodies of their rules, and the nodes of these.
--- Serves: items_tell, lower, judge.
+-- Serves: items_decide, lower, judge.
 use Rattle.std.proofs.Common.{◌≡◌, ℕ, List, Some}
 use Rattle.std.proofs.Common.{◌∙◌, subst, arith}
 use Rattle.std.specs.Prelude.{slice_get}

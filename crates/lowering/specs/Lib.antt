@@ -2,6 +2,6 @@ pub mod Lowered
 pub mod NullElements
 pub mod Numbers
 pub mod Sizes
-pub mod ToldBeginnings
+pub mod GivenPrefixes
 pub mod Verdicts
 pub mod Pruned

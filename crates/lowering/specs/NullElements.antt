@@ -11,16 +11,16 @@ module _ (rules : List Rule) where
   IsNeverEmpty el = (has : ℕ → Bool) → Derives has rules el [] → ⊥
 
   -- a mark is true exactly if the element derives the empty list
-  pub record Tells (mark : Bool) (el : Element) : Type 0 where
+  pub record Settles (mark : Bool) (el : Element) : Type 0 where
     pub yes : mark ≡ true → IsEmpty el
     pub no : mark ≡ false → IsNeverEmpty el
 
   -- .. if all members do, or one of them
-  pub record TellsAll (mark : Bool) (es : Elements) : Type 0 where
+  pub record SettlesAll (mark : Bool) (es : Elements) : Type 0 where
     pub yes : mark ≡ true → (has : ℕ → Bool) → DerivesAll has rules es []
     pub no : mark ≡ false → (has : ℕ → Bool) → DerivesAll has rules es [] → ⊥
 
-  pub record TellsSome (mark : Bool) (es : Elements) : Type 0 where
+  pub record SettlesSome (mark : Bool) (es : Elements) : Type 0 where
     pub yes : mark ≡ true → (has : ℕ → Bool) → DerivesSome has rules es []
     pub no : mark ≡ false → (has : ℕ → Bool) → DerivesSome has rules es [] → ⊥
 

@@ -4,25 +4,25 @@ use Rattle.abnfread.specs.Element as e
 use Rattle.abnfread.specs.Element.{Element, Elements, Rule, bodies, id_of}
 use Rattle.flatgrammar.specs.Flat.{Node}
 use Rattle.lowering.specs.Lowered.{Spells, SpellAll}
-use Rattle.lowering.specs.NullElements.{Tells, TellsAll, TellsSome}
+use Rattle.lowering.specs.NullElements.{Settles, SettlesAll, SettlesSome}
 use Rattle.flatgrammar.specs.Places.{places}
 use Rattle.flatgrammar.specs.Operands.{AreOrdered}
 use Rattle.lowering.specs.Sizes.{size, size_all, sizes}
 
 -- the marks are true of the names that derive the empty list
-abbrev pub NamesTell : List Rule → List Bool → Type 0
-NamesTell rules marks = (n : List ℕ) → Tells rules (get_or marks (id_of rules n) false) (e.Name n)
+abbrev pub NamesSettle : List Rule → List Bool → Type 0
+NamesSettle rules marks = (n : List ℕ) → Settles rules (get_or marks (id_of rules n) false) (e.Name n)
 
 module _ (rules : List Rule) (limit : ℕ) where
   -- a mark is true exactly if what a node spells derives the empty list
-  pub record IsNodeTold (nodes : List Node) (s : ℕ) (mark : Bool) : Type 0 where
+  pub record IsNodeReported (nodes : List Node) (s : ℕ) (mark : Bool) : Type 0 where
     pub el : Element
     pub spelled : Spells rules limit nodes s el
-    pub tells : Tells rules mark el
+    pub settles : Settles rules mark el
 
-  pub record AreNodesTold (nodes : List Node) (marks : List Bool) : Type 0 where
+  pub record AreNodesReported (nodes : List Node) (marks : List Bool) : Type 0 where
     pub long : length marks ≡ length nodes
-    pub each : (s : ℕ) (mark : Bool) → slice_get marks s ≡ Some mark → IsNodeTold nodes s mark
+    pub each : (s : ℕ) (mark : Bool) → slice_get marks s ≡ Some mark → IsNodeReported nodes s mark
 
   -- nodes were added, of no more places than the element has, and node n spells it
   pub record Numbers (old new : List Node) (were are : List Bool) (n : ℕ) (empty : Bool) (el : Element) : Type 0 where
@@ -30,9 +30,9 @@ module _ (rules : List Rule) (limit : ℕ) where
     pub grown : new ≡ old ++ added
     pub spelled : Spells rules limit new n el
     pub sized : places new ≤ places old + size limit el
-    pub tells : Tells rules empty el
+    pub settles : Settles rules empty el
     pub ordered : AreOrdered old → AreOrdered new
-    pub told : AreNodesTold old were → AreNodesTold new are
+    pub reported : AreNodesReported old were → AreNodesReported new are
 
   -- nodes were added, and each of the numbers is that of a node that spells the member in its place
   pub record NumbersAll (old new : List Node) (were are : List Bool) (ns : List ℕ) (all any : Bool) (els : Elements) :
@@ -41,10 +41,10 @@ module _ (rules : List Rule) (limit : ℕ) where
     pub grown : new ≡ old ++ added
     pub spelled : SpellAll rules limit new ns els
     pub sized : places new ≤ places old + size_all limit els
-    pub tell_all : TellsAll rules all els
-    pub tell_some : TellsSome rules any els
+    pub settle_all : SettlesAll rules all els
+    pub settle_some : SettlesSome rules any els
     pub ordered : AreOrdered old → AreOrdered new
-    pub told : AreNodesTold old were → AreNodesTold new are
+    pub reported : AreNodesReported old were → AreNodesReported new are
 
   -- the bodies of the first rules are cut into nodes
   pub record AreCut (count : ℕ) (nodes : List Node) (marks : List Bool) (numbers : List ℕ) : Type 0 where
@@ -53,4 +53,4 @@ module _ (rules : List Rule) (limit : ℕ) where
         × Spells rules limit nodes m el
     pub sized : places nodes ≤ sizes limit (take count (bodies rules))
     pub ordered : AreOrdered nodes
-    pub told : AreNodesTold nodes marks
+    pub reported : AreNodesReported nodes marks

@@ -1,7 +1,7 @@
 -- The verdict of a rule on a line.
 use Rattle.std.specs.Prelude.{ℕ, Bool, List}
 use Rattle.abnfread.specs.Element.{Rule}
-use Rattle.abnfcheck.specs.Beginnings.{IsFurthest}
+use Rattle.abnfcheck.specs.Prefixes.{IsFurthest}
 use Rattle.abnfcheck.specs.Derivable.{RuleDerives}
 use Rattle.flatgrammar.specs.declared.verdict.Verdict.{Verdict}
 use Rattle.flatgrammar.specs.declared.verdict.Verdict.TheVariants.{Yes, No}

@@ -6,18 +6,18 @@ ghost use Rattle.flatgrammar.specs.Flat.{Flat};
 ghost use Rattle.flatgrammar.specs.FlatVerdicts.{DerivesLine, IsFlatVerdict};
 ghost use Rattle.flatgrammar.specs.declared.verdict.Verdict.{Verdict as the_verdict};
 ghost use Rattle.lowering.specs.Lowered.{IsLowered};
-ghost use Rattle.lowering.specs.ToldBeginnings.{TellsBeginnings};
+ghost use Rattle.lowering.specs.GivenPrefixes.{GivesPrefixes};
 ghost use Rattle.lowering.specs.Verdicts.{IsVerdict};
 
 /// Returns nothing. Its contract is a law: on lines within its limit a flat grammar answers for the judged rule.
 ///
 /// The flat grammar of `lower` derives a line exactly if the rule does. The verdict of the flat grammar of
 /// `lower_viable` is that of the rule, with the longest viable prefix.
-pub fn items_tell()
+pub fn items_decide()
     ensures derives { (has : ℕ → Bool) (rules : List Rule) (judged : ℕ) (flat : Flat) (x : List ℕ) →
         IsLowered rules judged flat → length x ≤ flat.limit → AreLetters has x →
         DerivesLine flat x ↔ RuleDerives has rules judged x }
     ensures verdict { (has : ℕ → Bool) (rules : List Rule) (judged : ℕ) (flat : Flat) (x : List ℕ)
-        (verdict : the_verdict) → TellsBeginnings has rules judged flat → length x ≤ flat.limit → AreLetters has x →
+        (verdict : the_verdict) → GivesPrefixes has rules judged flat → length x ≤ flat.limit → AreLetters has x →
         IsFlatVerdict flat x verdict → IsVerdict has rules judged x verdict }
 {}

@@ -8,7 +8,7 @@ mod lowered;
 mod pruned;
 mod viable_lowered;
 
-pub use item_laws::items_tell;
+pub use item_laws::items_decide;
 pub use letter_law::values_are_letters;
 pub use lowered::{lower, lower_rules};
 pub use viable_lowered::lower_viable;

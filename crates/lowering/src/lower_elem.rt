@@ -8,10 +8,10 @@ ghost use Rattle.abnfread.specs.AbnfViews.{element_of, elements_of, rules_of};
 ghost use Rattle.flatgrammar.specs.Flat as flat;
 ghost use Rattle.flatgrammar.specs.Flat.{Exactly, Between, capped, top};
 ghost use Rattle.lowering.specs.Lowered.{letter_set, capped_most, Spells, Shows};
-ghost use Rattle.lowering.specs.NullElements.{Tells};
+ghost use Rattle.lowering.specs.NullElements.{Settles};
 ghost use Rattle.flatgrammar.specs.Places.{width};
 ghost use Rattle.flatgrammar.specs.FlatViews.{set_of, node_of, nodes_of};
-ghost use Rattle.lowering.specs.Numbers.{NamesTell, Numbers, NumbersAll, AreCut};
+ghost use Rattle.lowering.specs.Numbers.{NamesSettle, Numbers, NumbersAll, AreCut};
 
 use abnfread::Elem;
 use flatgrammar::{Node, Set};
@@ -158,7 +158,7 @@ fn is_reversed(least: u32, most: Option<u32>) -> bool
 // a letter are counted, from none on: the others are there without a letter.
 fn repeat(limit: usize, least: u32, most: Option<u32>, made: Made) -> Node
     ensures shows { (rules : List Rule) (nodes : List flat.Node) (el : Element) →
-        Tells rules made.empty el → Spells rules limit nodes made.number el → Shows rules limit nodes (node_of result)
+        Settles rules made.empty el → Spells rules limit nodes made.number el → Shows rules limit nodes (node_of result)
         (e.Rep least most el) }
     ensures width { width (node_of result) ≤ capped limit (top least most) + 1 }
 {
@@ -180,7 +180,7 @@ fn repeat(limit: usize, least: u32, most: Option<u32>, made: Made) -> Node
 
 // Whether a repetition derives the empty list.
 fn is_empty_repeat(least: u32, most: Option<u32>, empty: bool) -> bool
-    ensures { (rules : List Rule) (el : Element) → Tells rules empty el → Tells rules result (e.Rep least most el) }
+    ensures { (rules : List Rule) (el : Element) → Settles rules empty el → Settles rules result (e.Rep least most el) }
 {
     match most {
         Some(most) => least <= most && (least == 0 || empty),
@@ -224,7 +224,7 @@ pub(crate) fn number(
     numbered: &mut Numbered,
 ) -> Result<Made, Memory>
     requires folds { rules.now.names ≡ NameCase.Fold }
-    requires marks { NamesTell (rules_of rules.now) marks.now }
+    requires marks { NamesSettle (rules_of rules.now) marks.now }
     ensures { IfOk result (λ made. Numbers (rules_of rules.now) limit (nodes_of numbered.old.nodes.items)
         (nodes_of numbered.new.nodes.items) numbered.old.nulls.items numbered.new.nulls.items
         made.number made.empty (element_of e.now)) }
@@ -280,7 +280,7 @@ fn number_all(
     numbered: &mut Numbered,
 ) -> Result<Members, Memory>
     requires folds { rules.now.names ≡ NameCase.Fold }
-    requires marks { NamesTell (rules_of rules.now) marks.now }
+    requires marks { NamesSettle (rules_of rules.now) marks.now }
     ensures { IfOk result (λ made. NumbersAll (rules_of rules.now) limit (nodes_of numbered.old.nodes.items)
         (nodes_of numbered.new.nodes.items) numbered.old.nulls.items numbered.new.nulls.items
         made.numbers.items made.all made.any (elements_of members.now)) }
@@ -306,7 +306,7 @@ pub(crate) fn number_bodies(
     numbered: &mut Numbered,
 ) -> Result<Vec<usize>, Memory>
     requires folds { rules.now.names ≡ NameCase.Fold }
-    requires marks { NamesTell (rules_of rules.now) marks.now }
+    requires marks { NamesSettle (rules_of rules.now) marks.now }
     requires none { numbered.old.nodes.items ≡ [] }
     requires unmarked { numbered.old.nulls.items ≡ [] }
     ensures { IfOk result (λ bodies. AreCut (rules_of rules.now) limit (length rules.now.rules)

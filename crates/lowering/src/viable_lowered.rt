@@ -4,7 +4,7 @@ ghost use Rattle.abnfread.specs.Element.{bodies};
 ghost use Rattle.abnfread.specs.AbnfViews.{rules_of};
 ghost use Rattle.flatgrammar.specs.Places.{places};
 ghost use Rattle.lowering.specs.Sizes.{sizes};
-ghost use Rattle.lowering.specs.ToldBeginnings.{TellsBeginnings};
+ghost use Rattle.lowering.specs.GivenPrefixes.{GivesPrefixes};
 ghost use Rattle.letters.specs.Letters.{has};
 ghost use Rattle.lowering.specs.Pruned.{SpellsProductive};
 
@@ -29,7 +29,7 @@ pub fn lower_viable(
     limit: usize,
 ) -> Result<Flat, Memory>
     ensures limit { IfOk result (λ flat. flat.limit ≡ limit) }
-    ensures tells { IfOk result (λ flat. TellsBeginnings (has alphabet) (rules_of grammar.now.rules) grammar.now.judged
+    ensures settles { IfOk result (λ flat. GivesPrefixes (has alphabet) (rules_of grammar.now.rules) grammar.now.judged
         flat) }
     ensures parts { IfOk result (SpellsProductive (has alphabet) (rules_of grammar.now.rules) grammar.now.judged) }
     ensures places { IfOk result (λ flat. places flat.nodes ≤ sizes limit (bodies (rules_of grammar.now.rules)) + 2) }

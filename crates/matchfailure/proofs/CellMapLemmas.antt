@@ -24,17 +24,17 @@ eqb_turned a b = by (a == b) (b == a) refl refl
 -- what is found under a key is what the cell of its pair holds
 pub lookup_found : (test : Pair → Bool) (n p : ℕ) → ((k : Pair) → test k ≡ (n == k.node) && (p == k.place))
     → (es : List (Pair × Found)) → lookup test es ≡ found_at (entries_of es) n p
-lookup_found test n p tells [] = refl
-lookup_found test n p tells (e ∷ es) = λ j.
+lookup_found test n p reports [] = refl
+lookup_found test n p reports (e ∷ es) = λ j.
     cond
-    ((tells e.0 ∙ (λ i. eqb_turned n e.0.node i && eqb_turned p e.0.place i)) j)
+    ((reports e.0 ∙ (λ i. eqb_turned n e.0.node i && eqb_turned p e.0.place i)) j)
     (Some e.1)
-    (lookup_found test n p tells es j)
+    (lookup_found test n p reports es j)
 
 abbrev pub pair : ℕ → ℕ → Pair
 pair n p = record { node = n; place = p }
 
-module _ (eq : Pair → Pair → Bool) (tells : (j k : Pair) → eq j k ≡ (j.node == k.node) && (j.place == k.place)) where
+module _ (eq : Pair → Pair → Bool) (reports : (j k : Pair) → eq j k ≡ (j.node == k.node) && (j.place == k.place)) where
   none_apart : (k : Pair) (es : List (Pair × Found)) → AllByRecursion (λ j. eq k j ≡ false) (keys_of es)
       → lookup (eq k) es ≡ None
   none_apart k [] apart = refl
@@ -45,7 +45,7 @@ module _ (eq : Pair → Pair → Bool) (tells : (j k : Pair) → eq j k ≡ (j.n
   unfolding IsDistinct
   distinct_cells [] apart = tt
   distinct_cells (e ∷ es) apart = (
-    sym (lookup_found (eq e.0) e.0.node e.0.place (tells e.0) es) ∙ none_apart e.0 es apart.0,
+    sym (lookup_found (eq e.0) e.0.node e.0.place (reports e.0) es) ∙ none_apart e.0 es apart.0,
     distinct_cells es apart.1,
   )
 
@@ -55,19 +55,19 @@ module _ (eq : Pair → Pair → Bool) (tells : (j k : Pair) → eq j k ≡ (j.n
     found_after : (m q : ℕ) → found_at (entries_of new.entries) m q
         ≡ cond (eq (pair n p) (pair m q)) (Some f) (found_at (entries_of old.entries) m q)
     found_after m q =
-        sym (lookup_found (eq (pair m q)) m q (tells (pair m q)) new.entries) ∙ updates.0 (pair m q)
+        sym (lookup_found (eq (pair m q)) m q (reports (pair m q)) new.entries) ∙ updates.0 (pair m q)
         ∙ ap (cond (eq (pair n p) (pair m q)) (Some f))
-        (lookup_found (eq (pair m q)) m q (tells (pair m q)) old.entries)
+        (lookup_found (eq (pair m q)) m q (reports (pair m q)) old.entries)
 
     is_own_pair : (m q : ℕ) → eq (pair n p) (pair m q) ≡ true → (m ≡ n) × (q ≡ p)
     is_own_pair m q own =
-        let both = and_parts (n == m) (p == q) (sym (tells (pair n p) (pair m q)) ∙ own) in
+        let both = and_parts (n == m) (p == q) (sym (reports (pair n p) (pair m q)) ∙ own) in
         (sym (eqb-true n m both.0), sym (eqb-true p q both.1))
 
     pub put_pair : found_at (entries_of old.entries) n p ≡ None
         → IsPut (entries_of old.entries) (entries_of new.entries) n p f
     put_pair none = record {
-      here = sym (lookup_found (eq (pair n p)) n p (tells (pair n p)) new.entries) ∙ updates.1;
+      here = sym (lookup_found (eq (pair n p)) n p (reports (pair n p)) new.entries) ∙ updates.1;
       kept = λ m q h is. keeps m q h is (eq (pair n p) (pair m q)) refl;
       only = λ m q. elsewhere m q (eq (pair n p) (pair m q)) refl;
     }

@@ -60,14 +60,14 @@ module _ {E : Type 0} (rules : table.Rules E) (exact : rules.names ≡ Exact) (n
 
 module _ (text : Visit → List ℕ) (keys : List (List ℕ)) where
   -- the pairs so far, and what the others add to them
-  abbrev pub AreTold : List (List ℕ) → List Visit → ℕ → Type 0
-  AreTold seen told i =
-      told ++ each_once text seen (map visit_of (drop i keys)) ≡ each_once text [] (map visit_of keys)
+  abbrev pub AreAllReported : List (List ℕ) → List Visit → ℕ → Type 0
+  AreAllReported seen reported i =
+      reported ++ each_once text seen (map visit_of (drop i keys)) ≡ each_once text [] (map visit_of keys)
 
-  next-told : (seen : List (List ℕ)) (i : ℕ) (d : List ℕ) → i < length keys
+  next-reported : (seen : List (List ℕ)) (i : ℕ) (d : List ℕ) → i < length keys
       → each_once text seen (map visit_of (drop i keys))
       ≡ each_once text seen (visit_of (get_or keys i d) ∷ map visit_of (drop (i + 1) keys))
-  next-told seen i d less = ap (λ ks. each_once text seen (map visit_of ks)) (drop_more keys i d less)
+  next-reported seen i d less = ap (λ ks. each_once text seen (map visit_of ks)) (drop_more keys i d less)
 
   once-new : (seen : List (List ℕ)) (v : Visit) (vs : List Visit) → list_any (bytes_eq (text v)) seen ≡ false
       → each_once text seen (v ∷ vs) ≡ v ∷ each_once text (seen ++ text v ∷ []) vs
@@ -78,49 +78,51 @@ module _ (text : Visit → List ℕ) (keys : List (List ℕ)) where
   once-known seen v vs known =
       ap (λ b. cond b (each_once text seen vs) (v ∷ each_once text (seen ++ text v ∷ []) vs)) known
 
-  pub told-new : (seen next : List (List ℕ)) (told later : List Visit) (i : ℕ) (d : List ℕ) (v : Visit)
-      → i < length keys → AreTold seen told i → v ≡ visit_of (get_or keys i d)
+  pub reported-new : (seen next : List (List ℕ)) (reported later : List Visit) (i : ℕ) (d : List ℕ) (v : Visit)
+      → i < length keys → AreAllReported seen reported i → v ≡ visit_of (get_or keys i d)
       → list_any (bytes_eq (text v)) seen ≡ false
-      → next ≡ seen ++ text v ∷ [] → later ≡ told ++ v ∷ [] → AreTold next later (i + 1)
-  told-new seen next told later i d v less so is new more grown =
+      → next ≡ seen ++ text v ∷ [] → later ≡ reported ++ v ∷ [] → AreAllReported next later (i + 1)
+  reported-new seen next reported later i d v less so is new more grown =
       let step : each_once text seen (map visit_of (drop i keys))
-      ≡ v ∷ each_once text (seen ++ text v ∷ []) (map visit_of (drop (i + 1) keys)) = next-told seen i d less
+      ≡ v ∷ each_once text (seen ++ text v ∷ []) (map visit_of (drop (i + 1) keys)) = next-reported seen i d less
       ∙ ap (λ w. each_once text seen (w ∷ map visit_of (drop (i + 1) keys))) (sym is)
       ∙ once-new seen v (map visit_of (drop (i + 1) keys)) new in
-      rw (grown, more) (append_assoc told (v ∷ []) _ ∙ ap (λ (ws : List Visit). told ++ ws) (sym step) ∙ so)
+      rw (grown, more) (append_assoc reported (v ∷ []) _ ∙ ap (λ (ws : List Visit). reported ++ ws) (sym step) ∙ so)
 
-  pub told-known : (seen next : List (List ℕ)) (told : List Visit) (i : ℕ) (d : List ℕ) (v : Visit) → i < length keys
-      → AreTold seen told i → v ≡ visit_of (get_or keys i d) → list_any (bytes_eq (text v)) seen ≡ true
-      → next ≡ seen → AreTold next told (i + 1)
-  told-known seen next told i d v less so is known more =
+  pub reported-known : (seen next : List (List ℕ)) (reported : List Visit) (i : ℕ) (d : List ℕ) (v : Visit)
+      → i < length keys
+      → AreAllReported seen reported i → v ≡ visit_of (get_or keys i d) → list_any (bytes_eq (text v)) seen ≡ true
+      → next ≡ seen → AreAllReported next reported (i + 1)
+  reported-known seen next reported i d v less so is known more =
       let step : each_once text seen (map visit_of (drop i keys))
-      ≡ each_once text seen (map visit_of (drop (i + 1) keys)) = next-told seen i d less
+      ≡ each_once text seen (map visit_of (drop (i + 1) keys)) = next-reported seen i d less
       ∙ ap (λ w. each_once text seen (w ∷ map visit_of (drop (i + 1) keys))) (sym is)
       ∙ once-known seen v (map visit_of (drop (i + 1) keys)) known in
-      rw more (ap (λ (ws : List Visit). told ++ ws) (sym step) ∙ so)
+      rw more (ap (λ (ws : List Visit). reported ++ ws) (sym step) ∙ so)
 
   -- the pair of a key, whose text is new or known
   module _ (old new : table.Rules (Unit {0})) (rule : table.Rule (Unit {0})) (exact : old.names ≡ Exact)
-      (told : List Visit) (i : ℕ) (less : i < length keys) (so : AreTold (table.names_of old) told i)
+      (reported : List Visit) (i : ℕ) (less : i < length keys) (so : AreAllReported (table.names_of old) reported i)
       (named : rule.name ≡ text (visit_of (get_or keys i []))) where
     pub once-added : (id : ℕ) → table.Defines old new rule (Added id) → (later : List Visit)
-        → later ≡ told ++ visit_of (get_or keys i []) ∷ []
-        → (new.names ≡ Exact) × AreTold (table.names_of new) later (i + 1)
+        → later ≡ reported ++ visit_of (get_or keys i []) ∷ []
+        → (new.names ≡ Exact) × AreAllReported (table.names_of new) later (i + 1)
     once-added id defines later grown =
         let names : table.names_of new ≡ table.names_of old ++ text (visit_of (get_or keys i [])) ∷ [] =
         ap table.names_of defines.2 ∙ map-append (λ (r : table.Rule (Unit {0})). r.name) old.rules (rule ∷ [])
         ∙ ap (λ (n : List ℕ). table.names_of old ++ n ∷ []) named in (
           ap (λ (t : table.Rules (Unit {0})). t.names) defines.2 ∙ exact,
-          told-new (table.names_of old) (table.names_of new) told later i [] (visit_of (get_or keys i [])) less so refl
+          reported-new (table.names_of old) (table.names_of new) reported later i []
+              (visit_of (get_or keys i [])) less so refl
               (subst (λ n. list_any (bytes_eq n) (table.names_of old) ≡ false) named
               (new-text old exact rule.name defines.0)) names grown,
         )
 
     pub once-duplicate : (id : ℕ) → table.Defines old new rule (Duplicate id)
-        → (new.names ≡ Exact) × AreTold (table.names_of new) told (i + 1)
+        → (new.names ≡ Exact) × AreAllReported (table.names_of new) reported (i + 1)
     once-duplicate id defines = (
       ap (λ (t : table.Rules (Unit {0})). t.names) defines.1 ∙ exact,
-      told-known (table.names_of old) (table.names_of new) told i [] (visit_of (get_or keys i [])) less so refl
+      reported-known (table.names_of old) (table.names_of new) reported i [] (visit_of (get_or keys i [])) less so refl
           (subst (λ n. list_any (bytes_eq n) (table.names_of old) ≡ true) named
           (known-text old exact rule.name id defines.0)) (ap table.names_of defines.1),
     )
@@ -179,8 +181,8 @@ key-at [] i less = absurd (omega (arith, less))
 key-at (k ∷ keys) zero less = refl
 key-at (k ∷ keys) (suc i) less = key-at keys i (omega (arith, less))
 
-pub once-done : (text : Visit → List ℕ) (keys : List (List ℕ)) (seen : List (List ℕ)) (told : List Visit) (i : ℕ)
-    → length keys ≤ i → AreTold text keys seen told i → told ≡ each_once text [] (map visit_of keys)
-once-done text keys seen told i past so =
-    sym (append-nil told)
-    ∙ ap (λ (ks : List (List ℕ)). told ++ each_once text seen (map visit_of ks)) (sym (drop_all i keys past)) ∙ so
+pub once-done : (text : Visit → List ℕ) (keys : List (List ℕ)) (seen : List (List ℕ)) (reported : List Visit) (i : ℕ)
+    → length keys ≤ i → AreAllReported text keys seen reported i → reported ≡ each_once text [] (map visit_of keys)
+once-done text keys seen reported i past so =
+    sym (append-nil reported)
+    ∙ ap (λ (ks : List (List ℕ)). reported ++ each_once text seen (map visit_of ks)) (sym (drop_all i keys past)) ∙ so

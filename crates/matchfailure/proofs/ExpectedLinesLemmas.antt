@@ -13,8 +13,8 @@ use Rattle.matchfailure.specs.NoMatchLines.{more_expected}
 min-turned : (a b : ℕ) → min a b ≡ min b a
 min-turned a b = omega arith
 
-first-told : (vs : List Visit) (k : ℕ) → k ≡ min (length vs) 16 → take k vs ≡ take 16 vs
-first-told vs k e = ap (λ (n : ℕ). take n vs) (e ∙ min-turned (length vs) 16) ∙ take_min 16 vs
+first-reported : (vs : List Visit) (k : ℕ) → k ≡ min (length vs) 16 → take k vs ≡ take 16 vs
+first-reported vs k e = ap (λ (n : ℕ). take n vs) (e ∙ min-turned (length vs) 16) ∙ take_min 16 vs
 
 left-over : (vs : List Visit) (k : ℕ) → k ≡ min (length vs) 16 → length vs - k ≡ length vs - 16
 left-over vs k e = omega (arith, e)
@@ -24,7 +24,7 @@ pub expected-join : (f : Visit → List ℕ) (vs : List Visit) (k : ℕ) (o a b 
     → k ≡ min (length vs) 16 → a ≡ o ++ flat_map f (take k vs) → b ≡ a ++ more_expected (length vs - k)
     → b ≡ o ++ (flat_map f (take 16 vs) ++ more_expected (length vs - 16))
 expected-join f vs k o a b e g h =
-    let first = ap (flat_map f) (first-told vs k e) in
+    let first = ap (flat_map f) (first-reported vs k e) in
     let left = ap more_expected (left-over vs k e) in
     rw (h, g, first, left)
     (append_assoc o (flat_map f (take 16 vs)) (more_expected (length vs - 16)))

@@ -5,24 +5,24 @@ use Rattle.std.proofs.Common.{refl, sym, ap, ◌∙◌, subst, arith, add-zero}
 use Rattle.std.specs.Option.{MatchOption}
 use Rattle.std.specs.Prelude.{IfSome}
 use Rattle.matchfailure.specs.Farthest.{IsFarthest, NoneFails}
-use Rattle.matchfailure.specs.ToldUnit.{told_unit_of}
+use Rattle.matchfailure.specs.ReportedUnit.{reported_unit_of}
 use Rattle.matchfailure.specs.VisitLists.{AreWithin}
 use Rattle.matchfailure.specs.declared.farthest.failures.Farthest.{Farthest}
-use Rattle.matchfailure.specs.declared.farthest.told.LastUnit.{LastUnit}
+use Rattle.matchfailure.specs.declared.farthest.reported.LastUnit.{LastUnit}
 use Rattle.matchfailure.specs.declared.farthest.visit.Visit.{Visit}
 use Rattle.pegnodes.specs.NodeLists.{AreNumbered}
 use Rattle.pegnodes.specs.Nodes.{Shape}
 use Rattle.pegread.specs.Pattern.{Rule}
 use Rattle.matchfailure.specs.FittingFailures.{IsFitting}
 use Rattle.matchfailure.specs.FoundFailures.{IsFound, IsFoundBefore, failure_found}
-use Rattle.matchfailure.specs.NoMatches.{IsNoMatchTold, IsFailureOf, IsUnitFailure, failing_byte, failure_of}
-use Rattle.matchfailure.specs.NoMatches.{AreReportedOf, lines_of_failure, no_match_lines, told_failure}
+use Rattle.matchfailure.specs.NoMatches.{IsNoMatchReported, IsFailureOf, IsUnitFailure, failing_byte, failure_of}
+use Rattle.matchfailure.specs.NoMatches.{AreReportedOf, lines_of_failure, no_match_lines, reported_failure}
 use Rattle.matchfailure.specs.NoMatches.{unit_before}
 use Rattle.matchfailure.specs.NoMatchLines.{opening}
 use Rattle.matchfailure.specs.NodeTexts.{name_of_rule}
 use Rattle.matchfailure.specs.UnitEnds.{EndsSo, outcome_at, takes_no_byte}
 use Rattle.gramcheck.specs.Outcome.{Event, RuleGives}
-use Rattle.matchfailure.specs.InputPlaces.{place_behind}
+use Rattle.matchfailure.specs.InputPlaces.{place_after}
 use Rattle.matchfailure.specs.declared.explain.place.TextPlace.{TextPlace}
 use Rattle.matchfailure.proofs.FoundLinesLemmas.{seen-from}
 
@@ -39,7 +39,7 @@ found-fits (Some far) nodes count size unit N F place expected same less m = rec
 }
 
 module _ (rules : List Rule) (start : ℕ) (nodes : List Shape) (bodies front seen : List ℕ) (at : TextPlace)
-    (is : at ≡ place_behind front) where
+    (is : at ≡ place_after front) where
   -- what is found in what is seen fails so in the input
   found-failure : (offset : ℕ) (found : Option Farthest) → IsFound rules start nodes bodies (drop offset seen) found
       → IsUnitFailure rules start nodes bodies (front ++ seen) (at.byte + offset)
@@ -59,26 +59,28 @@ module _ (rules : List Rule) (start : ℕ) (nodes : List Shape) (bodies front se
       subst (λ b. IsUnitFailure rules start nodes bodies (front ++ seen) b (failure_found b found)) (add-zero at.byte)
       (found-failure 0 found f)
 
-  pub no-match-told : AreNumbered rules nodes bodies → (last : ℕ) (before latest : Option Farthest)
+  pub no-match-reported : AreNumbered rules nodes bodies → (last : ℕ) (before latest : Option Farthest)
       → IsFoundBefore rules start nodes bodies seen last before
-      → IsFound rules start nodes bodies (drop last seen) latest → (told t : LastUnit) (b l : Option ℕ) (lines : List ℕ)
-      → t ≡ told_unit_of b l → b ≡ failing_byte (failure_found at.byte before)
-      → l ≡ failing_byte (failure_found (at.byte + last) latest) → t ≡ told
+      → IsFound rules start nodes bodies (drop last seen) latest → (reported t : LastUnit) (b l : Option ℕ)
+      (lines : List ℕ)
+      → t ≡ reported_unit_of b l → b ≡ failing_byte (failure_found at.byte before)
+      → l ≡ failing_byte (failure_found (at.byte + last) latest) → t ≡ reported
       → (listed : List Visit) → AreReportedOf rules start nodes bodies
-      (failure_of told (failure_found at.byte before) (failure_found (at.byte + last) latest)) listed
+      (failure_of reported (failure_found at.byte before) (failure_found (at.byte + last) latest)) listed
       → lines ≡ lines_of_failure rules nodes bodies (front ++ seen)
-      (failure_of told (failure_found at.byte before) (failure_found (at.byte + last) latest)) listed
+      (failure_of reported (failure_found at.byte before) (failure_found (at.byte + last) latest)) listed
       → (end : Option ℕ) → EndsSo rules start (drop last seen) end → (stuck : Bool)
       → ((events : List Event) → stuck ≡ takes_no_byte (outcome_at end events)) → (why : List ℕ)
       → why ≡ opening stuck (name_of_rule rules start) lines ++ lines
-      → IsNoMatchTold rules start (front ++ seen) (unit_before at.byte last) (at.byte + last) why
-  no-match-told numbered last before latest f g told t b l lines e h k same listed reported are end ends stuck tested
+      → IsNoMatchReported rules start (front ++ seen) (unit_before at.byte last) (at.byte + last) why
+  no-match-reported numbered last before latest f g reported t b l lines e h k same listed in_report_order are end ends
+      stuck tested
       why whole =
-      let failure : failure_of told (failure_found at.byte before) (failure_found (at.byte + last) latest)
-      ≡ told_failure (failure_found at.byte before) (failure_found (at.byte + last) latest) =
+      let failure : failure_of reported (failure_found at.byte before) (failure_found (at.byte + last) latest)
+      ≡ reported_failure (failure_found at.byte before) (failure_found (at.byte + last) latest) =
       ap (λ u. failure_of u (failure_found at.byte before) (failure_found (at.byte + last) latest))
-      (sym same ∙ e ∙ ap (λ x. told_unit_of x l) h
-      ∙ ap (told_unit_of (failing_byte (failure_found at.byte before))) k) in record {
+      (sym same ∙ e ∙ ap (λ x. reported_unit_of x l) h
+      ∙ ap (reported_unit_of (failing_byte (failure_found at.byte before))) k) in record {
         nodes = nodes;
         bodies = bodies;
         numbered = numbered;
@@ -90,8 +92,8 @@ module _ (rules : List Rule) (start : ℕ) (nodes : List Shape) (bodies front se
         looked = ends.looked;
         gives = subst (λ w. RuleGives rules start w (outcome_at end ends.events) ends.looked)
             (sym (seen-from front seen at last is)) ends.gives;
-        told = listed;
-        reported = subst (λ o. AreReportedOf rules start nodes bodies o listed) failure reported;
+        reported = listed;
+        in_report_order = subst (λ o. AreReportedOf rules start nodes bodies o listed) failure in_report_order;
         are = whole ∙ ap (λ s. opening s (name_of_rule rules start) lines ++ lines) (tested ends.events)
             ∙ ap (no_match_lines (outcome_at end ends.events) (name_of_rule rules start))
             (are ∙ ap (λ o. lines_of_failure rules nodes bodies (front ++ seen) o listed) failure);

@@ -5,7 +5,7 @@ use Rattle.std.proofs.Common.{◌==◌, true, false, [], ◌∷◌, refl}
 use Rattle.std.proofs.lemmas.Bool.{eqb-true}
 use Rattle.std.proofs.Math.Seq.{drop-append-add, take-append-add, take-length}
 use Rattle.matchfailure.specs.NoMatchLines.{nothing_failed, opening}
-use Rattle.matchfailure.specs.InputPlaces.{place_behind}
+use Rattle.matchfailure.specs.InputPlaces.{place_after}
 use Rattle.matchfailure.specs.declared.explain.place.TextPlace.{TextPlace}
 
 -- a slice from a place on
@@ -13,15 +13,15 @@ pub slice-from : (seen : List ℕ) (n : ℕ) → take (length seen - n) (drop n 
 slice-from seen n =
     ap (λ (k : ℕ). take k (drop n seen)) (sym (length-drop n seen)) ∙ take-length (drop n seen)
 
-pub byte-is : (front : List ℕ) (at : TextPlace) → at ≡ place_behind front → at.byte ≡ length front
+pub byte-is : (front : List ℕ) (at : TextPlace) → at ≡ place_after front → at.byte ≡ length front
 byte-is front at e = ap (λ (a : TextPlace). a.byte) e
 
-pub seen-from : (front seen : List ℕ) (at : TextPlace) (offset : ℕ) → at ≡ place_behind front
+pub seen-from : (front seen : List ℕ) (at : TextPlace) (offset : ℕ) → at ≡ place_after front
     → drop (at.byte + offset) (front ++ seen) ≡ drop offset seen
 seen-from front seen at offset e =
     ap (λ (n : ℕ). drop (n + offset) (front ++ seen)) (byte-is front at e) ∙ drop-append-add front seen offset
 
-taken-to : (front seen : List ℕ) (at : TextPlace) (offset place : ℕ) → at ≡ place_behind front
+taken-to : (front seen : List ℕ) (at : TextPlace) (offset place : ℕ) → at ≡ place_after front
     → take ((at.byte + offset) + place) (front ++ seen) ≡ front ++ take (offset + place) seen
 taken-to front seen at offset place e =
     let byte = byte-is front at e in
@@ -29,14 +29,14 @@ taken-to front seen at offset place e =
     ap (λ (n : ℕ). take n (front ++ seen)) sum ∙ take-append-add front seen (offset + place)
 
 -- what holds of what is seen of a unit, and of a position of that, holds of the input
-pub told-of-input : (told : List ℕ → TextPlace → List ℕ) (front seen : List ℕ) (at failing : TextPlace)
-    (offset place : ℕ) → at ≡ place_behind front → failing ≡ place_behind (front ++ take (offset + place) seen)
-    → told (drop offset seen) failing ≡ told (drop (at.byte + offset) (front ++ seen))
-    (place_behind (take ((at.byte + offset) + place) (front ++ seen)))
-told-of-input told front seen at failing offset place e f =
-    ap (λ (w : List ℕ). told w failing) (sym (seen-from front seen at offset e))
-    ∙ ap (told (drop (at.byte + offset) (front ++ seen)))
-    (f ∙ ap place_behind (sym (taken-to front seen at offset place e)))
+pub reported-of-input : (reported : List ℕ → TextPlace → List ℕ) (front seen : List ℕ) (at failing : TextPlace)
+    (offset place : ℕ) → at ≡ place_after front → failing ≡ place_after (front ++ take (offset + place) seen)
+    → reported (drop offset seen) failing ≡ reported (drop (at.byte + offset) (front ++ seen))
+    (place_after (take ((at.byte + offset) + place) (front ++ seen)))
+reported-of-input reported front seen at failing offset place e f =
+    ap (λ (w : List ℕ). reported w failing) (sym (seen-from front seen at offset e))
+    ∙ ap (reported (drop (at.byte + offset) (front ++ seen)))
+    (f ∙ ap place_after (sym (taken-to front seen at offset place e)))
 
 -- the first line where there are no others
 pub quiet-opening : (name lines : List ℕ) → (length lines == 0) ≡ true → opening false name lines ≡ nothing_failed

@@ -33,7 +33,7 @@ module _ (g : Grammar) (x : List ℕ) (sound : IsSoundGrammar g) where
   pub step_ends : (old new : View) (unit : UnitAnswer) → IsStep g x false old new (Some unit) → IsDone g x false new
   step_ends old new (Took end begun) s = s.0.done
   step_ends old new (Failed begun) s = s.0.done
-  step_ends old new Need s = absurd (cc s.1.behind)
+  step_ends old new Need s = absurd (cc s.1.after)
 
   -- where the start rule ends by its answer
   pub step_answers : (old new : View) (unit : UnitAnswer) → IsStep g x false old new (Some unit)
@@ -48,4 +48,4 @@ module _ (g : Grammar) (x : List ℕ) (sound : IsSoundGrammar g) where
     looked = s.0.answers.looked;
     gives = s.0.answers.gives;
   }
-  step_answers old new Need s = absurd (cc s.1.behind)
+  step_answers old new Need s = absurd (cc s.1.after)

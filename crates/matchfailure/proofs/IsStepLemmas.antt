@@ -20,7 +20,7 @@ use Rattle.pegmatch.specs.declared.matcher.Unit.TheVariants as unit
 use Rattle.memo.specs.Entries.{Entry, found_at, AreDifferent}
 use Rattle.matchfailure.specs.declared.desk.frame.FailureFrame.{FailureFrame}
 use Rattle.matchfailure.specs.declared.desk.turn.Turn.TheVariants.{Ask, Answer}
-use Rattle.matchfailure.specs.Desk.{View, beginning, Fits, HasFrames, Drops, Ends, IsStep, unit_of}
+use Rattle.matchfailure.specs.Desk.{View, prefix, Fits, HasFrames, Drops, Ends, IsStep, unit_of}
 use Rattle.matchfailure.specs.State.{IsPut, IsUnderWay, IsStack, last_position}
 use Rattle.matchfailure.specs.Turns.{IsTurn}
 use Rattle.pegmatch.specs.Visits.{NodeGives, Visits}
@@ -118,7 +118,7 @@ module _ (g : Grammar) (x : List ℕ) (more : Bool) (sound : IsSoundGrammar g) w
   pub pushed_step : {old new : View} {t : FailureFrame} {fs : List FailureFrame} {m q i r : ℕ} → Fits g x more old
       → old.frames ≡ t ∷ fs →
       IsTurn Rs g.start Ns g.bodies x more old.cells t.node t.place (Ask m q i r) → new.cells ≡ old.cells →
-      new.frames ≡ beginning m q ∷ (record { node = t.node; place = t.place; next = i; end = r } ∷ fs)
+      new.frames ≡ prefix m q ∷ (record { node = t.node; place = t.place; next = i; end = r } ∷ fs)
       → new.begun ≡ old.begun + 1 → IsStep g x more old new None
   pushed_step {old} {t} {fs} {m} {q} {i} {r} f is turn cells frames begun =
       let stack = stack_push Rs g.start Ns g.bodies g.ranks x more sound old.cells t fs m q i r
@@ -132,9 +132,9 @@ module _ (g : Grammar) (x : List ℕ) (more : Bool) (sound : IsSoundGrammar g) w
           different = rw cells f.different;
           count = rw cells (omega (arith, begun, f.count, lengths, before));
         },
-        (beginning m q, record { node = t.node; place = t.place; next = i; end = r } ∷ fs, frames),
+        (prefix m q, record { node = t.node; place = t.place; next = i; end = r } ∷ fs, frames),
         inl (record {
-          frame = beginning m q;
+          frame = prefix m q;
           top = t;
           below = fs;
           come = record { node = t.node; place = t.place; next = i; end = r };
@@ -214,7 +214,7 @@ module _ (g : Grammar) (x : List ℕ) (more : Bool) (sound : IsSoundGrammar g) w
   ended_step old new (Took end) b e is = (e, is)
 
   pub fits_begin : (root : ℕ) (d : View) → slice_get g.bodies g.start ≡ Some root → d.cells ≡ []
-      → d.frames ≡ beginning root 0 ∷ [] → d.begun ≡ 1 → Fits g x more d
+      → d.frames ≡ prefix root 0 ∷ [] → d.begun ≡ 1 → Fits g x more d
   fits_begin root d at cells frames begun = record {
     stack = rw (cells, frames) (stack_begin Rs g.start Ns g.bodies g.ranks x more sound root at);
     cells = rw cells (no_cells Rs g.start Ns g.bodies g.ranks x more sound);

@@ -19,7 +19,7 @@ pub mod FailingLeafLemmas
 pub mod AscendsLemmas
 pub mod FarthestWithinLemmas
 pub mod LongerFarthestLemmas
-mod PlaceBehindLemmas
+mod PlaceAfterLemmas
 pub mod RuleOfNodeLemmas
 mod ReportOrderLemmas
 mod EachOnceLemmas

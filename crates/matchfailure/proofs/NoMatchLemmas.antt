@@ -6,11 +6,11 @@ use Rattle.matchfailure.specs.declared.farthest.visit.Visit.{Visit}
 use Rattle.pegnodes.specs.NodeLists.{bodies_of_rules, nodes_of_rules}
 use Rattle.pegnodes.specs.Nodes.{Shape}
 use Rattle.pegread.specs.Pattern.{Rule}
-use Rattle.matchfailure.specs.NoMatches.{IsNoMatchTold, IsFailureOf, IsUnitFailure, UnitFailure, lines_of_failure}
-use Rattle.matchfailure.specs.NoMatches.{AreReportedOf, no_match_lines, told_failure}
+use Rattle.matchfailure.specs.NoMatches.{IsNoMatchReported, IsFailureOf, IsUnitFailure, UnitFailure, lines_of_failure}
+use Rattle.matchfailure.specs.NoMatches.{AreReportedOf, no_match_lines, reported_failure}
 use Rattle.matchfailure.specs.NodeTexts.{name_of_rule}
 use Rattle.gramcheck.specs.Outcome.{Outcome, RuleGives}
-use Rattle.matchfailure.proofs.ReportOrderLemmas.{one-reported}
+use Rattle.matchfailure.proofs.ReportOrderLemmas.{one-in_report_order}
 
 -- a start rule has one farthest failure
 abbrev pub OneFarthest : Type 0
@@ -59,8 +59,9 @@ module _ (one : OneFarthest) (never : FarthestOrNone) (single : OneOutcome) (rul
   own-bodies = bodies_of_rules 0 rules
 
   abbrev lines-of : Outcome → Option UnitFailure → List Visit → List ℕ
-  lines-of outcome failure told =
-      no_match_lines outcome (name_of_rule rules start) (lines_of_failure rules own-nodes own-bodies text failure told)
+  lines-of outcome failure reported =
+      no_match_lines outcome (name_of_rule rules start) (lines_of_failure rules own-nodes own-bodies text failure
+      reported)
 
   -- what is reported of a failure is one list
   one-list-of : (failure : Option UnitFailure) (a b : List Visit)
@@ -68,44 +69,46 @@ module _ (one : OneFarthest) (never : FarthestOrNone) (single : OneOutcome) (rul
       → AreReportedOf rules start own-nodes own-bodies failure b → a ≡ b
   one-list-of None a b f g = f ∙ sym g
   one-list-of (Some u) a b f g =
-      one-reported rules start own-nodes own-bodies u.unit u.place u.expected a b f g
+      one-in_report_order rules start own-nodes own-bodies u.unit u.place u.expected a b f g
 
-  record Own (before : Option ℕ) (last : ℕ) (a : List ℕ) (t : IsNoMatchTold rules start text before last a)
+  record Own (before : Option ℕ) (last : ℕ) (a : List ℕ) (t : IsNoMatchReported rules start text before last a)
       : Type 0 where
     before_fails : IsFailureOf rules start own-nodes own-bodies text before t.of_before
     last_fails : IsFailureOf rules start own-nodes own-bodies text (Some last) t.of_last
-    reported : AreReportedOf rules start own-nodes own-bodies (told_failure t.of_before t.of_last) t.told
-    are : a ≡ lines-of t.outcome (told_failure t.of_before t.of_last) t.told
+    in_report_order : AreReportedOf rules start own-nodes own-bodies (reported_failure t.of_before t.of_last) t.reported
+    are : a ≡ lines-of t.outcome (reported_failure t.of_before t.of_last) t.reported
 
-  told-own : (before : Option ℕ) (last : ℕ) (a : List ℕ) → (t : IsNoMatchTold rules start text before last a)
+  reported-own : (before : Option ℕ) (last : ℕ) (a : List ℕ) → (t : IsNoMatchReported rules start text before last a)
       → Own before last a t
-  told-own before last a t =
+  reported-own before last a t =
       let ns = t.numbered.nodes_are in
       let bs = t.numbered.bodies_are in record {
         before_fails = same-nodes t.nodes own-nodes t.bodies own-bodies before t.of_before ns bs t.before_fails;
         last_fails = same-nodes t.nodes own-nodes t.bodies own-bodies (Some last) t.of_last ns bs t.last_fails;
-        reported = subst (λ m. AreReportedOf rules start own-nodes m (told_failure t.of_before t.of_last) t.told) bs
-            (subst (λ n. AreReportedOf rules start n t.bodies (told_failure t.of_before t.of_last) t.told) ns
-            t.reported);
+        in_report_order = subst (λ m. AreReportedOf rules start own-nodes m
+            (reported_failure t.of_before t.of_last) t.reported) bs
+            (subst (λ n. AreReportedOf rules start n t.bodies (reported_failure t.of_before t.of_last) t.reported) ns
+            t.in_report_order);
         are = t.are
             ∙ ap (λ n. no_match_lines t.outcome (name_of_rule rules start)
-            (lines_of_failure rules n t.bodies text (told_failure t.of_before t.of_last) t.told)) ns
+            (lines_of_failure rules n t.bodies text (reported_failure t.of_before t.of_last) t.reported)) ns
             ∙ ap (λ m. no_match_lines t.outcome (name_of_rule rules start)
-            (lines_of_failure rules own-nodes m text (told_failure t.of_before t.of_last) t.told)) bs;
+            (lines_of_failure rules own-nodes m text (reported_failure t.of_before t.of_last) t.reported)) bs;
       }
 
-  pub one-told : (before : Option ℕ) (last : ℕ) (a b : List ℕ) → IsNoMatchTold rules start text before last a
-      → IsNoMatchTold rules start text before last b → a ≡ b
-  one-told before last a b t u =
-      let f = told-own before last a t in
-      let g = told-own before last b u in
+  pub one-reported : (before : Option ℕ) (last : ℕ) (a b : List ℕ) → IsNoMatchReported rules start text before last a
+      → IsNoMatchReported rules start text before last b → a ≡ b
+  one-reported before last a b t u =
+      let f = reported-own before last a t in
+      let g = reported-own before last b u in
       let first = one-failure own-nodes own-bodies before t.of_before u.of_before f.before_fails g.before_fails in
       let second = one-failure own-nodes own-bodies (Some last) t.of_last u.of_last f.last_fails g.last_fails in
-      let failure : told_failure t.of_before t.of_last ≡ told_failure u.of_before u.of_last =
-      ap (λ o. told_failure o t.of_last) first ∙ ap (told_failure u.of_before) second in
+      let failure : reported_failure t.of_before t.of_last ≡ reported_failure u.of_before u.of_last =
+      ap (λ o. reported_failure o t.of_last) first ∙ ap (reported_failure u.of_before) second in
       let outcome = single rules start (drop last text) t.looked u.looked t.outcome u.outcome t.gives u.gives in
-      let list = one-list-of (told_failure u.of_before u.of_last) t.told u.told
-      (subst (λ o. AreReportedOf rules start own-nodes own-bodies o t.told) failure f.reported) g.reported in
-      f.are ∙ ap (λ o. lines-of o (told_failure t.of_before t.of_last) t.told) outcome.0
-      ∙ ap (λ o. lines-of u.outcome o t.told) failure
-      ∙ ap (lines-of u.outcome (told_failure u.of_before u.of_last)) list ∙ sym g.are
+      let list = one-list-of (reported_failure u.of_before u.of_last) t.reported u.reported
+      (subst (λ o. AreReportedOf rules start own-nodes own-bodies o t.reported) failure f.in_report_order)
+      g.in_report_order in
+      f.are ∙ ap (λ o. lines-of o (reported_failure t.of_before t.of_last) t.reported) outcome.0
+      ∙ ap (λ o. lines-of u.outcome o t.reported) failure
+      ∙ ap (lines-of u.outcome (reported_failure u.of_before u.of_last)) list ∙ sym g.are

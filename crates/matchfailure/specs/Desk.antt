@@ -32,8 +32,8 @@ unit_of found.Failed begun = Failed begun
 unit_of (found.Took end) begun = Took end begun
 
 -- a frame's pair, as one that begins
-abbrev pub beginning : ℕ → ℕ → FailureFrame
-beginning n p = record { node = n; place = p; next = 0; end = p }
+abbrev pub prefix : ℕ → ℕ → FailureFrame
+prefix n p = record { node = n; place = p; next = 0; end = p }
 
 -- One frame more, and one evaluation more begun; the frame below may have come further.
 pub record Pushes (old new : View) : Type 0 where
@@ -77,7 +77,7 @@ module _ (g : Grammar) (x : List ℕ) (more : Bool) where
 
   -- the last frame's own comparison reaches the last byte of the window, and more bytes follow it
   pub record Reaches (d : View) : Type 0 where
-    pub behind : more ≡ true
+    pub after : more ≡ true
     pub top : FailureFrame
     pub below : List FailureFrame
     pub is : d.frames ≡ top ∷ below

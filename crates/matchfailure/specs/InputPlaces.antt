@@ -7,8 +7,8 @@ use Rattle.matchfailure.specs.declared.explain.place.TextPlace.{TextPlace}
 
 -- after these bytes of an input: how many they are, the line, and the column, which counts the bytes of the line
 -- from 1
-abbrev pub place_behind : List ℕ → TextPlace
-place_behind front = record {
+abbrev pub place_after : List ℕ → TextPlace
+place_after front = record {
   byte = length front;
   line = line_at Lf front (length front);
   column = bytes_before Lf front + 1;

@@ -7,7 +7,7 @@ pub mod SeenVisits
 pub mod Farthest
 pub mod CellAsks
 pub mod GreatestStop
-pub mod ToldUnit
+pub mod ReportedUnit
 pub mod UnitEnds
 pub mod InputPlaces
 pub mod NodeTexts

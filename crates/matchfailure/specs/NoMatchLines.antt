@@ -49,16 +49,16 @@ more_expected (suc n) = codes "  and " ++ (decimal (suc n) ++ codes " more\n")
 
 -- a line of each of the first that are reported, and how many more there are
 abbrev pub expected_lines : List Rule → List Shape → List ℕ → ℕ → ℕ → List Visit → List ℕ
-expected_lines rules nodes bodies unit place told =
-    flat_map (expected_line rules nodes bodies unit place) (take 16 told) ++ more_expected (length told - 16)
+expected_lines rules nodes bodies unit place reported =
+    flat_map (expected_line rules nodes bodies unit place) (take 16 reported) ++ more_expected (length reported - 16)
 
 -- The lines of a failure at a position of a text, which is what is seen of a unit from its first byte on. The unit
 -- begins after so many bytes, and the failing byte stands there in the input. A comparison that fails after the last
 -- byte that is seen looked for one more, so it fails at the input's end.
 abbrev pub failure_lines : List Rule → List Shape → List ℕ → List ℕ → TextPlace → ℕ → ℕ → List Visit → List ℕ
-failure_lines rules nodes bodies text at unit place told =
+failure_lines rules nodes bodies text at unit place reported =
     failing_place at (place == length text) unit
-    ++ (failing_picture text place ++ expected_lines rules nodes bodies unit place told)
+    ++ (failing_picture text place ++ expected_lines rules nodes bodies unit place reported)
 
 -- the line where no comparison fails outside of `!`
 abbrev pub nothing_failed : List ℕ

@@ -3,9 +3,9 @@
 use Rattle.std.specs.Prelude.{◌≡◌, ℕ, zero, suc, ◌+◌, List, [], ◌++◌, Option, Some, None, take, drop}
 use Rattle.gramcheck.specs.Outcome.{Outcome, RuleGives}
 use Rattle.matchfailure.specs.Farthest.{IsFarthest, NoneFails}
-use Rattle.matchfailure.specs.ToldUnit.{told_unit_of}
-use Rattle.matchfailure.specs.declared.farthest.told.LastUnit.{LastUnit}
-use Rattle.matchfailure.specs.declared.farthest.told.LastUnit.TheVariants.{Last, Before}
+use Rattle.matchfailure.specs.ReportedUnit.{reported_unit_of}
+use Rattle.matchfailure.specs.declared.farthest.reported.LastUnit.{LastUnit}
+use Rattle.matchfailure.specs.declared.farthest.reported.LastUnit.TheVariants.{Last, Before}
 use Rattle.matchfailure.specs.declared.farthest.visit.Visit.{Visit}
 use Rattle.pegnodes.specs.NodeLists.{AreNumbered}
 use Rattle.pegnodes.specs.Nodes.{Shape}
@@ -14,7 +14,7 @@ use Rattle.matchfailure.specs.NodeTexts.{name_of_rule}
 use Rattle.matchfailure.specs.NoMatchLines.{failure_lines, opening}
 use Rattle.matchfailure.specs.ReportOrder.{AreReported}
 use Rattle.matchfailure.specs.UnitEnds.{takes_no_byte}
-use Rattle.matchfailure.specs.InputPlaces.{place_behind}
+use Rattle.matchfailure.specs.InputPlaces.{place_after}
 
 -- where a unit fails farthest outside of `!`
 pub record UnitFailure : Type 0 where
@@ -35,8 +35,8 @@ abbrev pub failure_of : LastUnit → Option UnitFailure → Option UnitFailure �
 failure_of Last before last = last
 failure_of Before before last = before
 
-abbrev pub told_failure : Option UnitFailure → Option UnitFailure → Option UnitFailure
-told_failure before last = failure_of (told_unit_of (failing_byte before) (failing_byte last)) before last
+abbrev pub reported_failure : Option UnitFailure → Option UnitFailure → Option UnitFailure
+reported_failure before last = failure_of (reported_unit_of (failing_byte before) (failing_byte last)) before last
 
 -- the position of the unit before the last one, which begins so many bytes after it; none if it is no byte
 abbrev pub unit_before : ℕ → ℕ → Option ℕ
@@ -57,23 +57,23 @@ module _ (rules : List Rule) (start : ℕ) (nodes : List Shape) (bodies text : L
 
 -- what is reported of what was expected, if there is a failure
 abbrev pub AreReportedOf : List Rule → ℕ → List Shape → List ℕ → Option UnitFailure → List Visit → Type 0
-AreReportedOf rules start nodes bodies None told = told ≡ []
-AreReportedOf rules start nodes bodies (Some f) told =
-    AreReported rules start nodes bodies f.unit f.place f.expected told
+AreReportedOf rules start nodes bodies None reported = reported ≡ []
+AreReportedOf rules start nodes bodies (Some f) reported =
+    AreReported rules start nodes bodies f.unit f.place f.expected reported
 
 -- the lines of a failure in a text, if there is one
 abbrev pub lines_of_failure : List Rule → List Shape → List ℕ → List ℕ → Option UnitFailure → List Visit → List ℕ
-lines_of_failure rules nodes bodies text None told = []
-lines_of_failure rules nodes bodies text (Some f) told =
-    failure_lines rules nodes bodies (drop f.unit text) (place_behind (take (f.unit + f.place) text)) f.unit f.place
-    told
+lines_of_failure rules nodes bodies text None reported = []
+lines_of_failure rules nodes bodies text (Some f) reported =
+    failure_lines rules nodes bodies (drop f.unit text) (place_after (take (f.unit + f.place) text)) f.unit f.place
+    reported
 
 -- the lines of a failure with the line before them, where the start rule gives this on the last unit
 abbrev pub no_match_lines : Outcome → List ℕ → List ℕ → List ℕ
 no_match_lines outcome name lines = opening (takes_no_byte outcome) name lines ++ lines
 
 -- The lines explain that no unit goes on after the last one of an input, of which these bytes are taken.
-pub record IsNoMatchTold (rules : List Rule) (start : ℕ) (text : List ℕ) (before : Option ℕ) (last : ℕ)
+pub record IsNoMatchReported (rules : List Rule) (start : ℕ) (text : List ℕ) (before : Option ℕ) (last : ℕ)
     (lines : List ℕ) : Type 0 where
   pub nodes : List Shape
   pub bodies : List ℕ
@@ -87,7 +87,7 @@ pub record IsNoMatchTold (rules : List Rule) (start : ℕ) (text : List ℕ) (be
   pub looked : ℕ
   pub gives : RuleGives rules start (drop last text) outcome looked
   -- what is reported of what was expected
-  pub told : List Visit
-  pub reported : AreReportedOf rules start nodes bodies (told_failure of_before of_last) told
+  pub reported : List Visit
+  pub in_report_order : AreReportedOf rules start nodes bodies (reported_failure of_before of_last) reported
   pub are : lines ≡ no_match_lines outcome (name_of_rule rules start)
-      (lines_of_failure rules nodes bodies text (told_failure of_before of_last) told)
+      (lines_of_failure rules nodes bodies text (reported_failure of_before of_last) reported)

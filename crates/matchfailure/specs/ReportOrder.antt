@@ -75,10 +75,10 @@ module _ (rules : List Rule) (start : ℕ) (nodes : List Shape) (bodies : List �
   -- Of the pairs that were expected these are reported. They are ordered by the distance of the rule from the start
   -- rule, by the rules, literals before classes and these before `.`, by the body, and by where they begin. Of pairs
   -- that are reported alike the first stands.
-  pub record AreReported (expected told : List Visit) : Type 0 where
+  pub record AreReported (expected reported : List Visit) : Type 0 where
     pub far : List (Option ℕ)
     pub distances : AreDistances (use_rows nodes 0 bodies) start far
     pub keys : List (List ℕ)
     pub same : IsPermutation (map (key_of far nodes bodies) expected) keys
     pub ascend : IsSorted (slice_cmp nat_cmp) keys
-    pub are : told ≡ each_once entry_text [] (map visit_of keys)
+    pub are : reported ≡ each_once entry_text [] (map visit_of keys)

@@ -8,8 +8,8 @@ mod greatest;
 mod laws;
 mod order;
 mod outside;
+mod reported;
 mod stop;
-mod told;
 mod visit;
 
 pub use failures::{Farthest, UnitSearch, farthest_failure};
@@ -17,5 +17,5 @@ pub use laws::{
     failing_leaf_stops, farthest_is_within, farthest_or_none, one_farthest, same_on_longer,
     stops_fail,
 };
-pub use told::{LastUnit, told_unit};
+pub use reported::{LastUnit, reported_unit};
 pub use visit::Visit;

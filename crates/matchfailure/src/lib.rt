@@ -10,5 +10,5 @@ pub use desk::Desk;
 pub use explain::{FailureSearch, TextPlace, explain_long_unit, fails_so_in_input, one_no_match};
 pub use farthest::{
     Farthest, LastUnit, UnitSearch, Visit, failing_leaf_stops, farthest_failure,
-    farthest_is_within, farthest_or_none, one_farthest, same_on_longer, stops_fail, told_unit,
+    farthest_is_within, farthest_or_none, one_farthest, reported_unit, same_on_longer, stops_fail,
 };

@@ -4,9 +4,9 @@ use Rattle.std.proofs.Common.{◌≡◌, ◌⊎◌, inl, inr, ℕ, zero, suc, �
 use Rattle.std.proofs.Common.{subst, ap, arith, slice_get, Some, reverse}
 use Rattle.std.proofs.lemmas.List.{reverse-append}
 use Rattle.memo.specs.Parts.{IsIn, in_here, in_later}
-use Rattle.memo.specs.KeyLog.{spots_of, spread, rising}
+use Rattle.memo.specs.KeyLog.{tasks_of, spread, rising}
 use Rattle.memo.specs.declared.key_log.Stored.{Stored}
-use Rattle.memo.specs.declared.spot.Spot.{Spot}
+use Rattle.memo.specs.declared.task.MatchTask.{MatchTask}
 use Rattle.memo.proofs.PartsLemmas.{in_left, in_right, in_either}
 
 module _ {V : Type 0} where
@@ -42,21 +42,21 @@ module _ {V : Type 0} where
     | inr r ↦ elim (first_or_later r) [ inl is ↦ subst (λ v. IsIn v (b ∷ xs)) (sym is) in_here | inr j ↦ elim j [ ] ]
   ]
 
-pub record HasStored (stored : List Stored) (spot : Spot) : Type 0 where
+pub record HasStored (stored : List Stored) (task : MatchTask) : Type 0 where
   pub entry : Stored
   pub there : IsIn entry stored
-  pub is : entry.spot ≡ spot
+  pub is : entry.task ≡ task
 
-pub stored_of_spot : (stored : List Stored) (spot : Spot) → IsIn spot (spots_of stored) → HasStored stored spot
-stored_of_spot [] spot i = elim i [ ]
-stored_of_spot (s ∷ stored) spot i = elim (first_or_later i) [
+pub stored_of_task : (stored : List Stored) (task : MatchTask) → IsIn task (tasks_of stored) → HasStored stored task
+stored_of_task [] task i = elim i [ ]
+stored_of_task (s ∷ stored) task i = elim (first_or_later i) [
   | inl is ↦ record { entry = s; there = in_here; is = sym is }
-  | inr j ↦ let h = stored_of_spot stored spot j in record { entry = h.entry; there = in_later h.there; is = h.is }
+  | inr j ↦ let h = stored_of_task stored task j in record { entry = h.entry; there = in_later h.there; is = h.is }
 ]
 
-pub spot_of_stored : {s : Stored} {stored : List Stored} → IsIn s stored → IsIn s.spot (spots_of stored)
-spot_of_stored in_here = in_here
-spot_of_stored (in_later i) = in_later (spot_of_stored i)
+pub task_of_stored : {s : Stored} {stored : List Stored} → IsIn s stored → IsIn s.task (tasks_of stored)
+task_of_stored in_here = in_here
+task_of_stored (in_later i) = in_later (task_of_stored i)
 
 -- one of those that stand at places in a row
 pub record IsSpread (at : ℕ → Stored) (from n : ℕ) (s : Stored) : Type 0 where

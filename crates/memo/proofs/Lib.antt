@@ -3,4 +3,4 @@ pub mod PartsLemmas
 pub mod RunLemmas
 pub mod KeyLogLemmas
 pub mod LogEntriesLemmas
-pub mod SpotLinksLemmas
+pub mod TaskLinksLemmas

@@ -9,12 +9,12 @@ use Rattle.memo.specs.LogEntries.{pairs_of, stored_of}
 use Rattle.memo.specs.declared.entry.Entry.{Entry}
 use Rattle.memo.specs.declared.key_log.Given.{Given}
 use Rattle.memo.specs.declared.key_log.Stored.{Stored}
-use Rattle.memo.specs.declared.spot.Spot.TheVariants.{Pair}
+use Rattle.memo.specs.declared.task.MatchTask.TheVariants.{Pair}
 use Rattle.memo.proofs.PartsLemmas.{in_left, in_right, in_either}
 use Rattle.memo.proofs.KeyLogLemmas.{in_of_get, get_of_in, in_reverse, of_reverse}
 
 abbrev pub at_pair : ℕ → (ℕ → Given) → ℕ → Stored
-at_pair node given p = record { spot = Pair node p; given = given p }
+at_pair node given p = record { task = Pair node p; given = given p }
 
 abbrev pub step_at : ℕ → Given
 step_at p = record { found = Took (p + 1); events = 0 }

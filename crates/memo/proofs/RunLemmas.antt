@@ -267,11 +267,11 @@ module _ (V : Type 0) (Edge : V → V → Type 0) (root : V) (Kids : V → List 
 
   -- how many are begun
   pub record Counted (new all ks : List V) (c : ℕ) : Type 0 where
-    pub spots : List V
-    pub whole : Whole V Kids key new spots
+    pub tasks : List V
+    pub whole : Whole V Kids key new tasks
     pub below : List V
     pub parts : Parts V Kids key ks below
-    pub count : T spots + T below ≡ T all + c
+    pub count : T tasks + T below ≡ T all + c
 
   joined_parts : {a : V} {ks xs ys : List V} → Parts V Kids key (a ∷ []) xs → Parts V Kids key ks ys
       → Parts V Kids key (a ∷ ks) (xs ++ ys)
@@ -280,13 +280,13 @@ module _ (V : Type 0) (Edge : V → V → Type 0) (root : V) (Kids : V → List 
       subst (λ v. Parts V Kids key (a ∷ ks) (v ++ ys)) (sym (append-nil xs)) (parts_more f p q)
 
   joined_counts : {new mid all ks : List V} {c d : ℕ} (a : V) → (h : Counted mid all (a ∷ []) c)
-      → Counted new h.spots ks d → Counted new all (a ∷ ks) (c + d)
+      → Counted new h.tasks ks d → Counted new all (a ∷ ks) (c + d)
   joined_counts a h g =
       let join = total_join V Kids key weight h.below g.below in
       let one = h.count in
       let two = g.count in
       record {
-        spots = g.spots;
+        tasks = g.tasks;
         whole = g.whole;
         below = h.below ++ g.below;
         parts = joined_parts h.parts g.parts;
@@ -297,13 +297,13 @@ module _ (V : Type 0) (Edge : V → V → Type 0) (root : V) (Kids : V → List 
     pub run_counted : {a : V} {old new : List V} {c : ℕ} → Run V Kids key weight old a new c → (all : List V)
         → Whole V Kids key old all → Counted new all (a ∷ []) c
     run_counted (run_stored t j) all w =
-        record { spots = all; whole = w; below = []; parts = parts_key t parts_none; count = omega arith }
+        record { tasks = all; whole = w; below = []; parts = parts_key t parts_none; count = omega arith }
     run_counted (run_key {a = a} {c = c} t f k s) all w =
         let h = counted_all s all w in
-        let join = total_join V Kids key weight h.below h.spots in
+        let join = total_join V Kids key weight h.below h.tasks in
         let is = h.count in
         record {
-          spots = (a ∷ h.below) ++ h.spots;
+          tasks = (a ∷ h.below) ++ h.tasks;
           whole = whole_more (part k h.parts) h.whole;
           below = [];
           parts = parts_key t parts_none;
@@ -314,7 +314,7 @@ module _ (V : Type 0) (Edge : V → V → Type 0) (root : V) (Kids : V → List 
         let join = total_join V Kids key weight h.below [] in
         let is = h.count in
         record {
-          spots = h.spots;
+          tasks = h.tasks;
           whole = h.whole;
           below = (a ∷ h.below) ++ [];
           parts = parts_more t (part k h.parts) parts_none;
@@ -324,10 +324,10 @@ module _ (V : Type 0) (Edge : V → V → Type 0) (root : V) (Kids : V → List 
     counted_all : {ks old new : List V} {c : ℕ} → RunAll V Kids key weight old ks new c → (all : List V)
         → Whole V Kids key old all → Counted new all ks c
     counted_all run_none all w =
-        record { spots = all; whole = w; below = []; parts = parts_none; count = omega arith }
+        record { tasks = all; whole = w; below = []; parts = parts_none; count = omega arith }
     counted_all (run_more {a = a} s t) all w =
         let h = run_counted s all w in
-        let g = counted_all t h.spots h.whole in
+        let g = counted_all t h.tasks h.whole in
         joined_counts a h g
 
   no_part : {a : V} {xs : List V} → Parts V Kids key (a ∷ []) xs → key a ≡ true → xs ≡ []
@@ -336,9 +336,9 @@ module _ (V : Type 0) (Edge : V → V → Type 0) (root : V) (Kids : V → List 
 
   -- of a key: as many are begun as its and the others' parts weigh
   pub record Weighed (new : List V) (c : ℕ) : Type 0 where
-    pub spots : List V
-    pub whole : Whole V Kids key new spots
-    pub count : T spots ≡ c
+    pub tasks : List V
+    pub whole : Whole V Kids key new tasks
+    pub count : T tasks ≡ c
 
   pub run_weighed : {a : V} {new : List V} {c : ℕ} → Run V Kids key weight [] a new c → key a ≡ true → Weighed new c
   run_weighed {a = a} r t =
@@ -346,4 +346,4 @@ module _ (V : Type 0) (Edge : V → V → Type 0) (root : V) (Kids : V → List 
       let none = no_part h.parts t in
       let is = h.count in
       let zero_below : T h.below ≡ 0 = subst (λ v. T v ≡ 0) (sym none) refl in
-      record { spots = h.spots; whole = h.whole; count = omega (arith, is, zero_below) }
+      record { tasks = h.tasks; whole = h.whole; count = omega (arith, is, zero_below) }

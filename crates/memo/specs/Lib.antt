@@ -2,5 +2,5 @@ pub mod Entries
 pub mod Parts
 pub mod Run
 pub mod KeyLog
-pub mod SpotLinks
+pub mod TaskLinks
 pub mod LogEntries

@@ -4,7 +4,7 @@ use Rattle.memo.specs.declared.found.Found.{Found}
 use Rattle.memo.specs.declared.found.Found.TheVariants.{Failed, Took}
 use Rattle.memo.specs.Parts.{IsIn}
 use Rattle.memo.specs.KeyLog.{run_of, steps_of, row_of, place_of, number_of, IsNarrow, AreBelow}
-use Rattle.memo.specs.SpotLinks.{Place}
+use Rattle.memo.specs.TaskLinks.{Place}
 use Rattle.memo.specs.declared.entry.Entry.{Entry}
 use Rattle.memo.specs.declared.entry.Entry.TheVariants.{Member, Run, Steps}
 use Rattle.memo.specs.declared.entry.Extent.{Extent}
@@ -13,7 +13,7 @@ use Rattle.memo.specs.declared.entry.EvaluationEnding.TheVariants.{Missed, Ended
 use Rattle.memo.specs.declared.key_log.Given.{Given}
 use Rattle.memo.specs.declared.key_log.Mark.{Mark}
 use Rattle.memo.specs.declared.key_log.Stored.{Stored}
-use Rattle.memo.specs.declared.spot.Spot.TheVariants.{Tail}
+use Rattle.memo.specs.declared.task.MatchTask.TheVariants.{Tail}
 
 -- what was found, by how it ended and where
 abbrev pub found_of : EvaluationEnding → ℕ → Found
@@ -30,7 +30,7 @@ node_of (Steps n from to) = n
 
 -- what an entry stands for
 abbrev pub pairs_of : Entry → List Stored
-pairs_of (Member o n i p e events) = record { spot = Tail n i p; given = given_of o e events } ∷ []
+pairs_of (Member o n i p e events) = record { task = Tail n i p; given = given_of o e events } ∷ []
 pairs_of (Run o n from to e events) = run_of n from to (given_of o e events)
 pairs_of (Steps n from to) = steps_of n from to
 
@@ -42,23 +42,23 @@ stored_of (e ∷ es) = pairs_of e ++ stored_of es
 -- the extent of an entry: the row, the highest place, how many they are, and their numbers from the first one on
 pub record IsExtent (entry : Entry) (x : Extent) : Type 0 where
   pub node : x.row ≡ node_of entry
-  pub row : (s : Stored) → IsIn s (pairs_of entry) → row_of s.spot ≡ x.row
-  pub place : (s : Stored) → IsIn s (pairs_of entry) → place_of s.spot ≤ x.highest
-  pub narrow : (s : Stored) → IsIn s (pairs_of entry) → IsNarrow s.spot
-  pub first : (s : Stored) → IsIn s (pairs_of entry) → x.first ≤ number_of s.spot
-  pub last : (s : Stored) → IsIn s (pairs_of entry) → number_of s.spot < x.first + x.count
+  pub row : (s : Stored) → IsIn s (pairs_of entry) → row_of s.task ≡ x.row
+  pub place : (s : Stored) → IsIn s (pairs_of entry) → place_of s.task ≤ x.highest
+  pub narrow : (s : Stored) → IsIn s (pairs_of entry) → IsNarrow s.task
+  pub first : (s : Stored) → IsIn s (pairs_of entry) → x.first ≤ number_of s.task
+  pub last : (s : Stored) → IsIn s (pairs_of entry) → number_of s.task < x.first + x.count
   pub count : x.count ≡ length (pairs_of entry)
 
 -- the index has each key of the first so many entries
 abbrev pub AreCovered : ℕ → List Entry → List Place → Type 0
 AreCovered covered entries places = (i : ℕ) (e : Entry) (s : Stored) → i < covered → slice_get entries i ≡ Some e →
-    IsIn s (pairs_of e) → IsIn (record { number = number_of s.spot; entry = i }) places
+    IsIn s (pairs_of e) → IsIn (record { number = number_of s.task; entry = i }) places
 
 -- what holds of the fields of the log
 pub record IsLog (unit count covered : ℕ) (high : List Mark) (entries : List Entry) (places : List Place)
     : Type 0 where
   pub below : AreBelow unit high (stored_of (reverse entries))
-  pub narrow : (s : Stored) → IsIn s (stored_of (reverse entries)) → IsNarrow s.spot
+  pub narrow : (s : Stored) → IsIn s (stored_of (reverse entries)) → IsNarrow s.task
   pub indexed : AreCovered covered entries places
   pub within : covered ≤ length entries
   pub counted : count ≡ length (stored_of (reverse entries))

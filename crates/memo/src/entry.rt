@@ -1,16 +1,16 @@
 //! The entries of the log, in numbers of 32 bits.
 ghost use Rattle.std.specs.Prelude.{◌≡◌, ◌+◌, ◌<◌, ◌≤◌, ◌^◌, true, false, [], ◌∷◌, slice_get, Some};
 ghost use Rattle.std.specs.Prelude.{IfOk, IfSome, IfNone};
-ghost use Rattle.memo.specs.KeyLog.{spots_of, row_of, run_of, steps_of};
+ghost use Rattle.memo.specs.KeyLog.{tasks_of, row_of, run_of, steps_of};
 ghost use Rattle.memo.specs.LogEntries.{found_of, given_of, node_of, pairs_of, IsExtent};
 ghost use Rattle.memo.specs.Parts.{IsIn};
 ghost use Rattle.memo.specs.declared.entry.Entry.{Entry};
-ghost use Rattle.memo.specs.declared.spot.Spot.TheVariants.{Pair, Tail};
+ghost use Rattle.memo.specs.declared.task.MatchTask.TheVariants.{Pair, Tail};
 
 use crate::found::Found;
 use crate::key_log::Given;
 use crate::narrow::narrow;
-use crate::spot::{Spot, pair_number, tail_number};
+use crate::task::{MatchTask, pair_number, tail_number};
 use ruletable::Memory;
 use std::mem::size_of;
 
@@ -105,13 +105,13 @@ impl Entry {
     /// # Errors
     /// `Memory` if a number does not fit into 32 bits.
     #[inline(always)]
-    pub(crate) fn of_spot(spot: Spot, given: Given) -> Result<Entry, Memory>
-        ensures pairs { IfOk result (λ e. pairs_of e ≡ record { spot = spot; given = given } ∷ []) }
-        ensures node { IfOk result (λ e. node_of e ≡ row_of spot) }
+    pub(crate) fn of_task(task: MatchTask, given: Given) -> Result<Entry, Memory>
+        ensures pairs { IfOk result (λ e. pairs_of e ≡ record { task = task; given = given } ∷ []) }
+        ensures node { IfOk result (λ e. node_of e ≡ row_of task) }
     {
-        match spot {
-            Spot::Pair { node, place } => Entry::run(node, place, place, given),
-            Spot::Tail { node, index, place } => {
+        match task {
+            MatchTask::Pair { node, place } => Entry::run(node, place, place, given),
+            MatchTask::Tail { node, index, place } => {
                 let outcome = PackedOutcome::of(given.found)?;
                 Ok(Entry::Member {
                     ending: outcome.ending,
@@ -205,21 +205,21 @@ impl Entry {
 
     /// Returns the stored outcome of a key, if the entry has the key.
     #[inline(always)]
-    pub(crate) fn given_for(self, spot: Spot) -> Option<Given>
-        ensures some { IfSome result (λ g. IsIn (record { spot = spot; given = g }) (pairs_of self)) }
-        ensures none { IfNone result (IsIn spot (spots_of (pairs_of self)) → ⊥) }
+    pub(crate) fn given_for(self, task: MatchTask) -> Option<Given>
+        ensures some { IfSome result (λ g. IsIn (record { task = task; given = g }) (pairs_of self)) }
+        ensures none { IfNone result (IsIn task (tasks_of (pairs_of self)) → ⊥) }
     {
-        match spot {
-            Spot::Pair { node, place } => self.given_for_pair(node, place),
-            Spot::Tail { node, index, place } => self.given_for_tail(node, index, place),
+        match task {
+            MatchTask::Pair { node, place } => self.given_for_pair(node, place),
+            MatchTask::Tail { node, index, place } => self.given_for_tail(node, index, place),
         }
     }
 
     // Returns what it says of a pair, if it has it.
     #[inline(always)]
     fn given_for_pair(self, node: usize, place: usize) -> Option<Given>
-        ensures some { IfSome result (λ g. IsIn (record { spot = Pair node place; given = g }) (pairs_of self)) }
-        ensures none { IfNone result (IsIn (Pair node place) (spots_of (pairs_of self)) → ⊥) }
+        ensures some { IfSome result (λ g. IsIn (record { task = Pair node place; given = g }) (pairs_of self)) }
+        ensures none { IfNone result (IsIn (Pair node place) (tasks_of (pairs_of self)) → ⊥) }
     {
         match self {
             Entry::Member {
@@ -263,8 +263,8 @@ impl Entry {
 
     // Returns what it says of a tail, if it has it.
     fn given_for_tail(self, node: usize, index: usize, place: usize) -> Option<Given>
-        ensures some { IfSome result (λ g. IsIn (record { spot = Tail node index place; given = g }) (pairs_of self)) }
-        ensures none { IfNone result (IsIn (Tail node index place) (spots_of (pairs_of self)) → ⊥) }
+        ensures some { IfSome result (λ g. IsIn (record { task = Tail node index place; given = g }) (pairs_of self)) }
+        ensures none { IfNone result (IsIn (Tail node index place) (tasks_of (pairs_of self)) → ⊥) }
     {
         match self {
             Entry::Member {
@@ -322,16 +322,16 @@ fn given(ending: EvaluationEnding, end: u32, events: u32) -> Given
     }
 }
 
-/// Returns the stored outcome of the key `spot` from entry `at`, counted from 0. `None` if there is no such entry, or
+/// Returns the stored outcome of the key `task` from entry `at`, counted from 0. `None` if there is no such entry, or
 /// the entry lacks the key.
-pub(crate) fn given_in(entries: &[Entry], at: u32, spot: Spot) -> Option<Given>
+pub(crate) fn given_in(entries: &[Entry], at: u32, task: MatchTask) -> Option<Given>
     ensures some { IfSome result (λ g. (e : Entry) × (slice_get entries.now at ≡ Some e)
-        × IsIn (record { spot = spot; given = g }) (pairs_of e)) }
-    ensures none { IfNone result ((e : Entry) → slice_get entries.now at ≡ Some e → IsIn spot (spots_of (pairs_of e))
+        × IsIn (record { task = task; given = g }) (pairs_of e)) }
+    ensures none { IfNone result ((e : Entry) → slice_get entries.now at ≡ Some e → IsIn task (tasks_of (pairs_of e))
         → ⊥) }
 {
     match entries.get(at as usize) {
-        Some(entry) => entry.given_for(spot),
+        Some(entry) => entry.given_for(task),
         None => None,
     }
 }

@@ -1,16 +1,16 @@
 //! An index of keys by their numbers.
 ghost use Rattle.std.specs.Prelude.{◌≡◌, ℕ, ◌<◌, ◌≤◌, ◌^◌, [], ◌∷◌, ◌++◌, length, slice_get, Some, IfSome, IfNone};
 ghost use Rattle.std.specs.Prelude.{OnOk, OnErr};
-ghost use Rattle.memo.specs.KeyLog.{spots_of};
+ghost use Rattle.memo.specs.KeyLog.{tasks_of};
 ghost use Rattle.memo.specs.LogEntries.{pairs_of};
 ghost use Rattle.memo.specs.Parts.{IsIn};
-ghost use Rattle.memo.specs.SpotLinks.{places_of, bucket_of, bucket_of_cell, IsLastCell, AreLinkedCells};
+ghost use Rattle.memo.specs.TaskLinks.{places_of, bucket_of, bucket_of_cell, IsLastCell, AreLinkedCells};
 ghost use Rattle.memo.specs.declared.entry.Entry.{Entry};
 
 use crate::entry::{Entry, given_in};
 use crate::key_log::Given;
 use crate::narrow::narrow;
-use crate::spot::Spot;
+use crate::task::MatchTask;
 use ruletable::Memory;
 use std::alloc::Global;
 use std::marker::Model;
@@ -40,7 +40,7 @@ pub(crate) struct Index {
 
 impl Model for Index {
     ghost use Rattle.std.specs.Prelude.{List, length, ◌<◌};
-    ghost use Rattle.memo.specs.SpotLinks.{Place, places_of, bucket_of_cell, AreLinkedCells};
+    ghost use Rattle.memo.specs.TaskLinks.{Place, places_of, bucket_of_cell, AreLinkedCells};
 
     ghost Value = { List Place };
 
@@ -54,7 +54,7 @@ impl Model for Index {
 const FIRST: usize = 64;
 
 // Returns the bucket of a number.
-#[tactic(auto, unfolding(crate::specs::SpotLinks::bucket_of))]
+#[tactic(auto, unfolding(crate::specs::TaskLinks::bucket_of))]
 #[inline(always)]
 fn bucket(count: usize, number: usize) -> usize
     requires { 0 < count }
@@ -80,20 +80,20 @@ fn walk(
     heads: &[u32],
     entries: &[Entry],
     number: usize,
-    spot: Spot,
+    task: MatchTask,
 ) -> Option<Given>
     requires some { 0 < length heads.now }
     requires linked { AreLinkedCells (bucket_of_cell (length heads.now)) cells.now heads.now }
     ensures some { IfSome result (λ g. (i : ℕ) × (e : Entry) × (slice_get entries.now i ≡ Some e)
-        × IsIn (record { spot = spot; given = g }) (pairs_of e)) }
+        × IsIn (record { task = task; given = g }) (pairs_of e)) }
     ensures none { IfNone result ((i : ℕ) (e : Entry) → IsIn (record { number = number; entry = i })
-        (places_of cells.now) → slice_get entries.now i ≡ Some e → IsIn spot (spots_of (pairs_of e)) → ⊥) }
+        (places_of cells.now) → slice_get entries.now i ≡ Some e → IsIn task (tasks_of (pairs_of e)) → ⊥) }
 {
     let mut at = last_of(cells, heads, heads.len(), bucket(heads.len(), number));
     while at > 0 {
         let cell = cells[at - 1];
         if cell.number == number {
-            if let Some(given) = given_in(entries, cell.entry, spot) {
+            if let Some(given) = given_in(entries, cell.entry, task) {
                 return Some(given);
             }
         }
@@ -207,16 +207,16 @@ impl Index {
     }
 
     /// Looks up the stored outcome of the key of that number, if the index has the key.
-    pub(crate) fn find(&self, entries: &[Entry], number: usize, spot: Spot) -> Option<Given>
+    pub(crate) fn find(&self, entries: &[Entry], number: usize, task: MatchTask) -> Option<Given>
         ensures some { IfSome result (λ g. (i : ℕ) × (e : Entry) × (slice_get entries.now i ≡ Some e)
-            × IsIn (record { spot = spot; given = g }) (pairs_of e)) }
+            × IsIn (record { task = task; given = g }) (pairs_of e)) }
         ensures none { IfNone result ((i : ℕ) (e : Entry) → IsIn (record { number = number; entry = i }) self.now
-            → slice_get entries.now i ≡ Some e → IsIn spot (spots_of (pairs_of e)) → ⊥) }
+            → slice_get entries.now i ≡ Some e → IsIn task (tasks_of (pairs_of e)) → ⊥) }
     {
         if self.cells.is_empty() {
             None
         } else {
-            walk(&self.cells, &self.heads, entries, number, spot)
+            walk(&self.cells, &self.heads, entries, number, task)
         }
     }
 }

@@ -1,17 +1,17 @@
 //! The log of the keys.
 ghost use Rattle.std.specs.Prelude.{◌≡◌, ℕ, ◌+◌, ◌<◌, ◌≤◌, ◌^◌, [], ◌∷◌, ◌++◌, length, true, IfOk};
 ghost use Rattle.std.specs.Prelude.{IfSome, IfNone, OnOk, OnErr};
-ghost use Rattle.memo.specs.KeyLog.{spots_of, row_of, place_of, run_of, steps_of};
+ghost use Rattle.memo.specs.KeyLog.{tasks_of, row_of, place_of, run_of, steps_of};
 ghost use Rattle.memo.specs.LogEntries.{node_of, pairs_of, AreCovered};
 ghost use Rattle.memo.specs.Parts.{IsIn};
-ghost use Rattle.memo.specs.SpotLinks.{Place};
+ghost use Rattle.memo.specs.TaskLinks.{Place};
 ghost use Rattle.memo.specs.declared.key_log.Stored.{Stored};
 
 use crate::entry::{Entry, given_in};
 use crate::found::Found;
 use crate::index::Index;
 use crate::narrow::narrow;
-use crate::spot::Spot;
+use crate::task::MatchTask;
 use ruletable::Memory;
 use std::alloc::Global;
 use std::marker::Model;
@@ -29,7 +29,7 @@ pub struct Given {
 #[derive(Clone, Copy)]
 pub struct Stored {
     /// The key.
-    pub spot: Spot,
+    pub task: MatchTask,
     /// The outcome.
     pub given: Given,
 }
@@ -183,7 +183,7 @@ impl KeyLog {
     /// Returns the mark of a row: a position that no stored key of the row reaches.
     #[inline(always)]
     pub fn mark(&self, row: usize) -> usize
-        ensures { (s : Stored) → IsIn s self.now.stored → row_of s.spot ≡ row → place_of s.spot < result }
+        ensures { (s : Stored) → IsIn s self.now.stored → row_of s.task ≡ row → place_of s.task < result }
     {
         match self.high.get(row) {
             Some(mark) => {
@@ -200,7 +200,7 @@ impl KeyLog {
     /// Returns whether a position is at the mark of a row or after it: no key of the row is stored there or after it.
     #[inline(always)]
     pub fn is_new(&self, row: usize, place: usize) -> bool
-        ensures { result ≡ true → (s : Stored) → IsIn s self.now.stored → row_of s.spot ≡ row → place_of s.spot
+        ensures { result ≡ true → (s : Stored) → IsIn s self.now.stored → row_of s.task ≡ row → place_of s.task
             < place }
     {
         place >= self.mark(row)
@@ -211,43 +211,43 @@ impl KeyLog {
     /// # Errors
     /// `Memory` if an allocation fails.
     #[inline]
-    pub fn get(&mut self, spot: Spot) -> Result<Option<Given>, Memory>
-        ensures some { IfOk result (λ found. IfSome found (λ g. IsIn (record { spot = spot; given = g })
+    pub fn get(&mut self, task: MatchTask) -> Result<Option<Given>, Memory>
+        ensures some { IfOk result (λ found. IfSome found (λ g. IsIn (record { task = task; given = g })
             self.old.stored)) }
-        ensures none { IfOk result (λ found. IfNone found (IsIn spot (spots_of self.old.stored) → ⊥)) }
+        ensures none { IfOk result (λ found. IfNone found (IsIn task (tasks_of self.old.stored) → ⊥)) }
         ensures same { self.new ≡ self.old }
     {
-        if self.is_new(spot.row(), spot.place()) {
+        if self.is_new(task.row(), task.place()) {
             return Ok(None);
         }
-        match self.last_given(spot) {
+        match self.last_given(task) {
             Some(given) => Ok(Some(given)),
-            None => self.seek(spot),
+            None => self.seek(task),
         }
     }
 
     // Returns what the last entry of its row says of a key, if it has the key.
-    fn last_given(&self, spot: Spot) -> Option<Given>
-        ensures { IfSome result (λ g. IsIn (record { spot = spot; given = g }) self.now.stored) }
+    fn last_given(&self, task: MatchTask) -> Option<Given>
+        ensures { IfSome result (λ g. IsIn (record { task = task; given = g }) self.now.stored) }
     {
-        match self.high.get(spot.row()) {
-            Some(mark) => given_in(&self.entries, mark.last, spot),
+        match self.high.get(task.row()) {
+            Some(mark) => given_in(&self.entries, mark.last, task),
             None => None,
         }
     }
 
     // Returns what the index says of a key, with all entries in it.
     #[inline(never)]
-    fn seek(&mut self, spot: Spot) -> Result<Option<Given>, Memory>
-        ensures some { IfOk result (λ found. IfSome found (λ g. IsIn (record { spot = spot; given = g })
+    fn seek(&mut self, task: MatchTask) -> Result<Option<Given>, Memory>
+        ensures some { IfOk result (λ found. IfSome found (λ g. IsIn (record { task = task; given = g })
             self.old.stored)) }
-        ensures none { IfOk result (λ found. IfNone found (IsIn spot (spots_of self.old.stored) → ⊥)) }
+        ensures none { IfOk result (λ found. IfNone found (IsIn task (tasks_of self.old.stored) → ⊥)) }
         ensures same { self.new ≡ self.old }
     {
-        match spot.number() {
+        match task.number() {
             Ok(number) => {
                 cover(&mut self.index, &self.entries, &mut self.covered)?;
-                Ok(self.index.find(&self.entries, number, spot))
+                Ok(self.index.find(&self.entries, number, task))
             }
             Err(_) => Ok(None),
         }
@@ -258,13 +258,13 @@ impl KeyLog {
     /// # Errors
     /// `Memory` if an allocation fails, or if a number does not fit into 32 bits; nothing is stored.
     #[inline]
-    pub fn put(&mut self, spot: Spot, given: Given) -> Result<(), Memory>
-        requires row { row_of spot < self.old.rows }
-        ensures stored { OnOk result (self.new.stored ≡ record { spot = spot; given = given } ∷ self.old.stored) }
+    pub fn put(&mut self, task: MatchTask, given: Given) -> Result<(), Memory>
+        requires row { row_of task < self.old.rows }
+        ensures stored { OnOk result (self.new.stored ≡ record { task = task; given = given } ∷ self.old.stored) }
         ensures rows { self.new.rows ≡ self.old.rows }
         ensures unchanged { OnErr result (self.new.stored ≡ self.old.stored) }
     {
-        let entry = Entry::of_spot(spot, given)?;
+        let entry = Entry::of_task(task, given)?;
         self.store(entry)
     }
 

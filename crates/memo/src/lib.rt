@@ -7,8 +7,8 @@ mod found;
 mod index;
 mod key_log;
 mod narrow;
-mod spot;
+mod task;
 
 pub use found::Found;
 pub use key_log::{Given, KeyLog, Stored};
-pub use spot::Spot;
+pub use task::MatchTask;

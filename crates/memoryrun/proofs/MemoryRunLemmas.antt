@@ -30,7 +30,7 @@ module _ (States : Input → List ℕ → Reply → Type 0) where
       out = d.out;
       silent = d.silent;
       unread = λ isnt. refl;
-      told = d.told;
+      reported = d.reported;
       broken = d.broken;
       unflushed = d.unflushed;
       status = d.status;
@@ -40,13 +40,13 @@ module _ (States : Input → List ℕ → Reply → Type 0) where
   }
 
   from_memory : (r1 : Option (List ℕ)) (input out err : List ℕ) (out_failed err_failed : Bool) (code : ℕ) →
-      (taken wrote told : List ℕ) × Consumes (Some input) r1 taken × Appends (Some []) (Some out) wrote
-      × Appends (Some []) (Some err) told × IsRight States input (record {
+      (taken wrote reported : List ℕ) × Consumes (Some input) r1 taken × Appends (Some []) (Some out) wrote
+      × Appends (Some []) (Some err) reported × IsRight States input (record {
         taken = taken;
         read_failed = false;
         out = wrote;
         out_failed = out_failed;
-        err = told;
+        err = reported;
         err_failed = err_failed;
         status = code;
       }) → IsMemoryRun States input out err code
@@ -56,16 +56,16 @@ module _ (States : Input → List ℕ → Reply → Type 0) where
   -- a reader over the input and empty writers before; the same behind the run
   pub memory_run : (r0 r1 o0 o1 e0 e1 : Option (List ℕ)) (input out err : List ℕ) (out_failed err_failed : Bool)
       (code : ℕ) → r0 ≡ Some input → o0 ≡ Some [] → e0 ≡ Some [] → Some out ≡ o1 → Some err ≡ e1 →
-      IfSome r0 (λ given. (taken wrote told : List ℕ) × Consumes r0 r1 taken × Appends o0 o1 wrote
-      × Appends e0 e1 told × IsRight States given (record {
+      IfSome r0 (λ given. (taken wrote reported : List ℕ) × Consumes r0 r1 taken × Appends o0 o1 wrote
+      × Appends e0 e1 reported × IsRight States given (record {
         taken = taken;
         read_failed = false;
         out = wrote;
         out_failed = out_failed;
-        err = told;
+        err = reported;
         err_failed = err_failed;
         status = code;
       })) → IsMemoryRun States input out err code
-  memory_run r0 r1 o0 o1 e0 e1 input out err out_failed err_failed code r o e printed told p =
+  memory_run r0 r1 o0 o1 e0 e1 input out err out_failed err_failed code r o e printed reported p =
       from_memory r1 input out err out_failed err_failed code
-      (rw (sym told) at (rw (sym printed) at (rw e at (rw o at (rw r at p)))))
+      (rw (sym reported) at (rw (sym printed) at (rw e at (rw o at (rw r at p)))))

@@ -10,7 +10,7 @@ use Rattle.ruletable.proofs.AppendsLemmas.{Appends-same}
 use Rattle.toolrun.proofs.IsRightLemmas.{run_is_right}
 use Rattle.toolrun.specs.Finish.{Concludes}
 use Rattle.toolrun.specs.Input.{Input}
-use Rattle.toolrun.specs.Plan.{behind_notes}
+use Rattle.toolrun.specs.Plan.{after_notes}
 use Rattle.toolrun.specs.Reply.{Reply}
 use Rattle.toolrun.specs.Stopped.{Fulfils}
 use Rattle.toolrun.specs.declared.ending.Ending.{Ending}
@@ -22,12 +22,12 @@ pub planned_run : (Does : Input → Reply → Type 0) (input : List ℕ) (r0 r1 
     Fulfils Does (record { old = r0; new = r1; was = false; failed = false })
     (record { old = o0; new = o1; was = fresh; failed = was }) end →
     Keeps o1 o2 → (was ≡ true → out_failed ≡ true) →
-    ((told : List ℕ) × Appends e0 e1 told × Concludes end out_failed err_failed told code)
+    ((reported : List ℕ) × Appends e0 e1 reported × Concludes end out_failed err_failed reported code)
     → IsPlannedRun Does input out err code
 planned_run Does input r0 r1 o0 o1 o2 e0 e1 out err fresh was out_failed err_failed end code r o e is_fresh printed
-    told p kept stays f =
-    memory_run (WithoutNotes Does) r0 r1 o0 o2 e0 e1 input out err out_failed err_failed code r o e printed told
-    (run_is_right (WithoutNotes Does) [] Does (λ given reply does. behind_notes (refl, does))
+    reported p kept stays f =
+    memory_run (WithoutNotes Does) r0 r1 o0 o2 e0 e1 input out err out_failed err_failed code r o e printed reported
+    (run_is_right (WithoutNotes Does) [] Does (λ given reply does. after_notes (refl, does))
     (record { old = r0; new = r1; was = false; failed = false })
     (record { old = o0; new = o1; was = fresh; failed = was })
     (record { old = o0; new = o2; was = fresh; failed = out_failed })

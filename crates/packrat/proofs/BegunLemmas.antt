@@ -15,32 +15,32 @@ use Rattle.pegmatch.proofs.CodeLemmas.{cells_at_most}
 use Rattle.pegnodes.specs.KeyMarks.{AreMarks}
 use Rattle.memo.specs.Parts.{IsIn, in_here, in_later, Distinct, distinct_none, distinct_more, Reach}
 use Rattle.memo.specs.Run.{total}
-use Rattle.memo.specs.declared.spot.Spot.{Spot}
-use Rattle.memo.specs.declared.spot.Spot.TheVariants.{Pair, Tail}
-use Rattle.packrat.specs.Spots.{Leads, Kids, is_key}
+use Rattle.memo.specs.declared.task.MatchTask.{MatchTask}
+use Rattle.memo.specs.declared.task.MatchTask.TheVariants.{Pair, Tail}
+use Rattle.packrat.specs.MatchTasks.{Leads, Kids, is_key}
 use Rattle.packrat.specs.View.{weight, IsVisitedPair, AreVisitedPairs}
 use Rattle.packrat.proofs.EndsLemmas.{reached_ends}
-use Rattle.packrat.proofs.SpotReachLemmas.{reached_is_visited}
+use Rattle.packrat.proofs.TaskReachLemmas.{reached_is_visited}
 use Rattle.packrat.specs.MachineSteps.{State, held, start_at}
-use Rattle.packrat.specs.SpotSteps.{NextOf, SpotSteps}
+use Rattle.packrat.specs.TaskSteps.{NextOf, TaskSteps}
 use Rattle.packrat.proofs.GoodLemmas.{in_front, not_in, steps_are_good}
 use Rattle.packrat.proofs.NextOfLemmas.{is_next, forest_of}
 
-abbrev evals : List Spot → List Spot
+abbrev evals : List MatchTask → List MatchTask
 evals [] = []
 evals (Pair n p ∷ xs) = Pair n p ∷ evals xs
 evals (Tail n i p ∷ xs) = evals xs
 
-record IsPair (a : Spot) (xs : List Spot) : Type 0 where
+record IsPair (a : MatchTask) (xs : List MatchTask) : Type 0 where
   pub node : ℕ
   pub place : ℕ
   pub is : a ≡ Pair node place
   pub there : IsIn (Pair node place) xs
 
-eval_later : {a b : Spot} {xs : List Spot} → IsPair a xs → IsPair a (b ∷ xs)
+eval_later : {a b : MatchTask} {xs : List MatchTask} → IsPair a xs → IsPair a (b ∷ xs)
 eval_later h = record { node = h.node; place = h.place; is = h.is; there = in_later h.there }
 
-is_eval : (xs : List Spot) (a : Spot) → IsIn a (evals xs) → IsPair a xs
+is_eval : (xs : List MatchTask) (a : MatchTask) → IsIn a (evals xs) → IsPair a xs
 is_eval [] a i = absurd (not_in i)
 is_eval (Pair n p ∷ xs) a i = elim (in_front i) [
   | inl is ↦ record { node = n; place = p; is = is; there = in_here }
@@ -48,14 +48,14 @@ is_eval (Pair n p ∷ xs) a i = elim (in_front i) [
 ]
 is_eval (Tail n k p ∷ xs) a i = eval_later (is_eval xs a i)
 
-evals_distinct : {xs : List Spot} → Distinct xs → Distinct (evals xs)
+evals_distinct : {xs : List MatchTask} → Distinct xs → Distinct (evals xs)
 evals_distinct distinct_none = distinct_none
 evals_distinct (distinct_more {a = Pair n p} {xs = xs} f d) =
     distinct_more (λ i. let h = is_eval xs (Pair n p) i in f (subst (λ v. IsIn v xs) (sym h.is) h.there))
     (evals_distinct d)
 evals_distinct (distinct_more {a = Tail n i p} f d) = evals_distinct d
 
-eval_among : (n p : ℕ) (xs : List Spot) → IsIn (Pair n p) xs → IsIn (Pair n p) (evals xs)
+eval_among : (n p : ℕ) (xs : List MatchTask) → IsIn (Pair n p) xs → IsIn (Pair n p) (evals xs)
 eval_among n p [] i = absurd (not_in i)
 eval_among n p (Pair m q ∷ xs) i = elim (in_front i) [
   | inl is ↦ subst (λ v. IsIn v (Pair m q ∷ evals xs)) (sym is) in_here
@@ -67,12 +67,12 @@ eval_among n p (Tail m k q ∷ xs) i = elim (in_front i) [
 ]
 
 -- a cell for each pair among tasks, whatever it holds
-abbrev cells_for : List Spot → List Entry
+abbrev cells_for : List MatchTask → List Entry
 cells_for [] = []
 cells_for (Pair n p ∷ xs) = record { node = n; place = p; found = Failed } ∷ cells_for xs
 cells_for (Tail n i p ∷ xs) = cells_for xs
 
-for_among : (n p : ℕ) (f : Found) (xs : List Spot) → found_at (cells_for xs) n p ≡ Some f → IsIn (Pair n p) xs
+for_among : (n p : ℕ) (f : Found) (xs : List MatchTask) → found_at (cells_for xs) n p ≡ Some f → IsIn (Pair n p) xs
 for_among n p f [] h = absurd (cc h)
 for_among n p f (Pair m q ∷ xs) h = by (is_of (record { node = m; place = q; found = Failed }) n p) refl h
     (λ k. for_among n p f xs k)
@@ -88,14 +88,14 @@ for_among n p f (Pair m q ∷ xs) h = by (is_of (record { node = m; place = q; f
     by false same is rec = in_later (rec is)
 for_among n p f (Tail m i q ∷ xs) h = in_later (for_among n p f xs h)
 
-for_none : (n p : ℕ) (xs : List Spot) → (IsIn (Pair n p) xs → ⊥) → found_at (cells_for xs) n p ≡ None
+for_none : (n p : ℕ) (xs : List MatchTask) → (IsIn (Pair n p) xs → ⊥) → found_at (cells_for xs) n p ≡ None
 for_none n p xs not = by (found_at (cells_for xs) n p) refl
   where
     by : (v : Option Found) → found_at (cells_for xs) n p ≡ v → v ≡ None
     by None is = refl
     by (Some f) is = absurd (not (for_among n p f xs is))
 
-for_different : {xs : List Spot} → Distinct xs → AreDifferent (cells_for xs)
+for_different : {xs : List MatchTask} → Distinct xs → AreDifferent (cells_for xs)
 for_different distinct_none = tt
 for_different (distinct_more {a = Pair n p} {xs = xs} fresh d) = (for_none n p xs fresh, for_different d)
 for_different (distinct_more {a = Tail n i p} fresh d) = for_different d
@@ -103,22 +103,22 @@ for_different (distinct_more {a = Tail n i p} fresh d) = for_different d
 module _ (rules : List Rule) (start : ℕ) (nodes : List Shape) (bodies ranks x : List ℕ) (more : Bool)
     (sound : IsRanked rules start nodes bodies ranks) (root : ℕ) (is_root : slice_get bodies start ≡ Some root)
     (marks : ℕ → Bool) (tails : ℕ → ℕ → Bool) (are : AreMarks start nodes bodies marks tails) where
-  abbrev T : List Spot → ℕ
-  T xs = total Spot (Kids rules nodes bodies x) (is_key marks tails) weight xs
+  abbrev T : List MatchTask → ℕ
+  T xs = total MatchTask (Kids rules nodes bodies x) (is_key marks tails) weight xs
 
-  evals_length : (xs : List Spot) → length (evals xs) ≡ T xs
+  evals_length : (xs : List MatchTask) → length (evals xs) ≡ T xs
   evals_length [] = refl
   evals_length (Pair n p ∷ xs) = let h = evals_length xs in omega (arith, h)
   evals_length (Tail n i p ∷ xs) = let h = evals_length xs in omega (arith, h)
 
-  for_length : (ps : List Spot) → ((a : Spot) → IsIn a ps → IsVisitedPair rules start nodes bodies x more a)
+  for_length : (ps : List MatchTask) → ((a : MatchTask) → IsIn a ps → IsVisitedPair rules start nodes bodies x more a)
       → length (cells_for ps) ≡ length ps
   for_length [] v = refl
   for_length (Pair n p ∷ ps) v = let h = for_length ps (λ a i. v a (in_later i)) in omega (arith, h)
   for_length (Tail n i p ∷ ps) v = absurd (v (Tail n i p) in_here)
 
   -- visited pairs at places up to k are no more than nodes at those
-  pub visited_few : (ps : List Spot) (k : ℕ) → AreVisitedPairs rules start nodes bodies x more ps
+  pub visited_few : (ps : List MatchTask) (k : ℕ) → AreVisitedPairs rules start nodes bodies x more ps
       → ((n p : ℕ) → IsIn (Pair n p) ps → p ≤ k) → length ps ≤ length nodes * (k + 1)
   visited_few ps k v low =
       let most = cells_at_most (cells_for ps) (length nodes) k (for_different v.once)
@@ -129,15 +129,15 @@ module _ (rules : List Rule) (start : ℕ) (nodes : List Shape) (bodies ranks x 
       omega (arith, most, same)
 
   -- the pairs among what is begun
-  pub record HasPairs (begun : List Spot) : Type 0 where
-    pub pairs : List Spot
+  pub record HasPairs (begun : List MatchTask) : Type 0 where
+    pub pairs : List MatchTask
     pub visited : AreVisitedPairs rules start nodes bodies x more pairs
     pub count : length pairs ≡ T begun
     pub among : (n p : ℕ) → IsIn (Pair n p) begun → IsIn (Pair n p) pairs
     pub only : (n p : ℕ) → IsIn (Pair n p) pairs → IsIn (Pair n p) begun
 
-  pub pairs_begun : (begun : List Spot) → Distinct begun
-      → ((a : Spot) → IsIn a begun → Reach Spot (Leads rules nodes bodies x) (Pair root 0) a) → HasPairs begun
+  pub pairs_begun : (begun : List MatchTask) → Distinct begun
+      → ((a : MatchTask) → IsIn a begun → Reach MatchTask (Leads rules nodes bodies x) (Pair root 0) a) → HasPairs begun
   pairs_begun begun once reached = record {
     pairs = evals begun;
     visited = record {
@@ -156,15 +156,16 @@ module _ (rules : List Rule) (start : ℕ) (nodes : List Shape) (bodies ranks x 
   }
 
   -- no more are begun than nodes at places
-  pub begun_at_places : (s : State Spot) → SpotSteps rules nodes bodies x marks tails (start_at Spot (Pair root 0)) s
-      → T (held Spot s).begun ≤ length nodes * (length x + 1)
+  pub begun_at_places : (s : State MatchTask) → TaskSteps rules nodes bodies x marks tails
+      (start_at MatchTask (Pair root 0)) s
+      → T (held MatchTask s).begun ≤ length nodes * (length x + 1)
   begun_at_places s steps =
       let forest = forest_of rules start nodes bodies ranks x more sound root is_root marks tails are in
       let next = is_next rules start nodes bodies ranks x more sound root is_root marks tails are in
-      let g = steps_are_good Spot (Leads rules nodes bodies x) (Pair root 0) (Kids rules nodes bodies x)
+      let g = steps_are_good MatchTask (Leads rules nodes bodies x) (Pair root 0) (Kids rules nodes bodies x)
       (NextOf rules nodes bodies x) (is_key marks tails) forest next
       (λ a r. reached_ends rules start nodes bodies ranks x sound root is_root r) s steps in
-      let h = pairs_begun (held Spot s).begun g.once g.reached in
+      let h = pairs_begun (held MatchTask s).begun g.once g.reached in
       let most = visited_few h.pairs (length x) h.visited
       (λ m q i. (visited_there rules start nodes bodies ranks x sound m q (h.visited.visited (Pair m q) i)).1) in
       let same = h.count in

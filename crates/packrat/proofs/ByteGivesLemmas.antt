@@ -30,10 +30,10 @@ use Rattle.pegmatch.specs.Visits.{NodeGives}
 use Rattle.pegmatch.proofs.GivesLemmas.{name_gives, star_gives_none, not_gives_takes, not_gives_fails, plus_gives_fails}
 use Rattle.pegmatch.proofs.GivesLemmas.{opt_gives_takes, opt_gives_none, and_gives_takes, and_gives_fails}
 use Rattle.pegmatch.proofs.NodeGivesLemmas.{gives_as}
-use Rattle.memo.specs.declared.spot.Spot.TheVariants.{Pair}
+use Rattle.memo.specs.declared.task.MatchTask.TheVariants.{Pair}
 use Rattle.packrat.specs.ByteGives.{found_by, GivesBy}
-use Rattle.packrat.specs.SpotGives.{IsQuiet, SpotGives}
-use Rattle.packrat.proofs.SpotReachLemmas.{front_drop}
+use Rattle.packrat.specs.TaskGives.{IsQuiet, TaskGives}
+use Rattle.packrat.proofs.TaskReachLemmas.{front_drop}
 
 -- beyond the last member there is none
 pub drop_end : (ms : List ℕ) (i : ℕ) → slice_get ms i ≡ None → drop i ms ≡ []
@@ -451,7 +451,7 @@ quiet_by Fails p = refl
 
 module _ (g : Grammar) (x : List ℕ) (more : Bool) (sound : IsSoundGrammar g) where
   pub found_gives : (n p : ℕ) (v : ByteVerdict) → (more ≡ true → p + 1 < length x)
-      → GivesBy (rules_of g.rules) (shapes_of g.nodes) g.bodies x n p v → SpotGives g x more (Pair n p) (found_by v p)
+      → GivesBy (rules_of g.rules) (shapes_of g.nodes) g.bodies x n p v → TaskGives g x more (Pair n p) (found_by v p)
   found_gives n p v last d = (
     [],
     (d.looked, d.gives, (λ is. let lt = last is in let le = d.within in omega (arith, lt, le)), quiet_by v p),

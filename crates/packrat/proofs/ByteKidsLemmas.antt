@@ -18,68 +18,69 @@ use Rattle.pegmatch.specs.KeptEvents.{SpellsSome}
 use Rattle.pegmatch.specs.Visits.{NodeTakes, NodeFails}
 use Rattle.memo.specs.Parts.{IsIn}
 use Rattle.memo.specs.Run.{Run, run_key, run_plain, RunAll, run_none, run_more}
-use Rattle.memo.specs.declared.spot.Spot.{Spot}
-use Rattle.memo.specs.declared.spot.Spot.TheVariants.{Pair, Tail}
+use Rattle.memo.specs.declared.task.MatchTask.{MatchTask}
+use Rattle.memo.specs.declared.task.MatchTask.TheVariants.{Pair, Tail}
 use Rattle.packrat.specs.ByteGives.{GivesBy, StoresItself}
 use Rattle.packrat.specs.MachineSteps.{store}
-use Rattle.packrat.specs.Spots.{Kids, is_key}
+use Rattle.packrat.specs.MatchTasks.{Kids, is_key}
 use Rattle.packrat.specs.View.{weight}
 use Rattle.packrat.proofs.ByteGivesLemmas.{gives_by, name_has, seq_has, choice_has, star_has, plus_has, opt_has}
 use Rattle.packrat.proofs.ByteGivesLemmas.{and_has, not_has}
 
 module _ (rules : List Rule) (start : ℕ) (nodes : List Shape) (bodies ranks x : List ℕ)
     (sound : IsRanked rules start nodes bodies ranks) (marks : ℕ → Bool) (tails : ℕ → ℕ → Bool) where
-  abbrev K : Spot → List Spot → Type 0
+  abbrev K : MatchTask → List MatchTask → Type 0
   K a ks = Kids rules nodes bodies x a ks
 
-  abbrev R : List Spot → Spot → List Spot → ℕ → Type 0
-  R old a new c = Run Spot K (is_key marks tails) weight old a new c
+  abbrev R : List MatchTask → MatchTask → List MatchTask → ℕ → Type 0
+  R old a new c = Run MatchTask K (is_key marks tails) weight old a new c
 
-  abbrev RA : List Spot → List Spot → List Spot → ℕ → Type 0
-  RA old ks new c = RunAll Spot K (is_key marks tails) weight old ks new c
+  abbrev RA : List MatchTask → List MatchTask → List MatchTask → ℕ → Type 0
+  RA old ks new c = RunAll MatchTask K (is_key marks tails) weight old ks new c
 
   -- an evaluation that leaves what is stored as it was
-  abbrev Quiet : Spot → ℕ → Type 0
-  Quiet a c = (old : List Spot) → R old a old c
+  abbrev Quiet : MatchTask → ℕ → Type 0
+  Quiet a c = (old : List MatchTask) → R old a old c
 
-  abbrev QuietAll : List Spot → ℕ → Type 0
-  QuietAll ks c = (old : List Spot) → RA old ks old c
+  abbrev QuietAll : List MatchTask → ℕ → Type 0
+  QuietAll ks c = (old : List MatchTask) → RA old ks old c
 
-  run_as : {old new : List Spot} {a : Spot} {c d : ℕ} → c ≡ d → R old a new c → R old a new d
+  run_as : {old new : List MatchTask} {a : MatchTask} {c d : ℕ} → c ≡ d → R old a new c → R old a new d
   run_as {old = old} {new = new} {a = a} is r = subst (R old a new) is r
 
-  all_as : {old new ks : List Spot} {c d : ℕ} → c ≡ d → RA old ks new c → RA old ks new d
+  all_as : {old new ks : List MatchTask} {c d : ℕ} → c ≡ d → RA old ks new c → RA old ks new d
   all_as {old = old} {new = new} {ks = ks} is r = subst (RA old ks new) is r
 
   quiet_none : QuietAll [] 0
   quiet_none old = run_none
 
-  quiet_one : (a : Spot) (c : ℕ) → Quiet a c → QuietAll (a ∷ []) c
+  quiet_one : (a : MatchTask) (c : ℕ) → Quiet a c → QuietAll (a ∷ []) c
   quiet_one a c h old = all_as (omega arith) (run_more (h old) run_none)
 
-  quiet_two : (a b : Spot) (c d : ℕ) → Quiet a c → Quiet b d → QuietAll (a ∷ (b ∷ [])) (c + d)
+  quiet_two : (a b : MatchTask) (c d : ℕ) → Quiet a c → Quiet b d → QuietAll (a ∷ (b ∷ [])) (c + d)
   quiet_two a b c d h k old = run_more (h old) (quiet_one b d k old)
 
-  abbrev Itself : Spot → ℕ → Type 0
+  abbrev Itself : MatchTask → ℕ → Type 0
   Itself a c = StoresItself rules nodes bodies x marks tails a c
 
-  itself_of : (a : Spot) (ks : List Spot) (c : ℕ) → K a ks → QuietAll ks c → Itself a (weight a + c)
+  itself_of : (a : MatchTask) (ks : List MatchTask) (c : ℕ) → K a ks → QuietAll ks c → Itself a (weight a + c)
   itself_of a ks c k q = record { kids = ks; are = k; below = c; runs = q; whole = refl }
 
   -- a task that is no key
-  quiet_plain : (a : Spot) (ks : List Spot) (c : ℕ) → is_key marks tails a ≡ false → K a ks → QuietAll ks c
+  quiet_plain : (a : MatchTask) (ks : List MatchTask) (c : ℕ) → is_key marks tails a ≡ false → K a ks → QuietAll ks c
       → Quiet a (weight a + c)
   quiet_plain a ks c f k q old = run_plain f k (q old)
 
-  pub itself_quiet : (a : Spot) (c : ℕ) → is_key marks tails a ≡ false → Itself a c → Quiet a c
+  pub itself_quiet : (a : MatchTask) (c : ℕ) → is_key marks tails a ≡ false → Itself a c → Quiet a c
   itself_quiet a c f h old = run_as h.whole (quiet_plain a h.kids h.below f h.are h.runs old)
 
   -- any task that is not stored yet
-  pub itself_runs : (a : Spot) (c : ℕ) (old : List Spot) → (is_key marks tails a ≡ true → IsIn a old → ⊥) → Itself a c
-      → R old a (store Spot (is_key marks tails a) a old) c
+  pub itself_runs : (a : MatchTask) (c : ℕ) (old : List MatchTask) → (is_key marks tails a ≡ true → IsIn a old → ⊥)
+      → Itself a c
+      → R old a (store MatchTask (is_key marks tails a) a old) c
   itself_runs a c old fresh h = run_as h.whole (by (is_key marks tails a) refl)
     where
-      by : (v : Bool) → is_key marks tails a ≡ v → R old a (store Spot v a old) (weight a + h.below)
+      by : (v : Bool) → is_key marks tails a ≡ v → R old a (store MatchTask v a old) (weight a + h.below)
       by true is = run_key is (fresh is) h.are (h.runs old)
       by false is = run_plain is h.are (h.runs old)
 
@@ -168,7 +169,7 @@ module _ (rules : List Rule) (start : ℕ) (nodes : List Shape) (bodies ranks x 
 
     -- a sequence or a choice
     itself_rest : (n c : ℕ) (ms : List ℕ) (s : Shape) → At n s
-        → ((ks : List Spot) → ((slice_get ms zero ≡ None) × (ks ≡ [])) → K (Pair n p) ks)
+        → ((ks : List MatchTask) → ((slice_get ms zero ≡ None) × (ks ≡ [])) → K (Pair n p) ks)
         → ((m : ℕ) → slice_get ms zero ≡ Some m → K (Pair n p) (Tail n zero p ∷ []))
         → (slice_get ms zero ≡ None → c ≡ 0)
         → ((m : ℕ) → slice_get ms zero ≡ Some m → Quiet (Tail n zero p) c) → Itself (Pair n p) (1 + c)

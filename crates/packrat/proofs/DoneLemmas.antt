@@ -28,15 +28,15 @@ use Rattle.pegmatch.proofs.CodeLemmas.{cells_at_most}
 use Rattle.pegmatch.proofs.LookedLemmas.{ends_within}
 use Rattle.pegmatch.proofs.NodeGivesLemmas.{gives_as, same_node}
 use Rattle.pegmatch.proofs.VisitsLemmas.{visits_within}
-use Rattle.memo.specs.KeyLog.{spots_of}
+use Rattle.memo.specs.KeyLog.{tasks_of}
 use Rattle.memo.specs.declared.key_log.Stored.{Stored}
-use Rattle.memo.specs.declared.spot.Spot.TheVariants.{Pair, Tail}
+use Rattle.memo.specs.declared.task.MatchTask.TheVariants.{Pair, Tail}
 use Rattle.packrat.specs.Done.{Contents, IsDone, IsOnTheWay, Answers, IsOutcome, Holds, empty, head_of, unit_of}
 use Rattle.packrat.specs.Done.{unit_of_match}
 use Rattle.packrat.specs.MachineSteps.{Works, IsGood}
 use Rattle.packrat.specs.Onward.{ReachesEnd}
-use Rattle.packrat.specs.SpotSteps.{NextOf}
-use Rattle.packrat.specs.Spots.{Leads, Kids, is_key}
+use Rattle.packrat.specs.TaskSteps.{NextOf}
+use Rattle.packrat.specs.MatchTasks.{Leads, Kids, is_key}
 use Rattle.packrat.specs.Stands.{IsEnded, NeedsMore, IsEvaluated, GivenBy}
 use Rattle.packrat.specs.declared.events.link.Link.{Link}
 use Rattle.memo.specs.declared.key_log.Given.{Given}
@@ -44,9 +44,9 @@ use Rattle.memo.specs.declared.found.Found.TheVariants as found
 use Rattle.pegmatch.specs.declared.matcher.Unit.{Unit as UnitAnswer}
 use Rattle.pegmatch.specs.declared.matcher.Unit.TheVariants as unit
 use Rattle.memo.specs.Parts.{Reach, in_here}
-use Rattle.memo.specs.declared.spot.Spot.{Spot}
+use Rattle.memo.specs.declared.task.MatchTask.{MatchTask}
 use Rattle.pegnodes.specs.KeyMarks.{AreMarks}
-use Rattle.packrat.specs.SpotGives.{SpotGives, SpotYields, IsQuiet}
+use Rattle.packrat.specs.TaskGives.{TaskGives, TaskYields, IsQuiet}
 use Rattle.pegnodes.specs.KeyLists.{node_marks, tail_marks}
 use Rattle.packrat.specs.View.{Evaluates, AreStored, AreReachedKeys, weight}
 use Rattle.packrat.specs.declared.frames.Frame.{Frame}
@@ -55,7 +55,7 @@ use Rattle.packrat.proofs.BegunLemmas.{pairs_begun, visited_few}
 use Rattle.packrat.proofs.EndsLemmas.{reached_ends}
 use Rattle.packrat.proofs.GoodLemmas.{steps_are_good}
 use Rattle.packrat.proofs.NextOfLemmas.{is_next, forest_of}
-use Rattle.packrat.proofs.SpotReachLemmas.{reached_is_visited}
+use Rattle.packrat.proofs.TaskReachLemmas.{reached_is_visited}
 use Rattle.packrat.proofs.EvaluatesLemmas.{evaluated_stores, evaluated_begins}
 
 module _ (g : Grammar) (x : List ℕ) (sound : IsSoundGrammar g) where
@@ -82,20 +82,20 @@ module _ (g : Grammar) (x : List ℕ) (sound : IsSoundGrammar g) where
       (at : slice_get g.bodies g.start ≡ Some root) where
     abbrev Ev : List Stored → ℕ → Type 0
     Ev stored begun = Evaluates (rules_of g.rules) g.start (shapes_of g.nodes) g.bodies x more (node_marks marks)
-        (tail_marks marks) root (spots_of stored) begun
+        (tail_marks marks) root (tasks_of stored) begun
 
     pub unit_stores : (stored : List Stored) (begun : ℕ) → Ev stored begun → (other : ℕ)
         → slice_get g.bodies g.start ≡ Some other
         → AreStored (rules_of g.rules) g.start (shapes_of g.nodes) g.bodies x more (node_marks marks)
-        (tail_marks marks) other (spots_of stored)
+        (tail_marks marks) other (tasks_of stored)
     unit_stores stored begun run other there =
         let same : root ≡ other = cc (at, there) in
         subst (λ v. AreStored (rules_of g.rules) g.start (shapes_of g.nodes) g.bodies x more (node_marks marks)
-        (tail_marks marks) v (spots_of stored)) same
+        (tail_marks marks) v (tasks_of stored)) same
         (evaluated_stores (rules_of g.rules) g.start (shapes_of g.nodes) g.bodies g.ranks x more sound root at
-        (node_marks marks) (tail_marks marks) are (spots_of stored) begun run)
+        (node_marks marks) (tail_marks marks) are (tasks_of stored) begun run)
 
-    answers_of : (f : Found) → SpotGives g x more (Pair root 0) f → Answers g x more f
+    answers_of : (f : Found) → TaskGives g x more (Pair root 0) f → Answers g x more f
     answers_of f h =
         let s = sound.spelled.spelled g.start root at in
         record {
@@ -109,8 +109,8 @@ module _ (g : Grammar) (x : List ℕ) (sound : IsSoundGrammar g) where
           enough = h.1.2;
         }
 
-    found_given : {links : List Link} (a : Spot) (given : Given) → GivenBy g x more links a given
-        → SpotGives g x more a given.found
+    found_given : {links : List Link} (a : MatchTask) (given : Given) → GivenBy g x more links a given
+        → TaskGives g x more a given.found
     found_given a given h = (h.events, h.yields)
 
     unit_done : (c : Contents) (given : Given) (links : List Link)
@@ -119,38 +119,38 @@ module _ (g : Grammar) (x : List ℕ) (sound : IsSoundGrammar g) where
         let h = e.gives in
         let y = h.yields in
         let b = evaluated_begins Rs g.start Ns g.bodies g.ranks x more sound root at
-        (node_marks marks) (tail_marks marks) are (outcome_of given.found h.events) y.0 y.1 y.2 (spots_of c.stored)
+        (node_marks marks) (tail_marks marks) are (outcome_of given.found h.events) y.0 y.1 y.2 (tasks_of c.stored)
         c.begun e.runs in
         record {
           frames = e.empty;
           keys = unit_stores c.stored c.begun e.runs;
-          right = record { right = λ s i. found_given s.spot s.given (e.keys.given s i) };
+          right = record { right = λ s i. found_given s.task s.given (e.keys.given s i) };
           cells = b.cells;
           every = b.every;
           count = sym b.count;
         }
 
     need_good : (stored : List Stored) (begun : ℕ) → (n : NeedsMore g x more marks (Pair root 0) stored begun)
-        → IsGood Spot (Leads Rs Ns g.bodies x) (Pair root 0) (is_key (node_marks marks) (tail_marks marks))
-        (record { levels = n.levels; stored = spots_of stored; begun = n.spot ∷ n.begun })
-    need_good stored begun n = steps_are_good Spot (Leads Rs Ns g.bodies x) (Pair root 0) (Kids Rs Ns g.bodies x)
+        → IsGood MatchTask (Leads Rs Ns g.bodies x) (Pair root 0) (is_key (node_marks marks) (tail_marks marks))
+        (record { levels = n.levels; stored = tasks_of stored; begun = n.task ∷ n.begun })
+    need_good stored begun n = steps_are_good MatchTask (Leads Rs Ns g.bodies x) (Pair root 0) (Kids Rs Ns g.bodies x)
         (NextOf Rs Ns g.bodies x) (is_key (node_marks marks) (tail_marks marks))
         (forest_of Rs g.start Ns g.bodies g.ranks x more sound root at (node_marks marks) (tail_marks marks) are)
         (is_next Rs g.start Ns g.bodies g.ranks x more sound root at (node_marks marks) (tail_marks marks) are)
         (λ a r. reached_ends Rs g.start Ns g.bodies g.ranks x sound root at r)
-        (Works (record { levels = n.levels; stored = spots_of stored; begun = n.spot ∷ n.begun })) n.steps
+        (Works (record { levels = n.levels; stored = tasks_of stored; begun = n.task ∷ n.begun })) n.steps
 
     -- a task that needs more is reached, so the start rule looks as far
     need_given : (stored : List Stored) (begun : ℕ) → NeedsMore g x more marks (Pair root 0) stored begun
         → (more ≡ true) × ((o : Outcome) × StartGives g x o (length x))
-    need_given stored begun n = by n.spot refl n.reaches
+    need_given stored begun n = by n.task refl n.reaches
       where
-        by : (a : Spot) → n.spot ≡ a → ReachesEnd g x more a → (more ≡ true)
+        by : (a : MatchTask) → n.task ≡ a → ReachesEnd g x more a → (more ≡ true)
             × ((o : Outcome) × StartGives g x o (length x))
         by (Pair m p) is h =
             let v = reached_is_visited Rs g.start Ns g.bodies x root at m p
-            (subst (λ a. Reach Spot (Leads Rs Ns g.bodies x) (Pair root 0) a) is
-            ((need_good stored begun n).reached n.spot in_here)) in
+            (subst (λ a. Reach MatchTask (Leads Rs Ns g.bodies x) (Pair root 0) a) is
+            ((need_good stored begun n).reached n.task in_here)) in
             let has = one.has_of_start Rs g.start Ns g.bodies g.ranks sound x in
             let gives = start_as root has.0 has.1 at has.2 in
             let within = visits_within Rs g.start Ns g.bodies g.ranks x sound v root has.1 has.0 at gives in
@@ -163,26 +163,26 @@ module _ (g : Grammar) (x : List ℕ) (sound : IsSoundGrammar g) where
         by (Tail m i p) is h = absurd h
 
     -- what needs more is a pair
-    need_weighs : (a : Spot) → ReachesEnd g x more a → weight a ≡ 1
+    need_weighs : (a : MatchTask) → ReachesEnd g x more a → weight a ≡ 1
     need_weighs (Pair m p) h = refl
     need_weighs (Tail m i p) h = absurd h
 
     on_the_way : (c : Contents) → NeedsMore g x more marks (Pair root 0) c.stored c.begun → more ≡ true
         → c.frames ≡ [] → c.kept ≡ [] → IsOnTheWay g x more marks c
-    on_the_way c n behind frames kept =
+    on_the_way c n after frames kept =
         let good = need_good c.stored c.begun n in
         let h = pairs_begun Rs g.start Ns g.bodies g.ranks x more sound root at (node_marks marks) (tail_marks marks)
-        are (n.spot ∷ n.begun) good.once good.reached in
+        are (n.task ∷ n.begun) good.once good.reached in
         let is = n.is in
         let same = h.count in
-        let one = need_weighs n.spot n.reaches in
+        let one = need_weighs n.task n.reaches in
         record {
           frames = frames;
           kept = kept;
           keys = λ other there.
               let same_root : root ≡ other = cc (at, there) in
               subst (λ v. AreReachedKeys Rs g.start Ns g.bodies x more (node_marks marks) (tail_marks marks) v
-              (spots_of c.stored)) same_root (record {
+              (tasks_of c.stored)) same_root (record {
                 reached = λ a i. good.reached a (good.stored a i).0;
                 keys = λ a i. (good.stored a i).1;
                 once = good.stored_once;
@@ -190,14 +190,14 @@ module _ (g : Grammar) (x : List ℕ) (sound : IsSoundGrammar g) where
           right = n.right;
           pairs = h.pairs;
           visited = h.visited;
-          near = λ m p i. n.near m p (h.only m p i) behind;
+          near = λ m p i. n.near m p (h.only m p i) after;
           among = λ m p i. h.among m p (good.stored (Pair m p) i).0;
           some = omega (arith, is, one);
           count = omega (arith, is, same);
         }
 
     -- a failure keeps no events
-    failed_keeps : (links : List Link) (a : Spot) (given : Given) → given.found ≡ found.Failed
+    failed_keeps : (links : List Link) (a : MatchTask) (given : Given) → given.found ≡ found.Failed
         → GivenBy g x more links a given → kept_at links given.events ≡ []
     failed_keeps links a given is h =
         let none : h.events ≡ [] = subst (λ v. IsQuiet v h.events) is h.quiet in
@@ -244,8 +244,8 @@ module _ (g : Grammar) (x : List ℕ) (sound : IsSoundGrammar g) where
         (a.looked, a.gives, a.enough, begun_some c (unit_done c given links h))
     answered_as (found.Took q) c given links is kept h =
         let s = sound.spelled.spelled g.start root at in
-        let y : SpotYields g x more (Pair root 0) (found.Took q) h.gives.events =
-        subst (λ v. SpotYields g x more (Pair root 0) v h.gives.events) is h.gives.yields in (
+        let y : TaskYields g x more (Pair root 0) (found.Took q) h.gives.events =
+        subst (λ v. TaskYields g x more (Pair root 0) v h.gives.events) is h.gives.yields in (
           h.gives.events,
           y.0,
           record { body = s.0; rule = s.1; gives = gives_as Rs Ns sound.defined g.bodies x s.2 y.1 },
@@ -291,9 +291,9 @@ module _ (g : Grammar) (x : List ℕ) (sound : IsSoundGrammar g) where
 
     done_fits : (c : Contents) (f : Found) → IsDone g x more marks c → Answers g x more f → more ≡ true
         → c.begun ≤ length g.nodes * length x
-    done_fits c f done a behind =
+    done_fits c f done a after =
         let most = unit_bounded c done (outcome_of f a.events) a.looked a.gives in
-        let enough = a.enough behind in
+        let enough = a.enough after in
         let wide : length g.nodes * (a.looked + 1) ≤ length g.nodes * length x =
         mul-le-mul_left (length g.nodes) (omega (arith, enough)) in
         omega (arith, most, wide)
@@ -301,11 +301,11 @@ module _ (g : Grammar) (x : List ℕ) (sound : IsSoundGrammar g) where
     -- where more bytes follow the window, no more are begun than nodes at its bytes
     begun_fits : (c : Contents) (u : UnitAnswer) → (more ≡ true → 0 < length x) → IsOutcome g x more marks c u
         → more ≡ true → c.begun ≤ length g.nodes * length x
-    begun_fits c (unit.Took end begun) some h behind = done_fits c (found.Took end) h.0 h.1 behind
-    begun_fits c (unit.Failed begun) some h behind = done_fits c found.Failed h.0 h.1 behind
-    begun_fits c unit.Need some h behind =
+    begun_fits c (unit.Took end begun) some h after = done_fits c (found.Took end) h.0 h.1 after
+    begun_fits c (unit.Failed begun) some h after = done_fits c found.Failed h.0 h.1 after
+    begun_fits c unit.Need some h after =
         let way = h.0 in
-        let lt = some behind in
+        let lt = some after in
         let last : (length x - 1) + 1 ≡ length x = omega (arith, lt) in
         let most = visited_few Rs g.start Ns g.bodies g.ranks x more sound root at (node_marks marks) (tail_marks marks)
         are way.pairs (length x - 1) way.visited (λ m p i. let less = way.near m p i in omega (arith, less)) in

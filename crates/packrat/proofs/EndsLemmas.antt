@@ -12,16 +12,16 @@ use Rattle.pegmatch.specs.Visits.{alternative_later, AsksBy, Asks, Visits, first
 use Rattle.pegmatch.proofs.AsksLemmas.{is_visited, height, height_falls}
 use Rattle.memo.specs.Parts.{Reach, reach_root, reach_edge}
 use Rattle.memo.specs.Run.{Ends, ends}
-use Rattle.memo.specs.declared.spot.Spot.{Spot}
-use Rattle.memo.specs.declared.spot.Spot.TheVariants.{Pair, Tail}
+use Rattle.memo.specs.declared.task.MatchTask.{MatchTask}
+use Rattle.memo.specs.declared.task.MatchTask.TheVariants.{Pair, Tail}
 use Rattle.pegnodes.specs.NodeWays.{way_of}
-use Rattle.packrat.specs.Spots.{LeadsBy, TailLeadsBy, Leads}
-use Rattle.packrat.proofs.SpotReachLemmas.{front_drop, drop_none, drop_front}
+use Rattle.packrat.specs.MatchTasks.{LeadsBy, TailLeadsBy, Leads}
+use Rattle.packrat.proofs.TaskReachLemmas.{front_drop, drop_none, drop_front}
 
 module _ (rules : List Rule) (start : ℕ) (nodes : List Shape) (bodies ranks x : List ℕ)
     (sound : IsRanked rules start nodes bodies ranks) (root : ℕ) (is_root : slice_get bodies start ≡ Some root) where
-  abbrev E : Spot → Type 0
-  E a = Ends Spot (Leads rules nodes bodies x) a
+  abbrev E : MatchTask → Type 0
+  E a = Ends MatchTask (Leads rules nodes bodies x) a
 
   abbrev V : ℕ → ℕ → Type 0
   V n p = Visits rules nodes bodies x start n p
@@ -35,7 +35,7 @@ module _ (rules : List Rule) (start : ℕ) (nodes : List Shape) (bodies ranks x 
   abbrev AA : ℕ → List ℕ → ℕ → Type 0
   AA p ms m = AsksAlternative rules nodes bodies x p ms m
 
-  end_as : (a b : Spot) → a ≡ b → E b → E a
+  end_as : (a b : MatchTask) → a ≡ b → E b → E a
   end_as a b is e = subst E (sym is) e
 
   module _ (n p : ℕ) (below : (m q : ℕ) → A n p m q → E (Pair m q)) where
@@ -85,7 +85,7 @@ module _ (rules : List Rule) (start : ℕ) (nodes : List Shape) (bodies ranks x 
         → E (Pair m q)
     ask_ends m q shape at by = below m q (record { shape = shape; at = at; by = by })
 
-    end_by : (b : Spot) (shape : Shape) → slice_get nodes n ≡ Some shape
+    end_by : (b : MatchTask) (shape : Shape) → slice_get nodes n ≡ Some shape
         → LeadsBy rules nodes bodies x (way_of n shape) n p b → E b
     end_by b node.Any at l = absurd l
     end_by b (node.Bytes bs) at l = absurd l
@@ -128,9 +128,9 @@ module _ (rules : List Rule) (start : ℕ) (nodes : List Shape) (bodies ranks x 
   pub visit_ends : (n p : ℕ) → V n p → E (Pair n p)
   visit_ends n p v = eval_ends (H n p + 1) n p v (omega arith)
 
-  step_ends : {a : Spot} → E a → (b : Spot) → Leads rules nodes bodies x a b → E b
+  step_ends : {a : MatchTask} → E a → (b : MatchTask) → Leads rules nodes bodies x a b → E b
   step_ends (ends below) b l = below b l
 
-  pub reached_ends : {a : Spot} → Reach Spot (Leads rules nodes bodies x) (Pair root 0) a → E a
+  pub reached_ends : {a : MatchTask} → Reach MatchTask (Leads rules nodes bodies x) (Pair root 0) a → E a
   reached_ends reach_root = visit_ends root 0 (first is_root)
   reached_ends (reach_edge {b = b} r l) = step_ends (reached_ends r) b l

@@ -17,45 +17,45 @@ use Rattle.pegmatch.proofs.VisitsLemmas.{visits_within}
 use Rattle.pegnodes.specs.KeyMarks.{AreMarks}
 use Rattle.memo.specs.Parts.{IsIn, in_here, in_later, distinct_none, Reach, reach_root}
 use Rattle.memo.specs.Run.{total}
-use Rattle.memo.specs.declared.spot.Spot.{Spot}
-use Rattle.memo.specs.declared.spot.Spot.TheVariants.{Pair, Tail}
-use Rattle.packrat.specs.Spots.{Leads, Kids, is_key}
+use Rattle.memo.specs.declared.task.MatchTask.{MatchTask}
+use Rattle.memo.specs.declared.task.MatchTask.TheVariants.{Pair, Tail}
+use Rattle.packrat.specs.MatchTasks.{Leads, Kids, is_key}
 use Rattle.packrat.specs.View.{weight, CellsOf, cells_none, cells_rest, cells_pair, AreImplied, AreStored}
 use Rattle.packrat.specs.View.{Evaluates, AreBegun}
 use Rattle.packrat.proofs.AreImpliedLemmas.{is_forest, implied_are_all}
 use Rattle.packrat.proofs.EndsLemmas.{reached_ends}
 use Rattle.memo.proofs.PartsLemmas.{whole_reached}
-use Rattle.packrat.proofs.SpotReachLemmas.{reached_is_visited}
+use Rattle.packrat.proofs.TaskReachLemmas.{reached_is_visited}
 use Rattle.memo.proofs.RunLemmas.{stays_distinct, stays_reached, run_done, all_stored, run_weighed}
 
 module _ (rules : List Rule) (start : ℕ) (nodes : List Shape) (bodies ranks x : List ℕ) (more : Bool)
     (sound : IsRanked rules start nodes bodies ranks) (root : ℕ) (is_root : slice_get bodies start ≡ Some root)
     (marks : ℕ → Bool) (tails : ℕ → ℕ → Bool) (are : AreMarks start nodes bodies marks tails) where
-  abbrev R : Spot → Type 0
-  R a = Reach Spot (Leads rules nodes bodies x) (Pair root 0) a
+  abbrev R : MatchTask → Type 0
+  R a = Reach MatchTask (Leads rules nodes bodies x) (Pair root 0) a
 
-  abbrev S : List Spot → Type 0
+  abbrev S : List MatchTask → Type 0
   S stored = AreStored rules start nodes bodies x more marks tails root stored
 
-  abbrev Ev : List Spot → ℕ → Type 0
+  abbrev Ev : List MatchTask → ℕ → Type 0
   Ev stored begun = Evaluates rules start nodes bodies x more marks tails root stored begun
 
   nothing_in : {V : Type 0} {a : V} → IsIn a [] → ⊥
   nothing_in i = elim i [ ]
 
-  pub evaluated_stores : (stored : List Spot) (begun : ℕ) → Ev stored begun → S stored
+  pub evaluated_stores : (stored : List MatchTask) (begun : ℕ) → Ev stored begun → S stored
   evaluated_stores stored begun run =
       let forest = is_forest rules start nodes bodies ranks x more sound root is_root marks tails are in
-      let reached = stays_reached Spot (Leads rules nodes bodies x) (Pair root 0) (Kids rules nodes bodies x)
+      let reached = stays_reached MatchTask (Leads rules nodes bodies x) (Pair root 0) (Kids rules nodes bodies x)
       (is_key marks tails) weight forest run reach_root (λ a i. absurd (nothing_in i)) in
-      let d = run_done Spot (Leads rules nodes bodies x) (Pair root 0) (Kids rules nodes bodies x)
+      let d = run_done MatchTask (Leads rules nodes bodies x) (Pair root 0) (Kids rules nodes bodies x)
       (is_key marks tails) weight forest run (λ a i. absurd (nothing_in i)) in
       record {
         reached = λ a i. (reached a i).0;
         keys = λ a i. (reached a i).1;
-        all = λ a r t. all_stored Spot (Leads rules nodes bodies x) (Pair root 0) (Kids rules nodes bodies x)
+        all = λ a r t. all_stored MatchTask (Leads rules nodes bodies x) (Pair root 0) (Kids rules nodes bodies x)
             (is_key marks tails) weight forest r d.all (d.stored (are.root root is_root)) t;
-        once = stays_distinct Spot (Leads rules nodes bodies x) (Pair root 0) (Kids rules nodes bodies x)
+        once = stays_distinct MatchTask (Leads rules nodes bodies x) (Pair root 0) (Kids rules nodes bodies x)
             (is_key marks tails) weight forest
             (λ a r. reached_ends rules start nodes bodies ranks x sound root is_root r) run reach_root distinct_none;
       }
@@ -94,38 +94,38 @@ module _ (rules : List Rule) (start : ℕ) (nodes : List Shape) (bodies ranks x 
         let w = visits_within rules start nodes bodies ranks x sound v root k o is_root d in
         found_of n p w.looked w.outcome w.less w.gives
 
-    pub record HasCells (spots : List Spot) : Type 0 where
+    pub record HasCells (tasks : List MatchTask) : Type 0 where
       pub cells : List Entry
-      pub of_spots : CellsOf rules start nodes bodies x more spots cells
-      pub count : length cells ≡ total Spot (Kids rules nodes bodies x) (is_key marks tails) weight spots
+      pub of_tasks : CellsOf rules start nodes bodies x more tasks cells
+      pub count : length cells ≡ total MatchTask (Kids rules nodes bodies x) (is_key marks tails) weight tasks
 
-    pub has_cells : (spots : List Spot) → ((a : Spot) → IsIn a spots → R a) → HasCells spots
-    has_cells [] r = record { cells = []; of_spots = cells_none; count = refl }
-    has_cells (Pair n p ∷ spots) r =
-        let h = has_cells spots (λ a i. r a (in_later i)) in
+    pub has_cells : (tasks : List MatchTask) → ((a : MatchTask) → IsIn a tasks → R a) → HasCells tasks
+    has_cells [] r = record { cells = []; of_tasks = cells_none; count = refl }
+    has_cells (Pair n p ∷ tasks) r =
+        let h = has_cells tasks (λ a i. r a (in_later i)) in
         let f = has_found n p (r (Pair n p) in_here) in
         let is = h.count in
         record {
           cells = record { node = n; place = p; found = f.f } ∷ h.cells;
-          of_spots = cells_pair f.found h.of_spots;
+          of_tasks = cells_pair f.found h.of_tasks;
           count = omega (arith, is);
         }
-    has_cells (Tail n i p ∷ spots) r =
-        let h = has_cells spots (λ a i. r a (in_later i)) in
+    has_cells (Tail n i p ∷ tasks) r =
+        let h = has_cells tasks (λ a i. r a (in_later i)) in
         let is = h.count in
-        record { cells = h.cells; of_spots = cells_rest h.of_spots; count = omega (arith, is) }
+        record { cells = h.cells; of_tasks = cells_rest h.of_tasks; count = omega (arith, is) }
 
-    pub evaluated_begins : (stored : List Spot) (begun : ℕ) → Ev stored begun
+    pub evaluated_begins : (stored : List MatchTask) (begun : ℕ) → Ev stored begun
         → AreBegun rules start nodes bodies x more marks tails stored begun
     evaluated_begins stored begun run =
         let forest = is_forest rules start nodes bodies ranks x more sound root is_root marks tails are in
         let s = evaluated_stores stored begun run in
-        let w = run_weighed Spot (Leads rules nodes bodies x) (Pair root 0) (Kids rules nodes bodies x)
+        let w = run_weighed MatchTask (Leads rules nodes bodies x) (Pair root 0) (Kids rules nodes bodies x)
         (is_key marks tails) weight forest run (are.root root is_root) in
-        let c = has_cells w.spots (λ a i. whole_reached Spot (Leads rules nodes bodies x) (Pair root 0)
+        let c = has_cells w.tasks (λ a i. whole_reached MatchTask (Leads rules nodes bodies x) (Pair root 0)
         (Kids rules nodes bodies x) (is_key marks tails) forest w.whole s.reached i) in
         let implied : AreImplied rules start nodes bodies x more marks tails stored c.cells =
-        record { spots = w.spots; whole = w.whole; cells_of = c.of_spots } in
+        record { tasks = w.tasks; whole = w.whole; cells_of = c.of_tasks } in
         let one = c.count in
         let two = w.count in
         record {

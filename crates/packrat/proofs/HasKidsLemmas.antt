@@ -21,15 +21,15 @@ use Rattle.pegnodes.specs.NodeWays.{Way, Leaf, Body, Members, Alternatives, Turn
 use Rattle.memo.specs.Parts.{IsIn, in_here, in_later, Reach, reach_root, reach_edge, Part, part, Parts, parts_none}
 use Rattle.memo.specs.Parts.{parts_key, parts_more, Whole, whole_none, whole_more}
 use Rattle.memo.specs.Run.{Ends, ends}
-use Rattle.memo.specs.declared.spot.Spot.{Spot}
-use Rattle.memo.specs.declared.spot.Spot.TheVariants.{Pair, Tail}
+use Rattle.memo.specs.declared.task.MatchTask.{MatchTask}
+use Rattle.memo.specs.declared.task.MatchTask.TheVariants.{Pair, Tail}
 use Rattle.memo.proofs.PartsLemmas.{whole_reached}
-use Rattle.packrat.specs.Spots.{Leads, LeadsBy, TailLeadsBy, Kids, KidsBy, TailKidsBy, is_key}
+use Rattle.packrat.specs.MatchTasks.{Leads, LeadsBy, TailLeadsBy, Kids, KidsBy, TailKidsBy, is_key}
 use Rattle.packrat.specs.View.{AreImplied, AreStored}
 use Rattle.packrat.proofs.AreImpliedLemmas.{is_forest}
 use Rattle.packrat.proofs.EndsLemmas.{reached_ends}
 use Rattle.packrat.proofs.EvaluatesLemmas.{has_found, has_cells}
-use Rattle.packrat.proofs.SpotReachLemmas.{reached_is_visited}
+use Rattle.packrat.proofs.TaskReachLemmas.{reached_is_visited}
 
 -- each vertex that ends has a part if what is reached has kids
 module _ (V : Type 0) (Edge : V → V → Type 0) (root : V) (Kids' : V → List V → Type 0) (key : V → Bool)
@@ -71,8 +71,8 @@ module _ (rules : List Rule) (start : ℕ) (nodes : List Shape) (bodies ranks x 
     (sound : IsRanked rules start nodes bodies ranks) (root : ℕ) (is_root : slice_get bodies start ≡ Some root)
     (marks : ℕ → Bool) (tails : ℕ → ℕ → Bool) (are : AreMarks start nodes bodies marks tails) (o : Outcome) (k : ℕ)
     (d : NodeGives rules nodes bodies x root 0 o k) (enough : WasEnough x more k) where
-  abbrev R : Spot → Type 0
-  R a = Reach Spot (Leads rules nodes bodies x) (Pair root 0) a
+  abbrev R : MatchTask → Type 0
+  R a = Reach MatchTask (Leads rules nodes bodies x) (Pair root 0) a
 
   -- what a reached pair gives
   fails_or_takes : (n p : ℕ) → R (Pair n p) → NodeFails rules nodes bodies x n p
@@ -88,13 +88,13 @@ module _ (rules : List Rule) (start : ℕ) (nodes : List Shape) (bodies ranks x 
 
   module _ (n p : ℕ) (r : R (Pair n p)) where
     members_kids : (ms : List ℕ) → (o : Option ℕ) → slice_get ms zero ≡ o
-        → (ks : List Spot) × (((slice_get ms zero ≡ None) × (ks ≡ []))
+        → (ks : List MatchTask) × (((slice_get ms zero ≡ None) × (ks ≡ []))
         ⊎ ((m : ℕ) × (slice_get ms zero ≡ Some m) × (ks ≡ Tail n zero p ∷ [])))
     members_kids ms None is = ([], inl (is, refl))
     members_kids ms (Some m) is = (Tail n zero p ∷ [], inr (m, is, refl))
 
     turns_kids : (i s : ℕ) → R (Pair i p)
-        → (ks : List Spot) × ((NodeFails rules nodes bodies x i p × (ks ≡ Pair i p ∷ []))
+        → (ks : List MatchTask) × ((NodeFails rules nodes bodies x i p × (ks ≡ Pair i p ∷ []))
         ⊎ ((q : ℕ) × NodeTakes rules nodes bodies x i p q × (ks ≡ Pair i p ∷ (Pair s q ∷ []))))
     turns_kids i s reached = elim (fails_or_takes i p reached) [
       | inl f ↦ (Pair i p ∷ [], inl (f, refl))
@@ -102,7 +102,7 @@ module _ (rules : List Rule) (start : ℕ) (nodes : List Shape) (bodies ranks x 
     ]
 
     pair_kids : (shape : Shape) → slice_get nodes n ≡ Some shape
-        → (ks : List Spot) × KidsBy rules nodes bodies x (way_of n shape) n p ks
+        → (ks : List MatchTask) × KidsBy rules nodes bodies x (way_of n shape) n p ks
     pair_kids node.Any at = ([], refl)
     pair_kids (node.Bytes bs) at = ([], refl)
     pair_kids (node.Set s) at = ([], refl)
@@ -131,13 +131,14 @@ module _ (rules : List Rule) (start : ℕ) (nodes : List Shape) (bodies ranks x 
   HasMemberAt (Turns j s) i = ⊥
   HasMemberAt (Operand j) i = ⊥
 
-  abbrev IsTailOf : Spot → Type 0
+  abbrev IsTailOf : MatchTask → Type 0
   IsTailOf (Pair n p) = Unit {0}
   IsTailOf (Tail n i p) =
       (shape : Shape) × (slice_get nodes n ≡ Some shape) × HasMemberAt (way_of n shape) i
 
   module _ (n : ℕ) (shape : Shape) (at : slice_get nodes n ≡ Some shape) where
-    tail_by : (p : ℕ) (w : Way) → way_of n shape ≡ w → (b : Spot) → LeadsBy rules nodes bodies x w n p b → IsTailOf b
+    tail_by : (p : ℕ) (w : Way) → way_of n shape ≡ w → (b : MatchTask) → LeadsBy rules nodes bodies x w n p b
+        → IsTailOf b
     tail_by p Leaf is b l = absurd l
     tail_by p (Body id) is b l = subst IsTailOf (sym l.2) tt
     tail_by p (Members ms) is b l =
@@ -150,7 +151,7 @@ module _ (rules : List Rule) (start : ℕ) (nodes : List Shape) (bodies ranks x 
     ]
     tail_by p (Operand j) is b l = subst IsTailOf (sym l) tt
 
-    further_by : (i p : ℕ) (w : Way) → way_of n shape ≡ w → (b : Spot) → TailLeadsBy rules nodes bodies x w n i p b
+    further_by : (i p : ℕ) (w : Way) → way_of n shape ≡ w → (b : MatchTask) → TailLeadsBy rules nodes bodies x w n i p b
         → IsTailOf b
     further_by i p Leaf is b l = absurd l
     further_by i p (Body id) is b l = absurd l
@@ -165,17 +166,17 @@ module _ (rules : List Rule) (start : ℕ) (nodes : List Shape) (bodies ranks x 
     further_by i p (Turns j s) is b l = absurd l
     further_by i p (Operand j) is b l = absurd l
 
-  led_tail : (a b : Spot) → Leads rules nodes bodies x a b → IsTailOf b
+  led_tail : (a b : MatchTask) → Leads rules nodes bodies x a b → IsTailOf b
   led_tail (Pair n p) b l = tail_by n l.0 l.1 p (way_of n l.0) refl b l.2
   led_tail (Tail n i p) b l = further_by n l.0 l.1 i p (way_of n l.0) refl b l.2
 
-  tail_of_reach : {a : Spot} → R a → IsTailOf a
+  tail_of_reach : {a : MatchTask} → R a → IsTailOf a
   tail_of_reach reach_root = tt
   tail_of_reach (reach_edge {a = a} {b = b} r l) = led_tail a b l
 
   tail_kids : (n i p : ℕ) (w : Way) → HasMemberAt w i
-      → ((b : Spot) → TailLeadsBy rules nodes bodies x w n i p b → R b)
-      → (ks : List Spot) × TailKidsBy rules nodes bodies x w n i p ks
+      → ((b : MatchTask) → TailLeadsBy rules nodes bodies x w n i p b → R b)
+      → (ks : List MatchTask) × TailKidsBy rules nodes bodies x w n i p ks
   tail_kids n i p Leaf h on = absurd h
   tail_kids n i p (Body id) h on = absurd h
   tail_kids n i p (Members ms) h on =
@@ -185,7 +186,7 @@ module _ (rules : List Rule) (start : ℕ) (nodes : List Shape) (bodies ranks x 
       ]
     where
       by : (v : Option ℕ) → slice_get ms (suc i) ≡ v → ((q : ℕ) × NodeTakes rules nodes bodies x h.0 p q)
-          → (ks : List Spot) × TailKidsBy rules nodes bodies x (Members ms) n i p ks
+          → (ks : List MatchTask) × TailKidsBy rules nodes bodies x (Members ms) n i p ks
       by None is t = (Pair h.0 p ∷ [], (h.0, h.1, inl (inr is, refl)))
       by (Some j) is t = (Pair h.0 p ∷ (Tail n (suc i) t.0 ∷ []), (h.0, h.1, inr (j, t.0, is, t.1, refl)))
   tail_kids n i p (Alternatives ms) h on =
@@ -195,7 +196,7 @@ module _ (rules : List Rule) (start : ℕ) (nodes : List Shape) (bodies ranks x 
       ]
     where
       by : (v : Option ℕ) → slice_get ms (suc i) ≡ v → NodeFails rules nodes bodies x h.0 p
-          → (ks : List Spot) × TailKidsBy rules nodes bodies x (Alternatives ms) n i p ks
+          → (ks : List MatchTask) × TailKidsBy rules nodes bodies x (Alternatives ms) n i p ks
       by None is f = (Pair h.0 p ∷ [], (h.0, h.1, inl (inr is, refl)))
       by (Some j) is f = (Pair h.0 p ∷ (Tail n (suc i) p ∷ []), (h.0, h.1, inr (j, is, f, refl)))
   tail_kids n i p (Turns j s) h on = absurd h
@@ -212,7 +213,7 @@ module _ (rules : List Rule) (start : ℕ) (nodes : List Shape) (bodies ranks x 
       by (Some shape) is lt = (shape, is)
       by None is lt = absurd (cc (slice_get-get_or nodes n node.Any lt, is))
 
-  has_kids : (a : Spot) → R a → (ks : List Spot) × Kids rules nodes bodies x a ks
+  has_kids : (a : MatchTask) → R a → (ks : List MatchTask) × Kids rules nodes bodies x a ks
   has_kids (Pair n p) r =
       let h = node_there n p r in
       let ks = pair_kids n p r h.0 h.1 in
@@ -222,14 +223,15 @@ module _ (rules : List Rule) (start : ℕ) (nodes : List Shape) (bodies ranks x 
       let ks = tail_kids n i p (way_of n h.0) h.2 (λ b l. reach_edge r (h.0, h.1, l)) in
       (ks.0, (h.0, h.1, ks.1))
 
-  pub implied_some : (stored : List Spot) → AreStored rules start nodes bodies x more marks tails root stored
+  pub implied_some : (stored : List MatchTask) → AreStored rules start nodes bodies x more marks tails root stored
       → (cells : List Entry) × AreImplied rules start nodes bodies x more marks tails stored cells
   implied_some stored s =
       let forest = is_forest rules start nodes bodies ranks x more sound root is_root marks tails are in
-      let w = whole_of Spot (Leads rules nodes bodies x) (Pair root 0) (Kids rules nodes bodies x) (is_key marks tails)
+      let w = whole_of MatchTask (Leads rules nodes bodies x) (Pair root 0) (Kids rules nodes bodies x)
+      (is_key marks tails)
       forest.leads has_kids (λ a r. reached_ends rules start nodes bodies ranks x sound root is_root r) stored
       s.reached in
       let c = has_cells rules start nodes bodies ranks x more sound root is_root marks tails are o k d enough w.0
-      (λ a i. whole_reached Spot (Leads rules nodes bodies x) (Pair root 0) (Kids rules nodes bodies x)
+      (λ a i. whole_reached MatchTask (Leads rules nodes bodies x) (Pair root 0) (Kids rules nodes bodies x)
       (is_key marks tails) forest w.1 s.reached i) in
-      (c.cells, record { spots = w.0; whole = w.1; cells_of = c.of_spots })
+      (c.cells, record { tasks = w.0; whole = w.1; cells_of = c.of_tasks })

@@ -9,17 +9,17 @@ use Rattle.gramcheck.specs.Grammar.{Grammar}
 use Rattle.pegnodes.specs.Nodes as node
 use Rattle.pegnodes.specs.Nodes.{Shape, shapes_of}
 use Rattle.memo.specs.declared.key_log.Given.{Given}
-use Rattle.memo.specs.declared.spot.Spot.{Spot}
-use Rattle.memo.specs.declared.spot.Spot.TheVariants.{Pair, Tail}
+use Rattle.memo.specs.declared.task.MatchTask.{MatchTask}
+use Rattle.memo.specs.declared.task.MatchTask.TheVariants.{Pair, Tail}
 use Rattle.packrat.specs.TurnsLeft.{members_of, most_members, ask_cost, wait_cost, frames_cost, most_begun}
 use Rattle.packrat.specs.TurnsLeft.{left}
 use Rattle.packrat.specs.Turned.{AreTurnedFrames}
-use Rattle.packrat.specs.declared.turns.Turns as told
+use Rattle.packrat.specs.declared.turns.Turns as reported
 use Rattle.packrat.specs.Onward.{HasMember, IsWell}
-use Rattle.packrat.specs.SpotSteps.{FirstBy, TailFirstBy, IsFirst}
+use Rattle.packrat.specs.TaskSteps.{FirstBy, TailFirstBy, IsFirst}
 use Rattle.pegnodes.specs.NodeWays.{Way, Leaf, Body, Members, Alternatives, Turns, Operand, way_of}
-use Rattle.packrat.specs.Spots.{KidsBy, TailKidsBy}
-use Rattle.packrat.specs.Spots.{Kids}
+use Rattle.packrat.specs.MatchTasks.{KidsBy, TailKidsBy}
+use Rattle.packrat.specs.MatchTasks.{Kids}
 use Rattle.packrat.specs.View.{weight}
 use Rattle.packrat.specs.declared.frames.Frame.{Frame}
 use Rattle.memo.specs.declared.key_log.Stored.{Stored}
@@ -72,20 +72,20 @@ module _ (g : Grammar) (x : List ℕ) where
   abbrev Most : ℕ
   Most = most_members (shapes_of g.nodes)
 
-  abbrev F : Spot → Spot → Type 0
+  abbrev F : MatchTask → MatchTask → Type 0
   F a k = IsFirst (rules_of g.rules) (shapes_of g.nodes) g.bodies x a k
 
-  abbrev K : Spot → List Spot → Type 0
+  abbrev K : MatchTask → List MatchTask → Type 0
   K a ks = Kids (rules_of g.rules) (shapes_of g.nodes) g.bodies x a ks
 
   member_below : (n i p : ℕ) → IsWell g x (Tail n i p) → i < Most
   member_below n i p w = counted_below (shapes_of g.nodes) n i w.2.0 w.2.1 (member_counted w.2.0 i w.2.2)
 
-  costs_some : (a : Spot) → IsWell g x a → 1 ≤ ask_cost Most a
+  costs_some : (a : MatchTask) → IsWell g x a → 1 ≤ ask_cost Most a
   costs_some (Pair n p) w = omega arith
   costs_some (Tail n i p) w = let lt = member_below n i p w in omega arith
 
-  first_of_node : (way : Way) (n p : ℕ) (k : Spot)
+  first_of_node : (way : Way) (n p : ℕ) (k : MatchTask)
       → FirstBy (rules_of g.rules) (shapes_of g.nodes) g.bodies x way n p k → ask_cost Most k ≤ 4 * Most + 1
   first_of_node Leaf n p k h = absurd h
   first_of_node (Body id) n p k h = subst (λ v. ask_cost Most v ≤ 4 * Most + 1) (sym h.2) (omega arith)
@@ -94,7 +94,7 @@ module _ (g : Grammar) (x : List ℕ) where
   first_of_node (Turns o s) n p k h = subst (λ v. ask_cost Most v ≤ 4 * Most + 1) (sym h) (omega arith)
   first_of_node (Operand o) n p k h = subst (λ v. ask_cost Most v ≤ 4 * Most + 1) (sym h) (omega arith)
 
-  first_of_tail : (way : Way) (n i p : ℕ) (k : Spot)
+  first_of_tail : (way : Way) (n i p : ℕ) (k : MatchTask)
       → TailFirstBy (rules_of g.rules) (shapes_of g.nodes) g.bodies x way n i p k → ask_cost Most k ≡ 1
   first_of_tail Leaf n i p k h = absurd h
   first_of_tail (Body id) n i p k h = absurd h
@@ -104,16 +104,16 @@ module _ (g : Grammar) (x : List ℕ) where
   first_of_tail (Operand o) n i p k h = absurd h
 
   -- the second of two
-  second_is : {j k l m : Spot} → j ∷ (k ∷ []) ≡ l ∷ (m ∷ []) → k ≡ m
+  second_is : {j k l m : MatchTask} → j ∷ (k ∷ []) ≡ l ∷ (m ∷ []) → k ≡ m
   second_is h = cc h
 
-  not_one : {j k l : Spot} {A : Type 0} → j ∷ (k ∷ []) ≡ l ∷ [] → A
+  not_one : {j k l : MatchTask} {A : Type 0} → j ∷ (k ∷ []) ≡ l ∷ [] → A
   not_one h = absurd (cc h)
 
-  not_none : {j k : Spot} {A : Type 0} → j ∷ (k ∷ []) ≡ [] → A
+  not_none : {j k : MatchTask} {A : Type 0} → j ∷ (k ∷ []) ≡ [] → A
   not_none h = absurd (cc h)
 
-  second_of_node : (way : Way) (n p : ℕ) (j k : Spot)
+  second_of_node : (way : Way) (n p : ℕ) (j k : MatchTask)
       → KidsBy (rules_of g.rules) (shapes_of g.nodes) g.bodies x way n p (j ∷ (k ∷ [])) → ask_cost Most k ≡ 1
   second_of_node Leaf n p j k h = not_none h
   second_of_node (Body id) n p j k h = not_one h.2
@@ -125,7 +125,7 @@ module _ (g : Grammar) (x : List ℕ) where
   ]
   second_of_node (Operand o) n p j k h = not_one h
 
-  second_of_tail : (way : Way) (n i p : ℕ) (j k : Spot)
+  second_of_tail : (way : Way) (n i p : ℕ) (j k : MatchTask)
       → TailKidsBy (rules_of g.rules) (shapes_of g.nodes) g.bodies x way n i p (j ∷ (k ∷ []))
       → ask_cost Most k ≡ 4 * (Most - suc i)
   second_of_tail Leaf n i p j k h = absurd h
@@ -141,20 +141,20 @@ module _ (g : Grammar) (x : List ℕ) where
   second_of_tail (Turns o s) n i p j k h = absurd h
   second_of_tail (Operand o) n i p j k h = absurd h
 
-  waits_some : (w : Wait) (a : Spot) → 1 ≤ wait_cost Most w a
+  waits_some : (w : Wait) (a : MatchTask) → 1 ≤ wait_cost Most w a
   waits_some (Last head) a = omega arith
   waits_some (Turned last) a = omega arith
   waits_some First (Pair n p) = omega arith
   waits_some First (Tail n i p) = omega arith
 
   -- a task that is stored
-  pub less_stored : (a : Spot) (f : Given) (fs : List Frame) (begun : ℕ) → IsWell g x a
+  pub less_stored : (a : MatchTask) (f : Given) (fs : List Frame) (begun : ℕ) → IsWell g x a
       → left g x (Answer f) fs begun < left g x (Ask a) fs begun
   unfolding left
   less_stored a f fs begun w = let some = costs_some a w in omega arith
 
   -- a task that begins, and gives something at once
-  pub less_leaf : (a : Spot) (f : Given) (fs : List Frame) (begun now : ℕ) → now ≡ begun + weight a
+  pub less_leaf : (a : MatchTask) (f : Given) (fs : List Frame) (begun now : ℕ) → now ≡ begun + weight a
       → now ≤ most_begun g x → IsWell g x a → left g x (Answer f) fs now < left g x (Ask a) fs begun
   unfolding left
   less_leaf (Pair n p) f fs begun now is le w =
@@ -186,12 +186,12 @@ module _ (g : Grammar) (x : List ℕ) where
       let rest = times_less (4 * Most + 4) (most_begun g x) (begun + 1) now (omega (arith, is, some)) in
       omega (arith, more, rest)
 
-  pub turned_costs : (key : Bool) (t : told.Turns) (fs gs : List Frame) → AreTurnedFrames key t fs gs
+  pub turned_costs : (key : Bool) (t : reported.Turns) (fs gs : List Frame) → AreTurnedFrames key t fs gs
       → frames_cost Most gs ≤ 1 + frames_cost Most fs
   turned_costs true t fs gs is = subst (λ v. frames_cost Most v ≤ 1 + frames_cost Most fs) (sym is) (omega arith)
   turned_costs false t fs gs is = subst (λ v. frames_cost Most v ≤ 1 + frames_cost Most fs) (sym is) (omega arith)
 
-  pub waiting_costs : (key : Bool) (head : ℕ) (a : Spot) (fs gs : List Frame) → AreWaiting key head a fs gs
+  pub waiting_costs : (key : Bool) (head : ℕ) (a : MatchTask) (fs gs : List Frame) → AreWaiting key head a fs gs
       → frames_cost Most gs ≤ 1 + frames_cost Most fs
   waiting_costs key head a fs gs (inl is) =
       subst (λ v. frames_cost Most v ≤ 1 + frames_cost Most fs) (sym is) (omega arith)
@@ -199,17 +199,17 @@ module _ (g : Grammar) (x : List ℕ) where
       subst (λ v. frames_cost Most v ≤ 1 + frames_cost Most fs) (sym h.2) (omega arith)
 
   -- a task that begins, and asks for its first child; it has a frame, or none
-  spot_down : (a k : Spot) (fs gs : List Frame) (begun now : ℕ) → now ≡ begun + weight a → now ≤ most_begun g x
+  task_down : (a k : MatchTask) (fs gs : List Frame) (begun now : ℕ) → now ≡ begun + weight a → now ≤ most_begun g x
       → IsWell g x a → F a k → frames_cost Most gs ≤ wait_cost Most First a + frames_cost Most fs
       → left g x (Ask k) gs now < left g x (Ask a) fs begun
   unfolding left
-  spot_down (Pair n p) k fs gs begun now is le w h few =
+  task_down (Pair n p) k fs gs begun now is le w h few =
       let more = one_times (4 * Most + 4) (most_begun g x) begun (omega (arith, is, le)) in
       let cost = first_of_node (way_of n h.0) n p k h.2 in
       subst (λ v. (4 * Most + 4) * (most_begun g x - v) + (ask_cost Most k + frames_cost Most gs)
       < (4 * Most + 4) * (most_begun g x - begun) + (1 + frames_cost Most fs)) (sym is)
       (omega (arith, more, cost, few))
-  spot_down (Tail n i p) k fs gs begun now is le w h few =
+  task_down (Tail n i p) k fs gs begun now is le w h few =
       let lt = member_below n i p w in
       let same : now ≡ begun = omega (arith, is) in
       let cost = first_of_tail (way_of n h.0) n i p k h.2 in
@@ -226,7 +226,7 @@ module _ (g : Grammar) (x : List ℕ) where
       let lt = member_below n i p w in
       omega (arith, lt, few)
 
-  entered_costs : (only key : Bool) (a : Spot) (fs gs : List Frame) → AreEntered only key a fs gs
+  entered_costs : (only key : Bool) (a : MatchTask) (fs gs : List Frame) → AreEntered only key a fs gs
       → frames_cost Most gs ≤ wait_cost Most First a + frames_cost Most fs
   entered_costs true key a fs gs are =
       let some = waits_some First a in
@@ -268,25 +268,26 @@ module _ (g : Grammar) (x : List ℕ) where
       let two = entered_less stored e mid gs t now well i in
       omega (arith, one, two)
 
-  pub less_down : (a k : Spot) (key : Bool) (fs : List Frame) (begun now : ℕ) → now ≡ begun + weight a
+  pub less_down : (a k : MatchTask) (key : Bool) (fs : List Frame) (begun now : ℕ) → now ≡ begun + weight a
       → now ≤ most_begun g x → IsWell g x a → F a k
-      → left g x (Ask k) (record { spot = a; key = key; wait = First } ∷ fs) now < left g x (Ask a) fs begun
+      → left g x (Ask k) (record { task = a; key = key; wait = First } ∷ fs) now < left g x (Ask a) fs begun
   less_down a k key fs begun now is le w h =
-      spot_down a k fs (record { spot = a; key = key; wait = First } ∷ fs) begun now is le w h (omega arith)
+      task_down a k fs (record { task = a; key = key; wait = First } ∷ fs) begun now is le w h (omega arith)
 
-  pub less_pass : (a k : Spot) (key : Bool) (head : ℕ) (fs gs : List Frame) (begun now : ℕ) → now ≡ begun + weight a
+  pub less_pass : (a k : MatchTask) (key : Bool) (head : ℕ) (fs gs : List Frame) (begun now : ℕ) → now
+      ≡ begun + weight a
       → now ≤ most_begun g x → IsWell g x a → F a k → AreWaiting key head a fs gs
       → left g x (Ask k) gs now < left g x (Ask a) fs begun
   less_pass a k key head fs gs begun now is le w h are =
       let some = waits_some First a in
       let few = waiting_costs key head a fs gs are in
-      spot_down a k fs gs begun now is le w h (omega (arith, some, few))
+      task_down a k fs gs begun now is le w h (omega (arith, some, few))
 
   -- a frame that asks for its last
-  pub less_on : (a j k : Spot) (given : Given) (key : Bool) (head : ℕ) (fs gs : List Frame) (begun : ℕ)
+  pub less_on : (a j k : MatchTask) (given : Given) (key : Bool) (head : ℕ) (fs gs : List Frame) (begun : ℕ)
       → K a (j ∷ (k ∷ [])) → AreWaiting key head a fs gs
       → left g x (Ask k) gs begun
-      < left g x (Answer given) (record { spot = a; key = key; wait = First } ∷ fs) begun
+      < left g x (Answer given) (record { task = a; key = key; wait = First } ∷ fs) begun
   unfolding left
   less_on (Pair n p) j k given key head fs gs begun h are =
       let cost = second_of_node (way_of n h.0) n p j k h.2 in
@@ -301,10 +302,10 @@ module _ (g : Grammar) (x : List ℕ) where
   pub less_up : (l : Frame) (own given : Given) (fs : List Frame) (begun : ℕ)
       → left g x (Answer own) fs begun < left g x (Answer given) (l ∷ fs) begun
   unfolding left
-  less_up l own given fs begun = let some = waits_some l.wait l.spot in omega arith
+  less_up l own given fs begun = let some = waits_some l.wait l.task in omega arith
 
   -- with a tail that is entered
-  pub less_pass_in : (stored : List Stored) (a : Spot) (t : Turn) (e : Entering) (key : Bool)
+  pub less_pass_in : (stored : List Stored) (a : MatchTask) (t : Turn) (e : Entering) (key : Bool)
       (head : ℕ) (fs mid gs : List Frame) (begun now : ℕ) → now ≡ begun + weight a
       → now ≤ most_begun g x → IsWell g x a → F a (tail_of e) → IsWell g x (tail_of e) → AreWaiting key head a fs mid
       → IsEntered stored e mid gs t → left g x t gs now < left g x (Ask a) fs begun
@@ -313,10 +314,10 @@ module _ (g : Grammar) (x : List ℕ) where
       let two = entered_less stored e mid gs t now well i in
       omega (arith, one, two)
 
-  pub less_on_in : (stored : List Stored) (a j : Spot) (t : Turn) (e : Entering) (given : Given)
+  pub less_on_in : (stored : List Stored) (a j : MatchTask) (t : Turn) (e : Entering) (given : Given)
       (key : Bool) (head : ℕ) (fs mid gs : List Frame) (begun : ℕ) → K a (j ∷ (tail_of e ∷ [])) → IsWell g x (tail_of e)
       → AreWaiting key head a fs mid → IsEntered stored e mid gs t → left g x t gs begun
-      < left g x (Answer given) (record { spot = a; key = key; wait = First } ∷ fs) begun
+      < left g x (Answer given) (record { task = a; key = key; wait = First } ∷ fs) begun
   less_on_in stored a j t e given key head fs mid gs begun h well are i =
       let one = less_on a j (tail_of e) given key head fs mid begun h are in
       let two = entered_less stored e mid gs t begun well i in

@@ -11,15 +11,15 @@ use Rattle.memo.specs.Entries.{Entry}
 use Rattle.pegmatch.specs.CellOutcomes.{IsFound}
 use Rattle.pegmatch.specs.Visits.{NodeTakes, NodeFails}
 use Rattle.pegmatch.proofs.NodeGivesLemmas.{same_node}
-use Rattle.memo.specs.declared.spot.Spot.{Spot}
-use Rattle.memo.specs.declared.spot.Spot.TheVariants.{Pair, Tail}
+use Rattle.memo.specs.declared.task.MatchTask.{MatchTask}
+use Rattle.memo.specs.declared.task.MatchTask.TheVariants.{Pair, Tail}
 use Rattle.memo.specs.Parts.{Part, part, Parts, parts_none, parts_key, parts_more, Whole, whole_none, whole_more}
 use Rattle.pegnodes.specs.NodeWays.{Way, Leaf, Body, Members, Alternatives, Turns, Operand, way_of}
-use Rattle.packrat.specs.Spots.{KidsBy, TailKidsBy}
-use Rattle.packrat.specs.Spots.{Kids}
-use Rattle.packrat.specs.Spots.{is_key}
+use Rattle.packrat.specs.MatchTasks.{KidsBy, TailKidsBy}
+use Rattle.packrat.specs.MatchTasks.{Kids}
+use Rattle.packrat.specs.MatchTasks.{is_key}
 use Rattle.packrat.specs.View.{CellsOf, cells_none, cells_rest, cells_pair, AreImplied}
-use Rattle.packrat.proofs.SpotKidsLemmas.{takes_same, takes_fails}
+use Rattle.packrat.proofs.TaskKidsLemmas.{takes_same, takes_fails}
 
 module _ (V : Type 0) (Kids' : V → List V → Type 0) (key : V → Bool)
     (same : (a : V) (ks ls : List V) → Kids' a ks → Kids' a ls → ks ≡ ls) where
@@ -55,10 +55,10 @@ module _ (V : Type 0) (Kids' : V → List V → Type 0) (key : V → Bool)
 
 module _ (rules : List Rule) (start : ℕ) (nodes : List Shape) (bodies ranks x : List ℕ) (more : Bool)
     (sound : IsRanked rules start nodes bodies ranks) where
-  abbrev KB : Way → ℕ → ℕ → List Spot → Type 0
+  abbrev KB : Way → ℕ → ℕ → List MatchTask → Type 0
   KB w n p ks = KidsBy rules nodes bodies x w n p ks
 
-  abbrev RK : Way → ℕ → ℕ → ℕ → List Spot → Type 0
+  abbrev RK : Way → ℕ → ℕ → ℕ → List MatchTask → Type 0
   RK w n i p ks = TailKidsBy rules nodes bodies x w n i p ks
 
   abbrev NT : ℕ → ℕ → ℕ → Type 0
@@ -73,7 +73,7 @@ module _ (rules : List Rule) (start : ℕ) (nodes : List Shape) (bodies ranks x 
   not_both : {k p q : ℕ} → NT k p q → NF k p → ⊥
   not_both t f = takes_fails rules start nodes bodies ranks x sound t f
 
-  kids_by : (w : Way) (n p : ℕ) (ks ls : List Spot) → KB w n p ks → KB w n p ls → ks ≡ ls
+  kids_by : (w : Way) (n p : ℕ) (ks ls : List MatchTask) → KB w n p ks → KB w n p ls → ks ≡ ls
   kids_by Leaf n p ks ls k l = cc
   kids_by (Body id) n p ks ls k l = let is : k.0 ≡ l.0 = cc (k.1, l.1) in cc (is, k.2, l.2)
   kids_by (Members ms) n p ks ls k l = elim k [
@@ -93,7 +93,7 @@ module _ (rules : List Rule) (start : ℕ) (nodes : List Shape) (bodies ranks x 
   ]
   kids_by (Operand j) n p ks ls k l = cc
 
-  rest_kids_by : (w : Way) (n i p : ℕ) (ks ls : List Spot) → RK w n i p ks → RK w n i p ls → ks ≡ ls
+  rest_kids_by : (w : Way) (n i p : ℕ) (ks ls : List MatchTask) → RK w n i p ks → RK w n i p ls → ks ≡ ls
   rest_kids_by Leaf n i p ks ls k l = absurd k
   rest_kids_by (Body id) n i p ks ls k l = absurd k
   rest_kids_by (Members ms) n i p ks ls k l =
@@ -135,7 +135,8 @@ module _ (rules : List Rule) (start : ℕ) (nodes : List Shape) (bodies ranks x 
   rest_kids_by (Turns j s) n i p ks ls k l = absurd k
   rest_kids_by (Operand j) n i p ks ls k l = absurd k
 
-  one_kids : (a : Spot) (ks ls : List Spot) → Kids rules nodes bodies x a ks → Kids rules nodes bodies x a ls → ks ≡ ls
+  one_kids : (a : MatchTask) (ks ls : List MatchTask) → Kids rules nodes bodies x a ks → Kids rules nodes bodies x a ls
+      → ks ≡ ls
   one_kids (Pair n p) ks ls k l =
       let is : l.0 ≡ k.0 = cc (k.1, l.1) in
       kids_by (way_of n k.0) n p ks ls k.2 (subst (λ v. KB (way_of n v) n p ls) is l.2)
@@ -158,7 +159,7 @@ module _ (rules : List Rule) (start : ℕ) (nodes : List Shape) (bodies ranks x 
       let is : q ≡ r = cc s in
       cc
 
-  one_cells : {xs ys : List Spot} {cs ds : List Entry} → CellsOf rules start nodes bodies x more xs cs
+  one_cells : {xs ys : List MatchTask} {cs ds : List Entry} → CellsOf rules start nodes bodies x more xs cs
       → CellsOf rules start nodes bodies x more ys ds → xs ≡ ys → cs ≡ ds
   one_cells cells_none cells_none is = refl
   one_cells cells_none (cells_rest d) is = absurd (cc is)
@@ -176,8 +177,8 @@ module _ (rules : List Rule) (start : ℕ) (nodes : List Shape) (bodies ranks x 
       let rest = one_cells c d (cc is) in
       cc (one, two, same, rest)
 
-  pub one_view_of : (marks : ℕ → Bool) (tails : ℕ → ℕ → Bool) (stored : List Spot) (cs ds : List Entry)
+  pub one_view_of : (marks : ℕ → Bool) (tails : ℕ → ℕ → Bool) (stored : List MatchTask) (cs ds : List Entry)
       → AreImplied rules start nodes bodies x more marks tails stored cs
       → AreImplied rules start nodes bodies x more marks tails stored ds → cs ≡ ds
   one_view_of marks tails stored cs ds c d = one_cells c.cells_of d.cells_of
-      (one_whole Spot (Kids rules nodes bodies x) (is_key marks tails) one_kids c.whole d.whole refl)
+      (one_whole MatchTask (Kids rules nodes bodies x) (is_key marks tails) one_kids c.whole d.whole refl)

@@ -19,14 +19,14 @@ use Rattle.memo.specs.declared.found.Found.TheVariants.{Failed, Took}
 use Rattle.pegmatch.specs.Answers.{WasEnough}
 use Rattle.gramcheck.specs.Outcome.{Event}
 use Rattle.pegmatch.specs.Visits.{NodeTakes, NodeFails}
-use Rattle.packrat.specs.SpotGives.{joined}
+use Rattle.packrat.specs.TaskGives.{joined}
 use Rattle.pegmatch.specs.KeptEvents.{quiet_outcome}
 use Rattle.pegmatch.proofs.AsksLemmas.{goes_onward}
 use Rattle.gramcheck.proofs.LongerInputLemmas.{ends_by}
-use Rattle.memo.specs.declared.spot.Spot.{Spot}
-use Rattle.memo.specs.declared.spot.Spot.TheVariants.{Pair, Tail}
+use Rattle.memo.specs.declared.task.MatchTask.{MatchTask}
+use Rattle.memo.specs.declared.task.MatchTask.TheVariants.{Pair, Tail}
 use Rattle.pegnodes.specs.NodeWays.{way_of}
-use Rattle.packrat.proofs.SpotGivesLemmas as L
+use Rattle.packrat.proofs.TaskGivesLemmas as L
 use Rattle.packrat.specs.declared.onward.Onward.{Onward}
 use Rattle.packrat.specs.declared.onward.Onward.TheVariants.{Gives, Same, Passes, Enters}
 use Rattle.packrat.specs.declared.onward.Begun.{Begun}
@@ -34,32 +34,32 @@ use Rattle.packrat.specs.declared.onward.Begun.TheVariants as begun
 use Rattle.packrat.specs.declared.onward.Start.TheVariants as start
 use Rattle.packrat.specs.Begins.{AfterNone, IsLeaf}
 use Rattle.packrat.specs.Onward.{IsWell, AfterOne, GoesOn, HasMember, AfterStart, IsLed, entering_of}
-use Rattle.packrat.specs.SpotSteps.{FirstBy, TailFirstBy, IsFirst}
+use Rattle.packrat.specs.TaskSteps.{FirstBy, TailFirstBy, IsFirst}
 
 module _ (g : Grammar) (x : List ℕ) (more : Bool) (some : WasEnough x more 0) (sound : IsSoundGrammar g) where
-  abbrev SG : Spot → Found → List Event → Type 0
+  abbrev SG : MatchTask → Found → List Event → Type 0
   SG a f events = L.SG g x more some sound a f events
 
-  abbrev F : Spot → Spot → Type 0
+  abbrev F : MatchTask → MatchTask → Type 0
   F a j = IsFirst (rules_of g.rules) (shapes_of g.nodes) g.bodies x a j
 
   abbrev At : ℕ → Shape → Type 0
   At n shape = slice_get (shapes_of g.nodes) n ≡ Some shape
 
-  abbrev pub After : Spot → Found → Onward → Type 0
+  abbrev pub After : MatchTask → Found → Onward → Type 0
   After a found o =
-      (j : Spot) → F a j → (events : List Event) → SG j found events → AfterOne g x more a j found events o
+      (j : MatchTask) → F a j → (events : List Event) → SG j found events → AfterOne g x more a j found events o
 
-  abbrev pub Then : Spot → Found → Spot → Type 0
-  Then a found k = (j : Spot) → F a j → (events : List Event) → SG j found events → GoesOn g x more a j events k
+  abbrev pub Then : MatchTask → Found → MatchTask → Type 0
+  Then a found k = (j : MatchTask) → F a j → (events : List Event) → SG j found events → GoesOn g x more a j events k
 
-  by_first : (n p : ℕ) (shape : Shape) → At n shape → (j : Spot) → F (Pair n p) j
+  by_first : (n p : ℕ) (shape : Shape) → At n shape → (j : MatchTask) → F (Pair n p) j
       → FirstBy (rules_of g.rules) (shapes_of g.nodes) g.bodies x (way_of n shape) n p j
   by_first n p shape at j h =
       let same : h.0 ≡ shape = cc (h.1, at) in
       subst (λ v. FirstBy (rules_of g.rules) (shapes_of g.nodes) g.bodies x (way_of n v) n p j) same h.2
 
-  by_rest : (n i p : ℕ) (shape : Shape) → At n shape → (j : Spot) → F (Tail n i p) j
+  by_rest : (n i p : ℕ) (shape : Shape) → At n shape → (j : MatchTask) → F (Tail n i p) j
       → TailFirstBy (rules_of g.rules) (shapes_of g.nodes) g.bodies x (way_of n shape) n i p j
   by_rest n i p shape at j h =
       let same : h.0 ≡ shape = cc (h.1, at) in
@@ -71,7 +71,7 @@ module _ (g : Grammar) (x : List ℕ) (more : Bool) (some : WasEnough x more 0) 
   abbrev NT : ℕ → ℕ → ℕ → List Event → Type 0
   NT k p q events = L.NT g x more some sound k p q events
 
-  module _ (k p : ℕ) (j : Spot) (found : Found) (es : List Event) (by : j ≡ Pair k p) (d : SG j found es) where
+  module _ (k p : ℕ) (j : MatchTask) (found : Found) (es : List Event) (by : j ≡ Pair k p) (d : SG j found es) where
     kid_fails : found ≡ Failed → NF k p
     kid_fails is = L.fails_of g x more some sound k p found es (subst (λ v. SG v found es) by d) is
 
@@ -100,10 +100,10 @@ module _ (g : Grammar) (x : List ℕ) (more : Bool) (some : WasEnough x more 0) 
       let lt = near is in
       omega (arith, le, far, lt)
 
-  one_kid : (j k : Spot) → j ≡ k → j ∷ [] ≡ k ∷ []
+  one_kid : (j k : MatchTask) → j ≡ k → j ∷ [] ≡ k ∷ []
   one_kid j k is = ap (λ v. v ∷ []) is
 
-  two_kids : (j k l : Spot) → j ≡ k → j ∷ (l ∷ []) ≡ k ∷ (l ∷ [])
+  two_kids : (j k l : MatchTask) → j ≡ k → j ∷ (l ∷ []) ≡ k ∷ (l ∷ [])
   two_kids j k l is = ap (λ v. v ∷ (l ∷ [])) is
 
   -- a comparison
@@ -114,7 +114,7 @@ module _ (g : Grammar) (x : List ℕ) (more : Bool) (some : WasEnough x more 0) 
   leaf_after n p tried (begun.Starts (start.Gives f)) e k s d le h = (
     k,
     subst (λ v. SG (Pair n p) v []) (sym h.0)
-        (L.leaf_spot g x more some sound n p tried.found tried.looked e s d
+        (L.leaf_task g x more some sound n p tried.found tried.looked e s d
         (λ is. let ne = h.1 is in omega (arith, ne, le))),
   )
   leaf_after n p tried (begun.Starts (start.Marks b)) e k s d le h = absurd h
@@ -227,7 +227,7 @@ module _ (g : Grammar) (x : List ℕ) (more : Bool) (some : WasEnough x more 0) 
         let e = subst (λ v. SG v found es) by.2 d in (
           (node.Name k, at, (by.0, by.1, one_kid j (Pair by.0 p) by.2)),
           subst (SG (Pair n p) found) (sym (L.joined_none g x more some sound found es e.3))
-              (L.name_spot g x more some sound n k by.0 p found es w.0 at by.1 e),
+              (L.name_task g x more some sound n k by.0 p found es w.0 at by.1 e),
         )
 
   module _ (n p : ℕ) (ms : List ℕ) (found : Found) (w : IsWell g x (Pair n p)) where
@@ -235,18 +235,18 @@ module _ (g : Grammar) (x : List ℕ) (more : Bool) (some : WasEnough x more 0) 
     seq_on at j h es d =
         let by = by_first n p (node.Seq ms) at j h in (
           (node.Seq ms, at, inr (by.0, by.1, one_kid j (Tail n zero p) by.2)),
-          L.seq_spot g x more some sound n p ms found es w.0 at (subst (λ v. SG v found es) by.2 d),
+          L.seq_task g x more some sound n p ms found es w.0 at (subst (λ v. SG v found es) by.2 d),
         )
 
     pub choice_on : At n (node.Choice ms) → After (Pair n p) found Same
     choice_on at j h es d =
         let by = by_first n p (node.Choice ms) at j h in (
           (node.Choice ms, at, inr (by.0, by.1, one_kid j (Tail n zero p) by.2)),
-          L.choice_spot g x more some sound n p ms found es w.0 at (subst (λ v. SG v found es) by.2 d),
+          L.choice_task g x more some sound n p ms found es w.0 at (subst (λ v. SG v found es) by.2 d),
         )
 
   pub leaf_on : (n p : ℕ) (shape : Shape) (found : Found) → At n shape
-      → ((j : Spot) → FirstBy (rules_of g.rules) (shapes_of g.nodes) g.bodies x (way_of n shape) n p j → ⊥)
+      → ((j : MatchTask) → FirstBy (rules_of g.rules) (shapes_of g.nodes) g.bodies x (way_of n shape) n p j → ⊥)
       → After (Pair n p) found Same
   leaf_on n p shape found at none j h es d = absurd (none j (by_first n p shape at j h))
 
@@ -382,7 +382,7 @@ module _ (g : Grammar) (x : List ℕ) (more : Bool) (some : WasEnough x more 0) 
   name_led n p k m w at body well = (
     (node.Name k, at, (m, body, refl)),
     well,
-    ((node.Name k, at, (m, body, refl)), (λ f es d. L.name_spot g x more some sound n k m p f es w.0 at body d)),
+    ((node.Name k, at, (m, body, refl)), (λ f es d. L.name_task g x more some sound n k m p f es w.0 at body d)),
   )
 
   module _ (n p : ℕ) (ms : List ℕ) (w : IsWell g x (Pair n p)) (lt : 0 < length ms) where
@@ -394,7 +394,7 @@ module _ (g : Grammar) (x : List ℕ) (more : Bool) (some : WasEnough x more 0) 
           (
             (node.Seq ms, at, inr (get_or ms 0 0, there, refl)),
             (λ f es d. L.pair_joined g x more some sound n p ms f es w.0
-                (L.seq_spot g x more some sound n p ms f es w.0 at d)),
+                (L.seq_task g x more some sound n p ms f es w.0 at d)),
           ),
         )
 
@@ -406,7 +406,7 @@ module _ (g : Grammar) (x : List ℕ) (more : Bool) (some : WasEnough x more 0) 
           (
             (node.Choice ms, at, inr (get_or ms 0 0, there, refl)),
             (λ f es d. L.pair_joined g x more some sound n p ms f es w.0
-                (L.choice_spot g x more some sound n p ms f es w.0 at d)),
+                (L.choice_task g x more some sound n p ms f es w.0 at d)),
           ),
         )
 

@@ -7,7 +7,7 @@ use Rattle.memo.specs.Run.{Run, run_stored, run_key, run_plain, RunAll, run_none
 use Rattle.packrat.specs.MachineSteps.{Level, State, Asks, Works, store, step_stored, step_begin}
 use Rattle.packrat.specs.MachineSteps.{step_next, step_last, Steps, steps_none, steps_more}
 use Rattle.memo.proofs.PartsLemmas.{in_either}
-use Rattle.packrat.proofs.SpotKidsLemmas.{one_in}
+use Rattle.packrat.proofs.TaskKidsLemmas.{one_in}
 
 pub append_other : {V : Type 0} (xs ys zs : List V) → (xs ++ ys) ++ zs ≡ xs ++ (ys ++ zs)
 append_other [] ys zs = refl
@@ -38,12 +38,12 @@ module _ (V : Type 0) (Kids : V → List V → Type 0) (Next : V → List V → 
       pub steps : St s (Works (record { levels = levels; stored = new; begun = front ++ old }))
       pub near : (b : V) → IsIn b front → P b
 
-    spot_goes : (a : V) (ks old new bg : List V) (c : ℕ) (fs : List (Level V)) → (key a ≡ true → IsIn a old → ⊥)
+    task_goes : (a : V) (ks old new bg : List V) (c : ℕ) (fs : List (Level V)) → (key a ≡ true → IsIn a old → ⊥)
         → P a → Kids a ks
         → Goes (Works (record { levels = record { at = a; asked = [] } ∷ fs; stored = old; begun = a ∷ bg }))
         (record { at = a; asked = ks } ∷ fs) new (a ∷ bg) c
         → Goes (Asks a (record { levels = fs; stored = old; begun = bg })) fs (store V (key a) a new) bg (weight a + c)
-    spot_goes a ks old new bg c fs fresh here k h =
+    task_goes a ks old new bg c fs fresh here k h =
         let is = h.count in
         let sum = total_append h.front (a ∷ []) in
         record {
@@ -72,12 +72,12 @@ module _ (V : Type 0) (Kids : V → List V → Type 0) (Next : V → List V → 
       run_goes (run_key {a = a} {ks = ks} {old = old} {new = new} {c = c} t f k r) here fs bg =
           subst (λ v. Goes (Asks a (record { levels = fs; stored = old; begun = bg })) fs (store V v a new) bg
           (weight a + c)) t
-          (spot_goes a ks old new bg c fs (λ _. f) here k
+          (task_goes a ks old new bg c fs (λ _. f) here k
           (all_goes r (λ b i. closed a b ks here k i) a [] fs (a ∷ bg) k))
       run_goes (run_plain {a = a} {ks = ks} {old = old} {new = new} {c = c} t k r) here fs bg =
           subst (λ v. Goes (Asks a (record { levels = fs; stored = old; begun = bg })) fs (store V v a new) bg
           (weight a + c)) t
-          (spot_goes a ks old new bg c fs (λ is. absurd (cc (is, t))) here k
+          (task_goes a ks old new bg c fs (λ is. absurd (cc (is, t))) here k
           (all_goes r (λ b i. closed a b ks here k i) a [] fs (a ∷ bg) k))
 
       all_goes : {ks old new : List V} {c : ℕ} → RunAll V Kids key weight old ks new c

@@ -12,18 +12,18 @@ use Rattle.pegnodes.specs.declared.by_byte.ByteVerdict.{ByteVerdict}
 use Rattle.pegnodes.specs.declared.by_byte.ByteVerdict.TheVariants.{Takes, Stays, Fails}
 use Rattle.pegmatch.specs.KeptEvents.{SpellsSome}
 use Rattle.memo.specs.Parts.{IsIn, in_here, in_later}
-use Rattle.memo.specs.KeyLog.{spots_of, row_of, place_of}
+use Rattle.memo.specs.KeyLog.{tasks_of, row_of, place_of}
 use Rattle.memo.specs.declared.key_log.Stored.{Stored}
 use Rattle.memo.specs.Run.{total}
-use Rattle.memo.specs.declared.spot.Spot.{Spot}
-use Rattle.memo.specs.declared.spot.Spot.TheVariants.{Pair}
+use Rattle.memo.specs.declared.task.MatchTask.{MatchTask}
+use Rattle.memo.specs.declared.task.MatchTask.TheVariants.{Pair}
 use Rattle.packrat.specs.ByteGives.{GivesBy, ComesWith, turn_at}
 use Rattle.packrat.specs.ByteGives.{turns_on, operands_on, turns_closed, AreFresh}
 use Rattle.pegnodes.specs.KeyMarks.{AreMarks}
 use Rattle.packrat.specs.MachineSteps.{Level, State, Asks, Works, store, step_begin, step_next, step_last}
 use Rattle.packrat.specs.MachineSteps.{steps_none, steps_more}
-use Rattle.packrat.specs.SpotSteps.{NextOf, next_first, next_second, SpotSteps}
-use Rattle.packrat.specs.Spots.{Kids, is_key}
+use Rattle.packrat.specs.TaskSteps.{NextOf, next_first, next_second, TaskSteps}
+use Rattle.packrat.specs.MatchTasks.{Kids, is_key}
 use Rattle.packrat.specs.View.{weight}
 use Rattle.packrat.proofs.ByteGivesLemmas.{gives_by, star_has}
 use Rattle.packrat.proofs.ByteKidsLemmas.{by_byte_itself, itself_runs}
@@ -31,14 +31,14 @@ use Rattle.packrat.proofs.NextOfLemmas.{is_next}
 use Rattle.packrat.proofs.RunStepsLemmas.{run_goes, total_append, append_other, steps_then}
 use Rattle.packrat.proofs.GoodLemmas.{in_front, not_in}
 use Rattle.memo.proofs.PartsLemmas.{in_either}
-use Rattle.packrat.proofs.SpotKidsLemmas.{one_in, kid_led_to}
-use Rattle.packrat.proofs.SpotReachLemmas.{Seen, seen_next}
+use Rattle.packrat.proofs.TaskKidsLemmas.{one_in, kid_led_to}
+use Rattle.packrat.proofs.TaskReachLemmas.{Seen, seen_next}
 use Rattle.pegmatch.proofs.VisitsLemmas.{asks_within}
 use Rattle.pegmatch.specs.Visits.{NodeGives, Asks as AsksFor}
 use Rattle.gramcheck.specs.Outcome.{Outcome}
 
 -- no pair of those places is that of another node, or of a later place
-not_among : (key : Bool) (m k a n q : ℕ) (stored : List Spot) → (m ≡ k → q < a + n → ⊥)
+not_among : (key : Bool) (m k a n q : ℕ) (stored : List MatchTask) → (m ≡ k → q < a + n → ⊥)
     → (IsIn (Pair m q) stored → ⊥) → IsIn (Pair m q) (operands_on key k a n stored) → ⊥
 not_among key m k a zero q stored not free i = free i
 not_among true m k a (suc n) q stored not free i =
@@ -53,37 +53,37 @@ no_later : (a n : ℕ) → a + n < a + n → ⊥
 no_later a n lt = omega arith
 
 -- a stored key with this task
-in_spots : (spot : Spot) (stored : List Stored) → IsIn spot (spots_of stored)
-    → (s : Stored) × IsIn s stored × (s.spot ≡ spot)
-in_spots spot [] i = absurd (not_in i)
-in_spots spot (s ∷ stored) i = elim (in_front i) [
+in_tasks : (task : MatchTask) (stored : List Stored) → IsIn task (tasks_of stored)
+    → (s : Stored) × IsIn s stored × (s.task ≡ task)
+in_tasks task [] i = absurd (not_in i)
+in_tasks task (s ∷ stored) i = elim (in_front i) [
   | inl e ↦ (s, in_here, sym e)
-  | inr e ↦ let r = in_spots spot stored e in (r.0, in_later r.1, r.2)
+  | inr e ↦ let r = in_tasks task stored e in (r.0, in_later r.1, r.2)
 ]
 
 -- where no key of the row stands at the place or beyond, the key is not stored
-pub not_beyond : (stored : List Stored) (spot : Spot)
-    → ((s : Stored) → IsIn s stored → row_of s.spot ≡ row_of spot → place_of s.spot < place_of spot)
-    → IsIn spot (spots_of stored) → ⊥
-not_beyond stored spot below i =
-    let r = in_spots spot stored i in
+pub not_beyond : (stored : List Stored) (task : MatchTask)
+    → ((s : Stored) → IsIn s stored → row_of s.task ≡ row_of task → place_of s.task < place_of task)
+    → IsIn task (tasks_of stored) → ⊥
+not_beyond stored task below i =
+    let r = in_tasks task stored i in
     let less = below r.0 r.1 (ap row_of r.2) in
-    let place : place_of r.0.spot ≡ place_of spot = ap place_of r.2 in
+    let place : place_of r.0.task ≡ place_of task = ap place_of r.2 in
     omega (arith, less, place)
 
 pub fresh_above : (key : Bool) (m a n mark : ℕ) (stored : List Stored)
-    → ((s : Stored) → IsIn s stored → row_of s.spot ≡ m → place_of s.spot < mark) → mark ≤ a
-    → AreFresh key m a n (spots_of stored)
+    → ((s : Stored) → IsIn s stored → row_of s.task ≡ m → place_of s.task < mark) → mark ≤ a
+    → AreFresh key m a n (tasks_of stored)
 fresh_above key m a n mark stored below le i lt is there =
-    let r = in_spots (Pair m (a + i)) stored there in
+    let r = in_tasks (Pair m (a + i)) stored there in
     let less = below r.0 r.1 (ap row_of r.2) in
-    let place : place_of r.0.spot ≡ a + i = ap place_of r.2 in
+    let place : place_of r.0.task ≡ a + i = ap place_of r.2 in
     omega (arith, less, place, le)
 
 module _ (rules : List Rule) (start : ℕ) (nodes : List Shape) (bodies ranks x : List ℕ)
     (sound : IsRanked rules start nodes bodies ranks) (root : ℕ) (is_root : slice_get bodies start ≡ Some root)
     (marks : ℕ → Bool) (tails : ℕ → ℕ → Bool) (are : AreMarks start nodes bodies marks tails) where
-  abbrev Comes : State Spot → (List Spot → State Spot) → ℕ → ℕ → Type 0
+  abbrev Comes : State MatchTask → (List MatchTask → State MatchTask) → ℕ → ℕ → Type 0
   Comes s to most c = ComesWith rules nodes bodies x marks tails s to most c
 
   -- a pair that stands no further, and looks no further
@@ -109,37 +109,39 @@ module _ (rules : List Rule) (start : ℕ) (nodes : List Shape) (bodies ranks x 
         place = omega (arith, near, looked, place);
       }
 
-  next_all : (a k : Spot) (asked rest : List Spot) → Kids rules nodes bodies x a (asked ++ k ∷ rest)
+  next_all : (a k : MatchTask) (asked rest : List MatchTask) → Kids rules nodes bodies x a (asked ++ k ∷ rest)
       → NextOf rules nodes bodies x a asked k
   next_all = (is_next rules start nodes bodies ranks x false sound root is_root marks tails are).all
 
-  pub both_fronts : (xs ys : List Spot) → total Spot (Kids rules nodes bodies x) (is_key marks tails) weight (xs ++ ys)
-      ≡ total Spot (Kids rules nodes bodies x) (is_key marks tails) weight xs
-      + total Spot (Kids rules nodes bodies x) (is_key marks tails) weight ys
+  pub both_fronts : (xs ys : List MatchTask) → total MatchTask (Kids rules nodes bodies x) (is_key marks tails) weight
+      (xs ++ ys)
+      ≡ total MatchTask (Kids rules nodes bodies x) (is_key marks tails) weight xs
+      + total MatchTask (Kids rules nodes bodies x) (is_key marks tails) weight ys
   both_fronts =
-      total_append Spot (Kids rules nodes bodies x) (NextOf rules nodes bodies x) (is_key marks tails) weight next_all
+      total_append MatchTask (Kids rules nodes bodies x) (NextOf rules nodes bodies x)
+      (is_key marks tails) weight next_all
 
-  abbrev St : State Spot → State Spot → Type 0
-  St u v = SpotSteps rules nodes bodies x marks tails u v
+  abbrev St : State MatchTask → State MatchTask → Type 0
+  St u v = TaskSteps rules nodes bodies x marks tails u v
 
-  pub both_steps : {t u v : State Spot} → St t u → St u v → St t v
-  both_steps p q = steps_then Spot (Kids rules nodes bodies x) (NextOf rules nodes bodies x) (is_key marks tails)
+  pub both_steps : {t u v : State MatchTask} → St t u → St u v → St t v
+  both_steps p q = steps_then MatchTask (Kids rules nodes bodies x) (NextOf rules nodes bodies x) (is_key marks tails)
       weight next_all p q
 
   -- a pair that its byte decides
   pub decided_comes : (b n p c : ℕ) (v : ByteVerdict) → ByByte nodes bodies marks tails b n v c → slice_get x p ≡ Some b
-      → SpellsSome rules nodes n → (levels : List (Level Spot)) (stored begun : List Spot)
+      → SpellsSome rules nodes n → (levels : List (Level MatchTask)) (stored begun : List MatchTask)
       → (marks n ≡ true → IsIn (Pair n p) stored → ⊥)
       → Comes (Asks (Pair n p) (record { levels = levels; stored = stored; begun = begun }))
       (λ front. Works (record {
         levels = levels;
-        stored = store Spot (marks n) (Pair n p) stored;
+        stored = store MatchTask (marks n) (Pair n p) stored;
         begun = front ++ begun;
       })) (p + 1) c
   decided_comes b n p c v h here s levels stored begun fresh =
       let itself = by_byte_itself rules start nodes bodies ranks x sound marks tails b p here h s in
       let own = gives_by rules start nodes bodies ranks x sound marks tails b p here h s in
-      let g = run_goes Spot (Kids rules nodes bodies x) (NextOf rules nodes bodies x) (is_key marks tails) weight
+      let g = run_goes MatchTask (Kids rules nodes bodies x) (NextOf rules nodes bodies x) (is_key marks tails) weight
       next_all (Seen rules nodes bodies x (IsWithin (p + 1)) (within_on (p + 1)))
       (λ a k ks seen kids i. seen_next rules nodes bodies x (IsWithin (p + 1)) (within_on (p + 1)) a k seen
       (kid_led_to rules start nodes bodies ranks x sound a k ks kids i))
@@ -176,12 +178,13 @@ module _ (rules : List Rule) (start : ℕ) (nodes : List Shape) (bodies ranks x 
 
     -- one turn
     turn_comes : (b p d : ℕ) → ByByte nodes bodies marks tails b k Takes d → slice_get x p ≡ Some b
-        → (levels : List (Level Spot)) (stored begun : List Spot) → (marks s ≡ true → IsIn (Pair s p) stored → ⊥)
+        → (levels : List (Level MatchTask)) (stored begun : List MatchTask)
+        → (marks s ≡ true → IsIn (Pair s p) stored → ⊥)
         → (marks k ≡ true → IsIn (Pair k p) stored → ⊥)
         → Comes (Asks (Pair s p) (record { levels = levels; stored = stored; begun = begun }))
         (λ front. Asks (Pair s (p + 1)) (record {
           levels = turn_at s k p ∷ levels;
-          stored = store Spot (marks k) (Pair k p) stored;
+          stored = store MatchTask (marks k) (Pair k p) stored;
           begun = front ++ begun;
         })) (p + 1) (1 + d)
     turn_comes b p d h here levels stored begun fresh free =
@@ -198,7 +201,7 @@ module _ (rules : List Rule) (start : ℕ) (nodes : List Shape) (bodies ranks x 
           steps = subst (λ v. St (Asks (Pair s p) (record { levels = levels; stored = stored; begun = begun }))
               (Asks (Pair s (p + 1)) (record {
                 levels = turn_at s k p ∷ levels;
-                stored = store Spot (marks k) (Pair k p) stored;
+                stored = store MatchTask (marks k) (Pair k p) stored;
                 begun = v;
               })))
               (sym (append_other r.front (Pair s p ∷ []) begun))
@@ -222,7 +225,7 @@ module _ (rules : List Rule) (start : ℕ) (nodes : List Shape) (bodies ranks x 
     not_operand b c h is = let e = star_stays b c Takes (subst (λ m. ByByte nodes bodies marks tails b m Takes c)
         (sym is) h) in cc e
 
-    pub turns_come : {a n c : ℕ} → Turned a n c → (levels : List (Level Spot)) (stored begun : List Spot)
+    pub turns_come : {a n c : ℕ} → Turned a n c → (levels : List (Level MatchTask)) (stored begun : List MatchTask)
         → AreFresh (marks s) s a n stored → AreFresh (marks k) k a n stored
         → Comes (Asks (Pair s a) (record { levels = levels; stored = stored; begun = begun }))
         (λ front. Asks (Pair s (a + n)) (record {
@@ -274,25 +277,26 @@ module _ (rules : List Rule) (start : ℕ) (nodes : List Shape) (bodies ranks x 
         }
 
     -- the levels of the turns close
-    pub turns_end : {a n c : ℕ} → Turned a n c → (levels : List (Level Spot)) (stored begun : List Spot)
+    pub turns_end : {a n c : ℕ} → Turned a n c → (levels : List (Level MatchTask)) (stored begun : List MatchTask)
         → St (Works (record { levels = turns_on s k a n levels; stored = stored; begun = begun }))
         (Works (record { levels = levels; stored = turns_closed (marks s) s a n stored; begun = begun }))
     turns_end turns_none levels stored begun = steps_none
     turns_end {a = a} (turns_more {n = n} {d = d} {b = b} r here h) levels stored begun =
         both_steps (steps_more steps_none (step_last (turn_kids (a + n) (operand_takes b (a + n) d h here))))
-        (turns_end r levels (store Spot (marks s) (Pair s (a + n)) stored) begun)
+        (turns_end r levels (store MatchTask (marks s) (Pair s (a + n)) stored) begun)
 
     stop_kids : (q : ℕ) → GivesBy rules nodes bodies x k q Fails → Kids rules nodes bodies x (Pair s q) (Pair k q ∷ [])
     stop_kids q g = (node.Star k, at, inl (record { looked = g.looked; gives = g.gives }, refl))
 
     -- a byte that decides that the operand fails ends the repetition
     stop_comes : (b q d : ℕ) → ByByte nodes bodies marks tails b k Fails d → slice_get x q ≡ Some b
-        → (levels : List (Level Spot)) (stored begun : List Spot) → (marks s ≡ true → IsIn (Pair s q) stored → ⊥)
+        → (levels : List (Level MatchTask)) (stored begun : List MatchTask)
+        → (marks s ≡ true → IsIn (Pair s q) stored → ⊥)
         → (marks k ≡ true → IsIn (Pair k q) stored → ⊥)
         → Comes (Asks (Pair s q) (record { levels = levels; stored = stored; begun = begun }))
         (λ front. Works (record {
           levels = levels;
-          stored = store Spot (marks s) (Pair s q) (store Spot (marks k) (Pair k q) stored);
+          stored = store MatchTask (marks s) (Pair s q) (store MatchTask (marks k) (Pair k q) stored);
           begun = front ++ begun;
         })) (q + 1) (1 + d)
     stop_comes b q d h here levels stored begun fresh free =
@@ -309,7 +313,7 @@ module _ (rules : List Rule) (start : ℕ) (nodes : List Shape) (bodies ranks x 
           steps = subst (λ v. St (Asks (Pair s q) (record { levels = levels; stored = stored; begun = begun }))
               (Works (record {
                 levels = levels;
-                stored = store Spot (marks s) (Pair s q) (store Spot (marks k) (Pair k q) stored);
+                stored = store MatchTask (marks s) (Pair s q) (store MatchTask (marks k) (Pair k q) stored);
                 begun = v;
               })))
               (sym (append_other r.front (Pair s q ∷ []) begun))
@@ -323,13 +327,14 @@ module _ (rules : List Rule) (start : ℕ) (nodes : List Shape) (bodies ranks x 
 
     -- the turns, and then such a byte
     pub turns_stop : {a n c : ℕ} (b d : ℕ) → Turned a n c → slice_get x (a + n) ≡ Some b
-        → ByByte nodes bodies marks tails b k Fails d → (levels : List (Level Spot)) (stored begun : List Spot)
+        → ByByte nodes bodies marks tails b k Fails d → (levels : List (Level MatchTask))
+        (stored begun : List MatchTask)
         → AreFresh (marks s) s a (suc n) stored → AreFresh (marks k) k a (suc n) stored
         → Comes (Asks (Pair s a) (record { levels = levels; stored = stored; begun = begun }))
         (λ front. Works (record {
           levels = levels;
           stored = turns_closed (marks s) s a (suc n)
-              (store Spot (marks k) (Pair k (a + n)) (operands_on (marks k) k a n stored));
+              (store MatchTask (marks k) (Pair k (a + n)) (operands_on (marks k) k a n stored));
           begun = front ++ begun;
         })) ((a + n) + 1) (c + (1 + d))
     turns_stop {a = a} {n = n} b d turns here h levels stored begun fresh free =
@@ -339,8 +344,8 @@ module _ (rules : List Rule) (start : ℕ) (nodes : List Shape) (bodies ranks x 
         (operands_on (marks k) k a n stored) (before.front ++ begun)
         (λ t i. not_among (marks k) s k a n (a + n) stored (λ e lt. no_later a n lt) (fresh n (omega arith) t) i)
         (λ t i. not_among (marks k) k k a n (a + n) stored (λ e lt. no_later a n lt) (free n (omega arith) t) i) in
-        let end = turns_end turns levels (store Spot (marks s) (Pair s (a + n))
-        (store Spot (marks k) (Pair k (a + n)) (operands_on (marks k) k a n stored)))
+        let end = turns_end turns levels (store MatchTask (marks s) (Pair s (a + n))
+        (store MatchTask (marks k) (Pair k (a + n)) (operands_on (marks k) k a n stored)))
         (last.front ++ (before.front ++ begun)) in
         let one = before.is in
         let two = last.is in
@@ -357,7 +362,7 @@ module _ (rules : List Rule) (start : ℕ) (nodes : List Shape) (bodies ranks x 
               (Works (record {
                 levels = levels;
                 stored = turns_closed (marks s) s a (suc n)
-                    (store Spot (marks k) (Pair k (a + n)) (operands_on (marks k) k a n stored));
+                    (store MatchTask (marks k) (Pair k (a + n)) (operands_on (marks k) k a n stored));
                 begun = v;
               }))) (sym (append_other last.front before.front begun))
               (both_steps (both_steps before.steps last.steps) end);

@@ -17,18 +17,18 @@ use Rattle.pegnodes.specs.Nodes.{Shape, shapes_of}
 use Rattle.pegnodes.specs.declared.by_byte.ByteVerdict.{ByteVerdict}
 use Rattle.pegnodes.specs.declared.by_byte.ByteVerdict.TheVariants.{Takes, Stays, Fails}
 use Rattle.pegmatch.specs.Answers.{WasEnough}
-use Rattle.memo.specs.KeyLog.{spots_of}
+use Rattle.memo.specs.KeyLog.{tasks_of}
 use Rattle.memo.specs.Parts.{IsIn}
 use Rattle.memo.specs.declared.found.Found.TheVariants.{Failed, Took}
 use Rattle.memo.specs.declared.key_log.Given.{Given}
 use Rattle.memo.specs.declared.key_log.Stored.{Stored}
-use Rattle.memo.specs.declared.spot.Spot.{Spot}
-use Rattle.memo.specs.declared.spot.Spot.TheVariants.{Pair, Tail}
+use Rattle.memo.specs.declared.task.MatchTask.{MatchTask}
+use Rattle.memo.specs.declared.task.MatchTask.TheVariants.{Pair, Tail}
 use Rattle.memo.proofs.PartsLemmas.{in_either}
 use Rattle.packrat.specs.MachineSteps.{State, Works, start_at}
 use Rattle.packrat.specs.Onward.{IsWell, entering_of, tail_of}
 use Rattle.packrat.specs.Skipped.{ArePassed, AreSkipped, IsRest}
-use Rattle.packrat.specs.SpotSteps.{SpotSteps}
+use Rattle.packrat.specs.TaskSteps.{TaskSteps}
 use Rattle.packrat.specs.TurnsLeft.{left, most_begun}
 use Rattle.packrat.specs.Stands.{Stands, IsClosed, key_of, AreWaiting, IsEntered}
 use Rattle.packrat.specs.declared.frames.Frame.{Frame}
@@ -40,14 +40,14 @@ use Rattle.packrat.specs.declared.known.Known.{Known}
 use Rattle.packrat.specs.declared.known.Taken.{Taken}
 use Rattle.packrat.specs.Known.{IsKnown, IsTaken, taken_of}
 use Rattle.packrat.specs.ByteGives.{found_by}
-use Rattle.packrat.specs.SpotGives.{IsQuiet}
+use Rattle.packrat.specs.TaskGives.{IsQuiet}
 use Rattle.packrat.proofs.ByteKidsLemmas.{by_byte_itself}
 use Rattle.packrat.proofs.ByteGivesLemmas.{gives_by, choice_has}
 use Rattle.packrat.proofs.LeftLemmas as T
 use Rattle.packrat.proofs.OnwardLemmas as M
 use Rattle.packrat.proofs.RunTurnsLemmas.{decided_comes}
 use Rattle.packrat.proofs.KeptAtLemmas.{grown_same}
-use Rattle.packrat.proofs.SpotGivesLemmas.{choice_empty}
+use Rattle.packrat.proofs.TaskGivesLemmas.{choice_empty}
 use Rattle.packrat.proofs.StandsLemmas as L
 use Rattle.packrat.proofs.TurnedLemmas.{asks_here, fronts_add, then_steps}
 
@@ -93,21 +93,21 @@ failure = record { found = Failed; events = 0 }
 module _ (g : Grammar) (x : List ℕ) (more : Bool) (marks : Marks) (some : WasEnough x more 0) (sound : IsSoundGrammar g)
     (body : ℕ) (is_body : slice_get g.bodies g.start ≡ Some body)
     (are : AreMarks g.start (shapes_of g.nodes) g.bodies (node_marks marks) (tail_marks marks)) where
-  abbrev S : Spot → Turn → List Frame → List Stored → List Link → ℕ → Type 0
+  abbrev S : MatchTask → Turn → List Frame → List Stored → List Link → ℕ → Type 0
   S root t ls st links n = Stands g x more marks root t ls st links n
 
-  abbrev SS : Spot → State Spot → Type 0
-  SS root s = SpotSteps (rules_of g.rules) (shapes_of g.nodes) g.bodies x (node_marks marks) (tail_marks marks)
-      (start_at Spot root) s
+  abbrev SS : MatchTask → State MatchTask → Type 0
+  SS root s = TaskSteps (rules_of g.rules) (shapes_of g.nodes) g.bodies x (node_marks marks) (tail_marks marks)
+      (start_at MatchTask root) s
 
   abbrev Decides : ℕ → ℕ → ByteVerdict → ℕ → Type 0
   Decides b n v d = ByByte (shapes_of g.nodes) g.bodies (node_marks marks) (tail_marks marks) b n v d
 
   module _ (p b : ℕ) (here : slice_get x p ≡ Some b) (last : more ≡ true → p + 1 < length x) where
     -- the loop goes from a pair that the byte decides to its end
-    pub stands_decided : (root : Spot) (n d : ℕ) (v : ByteVerdict) (ls : List Frame) (st new : List Stored)
+    pub stands_decided : (root : MatchTask) (n d : ℕ) (v : ByteVerdict) (ls : List Frame) (st new : List Stored)
         (links : List Link) (count : ℕ) → S root (Ask (Pair n p)) ls st links count
-        → (node_marks marks n ≡ true → IsIn (Pair n p) (spots_of st) → ⊥) → Decides b n v d
+        → (node_marks marks n ≡ true → IsIn (Pair n p) (tasks_of st) → ⊥) → Decides b n v d
         → IsClosed g x more marks links (Pair n p) (record { found = found_by v p; events = 0 }) st new
         → S root (Answer (record { found = found_by v p; events = 0 })) ls new links (count + d)
     stands_decided root n d v ls st new links count s fresh h c =
@@ -115,7 +115,7 @@ module _ (g : Grammar) (x : List ℕ) (more : Bool) (marks : Marks) (some : WasE
         let own = gives_by (rules_of g.rules) g.start (shapes_of g.nodes) g.bodies g.ranks x sound (node_marks marks)
         (tail_marks marks) b p here h has in
         let come = decided_comes (rules_of g.rules) g.start (shapes_of g.nodes) g.bodies g.ranks x sound body is_body
-        (node_marks marks) (tail_marks marks) are b n p d v h here has s.levels (spots_of st) s.begun fresh in
+        (node_marks marks) (tail_marks marks) are b n p d v h here has s.levels (tasks_of st) s.begun fresh in
         let gives = L.given_none g x more marks links (Pair n p) (found_by v p) (
           own.looked,
           own.gives,
@@ -128,7 +128,7 @@ module _ (g : Grammar) (x : List ℕ) (more : Bool) (marks : Marks) (some : WasE
         record {
           levels = s.levels;
           begun = come.front ++ s.begun;
-          spot = Pair n p;
+          task = Pair n p;
           are = L.levels_above g x more marks root (Pair n p) ls st links count s;
           turns = gives;
           given = c.keeps gives s.given;
@@ -141,12 +141,12 @@ module _ (g : Grammar) (x : List ℕ) (more : Bool) (marks : Marks) (some : WasE
             levels = s.levels;
             stored = v;
             begun = come.front ++ s.begun;
-          }))) (sym c.spots) (then_steps g x more marks sound body is_body are
+          }))) (sym c.tasks) (then_steps g x more marks sound body is_body are
               (asks_here g x more marks sound body is_body are root (Pair n p) ls st links count s) come.steps);
         }
 
     module _ (n : ℕ) (ms : List ℕ) (at : slice_get (shapes_of g.nodes) n ≡ Some (node.Choice ms))
-        (well : IsWell g x (Pair n p)) (root : Spot) (ls : List Frame) (st : List Stored) (links : List Link) where
+        (well : IsWell g x (Pair n p)) (root : MatchTask) (ls : List Frame) (st : List Stored) (links : List Link) where
       tail_well : (i : ℕ) → i < length ms → IsWell g x (Tail n i p)
       tail_well i lt = (well.0, well.1, (node.Choice ms, at, lt))
 
@@ -162,7 +162,7 @@ module _ (g : Grammar) (x : List ℕ) (more : Bool) (marks : Marks) (some : WasE
           let down = L.stands_down g x more marks root (Tail n i p) ls st links count s (λ t. absurd (cc (t, plain)))
           (Pair m p) false (sym plain) ((node.Choice ms, at, (m, there, refl)), (has, well.1)) in
           let stays = L.closed_plain g x more marks links (Pair m p) failure st free in
-          let back = stands_decided root m d Fails (record { spot = Tail n i p; key = false; wait = First } ∷ ls) st
+          let back = stands_decided root m d Fails (record { task = Tail n i p; key = false; wait = First } ∷ ls) st
           st links
           (count + 0) down (λ t. absurd (cc (t, free))) h stays in
           subst (S root (Ask (Tail n (suc i) p)) ls st links) (omega arith)
@@ -179,9 +179,9 @@ module _ (g : Grammar) (x : List ℕ) (more : Bool) (marks : Marks) (some : WasE
           (skip_one i m d (count + c) there plain free h lt (skip_all count f (omega (arith, lt)) s))
 
   -- the loop goes from a task that the byte decides to its end
-  pub stands_known : (root a : Spot) (known : Known) → IsKnown g x more marks a known → (ls : List Frame)
+  pub stands_known : (root a : MatchTask) (known : Known) → IsKnown g x more marks a known → (ls : List Frame)
       (st new : List Stored) (links : List Link) (count : ℕ) → S root (Ask a) ls st links count → (key : Bool)
-      → key ≡ key_of marks a → (key ≡ true → IsIn a (spots_of st) → ⊥)
+      → key ≡ key_of marks a → (key ≡ true → IsIn a (tasks_of st) → ⊥)
       → IsClosed g x more marks links a (record { found = known.found; events = 0 }) st new
       → S root (Answer (record { found = known.found; events = 0 })) ls new links (count + known.pairs)
   stands_known root (Pair n p) known h ls st new links count s key is fresh c =
@@ -192,10 +192,10 @@ module _ (g : Grammar) (x : List ℕ) (more : Bool) (marks : Marks) (some : WasE
   stands_known root (Tail n i p) known h ls st new links count s key is fresh c = absurd h
 
   -- the loop goes from a repetition of one or more whose operand takes the byte to what goes on with it
-  pub stands_taken : (root : Spot) (t : Taken) → IsTaken g x more marks t → (ls mid : List Frame)
+  pub stands_taken : (root : MatchTask) (t : Taken) → IsTaken g x more marks t → (ls mid : List Frame)
       (st new : List Stored) (links : List Link) (count : ℕ) → S root (Ask (taken_of t)) ls st links count
-      → (key : Bool) → key ≡ key_of marks (taken_of t) → (key ≡ true → IsIn (taken_of t) (spots_of st) → ⊥)
-      → (node_marks marks t.operand ≡ true → IsIn (Pair t.operand t.place) (spots_of st) → ⊥)
+      → (key : Bool) → key ≡ key_of marks (taken_of t) → (key ≡ true → IsIn (taken_of t) (tasks_of st) → ⊥)
+      → (node_marks marks t.operand ≡ true → IsIn (Pair t.operand t.place) (tasks_of st) → ⊥)
       → IsClosed g x more marks links (Pair t.operand t.place) (record { found = Took (t.place + 1); events = 0 }) st
       new
       → AreWaiting key 0 (taken_of t) ls mid
@@ -206,7 +206,7 @@ module _ (g : Grammar) (x : List ℕ) (more : Bool) (marks : Marks) (some : WasE
       let down = L.stands_down g x more marks root (taken_of t) ls st links count s (λ k. fresh (is ∙ k))
       (Pair t.operand t.place) key is h.led in
       let taken = stands_decided t.place b.byte b.here b.last root t.operand t.pairs Takes
-      (record { spot = taken_of t; key = key; wait = First } ∷ ls) st new links (count + 1) down free b.takes c in
+      (record { task = taken_of t; key = key; wait = First } ∷ ls) st new links (count + 1) down free b.takes c in
       subst (S root (Ask (Pair t.star (t.place + 1))) mid new links) (omega arith)
       (L.stands_on g x more marks root (taken_of t) (record { found = Took (t.place + 1); events = 0 }) ls new links
       ((count + 1) + t.pairs) key taken (Pair t.star (t.place + 1)) mid
@@ -214,18 +214,18 @@ module _ (g : Grammar) (x : List ℕ) (more : Bool) (marks : Marks) (some : WasE
       refl)
       w)
 
-  module _ (root a : Spot) (s : Skips) (h : AreSkipped g x more marks a s) (ls : List Frame) (st : List Stored)
+  module _ (root a : MatchTask) (s : Skips) (h : AreSkipped g x more marks a s) (ls : List Frame) (st : List Stored)
       (links : List Link) (count : ℕ) (t : S root (Ask a) ls st links count) (key : Bool)
-      (is_key : key ≡ key_of marks a) (fresh : key ≡ true → IsIn a (spots_of st) → ⊥) where
+      (is_key : key ≡ key_of marks a) (fresh : key ≡ true → IsIn a (tasks_of st) → ⊥) where
     -- the task, as a pair
     asked_pair : S root (Ask (Pair h.node h.place)) ls st links count
-    asked_pair = subst (λ v. S root (Ask v) ls st links count) h.spot t
+    asked_pair = subst (λ v. S root (Ask v) ls st links count) h.task t
 
     pair_key : key ≡ node_marks marks h.node
-    pair_key = subst (λ v. key ≡ key_of marks v) h.spot is_key
+    pair_key = subst (λ v. key ≡ key_of marks v) h.task is_key
 
-    pair_fresh : node_marks marks h.node ≡ true → IsIn (Pair h.node h.place) (spots_of st) → ⊥
-    pair_fresh marked i = fresh (cc (pair_key, marked)) (subst (λ v. IsIn v (spots_of st)) (sym h.spot) i)
+    pair_fresh : node_marks marks h.node ≡ true → IsIn (Pair h.node h.place) (tasks_of st) → ⊥
+    pair_fresh marked i = fresh (cc (pair_key, marked)) (subst (λ v. IsIn v (tasks_of st)) (sym h.task) i)
 
     pair_well : IsWell g x (Pair h.node h.place)
     pair_well = L.asked_well g x more marks root (Pair h.node h.place) ls st links count asked_pair
@@ -248,7 +248,7 @@ module _ (g : Grammar) (x : List ℕ) (more : Bool) (marks : Marks) (some : WasE
     stands_skipped e is mid new u w i =
         let r = subst (IsRest marks h.node h.members h.index h.place) is h.rest in
         let same : e ≡ entering_of marks h.node h.members h.index h.place = r.1 in
-        let wait = subst (λ v. AreWaiting key 0 v ls mid) h.spot w in
+        let wait = subst (λ v. AreWaiting key 0 v ls mid) h.task w in
         let first = L.stands_pass g x more marks root (Pair h.node h.place) ls st links count asked_pair
         (λ marked. pair_fresh marked) (Tail h.node 0 h.place) key mid pair_key
         (M.alternatives_led g x more some sound h.node h.place h.members pair_well (let lt = r.0 in omega (arith, lt))
@@ -276,7 +276,7 @@ module _ (g : Grammar) (x : List ℕ) (more : Bool) (marks : Marks) (some : WasE
         → S root (Answer failure) ls new links (count + (1 + s.pairs))
     stands_none_left is new c =
         let all : length h.members ≡ h.index = subst (IsRest marks h.node h.members h.index h.place) is h.rest in
-        let closed = subst (λ v. IsClosed g x more marks links v failure st new) h.spot c in
+        let closed = subst (λ v. IsClosed g x more marks links v failure st new) h.task c in
         elim h.passed [
           | inl f ↦
               let fail = subst (λ v. FailFirst (shapes_of g.nodes) g.bodies (node_marks marks) (tail_marks marks) f.byte
@@ -292,26 +292,26 @@ module _ (g : Grammar) (x : List ℕ) (more : Bool) (marks : Marks) (some : WasE
         ]
 
 module _ (g : Grammar) (x : List ℕ) (more : Bool) (marks : Marks) where
-  module _ (a : Spot) (s : Skips) (h : AreSkipped g x more marks a s) (well : IsWell g x a) (ls : List Frame)
+  module _ (a : MatchTask) (s : Skips) (h : AreSkipped g x more marks a s) (well : IsWell g x a) (ls : List Frame)
       (begun now : ℕ) (is : now ≡ begun + (1 + s.pairs)) (le : now ≤ most_begun g x) where
     pub less_skipped : (e : Entering) → s.rest ≡ Some e → (key : Bool) (st : List Stored) (mid new : List Frame)
         (u : Turn) → AreWaiting key 0 a ls mid → IsEntered st e mid new u
         → left g x u new now < left g x (Ask a) ls begun
     less_skipped e rest key st mid new u w i =
         let r = subst (IsRest marks h.node h.members h.index h.place) rest h.rest in
-        let there = subst (IsWell g x) h.spot well in
+        let there = subst (IsWell g x) h.task well in
         let tail = subst (λ v. IsWell g x (tail_of v)) (sym r.1)
         (there.0, there.1, (node.Choice h.members, h.at, r.0)) in
-        subst (λ v. left g x u new now < left g x (Ask v) ls begun) (sym h.spot)
+        subst (λ v. left g x u new now < left g x (Ask v) ls begun) (sym h.task)
         (T.less_skipped g x st h.node h.place e u key ls mid new begun now (1 + s.pairs) is (omega arith) le tail
-        (subst (λ v. AreWaiting key 0 v ls mid) h.spot w) i)
+        (subst (λ v. AreWaiting key 0 v ls mid) h.task w) i)
 
     pub less_failed : left g x (Answer failure) ls now < left g x (Ask a) ls begun
-    less_failed = subst (λ v. left g x (Answer failure) ls now < left g x (Ask v) ls begun) (sym h.spot)
+    less_failed = subst (λ v. left g x (Answer failure) ls now < left g x (Ask v) ls begun) (sym h.task)
         (T.less_ended g x h.node h.place failure ls begun now (1 + s.pairs) is (omega arith) le)
 
   -- a task that the byte decides lowers what is left
-  pub less_known : IsSoundGrammar g → (a : Spot) (known : Known) → IsKnown g x more marks a known → IsWell g x a
+  pub less_known : IsSoundGrammar g → (a : MatchTask) (known : Known) → IsKnown g x more marks a known → IsWell g x a
       → (given : Given) (ls : List Frame) (begun now : ℕ) → now ≡ begun + known.pairs → now ≤ most_begun g x
       → left g x (Answer given) ls now < left g x (Ask a) ls begun
   less_known sound (Pair n p) known h well given ls begun now is le =

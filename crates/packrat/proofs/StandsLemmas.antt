@@ -18,20 +18,20 @@ use Rattle.memo.specs.declared.found.Found.TheVariants.{Failed, Took}
 use Rattle.pegnodes.specs.KeyLists.{Marks}
 use Rattle.memo.specs.declared.key_log.Given.{Given}
 use Rattle.memo.specs.declared.key_log.Stored.{Stored}
-use Rattle.memo.specs.declared.spot.Spot.{Spot}
-use Rattle.memo.specs.declared.spot.Spot.TheVariants.{Pair, Tail}
+use Rattle.memo.specs.declared.task.MatchTask.{MatchTask}
+use Rattle.memo.specs.declared.task.MatchTask.TheVariants.{Pair, Tail}
 use Rattle.packrat.specs.ByteGives.{turns_on}
 use Rattle.packrat.specs.Turned.{AreTurned}
 use Rattle.packrat.specs.TurnsLeft.{most_begun}
 use Rattle.pegnodes.specs.KeyMarks.{AreMarks}
-use Rattle.packrat.specs.SpotGives.{SpotYields, joined, IsQuiet}
+use Rattle.packrat.specs.TaskGives.{TaskYields, joined, IsQuiet}
 use Rattle.pegnodes.specs.KeyLists.{node_marks, tail_marks}
-use Rattle.memo.specs.KeyLog.{spots_of, place_of}
+use Rattle.memo.specs.KeyLog.{tasks_of, place_of}
 use Rattle.memo.specs.Parts.{IsIn, in_here, in_later}
 use Rattle.memo.specs.Run.{Run, total}
-use Rattle.packrat.specs.Spots.{Kids}
+use Rattle.packrat.specs.MatchTasks.{Kids}
 use Rattle.packrat.specs.View.{weight}
-use Rattle.memo.proofs.KeyLogLemmas.{spot_of_stored}
+use Rattle.memo.proofs.KeyLogLemmas.{task_of_stored}
 use Rattle.packrat.specs.declared.frames.Frame.{Frame}
 use Rattle.packrat.specs.declared.frames.Wait.{Wait}
 use Rattle.packrat.specs.declared.frames.Wait.TheVariants.{First, Last, Turned}
@@ -47,7 +47,7 @@ use Rattle.packrat.specs.Onward.{tail_of}
 use Rattle.packrat.specs.Onward.{member_of}
 use Rattle.pegnodes.specs.NodeWays.{Way, Leaf, Body, Members, Alternatives, Turns, Operand, way_of}
 use Rattle.packrat.proofs.GoodLemmas.{in_front}
-use Rattle.packrat.specs.SpotSteps.{FirstBy, TailFirstBy, IsFirst, NextOf, next_first, next_second, SpotSteps}
+use Rattle.packrat.specs.TaskSteps.{FirstBy, TailFirstBy, IsFirst, NextOf, next_first, next_second, TaskSteps}
 use Rattle.packrat.specs.Stands.{AreLevels, levels_none, levels_frame, levels_passed, levels_turned}
 use Rattle.packrat.specs.Stands.{Waiting, state_of, key_of}
 use Rattle.packrat.specs.Stands.{Stands, IsClosed, NeedsMore, HeadStands, kept_joined, IsJoined, IsWaitHead}
@@ -102,35 +102,35 @@ quiet_none Failed = refl
 quiet_none (Took q) = tt
 
 module _ (g : Grammar) (x : List ℕ) (more : Bool) (marks : Marks) where
-  abbrev K : Spot → List Spot → Type 0
+  abbrev K : MatchTask → List MatchTask → Type 0
   K a ks = Kids (rules_of g.rules) (shapes_of g.nodes) g.bodies x a ks
 
-  abbrev SY : Spot → Found → List Event → Type 0
-  SY a f events = SpotYields g x more a f events
+  abbrev SY : MatchTask → Found → List Event → Type 0
+  SY a f events = TaskYields g x more a f events
 
-  abbrev G : List Link → Spot → Given → Type 0
+  abbrev G : List Link → MatchTask → Given → Type 0
   G links a given = GivenBy g x more links a given
 
-  abbrev F : Spot → Spot → Type 0
+  abbrev F : MatchTask → MatchTask → Type 0
   F a k = IsFirst (rules_of g.rules) (shapes_of g.nodes) g.bodies x a k
 
-  abbrev S : Spot → Turn → List Frame → List Stored → List Link → ℕ → Type 0
+  abbrev S : MatchTask → Turn → List Frame → List Stored → List Link → ℕ → Type 0
   S root t ls st ks n = Stands g x more marks root t ls st ks n
 
-  abbrev C : List Link → Spot → Given → List Stored → List Stored → Type 0
+  abbrev C : List Link → MatchTask → Given → List Stored → List Stored → Type 0
   C links a given old new = IsClosed g x more marks links a given old new
 
-  abbrev SS : Spot → State Spot → Type 0
-  SS root s = SpotSteps (rules_of g.rules) (shapes_of g.nodes) g.bodies x (node_marks marks) (tail_marks marks)
-      (start_at Spot root) s
+  abbrev SS : MatchTask → State MatchTask → Type 0
+  SS root s = TaskSteps (rules_of g.rules) (shapes_of g.nodes) g.bodies x (node_marks marks) (tail_marks marks)
+      (start_at MatchTask root) s
 
-  abbrev Key : Spot → Bool
+  abbrev Key : MatchTask → Bool
   Key a = key_of marks a
 
-  abbrev L : List Link → Spot → List Frame → List (Level Spot) → Spot → Type 0
+  abbrev L : List Link → MatchTask → List Frame → List (Level MatchTask) → MatchTask → Type 0
   L links root ls fs b = AreLevels g x more marks links root ls fs b
 
-  given_grown : {old new : List Link} {a : Spot} {given : Given} → AreGrown old new → G old a given → G new a given
+  given_grown : {old new : List Link} {a : MatchTask} {given : Given} → AreGrown old new → G old a given → G new a given
   given_grown grown h =
       record { events = h.events; yields = h.yields; quiet = h.quiet; head = head_grown grown h.head }
 
@@ -138,28 +138,30 @@ module _ (g : Grammar) (x : List ℕ) (more : Bool) (marks : Marks) where
       → AreGiven g x more new stored
   keys_grown grown h = record { given = λ s i. given_grown grown (h.given s i) }
 
-  waiting_grown : (old new : List Link) (w : Wait) (a : Spot) (asked : List Spot) (b : Spot) → AreGrown old new
+  waiting_grown : (old new : List Link) (w : Wait) (a : MatchTask) (asked : List MatchTask) (b : MatchTask)
+      → AreGrown old new
       → Waiting g x more old w a asked b → Waiting g x more new w a asked b
   waiting_grown old new First a asked b grown h = h
   waiting_grown old new (Last head) a asked b grown h = (h.0, head_grown grown h.1, h.2)
   waiting_grown old new (Turned last) a asked b grown h = absurd h
 
-  levels_grown : {old new : List Link} {root b : Spot} {ls : List Frame} {fs : List (Level Spot)} → AreGrown old new
+  levels_grown : {old new : List Link} {root b : MatchTask} {ls : List Frame} {fs : List (Level MatchTask)}
+      → AreGrown old new
       → L old root ls fs b → L new root ls fs b
   levels_grown grown levels_none = levels_none
   levels_grown {old = old} {new = new} grown (levels_frame {l = l} {b = b} {asked = asked} w t h r) =
-      levels_frame w t (waiting_grown old new l.wait l.spot asked b grown h) (levels_grown grown r)
+      levels_frame w t (waiting_grown old new l.wait l.task asked b grown h) (levels_grown grown r)
   levels_grown grown (levels_passed t h r) = levels_passed t h (levels_grown grown r)
   levels_grown grown (levels_turned d t w r) = levels_turned d t w (levels_grown grown r)
 
   -- what a task gives without events
-  pub given_none : (links : List Link) (a : Spot) (f : Found) → SY a f []
+  pub given_none : (links : List Link) (a : MatchTask) (f : Found) → SY a f []
       → G links a (record { found = f; events = 0 })
   given_none links a f h =
       record { events = []; yields = h; quiet = quiet_none f; head = head_none (shapes_of g.nodes) links }
 
   -- what a task gives that takes nothing, and leaves an event
-  pub given_marked : (links : List Link) (a : Spot) (p : ℕ) (kept : Kept) (head : ℕ) → p ≡ place_of a
+  pub given_marked : (links : List Link) (a : MatchTask) (p : ℕ) (kept : Kept) (head : ℕ) → p ≡ place_of a
       → AfterStart g x more a (start.Marks kept) → IsHead links head → kept_at links head ≡ kept ∷ []
       → G links a (record { found = Took p; events = head })
   given_marked links a p kept head place h is at =
@@ -175,7 +177,7 @@ module _ (g : Grammar) (x : List ℕ) (more : Bool) (marks : Marks) where
       }
 
   -- what a task gives whose last child gives this, with the events of a head before its events
-  given_joined : (old new : List Link) (a b : Spot) (asked : List Spot) (first : ℕ) (es : List Event)
+  given_joined : (old new : List Link) (a b : MatchTask) (asked : List MatchTask) (first : ℕ) (es : List Event)
       (given all : Given) → HeadStands (shapes_of g.nodes) old first es → PassesOn g x more a asked b es
       → G old b given → IsJoined old new first given all → G new a all
   given_joined old new a b asked first es given all hs p h j = record {
@@ -190,7 +192,7 @@ module _ (g : Grammar) (x : List ℕ) (more : Bool) (marks : Marks) where
     };
   }
 
-  given_passed : (links : List Link) (a b : Spot) (asked : List Spot) (given : Given)
+  given_passed : (links : List Link) (a b : MatchTask) (asked : List MatchTask) (given : Given)
       → PassesOn g x more a asked b [] → G links b given → G links a given
   given_passed links a b asked given p h = record {
     events = h.events;
@@ -201,13 +203,14 @@ module _ (g : Grammar) (x : List ℕ) (more : Bool) (marks : Marks) where
   }
 
   -- the levels of iterations, of which the last one awaits task b
-  pub record IsTurnedTop (links : List Link) (root a : Spot) (last : ℕ) (ls : List Frame) (fs : List (Level Spot))
-      (b : Spot) : Type 0 where
+  pub record IsTurnedTop (links : List Link) (root a : MatchTask) (last : ℕ) (ls : List Frame)
+      (fs : List (Level MatchTask))
+      (b : MatchTask) : Type 0 where
     pub star : ℕ
     pub operand : ℕ
     pub from : ℕ
     pub count : ℕ
-    pub rest : List (Level Spot)
+    pub rest : List (Level MatchTask)
     pub is : a ≡ Pair star from
     pub turned : AreTurned g x more marks star operand from (last + 1) count
     pub key : Key (Pair star from) ≡ true
@@ -217,60 +220,64 @@ module _ (g : Grammar) (x : List ℕ) (more : Bool) (marks : Marks) where
     pub waits : b ≡ Pair star (last + 1)
 
   -- the levels of the frames, of which the last one so awaits task b
-  abbrev TopBy : List Link → Spot → Wait → Frame → List Frame → List (Level Spot) → Spot → Type 0
-  TopBy links root First l ls fs b = (asked : List Spot) × (rest : List (Level Spot))
-      × (fs ≡ record { at = l.spot; asked = asked } ∷ rest) × IsHere g x more l.spot × (l.key ≡ Key l.spot)
-      × Waiting g x more links First l.spot asked b × L links root ls rest l.spot
-  TopBy links root (Last head) l ls fs b = (asked : List Spot) × (rest : List (Level Spot))
-      × (fs ≡ record { at = l.spot; asked = asked } ∷ rest) × IsHere g x more l.spot × (l.key ≡ Key l.spot)
-      × Waiting g x more links (Last head) l.spot asked b × L links root ls rest l.spot
-  TopBy links root (Turned last) l ls fs b = IsTurnedTop links root l.spot last ls fs b
+  abbrev TopBy : List Link → MatchTask → Wait → Frame → List Frame → List (Level MatchTask) → MatchTask → Type 0
+  TopBy links root First l ls fs b = (asked : List MatchTask) × (rest : List (Level MatchTask))
+      × (fs ≡ record { at = l.task; asked = asked } ∷ rest) × IsHere g x more l.task × (l.key ≡ Key l.task)
+      × Waiting g x more links First l.task asked b × L links root ls rest l.task
+  TopBy links root (Last head) l ls fs b = (asked : List MatchTask) × (rest : List (Level MatchTask))
+      × (fs ≡ record { at = l.task; asked = asked } ∷ rest) × IsHere g x more l.task × (l.key ≡ Key l.task)
+      × Waiting g x more links (Last head) l.task asked b × L links root ls rest l.task
+  TopBy links root (Turned last) l ls fs b = IsTurnedTop links root l.task last ls fs b
 
-  abbrev AreTop : List Link → Spot → List Frame → List (Level Spot) → Spot → Type 0
+  abbrev AreTop : List Link → MatchTask → List Frame → List (Level MatchTask) → MatchTask → Type 0
   AreTop links root [] fs b = (fs ≡ []) × (b ≡ root)
   AreTop links root (l ∷ ls) fs b = TopBy links root l.wait l ls fs b
 
-  top_of_frame : (links : List Link) (root : Spot) (w : Wait) (l : Frame) (ls : List Frame) (asked : List Spot)
-      (fs : List (Level Spot)) (b : Spot) → IsHere g x more l.spot → l.key ≡ Key l.spot
-      → Waiting g x more links w l.spot asked b → L links root ls fs l.spot
-      → TopBy links root w l ls (record { at = l.spot; asked = asked } ∷ fs) b
+  top_of_frame : (links : List Link) (root : MatchTask) (w : Wait) (l : Frame) (ls : List Frame)
+      (asked : List MatchTask)
+      (fs : List (Level MatchTask)) (b : MatchTask) → IsHere g x more l.task → l.key ≡ Key l.task
+      → Waiting g x more links w l.task asked b → L links root ls fs l.task
+      → TopBy links root w l ls (record { at = l.task; asked = asked } ∷ fs) b
   top_of_frame links root First l ls asked fs b w t h r = (asked, fs, refl, w, t, h, r)
   top_of_frame links root (Last head) l ls asked fs b w t h r = (asked, fs, refl, w, t, h, r)
   top_of_frame links root (Turned last) l ls asked fs b w t h r = absurd h
 
-  top_well : (links : List Link) (root : Spot) (w : Wait) (l : Frame) (ls : List Frame) (fs : List (Level Spot))
-      (b : Spot) → TopBy links root w l ls fs b → IsWell g x l.spot
+  top_well : (links : List Link) (root : MatchTask) (w : Wait) (l : Frame) (ls : List Frame)
+      (fs : List (Level MatchTask))
+      (b : MatchTask) → TopBy links root w l ls fs b → IsWell g x l.task
   top_well links root First l ls fs b h = h.3.0
   top_well links root (Last head) l ls fs b h = h.3.0
   top_well links root (Turned last) l ls fs b h = subst (IsWell g x) (sym h.is) h.well
 
-  top_head : (links : List Link) (root : Spot) (w : Wait) (l : Frame) (ls : List Frame) (fs : List (Level Spot))
-      (b : Spot) → TopBy links root w l ls fs b → IsWaitHead links w
+  top_head : (links : List Link) (root : MatchTask) (w : Wait) (l : Frame) (ls : List Frame)
+      (fs : List (Level MatchTask))
+      (b : MatchTask) → TopBy links root w l ls fs b → IsWaitHead links w
   top_head links root First l ls fs b h = tt
   top_head links root (Last head) l ls fs b h = h.5.1.is
   top_head links root (Turned last) l ls fs b h = tt
 
   -- an answer for the last frame
-  pub record Ready (links : List Link) (root : Spot) (ls : List Frame) (given : Given) (st bg : List Spot)
+  pub record Ready (links : List Link) (root : MatchTask) (ls : List Frame) (given : Given) (st bg : List MatchTask)
       : Type 0 where
-    pub levels : List (Level Spot)
-    pub spot : Spot
-    pub are : AreTop links root ls levels spot
-    pub gives : G links spot given
+    pub levels : List (Level MatchTask)
+    pub task : MatchTask
+    pub are : AreTop links root ls levels task
+    pub gives : G links task given
     pub steps : SS root (Works (record { levels = levels; stored = st; begun = bg }))
 
   -- the levels without a frame end at once where an answer comes
-  ready_when : {links : List Link} {root b : Spot} {ls : List Frame} {fs : List (Level Spot)} {st bg : List Spot}
+  ready_when : {links : List Link} {root b : MatchTask} {ls : List Frame} {fs : List (Level MatchTask)}
+      {st bg : List MatchTask}
       → L links root ls fs b
       → (given : Given) → G links b given → SS root (Works (record { levels = fs; stored = st; begun = bg }))
       → Ready links root ls given st bg
   ready_when {root = root} levels_none given d s =
-      record { levels = []; spot = root; are = (refl, refl); gives = d; steps = s }
+      record { levels = []; task = root; are = (refl, refl); gives = d; steps = s }
   ready_when {links = links} {root = root}
       (levels_frame {l = l} {b = b} {asked = asked} {ls = ls} {fs = fs} w t h r) given d
       s = record {
-        levels = record { at = l.spot; asked = asked } ∷ fs;
-        spot = b;
+        levels = record { at = l.task; asked = asked } ∷ fs;
+        task = b;
         are = top_of_frame links root l.wait l ls asked fs b w t h r;
         gives = d;
         steps = s;
@@ -278,13 +285,13 @@ module _ (g : Grammar) (x : List ℕ) (more : Bool) (marks : Marks) where
   ready_when {links = links} {root = root} {st = st} {bg = bg}
       (levels_passed {a = a} {b = b} {asked = asked} {fs = fs} t h r) given d s =
       ready_when r given (given_passed links a b asked given h d)
-      (subst (λ v. SS root (Works (record { levels = fs; stored = store Spot v a st; begun = bg }))) t
+      (subst (λ v. SS root (Works (record { levels = fs; stored = store MatchTask v a st; begun = bg }))) t
       (steps_more s (step_last h.0)))
   ready_when {links = links} {root = root}
       (levels_turned {s = n} {k = k} {p = p} {last = last} {count = count} {ls = ls} {fs = fs} t key w r) given d s =
       record {
         levels = turns_on n k p (last + 1 - p) fs;
-        spot = Pair n (last + 1);
+        task = Pair n (last + 1);
         are = record {
           star = n;
           operand = k;
@@ -303,28 +310,28 @@ module _ (g : Grammar) (x : List ℕ) (more : Bool) (marks : Marks) where
         steps = s;
       }
 
-  pub ready_of : {root : Spot} {given : Given} {ls : List Frame} {st : List Stored} {links : List Link} {n : ℕ}
-      → (s : S root (Answer given) ls st links n) → Ready links root ls given (spots_of st) s.begun
+  pub ready_of : {root : MatchTask} {given : Given} {ls : List Frame} {st : List Stored} {links : List Link} {n : ℕ}
+      → (s : S root (Answer given) ls st links n) → Ready links root ls given (tasks_of st) s.begun
   ready_of {given = given} s = ready_when s.are given s.turns s.steps
 
   -- the levels of a task that awaits its last child
-  waiting_levels : (links : List Link) (root a b : Spot) (key : Bool) (head : ℕ) (es : List Event)
-      (asked : List Spot) (ls new : List Frame) (fs : List (Level Spot)) → key ≡ Key a → IsHere g x more a
+  waiting_levels : (links : List Link) (root a b : MatchTask) (key : Bool) (head : ℕ) (es : List Event)
+      (asked : List MatchTask) (ls new : List Frame) (fs : List (Level MatchTask)) → key ≡ Key a → IsHere g x more a
       → HeadStands (shapes_of g.nodes) links head es → PassesOn g x more a asked b es → AreWaiting key head a ls new
       → L links root ls fs a → L links root new (record { at = a; asked = asked } ∷ fs) b
   waiting_levels links root a b key head es asked ls new fs t w hs p (inl is) r =
       subst (λ v. L links root v (record { at = a; asked = asked } ∷ fs) b) (sym is)
-      (levels_frame {l = record { spot = a; key = key; wait = Last head }} w t (es, hs, p) r)
+      (levels_frame {l = record { task = a; key = key; wait = Last head }} w t (es, hs, p) r)
   waiting_levels links root a b key head es asked ls new fs t w hs p (inr h) r =
       subst (λ v. L links root v (record { at = a; asked = asked } ∷ fs) b) (sym h.2)
       (levels_passed (sym t ∙ h.0) (subst (PassesOn g x more a asked b) (none_at h.1 hs) p) r)
 
-  pub stands_first : (root : Spot) (st : List Stored) (links : List Link) → IsHere g x more root → st ≡ []
+  pub stands_first : (root : MatchTask) (st : List Stored) (links : List Link) → IsHere g x more root → st ≡ []
       → S root (Ask root) [] st links 0
   stands_first root st links here none = subst (λ v. S root (Ask root) [] v links 0) (sym none) (record {
     levels = [];
     begun = [];
-    spot = root;
+    task = root;
     are = levels_none;
     turns = (refl, here.0, here.1);
     given = record { given = λ s i. elim i [ ] };
@@ -334,7 +341,7 @@ module _ (g : Grammar) (x : List ℕ) (more : Bool) (marks : Marks) where
   })
 
   -- a task leads first to one at its own position
-  place_by : (w : Way) (n p : ℕ) (b : Spot) → FirstBy (rules_of g.rules) (shapes_of g.nodes) g.bodies x w n p b
+  place_by : (w : Way) (n p : ℕ) (b : MatchTask) → FirstBy (rules_of g.rules) (shapes_of g.nodes) g.bodies x w n p b
       → place_of b ≡ p
   place_by Leaf n p b h = absurd h
   place_by (Body id) n p b h = ap place_of h.2
@@ -343,7 +350,7 @@ module _ (g : Grammar) (x : List ℕ) (more : Bool) (marks : Marks) where
   place_by (Turns k s) n p b h = ap place_of h
   place_by (Operand k) n p b h = ap place_of h
 
-  tail_place_by : (w : Way) (n i p : ℕ) (b : Spot)
+  tail_place_by : (w : Way) (n i p : ℕ) (b : MatchTask)
       → TailFirstBy (rules_of g.rules) (shapes_of g.nodes) g.bodies x w n i p b → place_of b ≡ p
   tail_place_by Leaf n i p b h = absurd h
   tail_place_by (Body id) n i p b h = absurd h
@@ -352,14 +359,14 @@ module _ (g : Grammar) (x : List ℕ) (more : Bool) (marks : Marks) where
   tail_place_by (Turns k s) n i p b h = absurd h
   tail_place_by (Operand k) n i p b h = absurd h
 
-  first_place : (a k : Spot) → F a k → place_of k ≡ place_of a
+  first_place : (a k : MatchTask) → F a k → place_of k ≡ place_of a
   first_place (Pair n p) k h = place_by (way_of n h.0) n p k h.2
   first_place (Tail n i p) k h = tail_place_by (way_of n h.0) n i p k h.2
 
-  first_near : (a k : Spot) → F a k → IsNear x more a → IsNear x more k
+  first_near : (a k : MatchTask) → F a k → IsNear x more a → IsNear x more k
   first_near a k h near is = let same = first_place a k h in let lt = near is in omega (arith, same, lt)
 
-  module _ (root a : Spot) (ls : List Frame) (st : List Stored) (links : List Link) (n : ℕ)
+  module _ (root a : MatchTask) (ls : List Frame) (st : List Stored) (links : List Link) (n : ℕ)
       (s : S root (Ask a) ls st links n) where
     asked_near : IsNear x more a
     asked_near = subst (IsNear x more) (sym s.turns.0) s.turns.2
@@ -373,46 +380,46 @@ module _ (g : Grammar) (x : List ℕ) (more : Bool) (marks : Marks) where
     pub asked_well : IsWell g x a
     asked_well = subst (IsWell g x) (sym s.turns.0) s.turns.1
 
-    pub spot_here : a ≡ s.spot
-    spot_here = s.turns.0
+    pub task_here : a ≡ s.task
+    task_here = s.turns.0
 
     pub levels_above : L links root ls s.levels a
-    levels_above = subst (L links root ls s.levels) (sym spot_here) s.are
+    levels_above = subst (L links root ls s.levels) (sym task_here) s.are
 
-    pub stands_stored : (given : Given) → Key a ≡ true → IsIn (record { spot = a; given = given }) st
+    pub stands_stored : (given : Given) → Key a ≡ true → IsIn (record { task = a; given = given }) st
         → S root (Answer given) ls st links n
     stands_stored given t i = record {
       levels = s.levels;
       begun = s.begun;
-      spot = a;
+      task = a;
       are = levels_above;
-      turns = s.given.given (record { spot = a; given = given }) i;
+      turns = s.given.given (record { task = a; given = given }) i;
       given = s.given;
       is = s.is;
-      steps = steps_more s.steps (step_stored (subst (λ v. Key v ≡ true) spot_here t)
-          (subst (λ v. IsIn v (spots_of st)) spot_here (spot_of_stored i)));
+      steps = steps_more s.steps (step_stored (subst (λ v. Key v ≡ true) task_here t)
+          (subst (λ v. IsIn v (tasks_of st)) task_here (task_of_stored i)));
       near = s.near;
     }
 
-    module _ (fresh : Key a ≡ true → IsIn a (spots_of st) → ⊥) where
+    module _ (fresh : Key a ≡ true → IsIn a (tasks_of st) → ⊥) where
       steps_begin : SS root (Works (record {
         levels = record { at = a; asked = [] } ∷ s.levels;
-        stored = spots_of st;
+        stored = tasks_of st;
         begun = a ∷ s.begun;
       }))
       steps_begin = steps_more (subst (λ v. SS root (Asks v (record {
         levels = s.levels;
-        stored = spots_of st;
+        stored = tasks_of st;
         begun = s.begun;
-      }))) (sym spot_here) s.steps) (step_begin fresh)
+      }))) (sym task_here) s.steps) (step_begin fresh)
 
-      begin_counts : total Spot K Key weight (a ∷ s.begun) ≡ n + weight a
+      begin_counts : total MatchTask K Key weight (a ∷ s.begun) ≡ n + weight a
       begin_counts = let is = s.is in omega (arith, is)
 
       -- a task whose own comparison reaches the end of the window
       pub stands_need : ReachesEnd g x more a → NeedsMore g x more marks root st (n + weight a)
       stands_need h = record {
-        spot = a;
+        task = a;
         levels = record { at = a; asked = [] } ∷ s.levels;
         begun = s.begun;
         is = begin_counts;
@@ -428,23 +435,23 @@ module _ (g : Grammar) (x : List ℕ) (more : Bool) (marks : Marks) where
       stands_leaf more_links given new grown none h c = record {
         levels = s.levels;
         begun = a ∷ s.begun;
-        spot = a;
+        task = a;
         are = levels_grown grown levels_above;
         turns = h;
         given = c.keeps h (keys_grown grown s.given);
         is = begin_counts;
         steps = subst (λ v. SS root (Works (record { levels = s.levels; stored = v; begun = a ∷ s.begun })))
-            (sym c.spots) (steps_more steps_begin (step_last none));
+            (sym c.tasks) (steps_more steps_begin (step_last none));
         near = begun_near;
       }
 
-      pub stands_down : (k : Spot) (key : Bool) → key ≡ Key a → IsLed g x more false a k
-          → S root (Ask k) (record { spot = a; key = key; wait = First } ∷ ls) st links (n + weight a)
+      pub stands_down : (k : MatchTask) (key : Bool) → key ≡ Key a → IsLed g x more false a k
+          → S root (Ask k) (record { task = a; key = key; wait = First } ∷ ls) st links (n + weight a)
       stands_down k key t h = record {
         levels = record { at = a; asked = k ∷ [] } ∷ s.levels;
         begun = a ∷ s.begun;
-        spot = k;
-        are = levels_frame {l = record { spot = a; key = key; wait = First }} (asked_well, asked_near) t (h.0, refl)
+        task = k;
+        are = levels_frame {l = record { task = a; key = key; wait = First }} (asked_well, asked_near) t (h.0, refl)
             levels_above;
         turns = (refl, h.1, first_near a k h.0 asked_near);
         near = begun_near;
@@ -454,13 +461,13 @@ module _ (g : Grammar) (x : List ℕ) (more : Bool) (marks : Marks) where
       }
 
       -- a task that passes on what its only child gives
-      pub stands_pass : (k : Spot) (key : Bool) (new : List Frame) → key ≡ Key a
+      pub stands_pass : (k : MatchTask) (key : Bool) (new : List Frame) → key ≡ Key a
           → IsLed g x more true a k → AreWaiting key 0 a ls new
           → S root (Ask k) new st links (n + weight a)
       stands_pass k key new t h w = record {
         levels = record { at = a; asked = k ∷ [] } ∷ s.levels;
         begun = a ∷ s.begun;
-        spot = k;
+        task = k;
         are = waiting_levels links root a k key 0 [] (k ∷ []) ls new s.levels t (asked_well, asked_near)
             (head_none (shapes_of g.nodes) links) h.2 w levels_above;
         turns = (refl, h.1, first_near a k h.0 asked_near);
@@ -471,10 +478,10 @@ module _ (g : Grammar) (x : List ℕ) (more : Bool) (marks : Marks) where
       }
 
   -- a tail that is entered
-  module _ (root : Spot) (e : Entering) (ls : List Frame) (st : List Stored) (links : List Link) (n : ℕ)
+  module _ (root : MatchTask) (e : Entering) (ls : List Frame) (st : List Stored) (links : List Link) (n : ℕ)
       (s : S root (Ask (tail_of e)) ls st links n) where
     member_asked : (only : Bool) (new : List Frame) → e.key ≡ Key (tail_of e)
-        → (Key (tail_of e) ≡ true → IsIn (tail_of e) (spots_of st) → ⊥)
+        → (Key (tail_of e) ≡ true → IsIn (tail_of e) (tasks_of st) → ⊥)
         → IsLed g x more only (tail_of e) (member_of e) → AreEntered only e.key (tail_of e) ls new
         → S root (Ask (member_of e)) new st links (n + 0)
     member_asked true new key fresh h w =
@@ -492,26 +499,26 @@ module _ (g : Grammar) (x : List ℕ) (more : Bool) (marks : Marks) where
         (subst (S root (Ask (member_of e)) new st links) (omega arith)
         (member_asked e.only new key (λ k. i.0 (key ∙ k)) h i.2))
 
-  module _ (root a : Spot) (given : Given) (ls : List Frame) (st : List Stored) (links : List Link) (n : ℕ)
+  module _ (root a : MatchTask) (given : Given) (ls : List Frame) (st : List Stored) (links : List Link) (n : ℕ)
       (key : Bool) where
-    at_levels : (bg : List Spot) (levels now : List (Level Spot)) → levels ≡ now
-        → SS root (Works (record { levels = levels; stored = spots_of st; begun = bg }))
-        → SS root (Works (record { levels = now; stored = spots_of st; begun = bg }))
+    at_levels : (bg : List MatchTask) (levels now : List (Level MatchTask)) → levels ≡ now
+        → SS root (Works (record { levels = levels; stored = tasks_of st; begun = bg }))
+        → SS root (Works (record { levels = now; stored = tasks_of st; begun = bg }))
     at_levels bg levels now is s =
-        subst (λ v. SS root (Works (record { levels = v; stored = spots_of st; begun = bg }))) is s
+        subst (λ v. SS root (Works (record { levels = v; stored = tasks_of st; begun = bg }))) is s
 
-    module _ (s : S root (Answer given) (record { spot = a; key = key; wait = First } ∷ ls) st links n) where
-      is_ready : Ready links root (record { spot = a; key = key; wait = First } ∷ ls) given (spots_of st) s.begun
+    module _ (s : S root (Answer given) (record { task = a; key = key; wait = First } ∷ ls) st links n) where
+      is_ready : Ready links root (record { task = a; key = key; wait = First } ∷ ls) given (tasks_of st) s.begun
       is_ready = ready_of s
 
       as_first : SS root (Works (record {
-        levels = record { at = a; asked = is_ready.spot ∷ [] } ∷ is_ready.are.1;
-        stored = spots_of st;
+        levels = record { at = a; asked = is_ready.task ∷ [] } ∷ is_ready.are.1;
+        stored = tasks_of st;
         begun = s.begun;
       }))
       as_first = subst (λ v. SS root (Works (record {
         levels = record { at = a; asked = v } ∷ is_ready.are.1;
-        stored = spots_of st;
+        stored = tasks_of st;
         begun = s.begun;
       })))
           is_ready.are.5.1
@@ -520,22 +527,23 @@ module _ (g : Grammar) (x : List ℕ) (more : Bool) (marks : Marks) where
 
       -- what is known after the first child that the frame awaited
       abbrev After : Onward → Type 0
-      After o = (j : Spot) → F a j → (es : List Event) → SY j given.found es → AfterOne g x more a j given.found es o
+      After o = (j : MatchTask) → F a j → (es : List Event) → SY j given.found es
+          → AfterOne g x more a j given.found es o
 
-      after_here : (o : Onward) → After o → AfterOne g x more a is_ready.spot given.found is_ready.gives.events o
-      after_here o after = after is_ready.spot is_ready.are.5.0 is_ready.gives.events is_ready.gives.yields
+      after_here : (o : Onward) → After o → AfterOne g x more a is_ready.task given.found is_ready.gives.events o
+      after_here o after = after is_ready.task is_ready.are.5.0 is_ready.gives.events is_ready.gives.yields
 
-      pub first_kid : Spot
-      first_kid = is_ready.spot
+      pub first_kid : MatchTask
+      first_kid = is_ready.task
 
       -- it asks for this one then
-      abbrev Then : Spot → Type 0
-      Then k = (j : Spot) → F a j → (es : List Event) → SY j given.found es → GoesOn g x more a j es k
+      abbrev Then : MatchTask → Type 0
+      Then k = (j : MatchTask) → F a j → (es : List Event) → SY j given.found es → GoesOn g x more a j es k
 
-      then_here : (k : Spot) → Then k → GoesOn g x more a is_ready.spot is_ready.gives.events k
-      then_here k then = then is_ready.spot is_ready.are.5.0 is_ready.gives.events is_ready.gives.yields
+      then_here : (k : MatchTask) → Then k → GoesOn g x more a is_ready.task is_ready.gives.events k
+      then_here k then = then is_ready.task is_ready.are.5.0 is_ready.gives.events is_ready.gives.yields
 
-      pub second_kid : (k : Spot) → Then k → K a (first_kid ∷ (k ∷ []))
+      pub second_kid : (k : MatchTask) → Then k → K a (first_kid ∷ (k ∷ []))
       unfolding first_kid
       second_kid k then = (then_here k then).0.0
 
@@ -543,16 +551,16 @@ module _ (g : Grammar) (x : List ℕ) (more : Bool) (marks : Marks) where
       unfolding first_kid
       second_tail e after = (after_here (way.Enters e) after).0.0.0
 
-      pub stands_on : (k : Spot) (new : List Frame) → Then k → AreWaiting key given.events a ls new
+      pub stands_on : (k : MatchTask) (new : List Frame) → Then k → AreWaiting key given.events a ls new
           → S root (Ask k) new st links n
       stands_on k new then w =
           let h = then_here k then in
           record {
-            levels = record { at = a; asked = is_ready.spot ∷ (k ∷ []) } ∷ is_ready.are.1;
+            levels = record { at = a; asked = is_ready.task ∷ (k ∷ []) } ∷ is_ready.are.1;
             begun = s.begun;
-            spot = k;
+            task = k;
             are = waiting_levels links root a k key given.events is_ready.gives.events
-                (is_ready.spot ∷ (k ∷ [])) ls new is_ready.are.1
+                (is_ready.task ∷ (k ∷ [])) ls new is_ready.are.1
                 is_ready.are.4 is_ready.are.3 is_ready.gives.head h.0 w is_ready.are.6;
             turns = (refl, h.1, h.2 is_ready.are.3.1);
             near = s.near;
@@ -574,18 +582,18 @@ module _ (g : Grammar) (x : List ℕ) (more : Bool) (marks : Marks) where
       pub tail_marked : (e : Entering) → After (way.Enters e) → e.key ≡ tail_marks g.keys e.node e.index
       tail_marked e after = (after_here (way.Enters e) after).2
 
-      spot_ends : (own : Given) (new : List Stored) → K a (is_ready.spot ∷ []) → G links a own → C links a own st new
+      task_ends : (own : Given) (new : List Stored) → K a (is_ready.task ∷ []) → G links a own → C links a own st new
           → S root (Answer own) ls new links n
-      spot_ends own new kids h c = record {
+      task_ends own new kids h c = record {
         levels = is_ready.are.1;
         begun = s.begun;
-        spot = a;
+        task = a;
         are = is_ready.are.6;
         turns = h;
         given = c.keeps h s.given;
         is = s.is;
         steps = subst (λ v. SS root (Works (record { levels = is_ready.are.1; stored = v; begun = s.begun })))
-            (sym c.spots)
+            (sym c.tasks)
             (steps_more as_first (step_last kids));
         near = s.near;
       }
@@ -595,13 +603,13 @@ module _ (g : Grammar) (x : List ℕ) (more : Bool) (marks : Marks) where
           → S root (Answer (record { found = f; events = 0 })) ls new links n
       stands_up f new after closed =
           let h = after_here (way.Gives f) after in
-          spot_ends (record { found = f; events = 0 }) new h.0 (given_none links a f h.1) (closed is_ready.are.4)
+          task_ends (record { found = f; events = 0 }) new h.0 (given_none links a f h.1) (closed is_ready.are.4)
 
       pub stands_same : (new : List Stored) → After way.Same → (key ≡ Key a → C links a given st new)
           → S root (Answer given) ls new links n
       stands_same new after closed =
           let h = after_here way.Same after in
-          spot_ends given new h.0
+          task_ends given new h.0
           (record {
             events = is_ready.gives.events;
             yields = h.1;
@@ -610,7 +618,7 @@ module _ (g : Grammar) (x : List ℕ) (more : Bool) (marks : Marks) where
           })
           (closed is_ready.are.4)
 
-    pub stands_last : (head : ℕ) → S root (Answer given) (record { spot = a; key = key; wait = Last head } ∷ ls) st
+    pub stands_last : (head : ℕ) → S root (Answer given) (record { task = a; key = key; wait = Last head } ∷ ls) st
         links n → (more_links : List Link) (all : Given) (new : List Stored) → AreGrown links more_links
         → IsJoined links more_links head given all → (key ≡ Key a → C more_links a all st new)
         → S root (Answer all) ls new more_links n
@@ -618,72 +626,75 @@ module _ (g : Grammar) (x : List ℕ) (more : Bool) (marks : Marks) where
         let r = ready_of s in
         let c = closed r.are.4 in
         let w = r.are.5 in
-        let h = given_joined links more_links a r.spot r.are.0 head w.0 given all w.1 w.2 r.gives j in
+        let h = given_joined links more_links a r.task r.are.0 head w.0 given all w.1 w.2 r.gives j in
         record {
           levels = r.are.1;
           begun = s.begun;
-          spot = a;
+          task = a;
           are = levels_grown grown r.are.6;
           turns = h;
           given = c.keeps h (keys_grown grown s.given);
           is = s.is;
-          steps = subst (λ v. SS root (Works (record { levels = r.are.1; stored = v; begun = s.begun }))) (sym c.spots)
+          steps = subst (λ v. SS root (Works (record { levels = r.are.1; stored = v; begun = s.begun }))) (sym c.tasks)
               (steps_more (at_levels s.begun r.levels (record { at = a; asked = r.are.0 } ∷ r.are.1) r.are.2 r.steps)
               (step_last w.2.0));
           near = s.near;
         }
 
-  module _ (root : Spot) (l : Frame) (given : Given) (ls : List Frame) (st : List Stored) (links : List Link) (n : ℕ)
+  module _ (root : MatchTask) (l : Frame) (given : Given) (ls : List Frame) (st : List Stored) (links : List Link)
+      (n : ℕ)
       (s : S root (Answer given) (l ∷ ls) st links n) where
-    pub level_well : IsWell g x l.spot
-    level_well = let r = ready_of s in top_well links root l.wait l ls r.levels r.spot r.are
+    pub level_well : IsWell g x l.task
+    level_well = let r = ready_of s in top_well links root l.wait l ls r.levels r.task r.are
 
     pub level_head : IsWaitHead links l.wait
-    level_head = let r = ready_of s in top_head links root l.wait l ls r.levels r.spot r.are
+    level_head = let r = ready_of s in top_head links root l.wait l ls r.levels r.task r.are
 
-  pub given_head : (root : Spot) (given : Given) (ls : List Frame) (st : List Stored) (links : List Link) (n : ℕ)
+  pub given_head : (root : MatchTask) (given : Given) (ls : List Frame) (st : List Stored) (links : List Link) (n : ℕ)
       → S root (Answer given) ls st links n → IsHead links given.events
   given_head root given ls st links n s = s.turns.head.is
 
-  module _ (root : Spot) (given : Given) (st : List Stored) (links : List Link) (n : ℕ)
+  module _ (root : MatchTask) (given : Given) (st : List Stored) (links : List Link) (n : ℕ)
       (s : S root (Answer given) [] st links n) where
     pub end_gives : G links root given
     end_gives = let r = ready_of s in subst (λ v. G links v given) r.are.1 r.gives
 
-    pub end_runs : Run Spot K Key weight [] root (spots_of st) n
+    pub end_runs : Run MatchTask K Key weight [] root (tasks_of st) n
     end_runs =
         let r = ready_of s in
-        subst (Run Spot K Key weight [] root (spots_of st)) s.is
-        (run_of_steps Spot K (NextOf (rules_of g.rules) (shapes_of g.nodes) g.bodies x) Key weight root (spots_of st)
+        subst (Run MatchTask K Key weight [] root (tasks_of st)) s.is
+        (run_of_steps MatchTask K (NextOf (rules_of g.rules) (shapes_of g.nodes) g.bodies x) Key weight root
+        (tasks_of st)
         s.begun
-        (subst (λ v. SS root (Works (record { levels = v; stored = spots_of st; begun = s.begun }))) r.are.0 r.steps))
+        (subst (λ v. SS root (Works (record { levels = v; stored = tasks_of st; begun = s.begun }))) r.are.0 r.steps))
 
-  pub closed_key : (links : List Link) (a : Spot) (given : Given) (old new : List Stored) → Key a ≡ true
-      → new ≡ record { spot = a; given = given } ∷ old
+  pub closed_key : (links : List Link) (a : MatchTask) (given : Given) (old new : List Stored) → Key a ≡ true
+      → new ≡ record { task = a; given = given } ∷ old
       → C links a given old new
   closed_key links a given old new t grown = subst (C links a given old) (sym grown) (record {
-    spots = subst (λ v. a ∷ spots_of old ≡ store Spot v a (spots_of old)) (sym t) refl;
+    tasks = subst (λ v. a ∷ tasks_of old ≡ store MatchTask v a (tasks_of old)) (sym t) refl;
     keeps = λ h r. record { given = λ s i. by s h r (first i) };
   })
     where
-      first : {s : Stored} → IsIn s (record { spot = a; given = given } ∷ old)
-          → (s ≡ record { spot = a; given = given }) ⊎ IsIn s old
+      first : {s : Stored} → IsIn s (record { task = a; given = given } ∷ old)
+          → (s ≡ record { task = a; given = given }) ⊎ IsIn s old
       first in_here = inl refl
       first (in_later i) = inr i
 
       by : (s : Stored) → G links a given → AreGiven g x more links old
-          → (s ≡ record { spot = a; given = given }) ⊎ IsIn s old → G links s.spot s.given
-      by s h r (inl is) = subst (λ v. G links v.spot v.given) (sym is) h
+          → (s ≡ record { task = a; given = given }) ⊎ IsIn s old → G links s.task s.given
+      by s h r (inl is) = subst (λ v. G links v.task v.given) (sym is) h
       by s h r (inr i) = r.given s i
 
-  pub closed_plain : (links : List Link) (a : Spot) (given : Given) (old : List Stored) → Key a ≡ false
+  pub closed_plain : (links : List Link) (a : MatchTask) (given : Given) (old : List Stored) → Key a ≡ false
       → C links a given old old
   closed_plain links a given old t = record {
-    spots = subst (λ v. spots_of old ≡ store Spot v a (spots_of old)) (sym t) refl;
+    tasks = subst (λ v. tasks_of old ≡ store MatchTask v a (tasks_of old)) (sym t) refl;
     keeps = λ h r. r;
   }
 
-  pub stands_as : {root : Spot} {t u : Turn} {ls ms : List Frame} {st su : List Stored} {ks kl : List Link} {n m : ℕ}
+  pub stands_as : {root : MatchTask} {t u : Turn} {ls ms : List Frame} {st su : List Stored} {ks kl : List Link}
+      {n m : ℕ}
       → t ≡ u → ls ≡ ms → st ≡ su → ks ≡ kl → n ≡ m → S root t ls st ks n → S root u ms su kl m
   stands_as {root = root} {t = t} {u = u} {ls = ls} {ms = ms} {st = st} {su = su} {ks = ks} {kl = kl} {m = m} a b c e d
       s =
@@ -697,20 +708,22 @@ module _ (g : Grammar) (x : List ℕ) (more : Bool) (marks : Marks) where
       → S (Pair root 0) t ls st links n → n ≤ most_begun g x
   stands_few root t ls st links n sound at are s =
       let most = begun_at_places (rules_of g.rules) g.start (shapes_of g.nodes) g.bodies g.ranks x false sound root at
-      (node_marks marks) (tail_marks marks) are (state_of t s.spot s.levels (spots_of st) s.begun) s.steps in
+      (node_marks marks) (tail_marks marks) are (state_of t s.task s.levels (tasks_of st) s.begun) s.steps in
       let same : length (shapes_of g.nodes) ≡ length g.nodes = length-map g.nodes shape_of in
-      subst (λ v. n ≤ v * (length x + 1)) same (by t (state_of t s.spot s.levels (spots_of st) s.begun) refl most)
+      subst (λ v. n ≤ v * (length x + 1)) same (by t (state_of t s.task s.levels (tasks_of st) s.begun) refl most)
     where
-      by : (u : Turn) (w : State Spot) → w ≡ state_of u s.spot s.levels (spots_of st) s.begun
-          → total Spot K Key weight (held Spot w).begun ≤ length (shapes_of g.nodes) * (length x + 1)
+      by : (u : Turn) (w : State MatchTask) → w ≡ state_of u s.task s.levels (tasks_of st) s.begun
+          → total MatchTask K Key weight (held MatchTask w).begun ≤ length (shapes_of g.nodes) * (length x + 1)
           → n ≤ length (shapes_of g.nodes) * (length x + 1)
       by (Ask a) w is le =
           let count = s.is in
-          let same : total Spot K Key weight (held Spot w).begun ≡ total Spot K Key weight s.begun =
-          subst (λ v. total Spot K Key weight (held Spot v).begun ≡ total Spot K Key weight s.begun) (sym is) refl in
+          let same : total MatchTask K Key weight (held MatchTask w).begun ≡ total MatchTask K Key weight s.begun =
+          subst (λ v. total MatchTask K Key weight (held MatchTask v).begun ≡ total MatchTask K Key weight s.begun)
+          (sym is) refl in
           omega (arith, count, same, le)
       by (Answer f) w is le =
           let count = s.is in
-          let same : total Spot K Key weight (held Spot w).begun ≡ total Spot K Key weight s.begun =
-          subst (λ v. total Spot K Key weight (held Spot v).begun ≡ total Spot K Key weight s.begun) (sym is) refl in
+          let same : total MatchTask K Key weight (held MatchTask w).begun ≡ total MatchTask K Key weight s.begun =
+          subst (λ v. total MatchTask K Key weight (held MatchTask v).begun ≡ total MatchTask K Key weight s.begun)
+          (sym is) refl in
           omega (arith, count, same, le)

@@ -158,20 +158,21 @@ at_head items head found link o same h =
 module _ (links : List Link) (top : ℕ) (heads : List ℕ) (all : List Kept)
     (is : kept_at_all links (top ∷ heads) ≡ all) where
   -- the next head has no events
-  pub none_told : top ≡ 0 → (others : List ℕ) → heads ≡ others → kept_at_all links others ≡ all
-  none_told zero_head others same =
+  pub none_reported : top ≡ 0 → (others : List ℕ) → heads ≡ others → kept_at_all links others ≡ all
+  none_reported zero_head others same =
       ap (kept_at_all links) (sym same)
       ∙ ap (λ v. v ++ kept_at_all links heads) (sym (none_kept links) ∙ ap (kept_at links) (sym zero_head)) ∙ is
 
   module _ (link : Link) (h : IsLinkOf links top link) where
     -- it is one event
-    pub one_told : (event : Kept) → events_of (kept_at links) link ≡ event ∷ [] → all ≡ event ∷ kept_at_all links heads
-    one_told event same = sym is ∙ ap (λ v. v ++ kept_at_all links heads) (h.kept ∙ same)
+    pub one_reported : (event : Kept) → events_of (kept_at links) link ≡ event ∷ [] → all
+        ≡ event ∷ kept_at_all links heads
+    one_reported event same = sym is ∙ ap (λ v. v ++ kept_at_all links heads) (h.kept ∙ same)
 
   -- it is a join
-  pub join_told : (first second : ℕ) → IsLinkOf links top (Join first second) → (others : List ℕ)
+  pub join_reported : (first second : ℕ) → IsLinkOf links top (Join first second) → (others : List ℕ)
       → others ≡ second ∷ heads → kept_at links first ++ kept_at_all links others ≡ all
-  join_told first second h others same =
+  join_reported first second h others same =
       ap (λ v. kept_at links first ++ kept_at_all links v) same
       ∙ sym (append_assoc (kept_at links first) (kept_at links second) (kept_at_all links heads))
       ∙ ap (λ v. v ++ kept_at_all links heads) (sym h.kept) ∙ is

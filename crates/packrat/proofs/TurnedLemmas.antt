@@ -18,15 +18,15 @@ use Rattle.pegnodes.specs.declared.by_byte.Decided.{Decided}
 use Rattle.pegnodes.specs.declared.by_byte.ByteVerdict.TheVariants.{Takes, Fails}
 use Rattle.pegnodes.specs.declared.run_table.Run.{Run}
 use Rattle.pegmatch.specs.KeptEvents.{SpellsSome}
-use Rattle.memo.specs.KeyLog.{spots_of, row_of, place_of, run_of, steps_of, spread, rising}
+use Rattle.memo.specs.KeyLog.{tasks_of, row_of, place_of, run_of, steps_of, spread, rising}
 use Rattle.memo.specs.Parts.{IsIn}
 use Rattle.memo.specs.Run.{total}
 use Rattle.memo.specs.declared.found.Found.{Found}
 use Rattle.memo.specs.declared.found.Found.TheVariants.{Failed, Took}
 use Rattle.memo.specs.declared.key_log.Given.{Given}
 use Rattle.memo.specs.declared.key_log.Stored.{Stored}
-use Rattle.memo.specs.declared.spot.Spot.{Spot}
-use Rattle.memo.specs.declared.spot.Spot.TheVariants.{Pair}
+use Rattle.memo.specs.declared.task.MatchTask.{MatchTask}
+use Rattle.memo.specs.declared.task.MatchTask.TheVariants.{Pair}
 use Rattle.memo.proofs.KeyLogLemmas.{of_spread, of_rising, rising_last}
 use Rattle.memo.proofs.PartsLemmas.{in_either}
 use Rattle.pegmatch.proofs.GivesLemmas.{star_gives_more, star_gives_none, star_never_fails}
@@ -34,9 +34,9 @@ use Rattle.pegmatch.specs.Visits.{NodeGives}
 use Rattle.packrat.specs.ByteGives.{GivesBy, turns_on, operands_on, turns_closed, AreFresh}
 use Rattle.packrat.specs.MachineSteps.{Level, State, Asks, Works, start_at, store}
 use Rattle.packrat.specs.Onward.{IsWell}
-use Rattle.packrat.specs.SpotGives.{SpotYields, joined}
-use Rattle.packrat.specs.Spots.{Kids}
-use Rattle.packrat.specs.SpotSteps.{SpotSteps}
+use Rattle.packrat.specs.TaskGives.{TaskYields, joined}
+use Rattle.packrat.specs.MatchTasks.{Kids}
+use Rattle.packrat.specs.TaskSteps.{TaskSteps}
 use Rattle.packrat.specs.Stands.{AreLevels, levels_passed, levels_turned, key_of, Stands, GivenBy, AreGiven}
 use Rattle.packrat.specs.Turned.{IsClosing, AreTurned, IsStopped, AreTurnedFrames}
 use Rattle.packrat.specs.View.{weight}
@@ -47,33 +47,33 @@ use Rattle.packrat.specs.declared.turns.Turns.{Turns}
 use Rattle.packrat.proofs.ByteGivesLemmas.{gives_by, star_has}
 use Rattle.packrat.proofs.RunStepsLemmas.{append_other}
 use Rattle.packrat.proofs.RunTurnsLemmas.{both_fronts, both_steps, turn_kids, turns_come, turns_end, turns_stop}
-use Rattle.packrat.proofs.StandsLemmas.{given_none, spot_here, levels_above, ready_of}
+use Rattle.packrat.proofs.StandsLemmas.{given_none, task_here, levels_above, ready_of}
 use Rattle.packrat.proofs.TurnsGiveLemmas.{turns_repeat}
 
 -- the pairs of a run stand as the levels of its turns store them
 pub closed_run : (s p n : ℕ) (given : Given) (stored : List Stored)
-    → spots_of (rising (λ q. record { spot = Pair s q; given = given }) p n ++ stored)
-    ≡ turns_closed true s p n (spots_of stored)
+    → tasks_of (rising (λ q. record { task = Pair s q; given = given }) p n ++ stored)
+    ≡ turns_closed true s p n (tasks_of stored)
 closed_run s p zero given stored = refl
 closed_run s p (suc n) given stored =
-    let at : ℕ → Stored = λ q. record { spot = Pair s q; given = given } in
+    let at : ℕ → Stored = λ q. record { task = Pair s q; given = given } in
     let one : rising at p (suc n) ++ stored ≡ rising at p n ++ at (p + n) ∷ stored =
     ap (λ v. v ++ stored) (rising_last at p n) ∙ append_other (rising at p n) (at (p + n) ∷ []) stored in
-    ap spots_of one ∙ closed_run s p n given (at (p + n) ∷ stored)
+    ap tasks_of one ∙ closed_run s p n given (at (p + n) ∷ stored)
 
 pub taken_steps : (k p n : ℕ) (stored : List Stored)
-    → spots_of (spread (λ q. record { spot = Pair k q; given = record { found = Took (q + 1); events = 0 } }) p n
-    ++ stored) ≡ operands_on true k p n (spots_of stored)
+    → tasks_of (spread (λ q. record { task = Pair k q; given = record { found = Took (q + 1); events = 0 } }) p n
+    ++ stored) ≡ operands_on true k p n (tasks_of stored)
 taken_steps k p zero stored = refl
 taken_steps k p (suc n) stored = ap (λ v. Pair k (p + n) ∷ v) (taken_steps k p n stored)
 
-pub operands_none : (k p n : ℕ) (spots : List Spot) → operands_on false k p n spots ≡ spots
-operands_none k p zero spots = refl
-operands_none k p (suc n) spots = operands_none k p n spots
+pub operands_none : (k p n : ℕ) (tasks : List MatchTask) → operands_on false k p n tasks ≡ tasks
+operands_none k p zero tasks = refl
+operands_none k p (suc n) tasks = operands_none k p n tasks
 
-pub closed_none : (s p n : ℕ) (spots : List Spot) → turns_closed false s p n spots ≡ spots
-closed_none s p zero spots = refl
-closed_none s p (suc n) spots = closed_none s p n spots
+pub closed_none : (s p n : ℕ) (tasks : List MatchTask) → turns_closed false s p n tasks ≡ tasks
+closed_none s p zero tasks = refl
+closed_none s p (suc n) tasks = closed_none s p n tasks
 
 -- each turn is a pair at least
 pub turns_some : {nodes : List Shape} {bodies x : List ℕ} {m : ℕ → Bool} {tails : ℕ → ℕ → Bool} {k a n c : ℕ}
@@ -114,7 +114,7 @@ module _ (g : Grammar) (x : List ℕ) (more : Bool) (marks : Marks) where
       }
 
   append_given : (links : List Link) (new old : List Stored)
-      → ((s : Stored) → IsIn s new → GivenBy g x more links s.spot s.given) → AreGiven g x more links old
+      → ((s : Stored) → IsIn s new → GivenBy g x more links s.task s.given) → AreGiven g x more links old
       → AreGiven g x more links (new ++ old)
   append_given links new old here h = record {
     given = λ s i. elim (in_either new old i) [ inl j ↦ here s j | inr j ↦ h.given s j ];
@@ -122,16 +122,16 @@ module _ (g : Grammar) (x : List ℕ) (more : Bool) (marks : Marks) where
 
   pub run_given : (links : List Link) (s p n : ℕ) (given : Given) (old : List Stored)
       → ((q : ℕ) → p ≤ q → q < p + n → GivenBy g x more links (Pair s q) given) → AreGiven g x more links old
-      → AreGiven g x more links (rising (λ q. record { spot = Pair s q; given = given }) p n ++ old)
+      → AreGiven g x more links (rising (λ q. record { task = Pair s q; given = given }) p n ++ old)
   run_given links s p n given old each h =
-      let at : ℕ → Stored = λ q. record { spot = Pair s q; given = given } in
+      let at : ℕ → Stored = λ q. record { task = Pair s q; given = given } in
       append_given links (rising at p n) old
       (λ e i. let r = of_rising at p n e i in
-      subst (λ v. GivenBy g x more links v.spot v.given) (sym r.is) (each r.place r.low r.high)) h
+      subst (λ v. GivenBy g x more links v.task v.given) (sym r.is) (each r.place r.low r.high)) h
 
   module _ (sound : IsSoundGrammar g) where
-    abbrev SY : Spot → Found → List Event → Type 0
-    SY a f events = SpotYields g x more a f events
+    abbrev SY : MatchTask → Found → List Event → Type 0
+    SY a f events = TaskYields g x more a f events
 
     abbrev Gives : ℕ → ℕ → Type 0
     Gives k p = GivesBy (rules_of g.rules) (shapes_of g.nodes) g.bodies x k p Takes
@@ -162,13 +162,13 @@ module _ (g : Grammar) (x : List ℕ) (more : Bool) (marks : Marks) where
       pub steps_given : (links : List Link) (old : List Stored) → AreGiven g x more links old
           → AreGiven g x more links (steps_of k p q ++ old)
       steps_given links old h =
-          let at : ℕ → Stored = λ r. record { spot = Pair k r; given = record { found = Took (r + 1); events = 0 } } in
+          let at : ℕ → Stored = λ r. record { task = Pair k r; given = record { found = Took (r + 1); events = 0 } } in
           append_given links (steps_of k p q) old
           (λ e i. let r = of_spread at p (q - p) e i in
           let low = r.low in
           let high = r.high in
           let place : p + (r.place - p) ≡ r.place = omega (arith, low) in
-          subst (λ v. GivenBy g x more links v.spot v.given) (sym r.is)
+          subst (λ v. GivenBy g x more links v.task v.given) (sym r.is)
           (subst (λ v. GivenBy g x more links (Pair k v) (record { found = Took (v + 1); events = 0 })) place
           (given_none g x more marks links (Pair k (p + (r.place - p))) (Took ((p + (r.place - p)) + 1))
           (operand_yields (r.place - p) (omega (arith, low, high)))))) h
@@ -257,34 +257,34 @@ module _ (g : Grammar) (x : List ℕ) (more : Bool) (marks : Marks) where
 module _ (g : Grammar) (x : List ℕ) (more : Bool) (marks : Marks) (sound : IsSoundGrammar g) (body : ℕ)
     (is_body : slice_get g.bodies g.start ≡ Some body)
     (are : AreMarks g.start (shapes_of g.nodes) g.bodies (node_marks marks) (tail_marks marks)) where
-  abbrev S : Spot → Turn → List Frame → List Stored → List Link → ℕ → Type 0
+  abbrev S : MatchTask → Turn → List Frame → List Stored → List Link → ℕ → Type 0
   S root t ls st links n = Stands g x more marks root t ls st links n
 
-  abbrev L : List Link → Spot → List Frame → List (Level Spot) → Spot → Type 0
+  abbrev L : List Link → MatchTask → List Frame → List (Level MatchTask) → MatchTask → Type 0
   L links root ls fs b = AreLevels g x more marks links root ls fs b
 
-  abbrev SS : Spot → State Spot → Type 0
-  SS root s = SpotSteps (rules_of g.rules) (shapes_of g.nodes) g.bodies x (node_marks marks) (tail_marks marks)
-      (start_at Spot root) s
+  abbrev SS : MatchTask → State MatchTask → Type 0
+  SS root s = TaskSteps (rules_of g.rules) (shapes_of g.nodes) g.bodies x (node_marks marks) (tail_marks marks)
+      (start_at MatchTask root) s
 
-  abbrev T : List Spot → ℕ
-  T spots = total Spot (Kids (rules_of g.rules) (shapes_of g.nodes) g.bodies x) (key_of marks) weight spots
+  abbrev T : List MatchTask → ℕ
+  T tasks = total MatchTask (Kids (rules_of g.rules) (shapes_of g.nodes) g.bodies x) (key_of marks) weight tasks
 
-  pub fronts_add : (xs ys : List Spot) → T (xs ++ ys) ≡ T xs + T ys
+  pub fronts_add : (xs ys : List MatchTask) → T (xs ++ ys) ≡ T xs + T ys
   fronts_add = both_fronts (rules_of g.rules) g.start (shapes_of g.nodes) g.bodies g.ranks x sound body is_body
       (node_marks marks) (tail_marks marks) are
 
-  pub asks_here : (root a : Spot) (ls : List Frame) (st : List Stored) (links : List Link) (n : ℕ)
+  pub asks_here : (root a : MatchTask) (ls : List Frame) (st : List Stored) (links : List Link) (n : ℕ)
       (h : S root (Ask a) ls st links n)
-      → SS root (Asks a (record { levels = h.levels; stored = spots_of st; begun = h.begun }))
+      → SS root (Asks a (record { levels = h.levels; stored = tasks_of st; begun = h.begun }))
   asks_here root a ls st links n h =
-      subst (λ v. SS root (Asks v (record { levels = h.levels; stored = spots_of st; begun = h.begun })))
-      (sym (spot_here g x more marks root a ls st links n h)) h.steps
+      subst (λ v. SS root (Asks v (record { levels = h.levels; stored = tasks_of st; begun = h.begun })))
+      (sym (task_here g x more marks root a ls st links n h)) h.steps
 
-  abbrev Steps : State Spot → State Spot → Type 0
-  Steps u v = SpotSteps (rules_of g.rules) (shapes_of g.nodes) g.bodies x (node_marks marks) (tail_marks marks) u v
+  abbrev Steps : State MatchTask → State MatchTask → Type 0
+  Steps u v = TaskSteps (rules_of g.rules) (shapes_of g.nodes) g.bodies x (node_marks marks) (tail_marks marks) u v
 
-  pub then_steps : {u v w : State Spot} → Steps u v → Steps v w → Steps u w
+  pub then_steps : {u v w : State MatchTask} → Steps u v → Steps v w → Steps u w
   then_steps a b = both_steps (rules_of g.rules) g.start (shapes_of g.nodes) g.bodies g.ranks x sound body is_body
       (node_marks marks) (tail_marks marks) are a b
 
@@ -292,7 +292,7 @@ module _ (g : Grammar) (x : List ℕ) (more : Bool) (marks : Marks) (sound : IsS
     start_well : IsWell g x (Pair s p)
     start_well = let low = t.low in let within = t.within in (t.spelled, omega (arith, low, within))
 
-    passed_levels : {n c : ℕ} (links : List Link) (root : Spot) (ls : List Frame) (fs : List (Level Spot))
+    passed_levels : {n c : ℕ} (links : List Link) (root : MatchTask) (ls : List Frame) (fs : List (Level MatchTask))
         → AreTurns (shapes_of g.nodes) g.bodies x (node_marks marks) (tail_marks marks) k p n c → n ≤ q - p
         → node_marks marks s ≡ false → L links root ls fs (Pair s p)
         → L links root ls (turns_on s k p n fs) (Pair s (p + n))
@@ -311,18 +311,19 @@ module _ (g : Grammar) (x : List ℕ) (more : Bool) (marks : Marks) (sound : IsS
         )
         (passed_levels links root ls fs turns (omega (arith, le)) plain r))
 
-    turned_level : (links : List Link) (root : Spot) (ls : List Frame) (fs : List (Level Spot)) (last : ℕ)
+    turned_level : (links : List Link) (root : MatchTask) (ls : List Frame) (fs : List (Level MatchTask)) (last : ℕ)
         → last + 1 ≡ q → node_marks marks s ≡ true → L links root ls fs (Pair s p)
-        → L links root (record { spot = Pair s p; key = true; wait = Turned last } ∷ ls) (turns_on s k p (q - p) fs)
+        → L links root (record { task = Pair s p; key = true; wait = Turned last } ∷ ls) (turns_on s k p (q - p) fs)
         (Pair s q)
     turned_level links root ls fs last is key r =
-        subst (λ v. L links root (record { spot = Pair s p; key = true; wait = Turned last } ∷ ls)
+        subst (λ v. L links root (record { task = Pair s p; key = true; wait = Turned last } ∷ ls)
         (turns_on s k p (v - p) fs) (Pair s v)) is
         (levels_turned (subst (λ v. AreTurned g x more marks s k p v count) (sym is) t) key start_well r)
 
   module _ (t : Turns) (count : ℕ) (d : AreTurned g x more marks t.star t.operand t.from t.end count) where
-    goes_along : (key : Bool) → node_marks marks t.star ≡ key → (links : List Link) (root : Spot) (ls new : List Frame)
-        (fs : List (Level Spot)) → AreTurnedFrames key t ls new → t.from < t.end
+    goes_along : (key : Bool) → node_marks marks t.star ≡ key → (links : List Link) (root : MatchTask)
+        (ls new : List Frame)
+        (fs : List (Level MatchTask)) → AreTurnedFrames key t ls new → t.from < t.end
         → L links root ls fs (Pair t.star t.from)
         → L links root new (turns_on t.star t.operand t.from (t.end - t.from) fs) (Pair t.star t.end)
     goes_along true key links root ls new fs is lt r =
@@ -334,22 +335,22 @@ module _ (g : Grammar) (x : List ℕ) (more : Bool) (marks : Marks) (sound : IsS
         (to_end g x more marks sound t.star t.operand t.from t.end count d)
         (passed_levels t.star t.operand t.from t.end count d links root ls fs d.turns (omega arith) key r))
 
-    module _ (root : Spot) (ls : List Frame) (st su : List Stored) (links : List Link) (n : ℕ)
+    module _ (root : MatchTask) (ls : List Frame) (st su : List Stored) (links : List Link) (n : ℕ)
         (h : S root (Ask (Pair t.star t.from)) ls st links n)
-        (fresh : (m : ℕ) → AreFresh (node_marks marks t.star) t.star t.from m (spots_of st))
-        (free : (m : ℕ) → AreFresh (node_marks marks t.operand) t.operand t.from m (spots_of st))
+        (fresh : (m : ℕ) → AreFresh (node_marks marks t.star) t.star t.from m (tasks_of st))
+        (free : (m : ℕ) → AreFresh (node_marks marks t.operand) t.operand t.from m (tasks_of st))
         (keeps : AreGiven g x more links st → AreGiven g x more links su) where
       asks_there : SS root (Asks (Pair t.star t.from)
-          (record { levels = h.levels; stored = spots_of st; begun = h.begun }))
+          (record { levels = h.levels; stored = tasks_of st; begun = h.begun }))
       asks_there = asks_here root (Pair t.star t.from) ls st links n h
 
       -- the loop goes along the turns
       pub stands_along : (new : List Frame) → AreTurnedFrames (node_marks marks t.star) t ls new → t.from < t.end
-          → spots_of su ≡ operands_on (node_marks marks t.operand) t.operand t.from (t.end - t.from) (spots_of st)
+          → tasks_of su ≡ operands_on (node_marks marks t.operand) t.operand t.from (t.end - t.from) (tasks_of st)
           → S root (Ask (Pair t.star t.end)) new su links (n + count)
-      stands_along new frames lt spots =
+      stands_along new frames lt tasks =
           let come = turns_come (rules_of g.rules) g.start (shapes_of g.nodes) g.bodies g.ranks x sound body is_body
-          (node_marks marks) (tail_marks marks) are t.star t.operand d.at d.spelled d.turns h.levels (spots_of st)
+          (node_marks marks) (tail_marks marks) are t.star t.operand d.at d.spelled d.turns h.levels (tasks_of st)
           h.begun (fresh (t.end - t.from)) (free (t.end - t.from)) in
           let one : T come.front ≡ count = come.is in
           let two : T h.begun ≡ n = h.is in
@@ -357,7 +358,7 @@ module _ (g : Grammar) (x : List ℕ) (more : Bool) (marks : Marks) (sound : IsS
           record {
             levels = turns_on t.star t.operand t.from (t.end - t.from) h.levels;
             begun = come.front ++ h.begun;
-            spot = Pair t.star t.end;
+            task = Pair t.star t.end;
             are = goes_along (node_marks marks t.star) refl links root ls new h.levels frames lt
                 (levels_above g x more marks root (Pair t.star t.from) ls st links n h);
             turns = (refl, (d.spelled, d.within), d.last);
@@ -370,45 +371,45 @@ module _ (g : Grammar) (x : List ℕ) (more : Bool) (marks : Marks) (sound : IsS
             is = omega (arith, one, two, sum);
             steps = subst (λ v. SS root (Asks (Pair t.star v) (record {
               levels = turns_on t.star t.operand t.from (t.end - t.from) h.levels;
-              stored = spots_of su;
+              stored = tasks_of su;
               begun = come.front ++ h.begun;
             }))) (to_end g x more marks sound t.star t.operand t.from t.end count d)
                 (subst (λ v. SS root (Asks (Pair t.star (t.from + (t.end - t.from))) (record {
                   levels = turns_on t.star t.operand t.from (t.end - t.from) h.levels;
                   stored = v;
                   begun = come.front ++ h.begun;
-                }))) (sym spots) (then_steps asks_there come.steps));
+                }))) (sym tasks) (then_steps asks_there come.steps));
           }
 
       -- the loop goes to the repetition's end
       pub stands_ended : (c : ℕ) → IsStopped g x more marks t.operand t.end c
-          → spots_of su ≡ turns_closed (node_marks marks t.star) t.star t.from (t.end + 1 - t.from)
-          (store Spot (node_marks marks t.operand) (Pair t.operand t.end)
-          (operands_on (node_marks marks t.operand) t.operand t.from (t.end - t.from) (spots_of st)))
+          → tasks_of su ≡ turns_closed (node_marks marks t.star) t.star t.from (t.end + 1 - t.from)
+          (store MatchTask (node_marks marks t.operand) (Pair t.operand t.end)
+          (operands_on (node_marks marks t.operand) t.operand t.from (t.end - t.from) (tasks_of st)))
           → S root (Answer (record { found = Took t.end; events = 0 })) ls su links (n + (count + c))
-      stands_ended c e spots =
+      stands_ended c e tasks =
           let low = d.low in
           let same : t.end + 1 - t.from ≡ suc (t.end - t.from) = omega (arith, low) in
           let stays = subst (λ v. slice_get x v ≡ Some e.byte) (sym (to_end g x more marks sound t.star t.operand
           t.from t.end count d)) e.here in
           let come = turns_stop (rules_of g.rules) g.start (shapes_of g.nodes) g.bodies g.ranks x sound body is_body
           (node_marks marks) (tail_marks marks) are t.star t.operand d.at d.spelled e.byte e.pairs d.turns stays e.fails
-          h.levels (spots_of st) h.begun (fresh (suc (t.end - t.from))) (free (suc (t.end - t.from))) in
+          h.levels (tasks_of st) h.begun (fresh (suc (t.end - t.from))) (free (suc (t.end - t.from))) in
           let more_pairs = e.is in
           let one : T come.front ≡ count + (1 + e.pairs) = come.is in
           let two : T h.begun ≡ n = h.is in
           let sum = fronts_add come.front h.begun in
-          let sized = subst (λ v. spots_of su ≡ turns_closed (node_marks marks t.star) t.star t.from v
-          (store Spot (node_marks marks t.operand) (Pair t.operand t.end)
-          (operands_on (node_marks marks t.operand) t.operand t.from (t.end - t.from) (spots_of st)))) same spots in
-          let now = subst (λ v. spots_of su ≡ turns_closed (node_marks marks t.star) t.star t.from
-          (suc (t.end - t.from)) (store Spot (node_marks marks t.operand) (Pair t.operand v)
-          (operands_on (node_marks marks t.operand) t.operand t.from (t.end - t.from) (spots_of st))))
+          let sized = subst (λ v. tasks_of su ≡ turns_closed (node_marks marks t.star) t.star t.from v
+          (store MatchTask (node_marks marks t.operand) (Pair t.operand t.end)
+          (operands_on (node_marks marks t.operand) t.operand t.from (t.end - t.from) (tasks_of st)))) same tasks in
+          let now = subst (λ v. tasks_of su ≡ turns_closed (node_marks marks t.star) t.star t.from
+          (suc (t.end - t.from)) (store MatchTask (node_marks marks t.operand) (Pair t.operand v)
+          (operands_on (node_marks marks t.operand) t.operand t.from (t.end - t.from) (tasks_of st))))
           (sym (to_end g x more marks sound t.star t.operand t.from t.end count d)) sized in
           record {
             levels = h.levels;
             begun = come.front ++ h.begun;
-            spot = Pair t.star t.from;
+            task = Pair t.star t.from;
             are = levels_above g x more marks root (Pair t.star t.from) ls st links n h;
             turns = ended_given g x more marks sound t.star t.operand t.from t.end count d links c e t.from
                 (omega arith) d.low;
@@ -426,9 +427,9 @@ module _ (g : Grammar) (x : List ℕ) (more : Bool) (marks : Marks) (sound : IsS
           }
 
   -- an answer comes to the frame of turns
-  pub stands_back : (root a : Spot) (given : Given) (ls : List Frame) (st new : List Stored) (links : List Link)
+  pub stands_back : (root a : MatchTask) (given : Given) (ls : List Frame) (st new : List Stored) (links : List Link)
       (n last : ℕ) (key : Bool)
-      → S root (Answer given) (record { spot = a; key = key; wait = Turned last } ∷ ls) st links n
+      → S root (Answer given) (record { task = a; key = key; wait = Turned last } ∷ ls) st links n
       → new ≡ run_of (row_of a) (place_of a) last given ++ st → S root (Answer given) ls new links n
   stands_back root a given ls st new links n last key s is =
       let r = ready_of g x more marks s in
@@ -437,20 +438,20 @@ module _ (g : Grammar) (x : List ℕ) (more : Bool) (marks : Marks) (sound : IsS
       let give = subst (λ v. GivenBy g x more links v given) top.waits r.gives in
       let d = top.turned in
       let some = d.low in
-      let spots : spots_of new ≡ turns_closed true top.star top.from (last + 1 - top.from) (spots_of st) =
-      ap spots_of run ∙ closed_run top.star top.from (last + 1 - top.from) given st in
+      let tasks : tasks_of new ≡ turns_closed true top.star top.from (last + 1 - top.from) (tasks_of st) =
+      ap tasks_of run ∙ closed_run top.star top.from (last + 1 - top.from) given st in
       let marked : node_marks marks top.star ≡ true = top.key in
-      let now = subst (λ v. spots_of new ≡ turns_closed v top.star top.from (last + 1 - top.from) (spots_of st))
-      (sym marked) spots in
+      let now = subst (λ v. tasks_of new ≡ turns_closed v top.star top.from (last + 1 - top.from) (tasks_of st))
+      (sym marked) tasks in
       let end = turns_end (rules_of g.rules) g.start (shapes_of g.nodes) g.bodies g.ranks x sound body is_body
-      (node_marks marks) (tail_marks marks) are top.star top.operand d.at d.spelled d.turns top.rest (spots_of st)
+      (node_marks marks) (tail_marks marks) are top.star top.operand d.at d.spelled d.turns top.rest (tasks_of st)
       s.begun in
-      let at = subst (λ v. SS root (Works (record { levels = v; stored = spots_of st; begun = s.begun }))) top.levels
+      let at = subst (λ v. SS root (Works (record { levels = v; stored = tasks_of st; begun = s.begun }))) top.levels
       r.steps in
       record {
         levels = top.rest;
         begun = s.begun;
-        spot = Pair top.star top.from;
+        task = Pair top.star top.from;
         are = top.above;
         turns = given_before g x more marks sound top.star top.operand top.from (last + 1) top.count d links given give
             top.from (omega arith) some;

@@ -3,8 +3,8 @@ use Rattle.std.specs.Prelude.{◌≡◌, ℕ, Bool, true, false, List, slice_get
 use Rattle.gramcheck.specs.Grammar.{Grammar}
 use Rattle.pegnodes.specs.Nodes.{Star, shapes_of}
 use Rattle.pegmatch.specs.declared.leaves.Tried.{Tried}
-use Rattle.memo.specs.declared.spot.Spot.{Spot}
-use Rattle.memo.specs.declared.spot.Spot.TheVariants.{Pair}
+use Rattle.memo.specs.declared.task.MatchTask.{MatchTask}
+use Rattle.memo.specs.declared.task.MatchTask.TheVariants.{Pair}
 use Rattle.packrat.specs.Known.{IsKnown, IsTaken, taken_of}
 use Rattle.packrat.specs.Onward.{AfterStart, IsLed, ReachesEnd}
 use Rattle.packrat.specs.Skipped.{AreSkipped}
@@ -14,7 +14,7 @@ use Rattle.packrat.specs.declared.onward.Repeated.{Repeated}
 use Rattle.packrat.specs.declared.onward.Start.TheVariants.{Gives, Marks, Leads, Passes, Enters}
 
 -- the task that is a repetition
-abbrev pub repeated_of : Repeated → Spot
+abbrev pub repeated_of : Repeated → MatchTask
 repeated_of r = Pair r.star r.place
 
 module _ (g : Grammar) (x : List ℕ) (more : Bool) where
@@ -23,7 +23,7 @@ module _ (g : Grammar) (x : List ℕ) (more : Bool) where
   IsRepeated r = (slice_get (shapes_of g.nodes) r.star ≡ Some (Star r.operand))
       × IsLed g x more false (repeated_of r) (Pair r.operand r.place)
 
-  abbrev pub AfterNone : Spot → Begun → Type 0
+  abbrev pub AfterNone : MatchTask → Begun → Type 0
   AfterNone a (Starts s) = AfterStart g x more a s
   AfterNone a (Knows known) = IsKnown g x more g.keys a known
   AfterNone a (Takes t) = (a ≡ taken_of t) × IsTaken g x more g.keys t

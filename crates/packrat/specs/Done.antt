@@ -12,14 +12,14 @@ use Rattle.pegmatch.specs.declared.event.Kept.{Kept}
 use Rattle.pegmatch.specs.declared.matcher.Unit.{Unit as UnitAnswer}
 use Rattle.pegmatch.specs.declared.matcher.Unit.TheVariants.{Took, Failed, Need}
 use Rattle.memo.specs.Entries.{Entry}
-use Rattle.memo.specs.KeyLog.{spots_of}
+use Rattle.memo.specs.KeyLog.{tasks_of}
 use Rattle.memo.specs.declared.key_log.Given.{Given}
 use Rattle.memo.specs.declared.key_log.Stored.{Stored}
 use Rattle.pegnodes.specs.KeyLists.{node_marks, tail_marks}
 use Rattle.memo.specs.Parts.{IsIn}
-use Rattle.memo.specs.declared.spot.Spot.{Spot}
-use Rattle.memo.specs.declared.spot.Spot.TheVariants.{Pair}
-use Rattle.packrat.specs.SpotGives.{AreRight}
+use Rattle.memo.specs.declared.task.MatchTask.{MatchTask}
+use Rattle.memo.specs.declared.task.MatchTask.TheVariants.{Pair}
+use Rattle.packrat.specs.TaskGives.{AreRight}
 use Rattle.packrat.specs.View.{AreStored, AreReachedKeys, AreVisitedPairs}
 use Rattle.pegmatch.specs.VisitedCells.{AreVisitedCells}
 use Rattle.packrat.specs.declared.frames.Frame.{Frame}
@@ -64,7 +64,7 @@ module _ (g : Grammar) (x : List ℕ) (more : Bool) where
     pub frames : c.frames ≡ []
     pub keys : (root : ℕ) → slice_get g.bodies g.start ≡ Some root →
         AreStored (rules_of g.rules) g.start (shapes_of g.nodes) g.bodies x more (node_marks marks) (tail_marks marks)
-        root (spots_of c.stored)
+        root (tasks_of c.stored)
     pub right : AreRight g x more c.stored
     pub cells : List Entry
     pub every : AreVisitedCells (rules_of g.rules) g.start (shapes_of g.nodes) g.bodies x more cells
@@ -85,12 +85,12 @@ module _ (g : Grammar) (x : List ℕ) (more : Bool) where
     pub kept : c.kept ≡ []
     pub keys : (root : ℕ) → slice_get g.bodies g.start ≡ Some root →
         AreReachedKeys (rules_of g.rules) g.start (shapes_of g.nodes) g.bodies x more (node_marks marks)
-        (tail_marks marks) root (spots_of c.stored)
+        (tail_marks marks) root (tasks_of c.stored)
     pub right : AreRight g x more c.stored
-    pub pairs : List Spot
+    pub pairs : List MatchTask
     pub visited : AreVisitedPairs (rules_of g.rules) g.start (shapes_of g.nodes) g.bodies x more pairs
     pub near : (n p : ℕ) → IsIn (Pair n p) pairs → p < length x
-    pub among : (n p : ℕ) → IsIn (Pair n p) (spots_of c.stored) → IsIn (Pair n p) pairs
+    pub among : (n p : ℕ) → IsIn (Pair n p) (tasks_of c.stored) → IsIn (Pair n p) pairs
     pub some : 1 ≤ c.begun
     pub count : c.begun ≡ length pairs
 

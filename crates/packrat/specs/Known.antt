@@ -7,15 +7,15 @@ use Rattle.pegnodes.specs.Nodes.{Plus, shapes_of}
 use Rattle.pegnodes.specs.declared.by_byte.Decided.{Decided}
 use Rattle.pegnodes.specs.declared.by_byte.ByteVerdict.{ByteVerdict}
 use Rattle.pegnodes.specs.declared.by_byte.ByteVerdict.TheVariants.{Takes}
-use Rattle.memo.specs.declared.spot.Spot.{Spot}
-use Rattle.memo.specs.declared.spot.Spot.TheVariants.{Pair, Tail}
+use Rattle.memo.specs.declared.task.MatchTask.{MatchTask}
+use Rattle.memo.specs.declared.task.MatchTask.TheVariants.{Pair, Tail}
 use Rattle.packrat.specs.ByteGives.{found_by}
 use Rattle.packrat.specs.Onward.{IsLed}
 use Rattle.packrat.specs.declared.known.Known.{Known}
 use Rattle.packrat.specs.declared.known.Taken.{Taken}
 
 -- the task that is a repetition of one or more
-abbrev pub taken_of : Taken → Spot
+abbrev pub taken_of : Taken → MatchTask
 taken_of t = Pair t.plus t.place
 
 module _ (g : Grammar) (x : List ℕ) (more : Bool) (marks : Marks) where
@@ -37,7 +37,7 @@ module _ (g : Grammar) (x : List ℕ) (more : Bool) (marks : Marks) where
     pub found : known.found ≡ found_by verdict p
 
   -- likewise of a task
-  abbrev pub IsKnown : Spot → Known → Type 0
+  abbrev pub IsKnown : MatchTask → Known → Type 0
   IsKnown (Pair n p) known = IsKnownAt n p known
   IsKnown (Tail n i p) known = ⊥
 

@@ -1,9 +1,9 @@
 pub mod Offset
-pub mod Spots
+pub mod MatchTasks
 pub mod View
-pub mod SpotGives
+pub mod TaskGives
 pub mod MachineSteps
-pub mod SpotSteps
+pub mod TaskSteps
 pub mod ByteGives
 pub mod Onward
 pub mod Turned

@@ -4,8 +4,8 @@ use Rattle.gramcheck.specs.Grammar.{Grammar}
 use Rattle.pegnodes.specs.ChoiceTables.{FailFirst}
 use Rattle.pegnodes.specs.KeyLists.{Marks, node_marks, tail_marks}
 use Rattle.pegnodes.specs.Nodes.{Choice, shapes_of}
-use Rattle.memo.specs.declared.spot.Spot.{Spot}
-use Rattle.memo.specs.declared.spot.Spot.TheVariants.{Pair}
+use Rattle.memo.specs.declared.task.MatchTask.{MatchTask}
+use Rattle.memo.specs.declared.task.MatchTask.TheVariants.{Pair}
 use Rattle.packrat.specs.Onward.{entering_of}
 use Rattle.packrat.specs.declared.onward.Entering.{Entering}
 use Rattle.packrat.specs.declared.skips.Skips.{Skips}
@@ -29,12 +29,12 @@ module _ (g : Grammar) (x : List ℕ) (more : Bool) (marks : Marks) where
   ArePassed n p ms i pairs = AreFailed n p ms i pairs ⊎ ((i ≡ 0) × (pairs ≡ 0))
 
   -- the task is a choice, and these are the tail after the alternatives that fail, and their pairs
-  pub record AreSkipped (a : Spot) (s : Skips) : Type 0 where
+  pub record AreSkipped (a : MatchTask) (s : Skips) : Type 0 where
     pub node : ℕ
     pub place : ℕ
     pub members : List ℕ
     pub index : ℕ
-    pub spot : a ≡ Pair node place
+    pub task : a ≡ Pair node place
     pub at : slice_get (shapes_of g.nodes) node ≡ Some (Choice members)
     pub passed : ArePassed node place members index s.pairs
     pub rest : IsRest marks node members index place s.rest

@@ -14,13 +14,13 @@ use Rattle.memo.specs.declared.key_log.Given.{Given}
 use Rattle.memo.specs.Parts.{IsIn}
 use Rattle.pegnodes.specs.KeyLists.{Marks}
 use Rattle.memo.specs.declared.key_log.Stored.{Stored}
-use Rattle.memo.specs.declared.spot.Spot.{Spot}
-use Rattle.memo.specs.declared.spot.Spot.TheVariants.{Pair}
-use Rattle.packrat.specs.SpotGives.{SpotYields, IsQuiet, AreRight}
+use Rattle.memo.specs.declared.task.MatchTask.{MatchTask}
+use Rattle.memo.specs.declared.task.MatchTask.TheVariants.{Pair}
+use Rattle.packrat.specs.TaskGives.{TaskYields, IsQuiet, AreRight}
 use Rattle.pegnodes.specs.KeyLists.{node_marks, tail_marks}
-use Rattle.memo.specs.KeyLog.{spots_of}
+use Rattle.memo.specs.KeyLog.{tasks_of}
 use Rattle.memo.specs.Run.{Run, total}
-use Rattle.packrat.specs.Spots.{Kids, is_key}
+use Rattle.packrat.specs.MatchTasks.{Kids, is_key}
 use Rattle.packrat.specs.View.{weight}
 use Rattle.packrat.specs.declared.frames.Frame.{Frame}
 use Rattle.packrat.specs.declared.frames.Wait.{Wait}
@@ -34,13 +34,13 @@ use Rattle.packrat.specs.declared.onward.Entering.{Entering}
 use Rattle.packrat.specs.ByteGives.{turns_on}
 use Rattle.packrat.specs.Turned.{AreTurned}
 use Rattle.packrat.specs.TurnsLeft.{left}
-use Rattle.packrat.specs.SpotSteps.{IsFirst, SpotSteps}
+use Rattle.packrat.specs.TaskSteps.{IsFirst, TaskSteps}
 
 -- whether a task is a key
-abbrev pub key_of : Marks → Spot → Bool
+abbrev pub key_of : Marks → MatchTask → Bool
 key_of marks a = is_key (node_marks marks) (tail_marks marks) a
 
-abbrev pub state_of : Turn → Spot → List (Level Spot) → List Spot → List Spot → State Spot
+abbrev pub state_of : Turn → MatchTask → List (Level MatchTask) → List MatchTask → List MatchTask → State MatchTask
 state_of (Ask a) b fs st bg = Asks b (record { levels = fs; stored = st; begun = bg })
 state_of (Answer given) b fs st bg = Works (record { levels = fs; stored = st; begun = bg })
 
@@ -67,45 +67,45 @@ IsWaitHead links (Last head) = IsHead links head
 IsWaitHead links (Turned last) = Unit {0}
 
 -- The frames of a task that awaits its last child: it has one, unless it is no key and has no events so far.
-abbrev pub AreWaiting : Bool → ℕ → Spot → List Frame → List Frame → Type 0
-AreWaiting key head a old new = (new ≡ record { spot = a; key = key; wait = Last head } ∷ old)
+abbrev pub AreWaiting : Bool → ℕ → MatchTask → List Frame → List Frame → Type 0
+AreWaiting key head a old new = (new ≡ record { task = a; key = key; wait = Last head } ∷ old)
     ⊎ ((key ≡ false) × (head ≡ 0) × (new ≡ old))
 
 -- The frames of a tail that leads to its member: it has one, unless the member is its last one, and it is no key.
-abbrev pub AreEntered : Bool → Bool → Spot → List Frame → List Frame → Type 0
+abbrev pub AreEntered : Bool → Bool → MatchTask → List Frame → List Frame → Type 0
 AreEntered true key a old new = AreWaiting key 0 a old new
-AreEntered false key a old new = new ≡ record { spot = a; key = key; wait = First } ∷ old
+AreEntered false key a old new = new ≡ record { task = a; key = key; wait = First } ∷ old
 
 -- The tail is a key that is stored, and that is returned; or it begins, and its member is asked for.
 abbrev pub IsEntered : List Stored → Entering → List Frame → List Frame → Turn → Type 0
 IsEntered stored e old new t =
-    ((given : Given) × (e.key ≡ true) × IsIn (record { spot = tail_of e; given = given }) stored
+    ((given : Given) × (e.key ≡ true) × IsIn (record { task = tail_of e; given = given }) stored
     × (t ≡ Answer given) × (new ≡ old))
-    ⊎ ((e.key ≡ true → IsIn (tail_of e) (spots_of stored) → ⊥) × (t ≡ Ask (member_of e))
+    ⊎ ((e.key ≡ true → IsIn (tail_of e) (tasks_of stored) → ⊥) × (t ≡ Ask (member_of e))
     × AreEntered e.only e.key (tail_of e) old new)
 
 module _ (g : Grammar) (x : List ℕ) (more : Bool) where
   -- a task gives this, and its head keeps its events
-  pub record GivenBy (links : List Link) (a : Spot) (given : Given) : Type 0 where
+  pub record GivenBy (links : List Link) (a : MatchTask) (given : Given) : Type 0 where
     pub events : List Event
-    pub yields : SpotYields g x more a given.found events
+    pub yields : TaskYields g x more a given.found events
     pub quiet : IsQuiet given.found events
     pub head : HeadStands (shapes_of g.nodes) links given.events events
 
   -- each stored key has what it gives
   pub record AreGiven (links : List Link) (stored : List Stored) : Type 0 where
-    pub given : (s : Stored) → IsIn s stored → GivenBy links s.spot s.given
+    pub given : (s : Stored) → IsIn s stored → GivenBy links s.task s.given
 
   -- Task a has asked for these, and awaits b: its first; or its last, to give what that one gives. Iterations of a
   -- repetition are not one task.
-  abbrev pub Waiting : List Link → Wait → Spot → List Spot → Spot → Type 0
+  abbrev pub Waiting : List Link → Wait → MatchTask → List MatchTask → MatchTask → Type 0
   Waiting links First a asked b =
       IsFirst (rules_of g.rules) (shapes_of g.nodes) g.bodies x a b × (asked ≡ b ∷ [])
   Waiting links (Last head) a asked b = (first : List Event) × HeadStands (shapes_of g.nodes) links head first
       × PassesOn g x more a asked b first
   Waiting links (Turned last) a asked b = ⊥
 
-  abbrev pub IsTurn : List Link → Turn → Spot → Type 0
+  abbrev pub IsTurn : List Link → Turn → MatchTask → Type 0
   IsTurn links (Ask a) b = (a ≡ b) × IsWell g x b × IsNear x more b
   IsTurn links (Answer given) b = GivenBy links b given
 
@@ -113,71 +113,76 @@ module _ (g : Grammar) (x : List ℕ) (more : Bool) where
     -- The levels await task b. A level has a frame, or is that of a task that is no key, and that only waits to give
     -- what its last one gives. The levels of turns over bytes that decide them have one frame, which names the last
     -- place.
-    pub data AreLevels (links : List Link) (root : Spot) : List Frame → List (Level Spot) → Spot → Type 0 where
+    pub data AreLevels (links : List Link) (root : MatchTask) : List Frame → List (Level MatchTask) → MatchTask
+        → Type 0 where
       levels_none : AreLevels links root [] [] root
-      levels_frame : {l : Frame} {b : Spot} {asked : List Spot} {ls : List Frame} {fs : List (Level Spot)}
-          → IsHere g x more l.spot → l.key ≡ key_of marks l.spot → Waiting links l.wait l.spot asked b
-          → AreLevels links root ls fs l.spot
-          → AreLevels links root (l ∷ ls) (record { at = l.spot; asked = asked } ∷ fs) b
-      levels_passed : {a b : Spot} {asked : List Spot} {ls : List Frame} {fs : List (Level Spot)}
+      levels_frame : {l : Frame} {b : MatchTask} {asked : List MatchTask} {ls : List Frame}
+          {fs : List (Level MatchTask)}
+          → IsHere g x more l.task → l.key ≡ key_of marks l.task → Waiting links l.wait l.task asked b
+          → AreLevels links root ls fs l.task
+          → AreLevels links root (l ∷ ls) (record { at = l.task; asked = asked } ∷ fs) b
+      levels_passed : {a b : MatchTask} {asked : List MatchTask} {ls : List Frame} {fs : List (Level MatchTask)}
           → key_of marks a ≡ false → PassesOn g x more a asked b [] → AreLevels links root ls fs a
           → AreLevels links root ls (record { at = a; asked = asked } ∷ fs) b
-      levels_turned : {s k p last count : ℕ} {ls : List Frame} {fs : List (Level Spot)}
+      levels_turned : {s k p last count : ℕ} {ls : List Frame} {fs : List (Level MatchTask)}
           → AreTurned g x more marks s k p (last + 1) count → key_of marks (Pair s p) ≡ true → IsWell g x (Pair s p)
           → AreLevels links root ls fs (Pair s p)
-          → AreLevels links root (record { spot = Pair s p; key = true; wait = Turned last } ∷ ls)
+          → AreLevels links root (record { task = Pair s p; key = true; wait = Turned last } ∷ ls)
           (turns_on s k p (last + 1 - p) fs) (Pair s (last + 1))
 
-    abbrev pub Comes : Spot → State Spot → Type 0
-    Comes root s = SpotSteps (rules_of g.rules) (shapes_of g.nodes) g.bodies x (node_marks marks) (tail_marks marks)
-        (start_at Spot root) s
+    abbrev pub Comes : MatchTask → State MatchTask → Type 0
+    Comes root s = TaskSteps (rules_of g.rules) (shapes_of g.nodes) g.bodies x (node_marks marks) (tail_marks marks)
+        (start_at MatchTask root) s
 
     -- The machine comes to this state, from the root where nothing is stored.
-    pub record Stands (root : Spot) (turn : Turn) (frames : List Frame) (stored : List Stored) (links : List Link)
+    pub record Stands (root : MatchTask) (turn : Turn) (frames : List Frame) (stored : List Stored) (links : List Link)
         (count : ℕ) : Type 0 where
-      pub levels : List (Level Spot)
-      pub begun : List Spot
-      pub spot : Spot
-      pub are : AreLevels links root frames levels spot
-      pub turns : IsTurn links turn spot
+      pub levels : List (Level MatchTask)
+      pub begun : List MatchTask
+      pub task : MatchTask
+      pub are : AreLevels links root frames levels task
+      pub turns : IsTurn links turn task
       pub given : AreGiven links stored
-      pub is : total Spot (Kids (rules_of g.rules) (shapes_of g.nodes) g.bodies x) (key_of marks) weight begun ≡ count
-      pub steps : Comes root (state_of turn spot levels (spots_of stored) begun)
+      pub is : total MatchTask (Kids (rules_of g.rules) (shapes_of g.nodes) g.bodies x) (key_of marks) weight begun
+          ≡ count
+      pub steps : Comes root (state_of turn task levels (tasks_of stored) begun)
       pub near : (n p : ℕ) → IsIn (Pair n p) begun → IsNear x more (Pair n p)
 
     -- a task that gives this is closed: a key is stored
-    pub record IsClosed (links : List Link) (a : Spot) (given : Given) (old new : List Stored) : Type 0 where
-      pub spots : spots_of new ≡ store Spot (key_of marks a) a (spots_of old)
+    pub record IsClosed (links : List Link) (a : MatchTask) (given : Given) (old new : List Stored) : Type 0 where
+      pub tasks : tasks_of new ≡ store MatchTask (key_of marks a) a (tasks_of old)
       pub keeps : GivenBy links a given → AreGiven links old → AreGiven links new
 
     -- The machine begins a task whose own comparison reaches the last byte of a window that more bytes follow.
-    pub record NeedsMore (root : Spot) (stored : List Stored) (count : ℕ) : Type 0 where
-      pub spot : Spot
-      pub levels : List (Level Spot)
-      pub begun : List Spot
-      pub is : total Spot (Kids (rules_of g.rules) (shapes_of g.nodes) g.bodies x) (key_of marks) weight (spot ∷ begun)
+    pub record NeedsMore (root : MatchTask) (stored : List Stored) (count : ℕ) : Type 0 where
+      pub task : MatchTask
+      pub levels : List (Level MatchTask)
+      pub begun : List MatchTask
+      pub is : total MatchTask (Kids (rules_of g.rules) (shapes_of g.nodes) g.bodies x) (key_of marks) weight
+          (task ∷ begun)
           ≡ count
-      pub steps : Comes root (Works (record { levels = levels; stored = spots_of stored; begun = spot ∷ begun }))
-      pub reaches : ReachesEnd g x more spot
-      pub near : (n p : ℕ) → IsIn (Pair n p) (spot ∷ begun) → IsNear x more (Pair n p)
+      pub steps : Comes root (Works (record { levels = levels; stored = tasks_of stored; begun = task ∷ begun }))
+      pub reaches : ReachesEnd g x more task
+      pub near : (n p : ℕ) → IsIn (Pair n p) (task ∷ begun) → IsNear x more (Pair n p)
       pub right : AreRight g x more stored
 
     -- what a turn comes to; none where it needs more
-    abbrev pub AreOn : Spot → Option Next → List Frame → List Stored → List Link → ℕ → Type 0
+    abbrev pub AreOn : MatchTask → Option Next → List Frame → List Stored → List Link → ℕ → Type 0
     AreOn root (Some next) frames stored links count = Stands root (turn_of next) frames stored links count
     AreOn root None frames stored links count = NeedsMore root stored count
 
     -- an evaluation that ended with this
-    pub record IsEnded (root : Spot) (given : Given) (frames : List Frame) (stored : List Stored) (links : List Link)
+    pub record IsEnded (root : MatchTask) (given : Given) (frames : List Frame) (stored : List Stored)
+        (links : List Link)
         (count : ℕ) : Type 0 where
       pub keys : AreGiven links stored
       pub gives : GivenBy links root given
-      pub runs : Run Spot (Kids (rules_of g.rules) (shapes_of g.nodes) g.bodies x) (key_of marks) weight [] root
-          (spots_of stored) count
+      pub runs : Run MatchTask (Kids (rules_of g.rules) (shapes_of g.nodes) g.bodies x) (key_of marks) weight [] root
+          (tasks_of stored) count
       pub empty : frames ≡ []
 
     -- what an evaluation ended with; none, and no frames, where it needs more
-    abbrev pub IsEvaluated : Spot → Option Given → List Frame → List Stored → List Link → ℕ → Type 0
+    abbrev pub IsEvaluated : MatchTask → Option Given → List Frame → List Stored → List Link → ℕ → Type 0
     IsEvaluated root (Some given) frames stored links count = IsEnded root given frames stored links count
     IsEvaluated root None frames stored links count = NeedsMore root stored count × (frames ≡ [])
 

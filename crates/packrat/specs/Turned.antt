@@ -8,8 +8,8 @@ use Rattle.pegnodes.specs.Nodes.{Star, shapes_of}
 use Rattle.pegnodes.specs.declared.by_byte.Decided.{Decided}
 use Rattle.pegnodes.specs.declared.by_byte.ByteVerdict.TheVariants.{Fails}
 use Rattle.pegmatch.specs.KeptEvents.{SpellsSome}
-use Rattle.memo.specs.declared.spot.Spot.{Spot}
-use Rattle.memo.specs.declared.spot.Spot.TheVariants.{Pair}
+use Rattle.memo.specs.declared.task.MatchTask.{MatchTask}
+use Rattle.memo.specs.declared.task.MatchTask.TheVariants.{Pair}
 use Rattle.packrat.specs.ByteGives.{AreFresh}
 use Rattle.packrat.specs.declared.frames.Frame.{Frame}
 use Rattle.packrat.specs.declared.frames.Wait.TheVariants.{Turned}
@@ -57,16 +57,16 @@ module _ (g : Grammar) (x : List ℕ) (more : Bool) (marks : Marks) where
   AreDecided t = (count : ℕ) × AreTurned t.star t.operand t.from t.end count × AreEnded t.whole t count
 
   -- iterations from a task on; none of their pairs is stored that is a key
-  pub record AreFree (stored : List Spot) (a : Spot) (t : Turns) : Type 0 where
+  pub record AreFree (stored : List MatchTask) (a : MatchTask) (t : Turns) : Type 0 where
     pub decided : AreDecided t
-    pub spot : a ≡ Pair t.star t.from
+    pub task : a ≡ Pair t.star t.from
     pub star : (n : ℕ) → AreFresh (node_marks marks t.star) t.star t.from n stored
     pub operand : (n : ℕ) → AreFresh (node_marks marks t.operand) t.operand t.from n stored
 
 -- The frames of a repetition that awaits its result after its iterations: it has one if it is a key.
 abbrev pub AreTurnedFrames : Bool → Turns → List Frame → List Frame → Type 0
 AreTurnedFrames true t old new =
-    new ≡ record { spot = Pair t.star t.from; key = true; wait = Turned (t.end - 1) } ∷ old
+    new ≡ record { task = Pair t.star t.from; key = true; wait = Turned (t.end - 1) } ∷ old
 AreTurnedFrames false t old new = new ≡ old
 
 -- its marks are right, and its start rule has a body

@@ -2,8 +2,8 @@
 use Rattle.std.specs.Prelude.{ℕ, suc, ◌+◌, ◌*◌, ◌-◌, ◌^◌, ◌≤◌, max, List, [], ◌∷◌, length}
 use Rattle.gramcheck.specs.Grammar.{Grammar}
 use Rattle.pegnodes.specs.Nodes.{Shape, shapes_of}
-use Rattle.memo.specs.declared.spot.Spot.{Spot}
-use Rattle.memo.specs.declared.spot.Spot.TheVariants.{Pair, Tail}
+use Rattle.memo.specs.declared.task.MatchTask.{MatchTask}
+use Rattle.memo.specs.declared.task.MatchTask.TheVariants.{Pair, Tail}
 use Rattle.pegnodes.specs.NodeWays.{Way, Leaf, Body, Members, Alternatives, Turns, Operand, way_of}
 use Rattle.packrat.specs.declared.frames.Frame.{Frame}
 use Rattle.packrat.specs.declared.frames.Wait.{Wait}
@@ -26,12 +26,12 @@ most_members (s ∷ nodes) = max (members_of (way_of 0 s)) (most_members nodes)
 
 module _ (most : ℕ) where
   -- the cost of a task that is asked for, without that of the pairs that begin
-  abbrev pub ask_cost : Spot → ℕ
+  abbrev pub ask_cost : MatchTask → ℕ
   ask_cost (Pair n p) = 1
   ask_cost (Tail n i p) = 4 * (most - i)
 
   -- likewise of a frame that awaits its last child, its node after its iterations, or its first child
-  abbrev pub wait_cost : Wait → Spot → ℕ
+  abbrev pub wait_cost : Wait → MatchTask → ℕ
   wait_cost (Last head) a = 1
   wait_cost (Turned last) a = 1
   wait_cost First (Pair n p) = 3
@@ -39,7 +39,7 @@ module _ (most : ℕ) where
 
   abbrev pub frames_cost : List Frame → ℕ
   frames_cost [] = 0
-  frames_cost (f ∷ fs) = wait_cost f.wait f.spot + frames_cost fs
+  frames_cost (f ∷ fs) = wait_cost f.wait f.task + frames_cost fs
 
   abbrev pub turn_cost : Turn → ℕ
   turn_cost (Ask a) = ask_cost a

@@ -9,16 +9,16 @@ ghost use Rattle.pegnodes.specs.Nodes.{Shape, shapes_of};
 ghost use Rattle.gramcheck.specs.Sound.{IsRanked};
 ghost use Rattle.pegnodes.specs.declared.by_byte.ByteVerdict.{ByteVerdict};
 ghost use Rattle.pegmatch.specs.KeptEvents.{SpellsSome};
-ghost use Rattle.memo.specs.KeyLog.{spots_of, row_of, place_of};
+ghost use Rattle.memo.specs.KeyLog.{tasks_of, row_of, place_of};
 ghost use Rattle.memo.specs.Parts.{IsIn};
 ghost use Rattle.memo.specs.declared.key_log.Stored.{Stored};
-ghost use Rattle.memo.specs.declared.spot.Spot.{Spot};
-ghost use Rattle.memo.specs.declared.spot.Spot.TheVariants.{Pair};
+ghost use Rattle.memo.specs.declared.task.MatchTask.{MatchTask};
+ghost use Rattle.memo.specs.declared.task.MatchTask.TheVariants.{Pair};
 ghost use Rattle.packrat.specs.ByteGives.{found_by, GivesBy, StoresItself, ComesWith};
 ghost use Rattle.packrat.specs.ByteGives.{AreFresh};
 ghost use Rattle.pegnodes.specs.KeyMarks.{AreMarks};
 ghost use Rattle.packrat.specs.MachineSteps.{Level, Asks, Works, store};
-ghost use Rattle.packrat.specs.SpotGives.{SpotGives};
+ghost use Rattle.packrat.specs.TaskGives.{TaskGives};
 
 /// States that a pair that the byte at its position decides gives just that, without events. Its evaluation stores
 /// nothing but itself, and begins as many pairs as were counted, at positions up to the next one.
@@ -32,7 +32,7 @@ pub fn one_byte_decides()
         (marks : ℕ → Bool) (tails : ℕ → ℕ → Bool) (b n p c : ℕ) (v : ByteVerdict) →
         ByByte (shapes_of g.nodes) g.bodies marks tails b n v c → slice_get x p ≡ Some b →
         SpellsSome (rules_of g.rules) (shapes_of g.nodes) n → (more ≡ true → p + 1 < length x) →
-        SpotGives g x more (Pair n p) (found_by v p) }
+        TaskGives g x more (Pair n p) (found_by v p) }
     ensures stores { (rules : List Rule) (start : ℕ) (nodes : List Shape) (bodies ranks x : List ℕ) →
         IsRanked rules start nodes bodies ranks → (marks : ℕ → Bool) (tails : ℕ → ℕ → Bool) (b n p c : ℕ)
         (v : ByteVerdict) → ByByte nodes bodies marks tails b n v c → slice_get x p ≡ Some b
@@ -43,12 +43,13 @@ pub fn one_byte_decides()
         (marks : ℕ → Bool) (tails : ℕ → ℕ → Bool) → AreMarks start nodes bodies marks tails → (b n p c : ℕ)
         (v : ByteVerdict) → ByByte nodes bodies marks tails b n v c → slice_get x p ≡ Some b
         → SpellsSome rules nodes n →
-        (levels : List (Level Spot)) (stored begun : List Spot) → (marks n ≡ true → IsIn (Pair n p) stored → ⊥) →
+        (levels : List (Level MatchTask)) (stored begun : List MatchTask)
+        → (marks n ≡ true → IsIn (Pair n p) stored → ⊥) →
         ComesWith rules nodes bodies x marks tails
         (Asks (Pair n p) (record { levels = levels; stored = stored; begun = begun }))
         (λ front. Works (record {
           levels = levels;
-          stored = store Spot (marks n) (Pair n p) stored;
+          stored = store MatchTask (marks n) (Pair n p) stored;
           begun = front ++ begun;
         })) (p + 1) c }
 {}
@@ -56,6 +57,6 @@ pub fn one_byte_decides()
 /// States that none of a node's pairs is stored above a position that no stored key of the node reaches.
 pub fn fresh_above_mark()
     ensures { (key : Bool) (m a n mark : ℕ) (stored : List Stored) →
-        ((s : Stored) → IsIn s stored → row_of s.spot ≡ m → place_of s.spot < mark) → mark ≤ a →
-        AreFresh key m a n (spots_of stored) }
+        ((s : Stored) → IsIn s stored → row_of s.task ≡ m → place_of s.task < mark) → mark ≤ a →
+        AreFresh key m a n (tasks_of stored) }
 {}

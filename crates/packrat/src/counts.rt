@@ -2,17 +2,17 @@
 ghost use Rattle.std.specs.Prelude.{◌≡◌, ◌+◌, ◌^◌, ◌≤◌};
 ghost use Rattle.packrat.specs.View.{weight};
 
-use memo::Spot;
+use memo::MatchTask;
 
 /// Returns how many pairs are begun with this task.
 #[inline(always)]
-pub(crate) fn counted(begun: u64, spot: Spot) -> u64
+pub(crate) fn counted(begun: u64, task: MatchTask) -> u64
     requires { begun + 2 ^ 33 ≤ 2 ^ 64 }
-    ensures { result ≡ begun + weight spot }
+    ensures { result ≡ begun + weight task }
 {
-    match spot {
-        Spot::Pair { .. } => begun + 1,
-        Spot::Tail { .. } => begun,
+    match task {
+        MatchTask::Pair { .. } => begun + 1,
+        MatchTask::Tail { .. } => begun,
     }
 }
 

@@ -2,7 +2,7 @@
 ghost use Rattle.std.specs.Prelude.{◌≡◌, ◌<◌, List, [], ◌∷◌, IfSome, IfNone, OnOk, vec_capacity, vec_len};
 ghost use Rattle.packrat.specs.declared.frames.Frame.{Frame};
 
-use memo::Spot;
+use memo::MatchTask;
 use ruletable::Memory;
 use std::alloc::Global;
 use std::marker::Model;
@@ -22,7 +22,7 @@ pub enum Wait {
 #[derive(Clone, Copy)]
 pub struct Frame {
     /// The task.
-    pub spot: Spot,
+    pub task: MatchTask,
     /// Whether its result is memoized.
     pub key: bool,
     /// The child that it awaits.

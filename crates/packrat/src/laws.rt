@@ -7,7 +7,7 @@ ghost use Rattle.gramcheck.specs.Sound.{IsRanked};
 ghost use Rattle.memo.specs.Entries.{Entry};
 ghost use Rattle.pegmatch.specs.Answers.{WasEnough};
 ghost use Rattle.pegmatch.specs.Visits.{NodeGives, NodeTakes, Visits};
-ghost use Rattle.memo.specs.declared.spot.Spot.{Spot};
+ghost use Rattle.memo.specs.declared.task.MatchTask.{MatchTask};
 ghost use Rattle.pegnodes.specs.KeyMarks.{AreMarks};
 ghost use Rattle.packrat.specs.Offset.{Offset, IsAskedBy};
 ghost use Rattle.packrat.specs.View.{AreStored, AreImplied, AreBegun, Evaluates};
@@ -35,7 +35,7 @@ pub fn implied_cells()
     ensures every { (rules : List Rule) (start : ℕ) (nodes : List Shape) (bodies ranks x : List ℕ) (more : Bool) →
         IsRanked rules start nodes bodies ranks → (root : ℕ) → slice_get bodies start ≡ Some root →
         (marks : ℕ → Bool) (tails : ℕ → ℕ → Bool) → AreMarks start nodes bodies marks tails →
-        (stored : List Spot) (cells : List Entry) →
+        (stored : List MatchTask) (cells : List Entry) →
         AreStored rules start nodes bodies x more marks tails root stored →
         AreImplied rules start nodes bodies x more marks tails stored cells →
         AreVisitedCells rules start nodes bodies x more cells }
@@ -43,7 +43,7 @@ pub fn implied_cells()
         IsRanked rules start nodes bodies ranks → (root : ℕ) → slice_get bodies start ≡ Some root →
         (marks : ℕ → Bool) (tails : ℕ → ℕ → Bool) → AreMarks start nodes bodies marks tails →
         (o : Outcome) (k : ℕ) → NodeGives rules nodes bodies x root 0 o k → WasEnough x more k →
-        (stored : List Spot) → AreStored rules start nodes bodies x more marks tails root stored →
+        (stored : List MatchTask) → AreStored rules start nodes bodies x more marks tails root stored →
         (cells : List Entry) × AreImplied rules start nodes bodies x more marks tails stored cells }
     ensures count { (rules : List Rule) (start : ℕ) (nodes : List Shape) (bodies ranks x : List ℕ) (more : Bool) →
         IsRanked rules start nodes bodies ranks → (cs ds : List Entry) →
@@ -58,13 +58,13 @@ pub fn evaluated_once()
     ensures stored { (rules : List Rule) (start : ℕ) (nodes : List Shape) (bodies ranks x : List ℕ) (more : Bool) →
         IsRanked rules start nodes bodies ranks → (root : ℕ) → slice_get bodies start ≡ Some root →
         (marks : ℕ → Bool) (tails : ℕ → ℕ → Bool) → AreMarks start nodes bodies marks tails →
-        (stored : List Spot) (begun : ℕ) →
+        (stored : List MatchTask) (begun : ℕ) →
         Evaluates rules start nodes bodies x more marks tails root stored begun →
         AreStored rules start nodes bodies x more marks tails root stored }
     ensures begun { (rules : List Rule) (start : ℕ) (nodes : List Shape) (bodies ranks x : List ℕ) (more : Bool) →
         IsRanked rules start nodes bodies ranks → (root : ℕ) → slice_get bodies start ≡ Some root →
         (marks : ℕ → Bool) (tails : ℕ → ℕ → Bool) → AreMarks start nodes bodies marks tails →
-        (stored : List Spot) (begun : ℕ) →
+        (stored : List MatchTask) (begun : ℕ) →
         Evaluates rules start nodes bodies x more marks tails root stored begun →
         (o : Outcome) (k : ℕ) → NodeGives rules nodes bodies x root 0 o k → WasEnough x more k →
         AreBegun rules start nodes bodies x more marks tails stored begun }
@@ -73,7 +73,7 @@ pub fn evaluated_once()
 /// States that stored keys imply one list of cells.
 pub fn one_view()
     ensures { (rules : List Rule) (start : ℕ) (nodes : List Shape) (bodies ranks x : List ℕ) (more : Bool) →
-        IsRanked rules start nodes bodies ranks → (marks : ℕ → Bool) (tails : ℕ → ℕ → Bool) (stored : List Spot)
+        IsRanked rules start nodes bodies ranks → (marks : ℕ → Bool) (tails : ℕ → ℕ → Bool) (stored : List MatchTask)
         (cs ds : List Entry) → AreImplied rules start nodes bodies x more marks tails stored cs →
         AreImplied rules start nodes bodies x more marks tails stored ds → cs ≡ ds }
 {}

@@ -5,9 +5,9 @@ ghost use Rattle.gramcheck.specs.Grammar.{HasKeys, IsSoundGrammar};
 ghost use Rattle.pegmatch.specs.Answers.{WasEnough};
 ghost use Rattle.packrat.specs.EventLog.{IsHead, AreGrown};
 ghost use Rattle.packrat.specs.declared.events.link.Link.{Link};
-ghost use Rattle.memo.specs.KeyLog.{spots_of};
+ghost use Rattle.memo.specs.KeyLog.{tasks_of};
 ghost use Rattle.memo.specs.Parts.{IsIn};
-ghost use Rattle.memo.specs.declared.spot.Spot.{Spot};
+ghost use Rattle.memo.specs.declared.task.MatchTask.{MatchTask};
 ghost use Rattle.pegnodes.specs.KeyLists.{Marks};
 ghost use Rattle.packrat.specs.Skipped.{AreSkipped};
 ghost use Rattle.packrat.specs.Turned.{AreFree, IsKeyed};
@@ -29,7 +29,7 @@ use crate::onward::{Begun, Entering, Onward, Repeated, Start, begin_node, go_on}
 use crate::skips::Skips;
 use crate::turns::{Turns, find_turns, is_fresh, put_operands, put_turned, put_turns, wait_turned};
 use gramcheck::SoundPeg;
-use memo::{Found, Given, KeyLog, Spot};
+use memo::{Found, Given, KeyLog, MatchTask};
 use pegnodes::Node;
 use ruletable::Memory;
 
@@ -62,9 +62,9 @@ fn stored_node(
     key: bool,
 ) -> Result<Option<Given>, Memory>
     ensures some { IfOk result (λ found. IfSome found (λ g. (key ≡ true)
-        × IsIn (record { spot = Spot.Pair node place; given = g }) log.old.stored)) }
+        × IsIn (record { task = MatchTask.Pair node place; given = g }) log.old.stored)) }
     ensures none { IfOk result (λ found. IfNone found (key ≡ true →
-        IsIn (Spot.Pair node place) (spots_of log.old.stored) → ⊥)) }
+        IsIn (MatchTask.Pair node place) (tasks_of log.old.stored) → ⊥)) }
     ensures same { log.new ≡ log.old }
 {
     if !key {
@@ -73,7 +73,7 @@ fn stored_node(
     if log.is_new(node, place) {
         return Ok(None);
     }
-    log.get(Spot::Pair { node, place })
+    log.get(MatchTask::Pair { node, place })
 }
 
 // Returns the memoized result of the tail of a node from a member on at a position, likewise.
@@ -86,9 +86,9 @@ fn stored_tail(
     key: bool,
 ) -> Result<Option<Given>, Memory>
     ensures some { IfOk result (λ found. IfSome found (λ g. (key ≡ true)
-        × IsIn (record { spot = Spot.Tail node index place; given = g }) log.old.stored)) }
+        × IsIn (record { task = MatchTask.Tail node index place; given = g }) log.old.stored)) }
     ensures none { IfOk result (λ found. IfNone found (key ≡ true →
-        IsIn (Spot.Tail node index place) (spots_of log.old.stored) → ⊥)) }
+        IsIn (MatchTask.Tail node index place) (tasks_of log.old.stored) → ⊥)) }
     ensures same { log.new ≡ log.old }
 {
     if !key {
@@ -97,7 +97,7 @@ fn stored_tail(
     if log.is_new(node, place) {
         return Ok(None);
     }
-    log.get(Spot::Tail { node, index, place })
+    log.get(MatchTask::Tail { node, index, place })
 }
 
 // Ends a task with this result, which it stores if the task is a key.
@@ -106,18 +106,18 @@ fn close(
     log: &mut KeyLog,
     peg: &SoundPeg,
     window: &[u8],
-    spot: Spot,
+    task: MatchTask,
     key: bool,
     given: Given,
 ) -> Result<(), Memory>
-    requires well { IsWell peg.now window.now spot }
+    requires well { IsWell peg.now window.now task }
     requires rows { log.old.rows ≡ length peg.now.nodes }
     ensures rows { OnOk result (log.new.rows ≡ length peg.now.nodes) }
-    ensures closed { OnOk result ((more : Bool) (marks : Marks) (links : List Link) → key ≡ key_of marks spot →
-        IsClosed peg.now window.now more marks links spot given log.old.stored log.new.stored) }
+    ensures closed { OnOk result ((more : Bool) (marks : Marks) (links : List Link) → key ≡ key_of marks task →
+        IsClosed peg.now window.now more marks links task given log.old.stored log.new.stored) }
 {
     if key {
-        log.put(spot, given)?;
+        log.put(task, given)?;
     }
     Ok(())
 }
@@ -128,24 +128,24 @@ fn close_same(
     log: &mut KeyLog,
     peg: &SoundPeg,
     window: &[u8],
-    spot: Spot,
+    task: MatchTask,
     key: bool,
     given: Given,
 ) -> Result<(), Memory>
-    requires well { IsWell peg.now window.now spot }
+    requires well { IsWell peg.now window.now task }
     requires rows { log.old.rows ≡ length peg.now.nodes }
     ensures rows { OnOk result (log.new.rows ≡ length peg.now.nodes) }
-    ensures closed { OnOk result ((more : Bool) (marks : Marks) (links : List Link) → key ≡ key_of marks spot →
-        IsClosed peg.now window.now more marks links spot given log.old.stored log.new.stored) }
+    ensures closed { OnOk result ((more : Bool) (marks : Marks) (links : List Link) → key ≡ key_of marks task →
+        IsClosed peg.now window.now more marks links task given log.old.stored log.new.stored) }
 {
-    close(log, peg, window, spot, key, given)
+    close(log, peg, window, task, key, given)
 }
 
 // Pushes a frame that awaits a task's last child, with the head of the task's events so far. An unmemoized tail call
 // without events pushes none.
 #[inline(always)]
-fn wait_last(frames: &mut Frames, spot: Spot, key: bool, events: usize) -> Result<(), Memory>
-    ensures { OnOk result (AreWaiting key events spot frames.old frames.new) }
+fn wait_last(frames: &mut Frames, task: MatchTask, key: bool, events: usize) -> Result<(), Memory>
+    ensures { OnOk result (AreWaiting key events task frames.old frames.new) }
 {
     if !key {
         if events == 0 {
@@ -153,7 +153,7 @@ fn wait_last(frames: &mut Frames, spot: Spot, key: bool, events: usize) -> Resul
         }
     }
     frames.push(Frame {
-        spot,
+        task,
         key,
         wait: Wait::Last(events),
     })
@@ -170,12 +170,12 @@ fn enter(log: &mut KeyLog, frames: &mut Frames, entering: Entering) -> Result<Ne
     if let Some(given) = stored_tail(log, node, index, place, entering.key)? {
         return Ok(Next::Answer(given));
     }
-    let tail = Spot::Tail { node, index, place };
+    let tail = MatchTask::Tail { node, index, place };
     if entering.only {
         wait_last(frames, tail, entering.key, 0)?;
     } else {
         frames.push(Frame {
-            spot: tail,
+            task: tail,
             key: entering.key,
             wait: Wait::First,
         })?;
@@ -209,59 +209,59 @@ fn joined(events: &mut EventLog, first: usize, given: Given) -> Result<Given, Me
 impl Machine {
     // Begins a task that is neither a choice nor a repetition, and goes to a child or returns a result.
     #[inline(always)]
-    fn start_spot(
+    fn start_task(
         &mut self,
         peg: &SoundPeg,
         window: &[u8],
-        spot: Spot,
+        task: MatchTask,
         key: bool,
         start: Start,
     ) -> Result<Next, Memory>
-        requires well { IsWell peg.now window.now spot }
+        requires well { IsWell peg.now window.now task }
         requires rows { self.old.log.rows ≡ length peg.now.nodes }
         requires few { self.old.begun ≤ most_begun peg.now window.now }
         requires fits { FitsBegun peg.now window.now }
         ensures rows { OnOk result (self.new.log.rows ≡ length peg.now.nodes) }
-        ensures stands { (more : Bool) → AfterStart peg.now window.now more spot start → (root : Spot) →
-            key ≡ key_of peg.now.keys spot → (key ≡ true → IsIn spot (spots_of self.old.log.stored) → ⊥) →
-            Stands peg.now window.now more peg.now.keys root (Ask spot) self.old.frames
+        ensures stands { (more : Bool) → AfterStart peg.now window.now more task start → (root : MatchTask) →
+            key ≡ key_of peg.now.keys task → (key ≡ true → IsIn task (tasks_of self.old.log.stored) → ⊥) →
+            Stands peg.now window.now more peg.now.keys root (Ask task) self.old.frames
             self.old.log.stored self.old.events self.old.begun →
             IfOk result (λ turn. Stands peg.now window.now more peg.now.keys root (turn_of turn)
             self.new.frames self.new.log.stored self.new.events self.new.begun) }
-        ensures less { (more : Bool) → AfterStart peg.now window.now more spot start →
+        ensures less { (more : Bool) → AfterStart peg.now window.now more task start →
             self.new.begun ≤ most_begun peg.now window.now → IfOk result (λ turn.
             left peg.now window.now (turn_of turn) self.new.frames self.new.begun
-            < left peg.now window.now (Ask spot) self.old.frames self.old.begun) }
+            < left peg.now window.now (Ask task) self.old.frames self.old.begun) }
     {
-        self.begun = counted(self.begun, spot);
+        self.begun = counted(self.begun, task);
         match start {
             Start::Gives(found) => {
                 let given = Given { found, events: 0 };
-                close(&mut self.log, peg, window, spot, key, given)?;
+                close(&mut self.log, peg, window, task, key, given)?;
                 Ok(Next::Answer(given))
             }
             Start::Marks(event) => {
                 let given = Given {
-                    found: Found::Took(spot.place()),
+                    found: Found::Took(task.place()),
                     events: self.events.mark(event)?,
                 };
-                close(&mut self.log, peg, window, spot, key, given)?;
+                close(&mut self.log, peg, window, task, key, given)?;
                 Ok(Next::Answer(given))
             }
             Start::Leads { node, place } => {
                 self.frames.push(Frame {
-                    spot,
+                    task,
                     key,
                     wait: Wait::First,
                 })?;
                 Ok(Next::Ask { node, place })
             }
             Start::Passes { node, place } => {
-                wait_last(&mut self.frames, spot, key, 0)?;
+                wait_last(&mut self.frames, task, key, 0)?;
                 Ok(Next::Ask { node, place })
             }
             Start::Enters(entering) => {
-                wait_last(&mut self.frames, spot, key, 0)?;
+                wait_last(&mut self.frames, task, key, 0)?;
                 Ok(enter(&mut self.log, &mut self.frames, entering)?)
             }
         }
@@ -279,7 +279,7 @@ impl Machine {
         requires some { WasEnough window.now more 0 }
         requires well { IsWell peg.now window.now (repeated_of repeated) }
         requires is { IsRepeated peg.now window.now more repeated }
-        ensures free { IfSome result (λ t. AreFree peg.now window.now more peg.now.keys (spots_of self.now.log.stored)
+        ensures free { IfSome result (λ t. AreFree peg.now window.now more peg.now.keys (tasks_of self.now.log.stored)
             (repeated_of repeated) t) }
         ensures fits { IfSome result (λ t. self.now.begun + t.pairs < 2 ^ 64) }
     {
@@ -314,23 +314,23 @@ impl Machine {
         requires sound { IsSoundGrammar peg.now }
         requires keyed { IsKeyed peg.now }
         requires rows { self.old.log.rows ≡ length peg.now.nodes }
-        requires free { AreFree peg.now window.now more peg.now.keys (spots_of self.old.log.stored)
-            (Spot.Pair turns.star turns.from) turns }
+        requires free { AreFree peg.now window.now more peg.now.keys (tasks_of self.old.log.stored)
+            (MatchTask.Pair turns.star turns.from) turns }
         requires fits { self.old.begun + turns.pairs < 2 ^ 64 }
         ensures rows { OnOk result (self.new.log.rows ≡ length peg.now.nodes) }
-        ensures stands { (root : Spot) → Stands peg.now window.now more peg.now.keys root
-            (Ask (Spot.Pair turns.star turns.from)) self.old.frames
+        ensures stands { (root : MatchTask) → Stands peg.now window.now more peg.now.keys root
+            (Ask (MatchTask.Pair turns.star turns.from)) self.old.frames
             self.old.log.stored self.old.events self.old.begun →
             IfOk result (λ turn. Stands peg.now window.now more peg.now.keys root (turn_of turn)
             self.new.frames self.new.log.stored self.new.events self.new.begun) }
         ensures less { self.new.begun ≤ most_begun peg.now window.now → IfOk result (λ turn.
             left peg.now window.now (turn_of turn) self.new.frames self.new.begun
-            < left peg.now window.now (Ask (Spot.Pair turns.star turns.from)) self.old.frames self.old.begun) }
+            < left peg.now window.now (Ask (MatchTask.Pair turns.star turns.from)) self.old.frames self.old.begun) }
     {
         self.begun += turns.pairs as u64;
         put_operands(&mut self.log, peg, window, turns)?;
         if turns.whole {
-            let last = Spot::Pair {
+            let last = MatchTask::Pair {
                 node: turns.operand,
                 place: turns.end,
             };
@@ -361,33 +361,33 @@ impl Machine {
         &mut self,
         peg: &SoundPeg,
         window: &[u8],
-        spot: Spot,
+        task: MatchTask,
         key: bool,
         skips: Skips,
     ) -> Result<Next, Memory>
         requires sound { IsSoundGrammar peg.now }
         requires keyed { IsKeyed peg.now }
-        requires well { IsWell peg.now window.now spot }
+        requires well { IsWell peg.now window.now task }
         requires rows { self.old.log.rows ≡ length peg.now.nodes }
         requires few { self.old.begun ≤ most_begun peg.now window.now }
         requires fits { FitsBegun peg.now window.now }
         ensures rows { OnOk result (self.new.log.rows ≡ length peg.now.nodes) }
         ensures stands { (more : Bool) → WasEnough window.now more 0 →
-            AreSkipped peg.now window.now more peg.now.keys spot skips → (root : Spot) →
-            key ≡ key_of peg.now.keys spot → (key ≡ true → IsIn spot (spots_of self.old.log.stored) → ⊥) →
-            Stands peg.now window.now more peg.now.keys root (Ask spot) self.old.frames
+            AreSkipped peg.now window.now more peg.now.keys task skips → (root : MatchTask) →
+            key ≡ key_of peg.now.keys task → (key ≡ true → IsIn task (tasks_of self.old.log.stored) → ⊥) →
+            Stands peg.now window.now more peg.now.keys root (Ask task) self.old.frames
             self.old.log.stored self.old.events self.old.begun →
             IfOk result (λ turn. Stands peg.now window.now more peg.now.keys root (turn_of turn)
             self.new.frames self.new.log.stored self.new.events self.new.begun) }
-        ensures less { (more : Bool) → AreSkipped peg.now window.now more peg.now.keys spot skips →
+        ensures less { (more : Bool) → AreSkipped peg.now window.now more peg.now.keys task skips →
             self.new.begun ≤ most_begun peg.now window.now → IfOk result (λ turn.
             left peg.now window.now (turn_of turn) self.new.frames self.new.begun
-            < left peg.now window.now (Ask spot) self.old.frames self.old.begun) }
+            < left peg.now window.now (Ask task) self.old.frames self.old.begun) }
     {
         self.begun = counted_skips(self.begun, skips.pairs);
         match skips.rest {
             Some(entering) => {
-                wait_last(&mut self.frames, spot, key, 0)?;
+                wait_last(&mut self.frames, task, key, 0)?;
                 Ok(enter(&mut self.log, &mut self.frames, entering)?)
             }
             None => {
@@ -395,7 +395,7 @@ impl Machine {
                     found: Found::Failed,
                     events: 0,
                 };
-                close(&mut self.log, peg, window, spot, key, given)?;
+                close(&mut self.log, peg, window, task, key, given)?;
                 Ok(Next::Answer(given))
             }
         }
@@ -420,8 +420,8 @@ impl Machine {
         requires few { self.old.begun ≤ most_begun peg.now window.now }
         requires fits { FitsBegun peg.now window.now }
         ensures rows { OnOk result (self.new.log.rows ≡ length peg.now.nodes) }
-        ensures stands { (root : Spot) → key ≡ key_of peg.now.keys (repeated_of repeated) →
-            (key ≡ true → IsIn (repeated_of repeated) (spots_of self.old.log.stored) → ⊥) →
+        ensures stands { (root : MatchTask) → key ≡ key_of peg.now.keys (repeated_of repeated) →
+            (key ≡ true → IsIn (repeated_of repeated) (tasks_of self.old.log.stored) → ⊥) →
             Stands peg.now window.now more peg.now.keys root (Ask (repeated_of repeated)) self.old.frames
             self.old.log.stored self.old.events self.old.begun →
             IfOk result (λ turn. Stands peg.now window.now more peg.now.keys root (turn_of turn)
@@ -433,14 +433,14 @@ impl Machine {
         match self.turns_at(peg, window, more, repeated) {
             Some(turns) => self.run_turns(peg, window, more, turns),
             None => {
-                let spot = Spot::Pair {
+                let task = MatchTask::Pair {
                     node: repeated.star,
                     place: repeated.place,
                 };
-                let begun = counted(self.begun, spot);
+                let begun = counted(self.begun, task);
                 self.begun = begun;
                 self.frames.push(Frame {
-                    spot,
+                    task,
                     key,
                     wait: Wait::First,
                 })?;
@@ -458,35 +458,35 @@ impl Machine {
         &mut self,
         peg: &SoundPeg,
         window: &[u8],
-        spot: Spot,
+        task: MatchTask,
         key: bool,
         known: Known,
     ) -> Result<Next, Memory>
         requires sound { IsSoundGrammar peg.now }
         requires keyed { IsKeyed peg.now }
-        requires well { IsWell peg.now window.now spot }
+        requires well { IsWell peg.now window.now task }
         requires rows { self.old.log.rows ≡ length peg.now.nodes }
         requires few { self.old.begun ≤ most_begun peg.now window.now }
         requires fits { FitsBegun peg.now window.now }
         ensures rows { OnOk result (self.new.log.rows ≡ length peg.now.nodes) }
         ensures stands { (more : Bool) → WasEnough window.now more 0 →
-            IsKnown peg.now window.now more peg.now.keys spot known → (root : Spot) →
-            key ≡ key_of peg.now.keys spot → (key ≡ true → IsIn spot (spots_of self.old.log.stored) → ⊥) →
-            Stands peg.now window.now more peg.now.keys root (Ask spot) self.old.frames
+            IsKnown peg.now window.now more peg.now.keys task known → (root : MatchTask) →
+            key ≡ key_of peg.now.keys task → (key ≡ true → IsIn task (tasks_of self.old.log.stored) → ⊥) →
+            Stands peg.now window.now more peg.now.keys root (Ask task) self.old.frames
             self.old.log.stored self.old.events self.old.begun →
             IfOk result (λ turn. Stands peg.now window.now more peg.now.keys root (turn_of turn)
             self.new.frames self.new.log.stored self.new.events self.new.begun) }
-        ensures less { (more : Bool) → IsKnown peg.now window.now more peg.now.keys spot known →
+        ensures less { (more : Bool) → IsKnown peg.now window.now more peg.now.keys task known →
             self.new.begun ≤ most_begun peg.now window.now → IfOk result (λ turn.
             left peg.now window.now (turn_of turn) self.new.frames self.new.begun
-            < left peg.now window.now (Ask spot) self.old.frames self.old.begun) }
+            < left peg.now window.now (Ask task) self.old.frames self.old.begun) }
     {
         self.begun = counted_known(self.begun, known.pairs);
         let given = Given {
             found: known.found,
             events: 0,
         };
-        close(&mut self.log, peg, window, spot, key, given)?;
+        close(&mut self.log, peg, window, task, key, given)?;
         Ok(Next::Answer(given))
     }
 
@@ -503,16 +503,16 @@ impl Machine {
         requires sound { IsSoundGrammar peg.now }
         requires keyed { IsKeyed peg.now }
         requires well { IsWell peg.now window.now (taken_of taken) }
-        requires operand { IsWell peg.now window.now (Spot.Pair taken.operand taken.place) }
+        requires operand { IsWell peg.now window.now (MatchTask.Pair taken.operand taken.place) }
         requires before { taken.place < length window.now }
         requires rows { self.old.log.rows ≡ length peg.now.nodes }
         requires few { self.old.begun ≤ most_begun peg.now window.now }
         requires fits { FitsBegun peg.now window.now }
         ensures rows { OnOk result (self.new.log.rows ≡ length peg.now.nodes) }
         ensures stands { (more : Bool) → WasEnough window.now more 0 →
-            IsTaken peg.now window.now more peg.now.keys taken → (root : Spot) →
+            IsTaken peg.now window.now more peg.now.keys taken → (root : MatchTask) →
             key ≡ key_of peg.now.keys (taken_of taken) →
-            (key ≡ true → IsIn (taken_of taken) (spots_of self.old.log.stored) → ⊥) →
+            (key ≡ true → IsIn (taken_of taken) (tasks_of self.old.log.stored) → ⊥) →
             Stands peg.now window.now more peg.now.keys root (Ask (taken_of taken)) self.old.frames
             self.old.log.stored self.old.events self.old.begun →
             IfOk result (λ turn. Stands peg.now window.now more peg.now.keys root (turn_of turn)
@@ -522,15 +522,15 @@ impl Machine {
             left peg.now window.now (turn_of turn) self.new.frames self.new.begun
             < left peg.now window.now (Ask (taken_of taken)) self.old.frames self.old.begun) }
     {
-        let spot = Spot::Pair {
+        let task = MatchTask::Pair {
             node: taken.plus,
             place: taken.place,
         };
         if !is_fresh(&self.log, peg, taken.operand, taken.place) {
-            let begun = counted(self.begun, spot);
+            let begun = counted(self.begun, task);
             self.begun = begun;
             self.frames.push(Frame {
-                spot,
+                task,
                 key,
                 wait: Wait::First,
             })?;
@@ -542,7 +542,7 @@ impl Machine {
         let end = taken.place + 1;
         let pairs = u32::from(taken.pairs);
         self.begun = counted_skips(self.begun, pairs);
-        let operand = Spot::Pair {
+        let operand = MatchTask::Pair {
             node: taken.operand,
             place: taken.place,
         };
@@ -552,7 +552,7 @@ impl Machine {
         };
         let stores = peg.is_key_node(taken.operand);
         close(&mut self.log, peg, window, operand, stores, given)?;
-        wait_last(&mut self.frames, spot, key, 0)?;
+        wait_last(&mut self.frames, task, key, 0)?;
         Ok(Next::Ask {
             node: taken.star,
             place: end,
@@ -573,42 +573,42 @@ impl Machine {
         requires some { WasEnough window.now more 0 }
         requires sound { IsSoundGrammar peg.now }
         requires keyed { IsKeyed peg.now }
-        requires well { IsWell peg.now window.now (Spot.Pair node place) }
+        requires well { IsWell peg.now window.now (MatchTask.Pair node place) }
         requires rows { self.old.log.rows ≡ length peg.now.nodes }
         requires few { self.old.begun ≤ most_begun peg.now window.now }
         requires fits { FitsBegun peg.now window.now }
         ensures rows { OnOk result (self.new.log.rows ≡ length peg.now.nodes) }
-        ensures stands { (root : Spot) →
-            Stands peg.now window.now more peg.now.keys root (Ask (Spot.Pair node place)) self.old.frames
+        ensures stands { (root : MatchTask) →
+            Stands peg.now window.now more peg.now.keys root (Ask (MatchTask.Pair node place)) self.old.frames
             self.old.log.stored self.old.events self.old.begun →
             IfOk result (λ turn. AreOn peg.now window.now more peg.now.keys root turn
             self.new.frames self.new.log.stored self.new.events self.new.begun) }
         ensures less { self.new.begun ≤ most_begun peg.now window.now → IfOk result (λ turn.
             LowersLeft peg.now window.now turn self.new.frames self.new.begun
-            (left peg.now window.now (Ask (Spot.Pair node place)) self.old.frames self.old.begun)) }
+            (left peg.now window.now (Ask (MatchTask.Pair node place)) self.old.frames self.old.begun)) }
     {
-        let spot = Spot::Pair { node, place };
+        let task = MatchTask::Pair { node, place };
         let key = peg.is_key_node(node);
         match stored_node(&mut self.log, node, place, key)? {
             Some(given) => Ok(Some(Next::Answer(given))),
             None => match begin_node(peg, window, more, node, place) {
                 Begun::Starts(start) => match start {
-                    Start::Gives(_) => Ok(Some(self.start_spot(peg, window, spot, key, start)?)),
-                    Start::Marks(_) => Ok(Some(self.start_spot(peg, window, spot, key, start)?)),
+                    Start::Gives(_) => Ok(Some(self.start_task(peg, window, task, key, start)?)),
+                    Start::Marks(_) => Ok(Some(self.start_task(peg, window, task, key, start)?)),
                     Start::Leads { .. } => {
-                        Ok(Some(self.start_spot(peg, window, spot, key, start)?))
+                        Ok(Some(self.start_task(peg, window, task, key, start)?))
                     }
                     Start::Passes { .. } => {
-                        Ok(Some(self.start_spot(peg, window, spot, key, start)?))
+                        Ok(Some(self.start_task(peg, window, task, key, start)?))
                     }
-                    Start::Enters(_) => Ok(Some(self.start_spot(peg, window, spot, key, start)?)),
+                    Start::Enters(_) => Ok(Some(self.start_task(peg, window, task, key, start)?)),
                 },
-                Begun::Knows(known) => Ok(Some(self.end_known(peg, window, spot, key, known)?)),
+                Begun::Knows(known) => Ok(Some(self.end_known(peg, window, task, key, known)?)),
                 Begun::Takes(taken) => Ok(Some(self.begin_plus(peg, window, key, taken)?)),
-                Begun::Skips(skips) => Ok(Some(self.run_skips(peg, window, spot, key, skips)?)),
+                Begun::Skips(skips) => Ok(Some(self.run_skips(peg, window, task, key, skips)?)),
                 Begun::Repeats(it) => Ok(Some(self.repeat(peg, window, more, key, it)?)),
                 Begun::Need => {
-                    let begun = counted(self.begun, spot);
+                    let begun = counted(self.begun, task);
                     self.begun = begun;
                     Ok(None)
                 }
@@ -622,44 +622,44 @@ impl Machine {
         &mut self,
         peg: &SoundPeg,
         window: &[u8],
-        spot: Spot,
+        task: MatchTask,
         key: bool,
         given: Given,
     ) -> Result<Next, Memory>
         requires sound { IsSoundGrammar peg.now }
-        requires well { IsWell peg.now window.now spot }
+        requires well { IsWell peg.now window.now task }
         requires rows { self.old.log.rows ≡ length peg.now.nodes }
         ensures rows { OnOk result (self.new.log.rows ≡ length peg.now.nodes) }
-        ensures stands { (more : Bool) → WasEnough window.now more 0 → (root : Spot) →
+        ensures stands { (more : Bool) → WasEnough window.now more 0 → (root : MatchTask) →
             Stands peg.now window.now more peg.now.keys root (Answer given)
-            (record { spot = spot; key = key; wait = Wait.First } ∷ self.old.frames)
+            (record { task = task; key = key; wait = Wait.First } ∷ self.old.frames)
             self.old.log.stored self.old.events self.old.begun →
             IfOk result (λ turn. Stands peg.now window.now more peg.now.keys root (turn_of turn)
             self.new.frames self.new.log.stored self.new.events self.new.begun) }
-        ensures less { (more : Bool) → WasEnough window.now more 0 → (root : Spot) →
+        ensures less { (more : Bool) → WasEnough window.now more 0 → (root : MatchTask) →
             Stands peg.now window.now more peg.now.keys root (Answer given)
-            (record { spot = spot; key = key; wait = Wait.First } ∷ self.old.frames)
+            (record { task = task; key = key; wait = Wait.First } ∷ self.old.frames)
             self.old.log.stored self.old.events self.old.begun → IfOk result (λ turn.
             left peg.now window.now (turn_of turn) self.new.frames self.new.begun
             < left peg.now window.now (Answer given)
-            (record { spot = spot; key = key; wait = Wait.First } ∷ self.old.frames) self.old.begun) }
+            (record { task = task; key = key; wait = Wait.First } ∷ self.old.frames) self.old.begun) }
     {
-        match go_on(peg, window, spot, given.found) {
+        match go_on(peg, window, task, given.found) {
             Onward::Gives(found) => {
                 let own = Given { found, events: 0 };
-                close(&mut self.log, peg, window, spot, key, own)?;
+                close(&mut self.log, peg, window, task, key, own)?;
                 Ok(Next::Answer(own))
             }
             Onward::Same => {
-                close_same(&mut self.log, peg, window, spot, key, given)?;
+                close_same(&mut self.log, peg, window, task, key, given)?;
                 Ok(Next::Answer(given))
             }
             Onward::Passes { node, place } => {
-                wait_last(&mut self.frames, spot, key, given.events)?;
+                wait_last(&mut self.frames, task, key, given.events)?;
                 Ok(Next::Ask { node, place })
             }
             Onward::Enters(entering) => {
-                wait_last(&mut self.frames, spot, key, given.events)?;
+                wait_last(&mut self.frames, task, key, given.events)?;
                 Ok(enter(&mut self.log, &mut self.frames, entering)?)
             }
         }
@@ -676,31 +676,31 @@ impl Machine {
     ) -> Result<Next, Memory>
         requires sound { IsSoundGrammar peg.now }
         requires keyed { IsKeyed peg.now }
-        requires well { IsWell peg.now window.now frame.spot }
+        requires well { IsWell peg.now window.now frame.task }
         requires rows { self.old.log.rows ≡ length peg.now.nodes }
         requires first { IsWaitHead self.old.events frame.wait }
         requires second { IsHead self.old.events given.events }
         ensures rows { OnOk result (self.new.log.rows ≡ length peg.now.nodes) }
-        ensures stands { (more : Bool) → WasEnough window.now more 0 → (root : Spot) →
+        ensures stands { (more : Bool) → WasEnough window.now more 0 → (root : MatchTask) →
             Stands peg.now window.now more peg.now.keys root (Answer given) (frame ∷ self.old.frames)
             self.old.log.stored self.old.events self.old.begun →
             IfOk result (λ turn. Stands peg.now window.now more peg.now.keys root (turn_of turn)
             self.new.frames self.new.log.stored self.new.events self.new.begun) }
-        ensures less { (more : Bool) → WasEnough window.now more 0 → (root : Spot) →
+        ensures less { (more : Bool) → WasEnough window.now more 0 → (root : MatchTask) →
             Stands peg.now window.now more peg.now.keys root (Answer given)
             (frame ∷ self.old.frames) self.old.log.stored self.old.events self.old.begun → IfOk result (λ turn.
             left peg.now window.now (turn_of turn) self.new.frames self.new.begun
             < left peg.now window.now (Answer given) (frame ∷ self.old.frames) self.old.begun) }
     {
         match frame.wait {
-            Wait::First => self.after_first(peg, window, frame.spot, frame.key, given),
+            Wait::First => self.after_first(peg, window, frame.task, frame.key, given),
             Wait::Turned(last) => {
-                put_turned(&mut self.log, frame.spot, last, given)?;
+                put_turned(&mut self.log, frame.task, last, given)?;
                 Ok(Next::Answer(given))
             }
             Wait::Last(first) => {
                 let all = joined(&mut self.events, first, given)?;
-                close(&mut self.log, peg, window, frame.spot, frame.key, all)?;
+                close(&mut self.log, peg, window, frame.task, frame.key, all)?;
                 Ok(Next::Answer(all))
             }
         }
@@ -712,11 +712,11 @@ impl Machine {
         requires sound { IsSoundGrammar peg.now }
         requires keyed { IsKeyed peg.now }
         requires rows { self.old.log.rows ≡ length peg.now.nodes }
-        requires stands { (more : Bool) × (root : Spot) × WasEnough window.now more 0
+        requires stands { (more : Bool) × (root : MatchTask) × WasEnough window.now more 0
             × Stands peg.now window.now more peg.now.keys root (Answer first) self.old.frames
             self.old.log.stored self.old.events self.old.begun }
         ensures rows { OnOk result (self.new.log.rows ≡ length peg.now.nodes) }
-        ensures stands { (more : Bool) → WasEnough window.now more 0 → (root : Spot) →
+        ensures stands { (more : Bool) → WasEnough window.now more 0 → (root : MatchTask) →
             Stands peg.now window.now more peg.now.keys root (Answer first) self.old.frames
             self.old.log.stored self.old.events self.old.begun →
             IfOk result (λ turn. Stands peg.now window.now more peg.now.keys root (turn_of turn)
@@ -756,7 +756,7 @@ impl Machine {
         requires keys { HasKeys peg.now }
         requires rows { self.old.log.rows ≡ length peg.now.nodes }
         requires empty { self.old.log.stored ≡ [] }
-        ensures { IfOk result (λ given. IsEvaluated peg.now window.now more peg.now.keys (Spot.Pair root 0) given
+        ensures { IfOk result (λ given. IsEvaluated peg.now window.now more peg.now.keys (MatchTask.Pair root 0) given
             self.new.frames self.new.log.stored self.new.events self.new.begun) }
     {
         self.begun = 0;

@@ -6,16 +6,16 @@ ghost use Rattle.pegnodes.specs.ByteTables.{IsTabled};
 ghost use Rattle.pegnodes.specs.Nodes.{Shape, shapes_of};
 ghost use Rattle.gramcheck.specs.Outcome.{Event};
 ghost use Rattle.pegmatch.specs.Answers.{WasEnough};
-ghost use Rattle.memo.specs.declared.spot.Spot.{Spot};
+ghost use Rattle.memo.specs.declared.task.MatchTask.{MatchTask};
 ghost use Rattle.packrat.specs.Begins.{AfterNone, IsLeaf};
 ghost use Rattle.packrat.specs.Onward.{IsWell, IsLed, AfterOne, entering_of};
-ghost use Rattle.packrat.specs.SpotGives.{SpotYields};
-ghost use Rattle.packrat.specs.SpotSteps.{IsFirst};
+ghost use Rattle.packrat.specs.TaskGives.{TaskYields};
+ghost use Rattle.packrat.specs.TaskSteps.{IsFirst};
 
 use crate::known::{Known, Taken, known_at, taken_at};
 use crate::skips::{Skips, skips_at};
 use gramcheck::SoundPeg;
-use memo::{Found, Spot};
+use memo::{Found, MatchTask};
 use pegmatch::{Kept, Tried, match_any, match_bytes, match_set};
 use pegnodes::Node;
 
@@ -141,8 +141,8 @@ fn tested(
 ) -> Begun
     requires some { WasEnough window.now more 0 }
     requires tabled { (s : Shape) × (slice_get (shapes_of peg.now.nodes) node ≡ Some s) × IsTabled node s node }
-    requires led { IsLed peg.now window.now more false (Spot.Pair node place) (Spot.Pair operand place) }
-    ensures { AfterNone peg.now window.now more (Spot.Pair node place) result }
+    requires led { IsLed peg.now window.now more false (MatchTask.Pair node place) (MatchTask.Pair operand place) }
+    ensures { AfterNone peg.now window.now more (MatchTask.Pair node place) result }
 {
     match known_at(peg, window, more, node, place) {
         Some(known) => Begun::Knows(known),
@@ -164,8 +164,8 @@ pub(crate) fn begin_node(
 ) -> Begun
     requires some { WasEnough window.now more 0 }
     requires sound { IsSoundGrammar peg.now }
-    requires well { IsWell peg.now window.now (Spot.Pair node place) }
-    ensures { AfterNone peg.now window.now more (Spot.Pair node place) result }
+    requires well { IsWell peg.now window.now (MatchTask.Pair node place) }
+    ensures { AfterNone peg.now window.now more (MatchTask.Pair node place) result }
 {
     match peg.node(node) {
         Node::Any => leaf(match_any(window, place), window.len(), more),
@@ -216,11 +216,11 @@ pub(crate) fn begin_node(
 #[inline(always)]
 fn go_on_node(peg: &SoundPeg, window: &[u8], node: usize, place: usize, found: Found) -> Onward
     requires sound { IsSoundGrammar peg.now }
-    requires well { IsWell peg.now window.now (Spot.Pair node place) }
-    ensures { (more : Bool) → WasEnough window.now more 0 → (j : Spot) →
+    requires well { IsWell peg.now window.now (MatchTask.Pair node place) }
+    ensures { (more : Bool) → WasEnough window.now more 0 → (j : MatchTask) →
         IsFirst (rules_of peg.now.rules) (shapes_of peg.now.nodes) peg.now.bodies window.now
-        (Spot.Pair node place) j → (events : List Event) → SpotYields peg.now window.now more j found events →
-        AfterOne peg.now window.now more (Spot.Pair node place) j found events result }
+        (MatchTask.Pair node place) j → (events : List Event) → TaskYields peg.now window.now more j found events →
+        AfterOne peg.now window.now more (MatchTask.Pair node place) j found events result }
 {
     match peg.node(node) {
         Node::Star(_) => match found {
@@ -269,11 +269,12 @@ fn go_on_tail(
     found: Found,
 ) -> Onward
     requires sound { IsSoundGrammar peg.now }
-    requires well { IsWell peg.now window.now (Spot.Tail node index place) }
-    ensures { (more : Bool) → WasEnough window.now more 0 → (j : Spot) →
+    requires well { IsWell peg.now window.now (MatchTask.Tail node index place) }
+    ensures { (more : Bool) → WasEnough window.now more 0 → (j : MatchTask) →
         IsFirst (rules_of peg.now.rules) (shapes_of peg.now.nodes) peg.now.bodies window.now
-        (Spot.Tail node index place) j → (events : List Event) → SpotYields peg.now window.now more j found events →
-        AfterOne peg.now window.now more (Spot.Tail node index place) j found events result }
+        (MatchTask.Tail node index place) j → (events : List Event)
+        → TaskYields peg.now window.now more j found events →
+        AfterOne peg.now window.now more (MatchTask.Tail node index place) j found events result }
 {
     match peg.node(node) {
         Node::Seq(members) => match found {
@@ -302,16 +303,18 @@ fn go_on_tail(
 
 /// Returns how a task goes on whose first child has this result.
 #[inline(always)]
-pub(crate) fn go_on(peg: &SoundPeg, window: &[u8], spot: Spot, found: Found) -> Onward
+pub(crate) fn go_on(peg: &SoundPeg, window: &[u8], task: MatchTask, found: Found) -> Onward
     requires sound { IsSoundGrammar peg.now }
-    requires well { IsWell peg.now window.now spot }
-    ensures { (more : Bool) → WasEnough window.now more 0 → (j : Spot) →
-        IsFirst (rules_of peg.now.rules) (shapes_of peg.now.nodes) peg.now.bodies window.now spot j →
-        (events : List Event) → SpotYields peg.now window.now more j found events →
-        AfterOne peg.now window.now more spot j found events result }
+    requires well { IsWell peg.now window.now task }
+    ensures { (more : Bool) → WasEnough window.now more 0 → (j : MatchTask) →
+        IsFirst (rules_of peg.now.rules) (shapes_of peg.now.nodes) peg.now.bodies window.now task j →
+        (events : List Event) → TaskYields peg.now window.now more j found events →
+        AfterOne peg.now window.now more task j found events result }
 {
-    match spot {
-        Spot::Pair { node, place } => go_on_node(peg, window, node, place, found),
-        Spot::Tail { node, index, place } => go_on_tail(peg, window, node, index, place, found),
+    match task {
+        MatchTask::Pair { node, place } => go_on_node(peg, window, node, place, found),
+        MatchTask::Tail { node, index, place } => go_on_tail(
+            peg, window, node, index, place, found,
+        ),
     }
 }

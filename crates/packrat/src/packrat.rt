@@ -1,7 +1,7 @@
 //! The packrat matcher.
 ghost use Rattle.std.specs.Prelude.{◌≡◌, ℕ, ◌+◌, ◌*◌, ◌<◌, ◌≤◌, true, false, List, length, min, IfOk, OnErr, Err};
 ghost use Rattle.std.specs.Prelude.{IfSome, IfNone};
-ghost use Rattle.memo.specs.KeyLog.{spots_of};
+ghost use Rattle.memo.specs.KeyLog.{tasks_of};
 ghost use Rattle.memo.specs.Parts.{IsIn};
 ghost use Rattle.memo.specs.declared.key_log.Given.{Given};
 ghost use Rattle.gramcheck.specs.Outcome.{Event, Outcome};
@@ -14,7 +14,7 @@ use crate::events::EventLog;
 use crate::frames::Frames;
 use crate::machine::Machine;
 use gramcheck::SoundPeg;
-use memo::{Found, Given, KeyLog, Spot};
+use memo::{Found, Given, KeyLog, MatchTask};
 use pegmatch::{Matcher, ReplayFault, Unit};
 use ruletable::{Memory, Sink};
 use std::alloc::Global;
@@ -123,10 +123,10 @@ impl Packrat {
     ///
     /// # Errors
     /// `Memory` if an allocation fails.
-    pub fn found(&mut self, key: Spot) -> Result<Option<Found>, Memory>
+    pub fn found(&mut self, key: MatchTask) -> Result<Option<Found>, Memory>
         ensures some { IfOk result (λ found. IfSome found (λ f. (given : Given) × (given.found ≡ f)
-            × IsIn (record { spot = key; given = given }) self.old.stored)) }
-        ensures none { IfOk result (λ found. IfNone found (IsIn key (spots_of self.old.stored) → ⊥)) }
+            × IsIn (record { task = key; given = given }) self.old.stored)) }
+        ensures none { IfOk result (λ found. IfNone found (IsIn key (tasks_of self.old.stored) → ⊥)) }
         ensures same { self.new ≡ self.old }
     {
         match self.machine.log.get(key)? {

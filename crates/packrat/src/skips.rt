@@ -2,7 +2,7 @@
 ghost use Rattle.std.specs.Prelude.{◌≡◌, ◌≤◌, ℕ, List, length, slice_get, Some};
 ghost use Rattle.pegmatch.specs.Answers.{WasEnough};
 ghost use Rattle.pegnodes.specs.Nodes.{Choice, shapes_of};
-ghost use Rattle.memo.specs.declared.spot.Spot.{Spot};
+ghost use Rattle.memo.specs.declared.task.MatchTask.{MatchTask};
 ghost use Rattle.packrat.specs.Skipped.{ArePassed, AreSkipped, IsRest};
 
 use crate::onward::{Entering, tail_from};
@@ -65,7 +65,7 @@ pub(crate) fn skips_at(
 ) -> Skips
     requires some { WasEnough window.now more 0 }
     requires at { slice_get (shapes_of peg.now.nodes) choice ≡ Some (Choice alternatives.now) }
-    ensures { AreSkipped peg.now window.now more peg.now.keys (Spot.Pair choice place) result }
+    ensures { AreSkipped peg.now window.now more peg.now.keys (MatchTask.Pair choice place) result }
 {
     let skip = skip_at(peg, window, more, choice, place);
     Skips {

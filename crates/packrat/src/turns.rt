@@ -5,10 +5,10 @@ ghost use Rattle.gramcheck.specs.Grammar.{IsSoundGrammar};
 ghost use Rattle.pegread.specs.PegViews.{rules_of};
 ghost use Rattle.pegnodes.specs.KeyLists.{node_marks};
 ghost use Rattle.pegnodes.specs.Nodes.{Star, shapes_of};
-ghost use Rattle.memo.specs.KeyLog.{spots_of, row_of, place_of, run_of};
+ghost use Rattle.memo.specs.KeyLog.{tasks_of, row_of, place_of, run_of};
 ghost use Rattle.pegmatch.specs.Answers.{WasEnough};
 ghost use Rattle.pegmatch.specs.KeptEvents.{SpellsSome};
-ghost use Rattle.memo.specs.declared.spot.Spot.{Spot};
+ghost use Rattle.memo.specs.declared.task.MatchTask.{MatchTask};
 ghost use Rattle.packrat.specs.ByteGives.{AreFresh, operands_on, turns_closed};
 ghost use Rattle.packrat.specs.Stands.{AreGiven, GivenBy};
 ghost use Rattle.packrat.specs.Turned.{IsClosing, AreDecided, AreTurnedFrames};
@@ -16,7 +16,7 @@ ghost use Rattle.packrat.specs.declared.events.link.Link.{Link};
 
 use crate::frames::{Frame, Frames, Wait};
 use gramcheck::SoundPeg;
-use memo::{Given, KeyLog, Spot};
+use memo::{Given, KeyLog, MatchTask};
 use pegnodes::{ByteVerdict, RunTable};
 use ruletable::Memory;
 
@@ -126,7 +126,7 @@ pub(crate) fn find_turns(
 #[inline(always)]
 pub(crate) fn is_fresh(log: &KeyLog, peg: &SoundPeg, node: usize, from: usize) -> bool
     ensures { result ≡ true → (n : ℕ) →
-        AreFresh (node_marks peg.now.keys node) node from n (spots_of log.now.stored) }
+        AreFresh (node_marks peg.now.keys node) node from n (tasks_of log.now.stored) }
 {
     if peg.is_key_node(node) {
         return log.is_new(node, from);
@@ -146,8 +146,8 @@ pub(crate) fn put_operands(
     requires rows { log.old.rows ≡ length peg.now.nodes }
     requires operand { turns.operand < length peg.now.nodes }
     ensures rows { OnOk result (log.new.rows ≡ length peg.now.nodes) }
-    ensures spots { OnOk result (spots_of log.new.stored ≡ operands_on (node_marks peg.now.keys turns.operand)
-        turns.operand turns.from (turns.end - turns.from) (spots_of log.old.stored)) }
+    ensures tasks { OnOk result (tasks_of log.new.stored ≡ operands_on (node_marks peg.now.keys turns.operand)
+        turns.operand turns.from (turns.end - turns.from) (tasks_of log.old.stored)) }
     ensures keeps { OnOk result ((more : Bool) (links : List Link) →
         AreDecided peg.now window.now more peg.now.keys turns →
         AreGiven peg.now window.now more links log.old.stored →
@@ -173,11 +173,11 @@ pub(crate) fn put_turns(
     requires rows { log.old.rows ≡ length peg.now.nodes }
     requires star { turns.star < length peg.now.nodes }
     ensures rows { OnOk result (log.new.rows ≡ length peg.now.nodes) }
-    ensures spots { OnOk result (spots_of log.new.stored ≡ turns_closed (node_marks peg.now.keys turns.star)
-        turns.star turns.from (turns.end + 1 - turns.from) (spots_of log.old.stored)) }
+    ensures tasks { OnOk result (tasks_of log.new.stored ≡ turns_closed (node_marks peg.now.keys turns.star)
+        turns.star turns.from (turns.end + 1 - turns.from) (tasks_of log.old.stored)) }
     ensures keeps { OnOk result ((more : Bool) (links : List Link) →
         ((p : ℕ) → turns.from ≤ p → p < turns.from + (turns.end + 1 - turns.from) →
-        GivenBy peg.now window.now more links (Spot.Pair turns.star p) given) →
+        GivenBy peg.now window.now more links (MatchTask.Pair turns.star p) given) →
         AreGiven peg.now window.now more links log.old.stored →
         AreGiven peg.now window.now more links log.new.stored) }
 {
@@ -195,7 +195,7 @@ pub(crate) fn wait_turned(frames: &mut Frames, peg: &SoundPeg, turns: Turns) -> 
 {
     if peg.is_key_node(turns.star) {
         frames.push(Frame {
-            spot: Spot::Pair {
+            task: MatchTask::Pair {
                 node: turns.star,
                 place: turns.from,
             },
@@ -211,7 +211,7 @@ pub(crate) fn wait_turned(frames: &mut Frames, peg: &SoundPeg, turns: Turns) -> 
 #[inline(never)]
 pub(crate) fn put_turned(
     log: &mut KeyLog,
-    star: Spot,
+    star: MatchTask,
     last: usize,
     given: Given,
 ) -> Result<(), Memory>

@@ -14,9 +14,9 @@ use Rattle.pegexplain.specs.HiddenLiterals.{LiteralAt}
 use Rattle.pegexplain.specs.PegHints.{HintAt, body_hints, hint_if, hints_of}
 use Rattle.pegexplain.specs.declared.hints.literals.Literal.{Literal}
 
-literals-behind : (ls : List Literal) (n : ℕ) (d : Literal) → n < length ls
+literals-after : (ls : List Literal) (n : ℕ) (d : Literal) → n < length ls
     → drop n (map literal_found ls) ≡ literal_found (get_or ls n d) ∷ drop (n + 1) (map literal_found ls)
-literals-behind ls n d lt =
+literals-after ls n d lt =
     let next : suc n ≡ n + 1 = omega arith in
     drop-cons (map literal_found ls) n (literal_found d) (omega (arith, lt, length-map ls literal_found))
     ∙ ap (λ (l : LiteralAt). l ∷ drop (suc n) (map literal_found ls)) (get_or-map literal_found ls n d
@@ -31,23 +31,23 @@ hints-more rule ls n d old new all lt more h =
     let rest = flat_map (hint_if rule) (enumerate_from (n + 1) (drop (n + 1) (map literal_found ls))) in
     let here = hint_if rule (n, literal_found (get_or ls n d)) in
     let step : flat_map (hint_if rule) (enumerate_from n (drop n (map literal_found ls))) ≡ here ++ rest =
-    ap (λ (some : List LiteralAt). flat_map (hint_if rule) (enumerate_from n some)) (literals-behind ls n d lt) in
+    ap (λ (some : List LiteralAt). flat_map (hint_if rule) (enumerate_from n some)) (literals-after ls n d lt) in
     ap (λ (z : List HintAt). z ++ rest) more ∙ append_assoc old here rest
     ∙ ap (λ (z : List HintAt). old ++ z) (sym step) ∙ h
 
-rule-behind : (rules : List (table.Rule Expr)) (id : ℕ) (name : List ℕ) (e : Expr)
+rule-after : (rules : List (table.Rule Expr)) (id : ℕ) (name : List ℕ) (e : Expr)
     → slice_get (map (λ rule. rule.name) rules) id ≡ Some name → slice_get (map (λ rule. rule.body) rules) id ≡ Some e
     → hints_of (take (suc id) (map rule_of rules))
     ≡ hints_of (take id (map rule_of rules)) ++ body_hints name (pattern_of e)
-rule-behind [] id name e named at = absurd (cc at)
-rule-behind (rule ∷ rules) zero name e named at =
+rule-after [] id name e named at = absurd (cc at)
+rule-after (rule ∷ rules) zero name e named at =
     let own : rule.name ≡ name = cc named in
     let body : rule.body ≡ e = cc at in
     append-nil (body_hints rule.name (pattern_of rule.body))
     ∙ ap (λ (n : List ℕ). body_hints n (pattern_of rule.body)) own
     ∙ ap (λ (d : Expr). body_hints name (pattern_of d)) body
-rule-behind (rule ∷ rules) (suc id) name e named at =
-    ap (λ (z : List HintAt). body_hints rule.name (pattern_of rule.body) ++ z) (rule-behind rules id name e named at)
+rule-after (rule ∷ rules) (suc id) name e named at =
+    ap (λ (z : List HintAt). body_hints rule.name (pattern_of rule.body) ++ z) (rule-after rules id name e named at)
     ∙ sym (append_assoc (body_hints rule.name (pattern_of rule.body)) (hints_of (take id (map rule_of rules)))
     (body_hints name (pattern_of e)))
 
@@ -57,5 +57,5 @@ pub rule-more : (rules : List (table.Rule Expr)) (id : ℕ) (name : List ℕ) (e
     → new ≡ hints_of (take (id + 1) (map rule_of rules))
 rule-more rules id name e old new named at more before =
     more ∙ ap (λ (z : List HintAt). z ++ body_hints name (pattern_of e)) before
-    ∙ sym (rule-behind rules id name e named at)
+    ∙ sym (rule-after rules id name e named at)
     ∙ ap (λ (k : ℕ). hints_of (take k (map rule_of rules))) (sym (add-one id))

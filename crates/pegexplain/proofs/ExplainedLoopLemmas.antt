@@ -24,11 +24,18 @@ use Rattle.ruletable.specs.declared.note.NoteKind.TheVariants.{Redefined, Extend
 use Rattle.ruletable.specs.declared.note.NoteKind.TheVariants.{LeftRecursion, Loop}
 use Rattle.ruletable.specs.declared.table.NameCase.TheVariants.{Exact}
 use Rattle.pegexplain.specs.NullTests.{IsLoopBy, null_mark_of}
-use Rattle.pegexplain.specs.PegLoops.{IsFirstLoop, IsLoopLineIf, IsLoopOf, RepeatAt, repeat_told, repeats_in}
-use Rattle.pegexplain.specs.PegNotes.{ArePegPlaces, ExplainsNote, IsLineBehind, IsLoopTold, marked_lines, sign_of}
+use Rattle.pegexplain.specs.PegLoops.{IsFirstLoop, IsLoopLineIf, IsLoopOf, RepeatAt, repeat_reported, repeats_in}
+use Rattle.pegexplain.specs.PegNotes.{
+  ArePegPlaces,
+  ExplainsNote,
+  IsFollowingLine,
+  IsLoopReported,
+  marked_lines,
+  sign_of,
+}
 use Rattle.pegexplain.specs.declared.places.PegPlaces.{PegPlaces}
-use Rattle.pegexplain.proofs.LeftNotesLemmas.{RoundsAreOne, left-told-one}
-use Rattle.pegexplain.proofs.NullTestsLemmas.{body-none, body-some, loop-told}
+use Rattle.pegexplain.proofs.LeftNotesLemmas.{RoundsAreOne, left-reported-one}
+use Rattle.pegexplain.proofs.NullTestsLemmas.{body-none, body-some, loop-reported}
 
 module _ (rules : List Rule) (repeats : List Pattern) where
   first-one : (a b : RepeatAt) → IsFirstLoop rules repeats a → IsFirstLoop rules repeats b → a ≡ b
@@ -51,7 +58,7 @@ line-one : (rules : List Rule) (lines : List ℕ) (body : Option Pattern) (a b :
     → IsLoopLineIf rules lines body a → IsLoopLineIf rules lines body b → a ≡ b
 line-one rules lines None a b g h = g ∙ sym h
 line-one rules lines (Some body) a b g h =
-    g.is ∙ (ap (repeat_told lines) (loop-one rules _ g.found h.found g.is_first h.is_first) ∙ sym h.is)
+    g.is ∙ (ap (repeat_reported lines) (loop-one rules _ g.found h.found g.is_first h.is_first) ∙ sym h.is)
 
 -- the lines of places are one text
 abbrev pub LinesAreOne : Type 0
@@ -62,8 +69,8 @@ LinesAreOne = (text : List ℕ) (start : Option (List ℕ)) (note : Said) (a b :
 module _ (listing : (text : List ℕ) (a b : List Tok) → AreTokens (length text) text a → AreTokens (length text) text b
     → a ≡ b) (reading : (text : List ℕ) (a b : List Rule) → Reads text a → Reads text b → a ≡ b)
     (rounds : RoundsAreOne) (text : List ℕ) where
-  told-one : (name a b : List ℕ) → IsLoopTold text name a → IsLoopTold text name b → a ≡ b
-  told-one name a b g h =
+  reported-one : (name a b : List ℕ) → IsLoopReported text name a → IsLoopReported text name b → a ≡ b
+  reported-one name a b g h =
       let tokens = listing text h.tokens g.tokens h.are_tokens g.are_tokens in
       let rules = reading text h.definitions g.definitions h.reads g.reads in
       line-one (firsts [] g.definitions) (marked_lines text g.tokens name) (body_of (firsts [] g.definitions) name) a b
@@ -72,27 +79,28 @@ module _ (listing : (text : List ℕ) (a b : List Tok) → AreTokens (length tex
       (subst (λ ts. IsLoopLineIf (firsts [] h.definitions) (marked_lines text ts name)
       (body_of (firsts [] h.definitions) name) b) tokens h.is))
 
-  behind-one : (kind : NoteKind) (name a b : List ℕ) → IsLineBehind text kind name a → IsLineBehind text kind name b
+  after-one : (kind : NoteKind) (name a b : List ℕ) → IsFollowingLine text kind name a
+      → IsFollowingLine text kind name b
       → a ≡ b
-  behind-one Redefined name a b g h = g ∙ sym h
-  behind-one ExtendedEarly name a b g h = g ∙ sym h
-  behind-one Undefined name a b g h = g ∙ sym h
-  behind-one Prose name a b g h = g ∙ sym h
-  behind-one Unused name a b g h = g ∙ sym h
-  behind-one LeftRecursion name a b g h = left-told-one listing reading rounds text name a b g h
-  behind-one Loop name a b g h = told-one name a b g h
+  after-one Redefined name a b g h = g ∙ sym h
+  after-one ExtendedEarly name a b g h = g ∙ sym h
+  after-one Undefined name a b g h = g ∙ sym h
+  after-one Prose name a b g h = g ∙ sym h
+  after-one Unused name a b g h = g ∙ sym h
+  after-one LeftRecursion name a b g h = left-reported-one listing reading rounds text name a b g h
+  after-one Loop name a b g h = reported-one name a b g h
 
   pub peg-explained-one : LinesAreOne → (start : Option (List ℕ)) (note : Said) (a b : List ℕ)
       → ExplainsNote text start note a → ExplainsNote text start note b → a ≡ b
   peg-explained-one lines start note a b g h =
       g.is
       ∙ (ap (λ z. z ++ g.line) (lines text start note g.lines h.lines g.explains h.explains)
-      ∙ (ap (λ z. h.lines ++ z) (behind-one note.kind note.name g.line h.line g.behind h.behind) ∙ sym h.is))
+      ∙ (ap (λ z. h.lines ++ z) (after-one note.kind note.name g.line h.line g.after h.after) ∙ sym h.is))
 
 -- the line for a rule that the code finds, or not
 module _ (text : List ℕ) (found : PegPlaces) (name : List ℕ) (are : ArePegPlaces text found) where
-  pub told-none : find_in found.rules name ≡ None → IsLoopTold text name []
-  told-none is = record {
+  pub reported-none : find_in found.rules name ≡ None → IsLoopReported text name []
+  reported-none is = record {
     tokens = are.places.tokens;
     are_tokens = are.places.are_tokens;
     definitions = are.rules.definitions;
@@ -103,29 +111,30 @@ module _ (text : List ℕ) (found : PegPlaces) (name : List ℕ) (are : ArePegPl
         b []) (sym (body-none found.rules are.rules.exact name is)) refl);
   }
 
-  pub told-some : (id : ℕ) (e : Expr) (lines : List ℕ) (loop : Option RepeatAt) → find_in found.rules name ≡ Some id
+  pub reported-some : (id : ℕ) (e : Expr) (lines : List ℕ) (loop : Option RepeatAt) → find_in found.rules name ≡ Some id
       → slice_get (bodies_of found.rules) id ≡ Some e → lines ≡ mention_lines_by found.places kinds.Repeat name
       → IsLoopBy (null_mark_of found.rules found.nulls.items) (repeats_in (pattern_of e)) loop
-      → IsLoopTold text name (repeat_told lines loop)
-  told-some id e lines loop is at marked first = record {
+      → IsLoopReported text name (repeat_reported lines loop)
+  reported-some id e lines loop is at marked first = record {
     tokens = are.places.tokens;
     are_tokens = are.places.are_tokens;
     definitions = are.rules.definitions;
     reads = are.rules.reads;
     is = subst (λ (rs : List Rule). IsLoopLineIf rs (marked_lines text are.places.tokens name) (body_of rs name)
-        (repeat_told lines loop)) are.rules.rules_are
+        (repeat_reported lines loop)) are.rules.rules_are
         (subst (λ (b : Option Pattern). IsLoopLineIf (rules_of found.rules) (marked_lines text are.places.tokens name)
-        b (repeat_told lines loop)) (sym (body-some found.rules are.rules.exact name id e is at)) (record {
+        b (repeat_reported lines loop)) (sym (body-some found.rules are.rules.exact name id e is at)) (record {
           found = loop;
-          is_first = loop-told found.rules found.nulls.items are.rules.exact are.marks (repeats_in (pattern_of e)) loop
+          is_first = loop-reported found.rules found.nulls.items are.rules.exact are.marks
+              (repeats_in (pattern_of e)) loop
               first;
-          is = ap (λ (ls : List ℕ). repeat_told ls loop) (marked
+          is = ap (λ (ls : List ℕ). repeat_reported ls loop) (marked
               ∙ places-mention White First is_end sign_of Any Exact text
               found.places kinds.Repeat name are.places);
         }));
   }
 
 -- the line follows notes of one kind
-pub line-behind : (text : List ℕ) (kind : NoteKind) (name line : List ℕ) → kind ≡ Loop → IsLoopTold text name line
-    → IsLineBehind text kind name line
-line-behind text kind name line is told = rw is told
+pub line-after : (text : List ℕ) (kind : NoteKind) (name line : List ℕ) → kind ≡ Loop → IsLoopReported text name line
+    → IsFollowingLine text kind name line
+line-after text kind name line is reported = rw is reported

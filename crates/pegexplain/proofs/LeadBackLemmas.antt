@@ -33,11 +33,11 @@ use Rattle.pegread.specs.Pattern.{Open, Close, none, more, Rule, body_of}
 use Rattle.pegread.specs.PegViews.{pattern_of, rule_of, rules_of}
 use Rattle.pegread.specs.declared.expr.Expr.{Expr}
 use Rattle.pegexplain.specs.LeftLines.{left_steps}
-use Rattle.pegexplain.specs.LeftNotes.{LeadBack, TellsNullable}
+use Rattle.pegexplain.specs.LeftNotes.{LeadBack, SettlesNullable}
 use Rattle.pegexplain.specs.LeftUses.{NameUse, alternative_uses, left_row, member_uses, use_ids, uses_in}
 use Rattle.pegexplain.specs.NullTests.{null_mark_of, nullable_by}
 use Rattle.pegexplain.proofs.LeftSameLemmas.{own-rows}
-use Rattle.pegexplain.proofs.NullTestsLemmas.{null-told, told-null}
+use Rattle.pegexplain.proofs.NullTestsLemmas.{null-reported, reported-null}
 
 -- the place of a name, by recursion
 equal-both-ways : (xs ys : List ℕ) → bytes_eq xs ys ≡ bytes_eq ys xs
@@ -128,7 +128,7 @@ module _ (rules : List Rule) where
   meets_stepped : {c d : Pattern} {m : ℕ} → LeftStep rules c d → Meets d m → Meets c m
   meets_stepped step h = meets_carried (one_step step) h
 
-module _ (rules : List Rule) (null : Pattern → Bool) (tells : TellsNullable rules null) where
+module _ (rules : List Rule) (null : Pattern → Bool) (reports : SettlesNullable rules null) where
   abbrev ids : List NameUse → List ℕ
   ids uses = flat_map (use_ids (id_in rules)) uses
 
@@ -145,8 +145,8 @@ module _ (rules : List Rule) (null : Pattern → Bool) (tells : TellsNullable ru
   id-before us vs m h = subst (λ l. Contains l m) (sym (ids-append us vs))
       (Contains-append_left (ids us) (ids vs) m h)
 
-  id-behind : (us vs : List NameUse) (m : ℕ) → Contains (ids vs) m → Contains (ids (us ++ vs)) m
-  id-behind us vs m h = subst (λ l. Contains l m) (sym (ids-append us vs))
+  id-after : (us vs : List NameUse) (m : ℕ) → Contains (ids vs) m → Contains (ids (us ++ vs)) m
+  id-after us vs m h = subst (λ l. Contains l m) (sym (ids-append us vs))
       (Contains-append_right (ids us) (ids vs) m h)
 
   -- where no left step leads there are no ids
@@ -195,7 +195,7 @@ module _ (rules : List Rule) (null : Pattern → Bool) (tells : TellsNullable ru
       → (Contains (ids (member_uses null true es)) m → MeetsMember es m) → Contains (ids (member_uses null b es)) m
       → MeetsMember (more e es) m
   later-member e es m true is go h =
-      let r = go h in record { member = r.member; front = front_later ((tells e).0 is) r.front; meets = r.meets }
+      let r = go h in record { member = r.member; front = front_later ((reports e).0 is) r.front; meets = r.meets }
   later-member e es m false is go h = absurd (none_of m (subst (λ l. Contains l m) (no-member-ids es) h))
 
   record MeetsAlternative (es : Patterns) (m : ℕ) : Type 0 where
@@ -244,15 +244,15 @@ module _ (rules : List Rule) (null : Pattern → Bool) (tells : TellsNullable ru
   among-ids (among_first {e = e} {es = es}) m h =
       id-before (uses_in null true e) (alternative_uses null true es) m h
   among-ids (among_later {d = d} {es = es} a) m h =
-      id-behind (uses_in null true d) (alternative_uses null true es) m (among-ids a m h)
+      id-after (uses_in null true d) (alternative_uses null true es) m (among-ids a m h)
 
   front-ids : {es : Patterns} {e : Pattern} → Front rules es e → (m : ℕ) → Contains (row e) m
       → Contains (ids (member_uses null true es)) m
   front-ids (front_first {e = e} {es = es}) m h =
       id-before (uses_in null true e) (member_uses null (null e) es) m h
   front-ids (front_later {d = d} {es = es} nullable a) m h =
-      id-behind (uses_in null true d) (member_uses null (null d) es) m
-      (subst (λ (b : Bool). Contains (ids (member_uses null b es)) m) (sym ((tells d).1 nullable)) (front-ids a m h))
+      id-after (uses_in null true d) (member_uses null (null d) es) m
+      (subst (λ (b : Bool). Contains (ids (member_uses null b es)) m) (sym ((reports d).1 nullable)) (front-ids a m h))
 
   abbrev steps : List (List ℕ)
   steps = left_steps rules null
@@ -363,4 +363,7 @@ rows-lead-back rules marks rows exact are is =
     subst (LeadBack (rules_of rules))
     (sym (is ∙ own-rows null null (λ d. refl) (find_in rules) (id_in (rules_of rules))
     (λ name. rw exact (sym (position-map rule_of (λ (rule : Rule). bytes_eq name rule.name) rules.rules))) rules.rules))
-    (steps-lead-back (rules_of rules) null (λ e. (null-told rules marks exact are e, told-null rules marks exact are)))
+    (steps-lead-back (rules_of rules) null (λ e. (
+      null-reported rules marks exact are e,
+      reported-null rules marks exact are,
+    )))

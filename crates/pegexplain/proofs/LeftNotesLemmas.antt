@@ -29,16 +29,23 @@ use Rattle.pegread.specs.Reading.{Reads}
 use Rattle.pegread.specs.Slices.{White, First}
 use Rattle.pegread.specs.Tokens.{Tok, AreTokens}
 use Rattle.fixpoint.specs.ShortChains.{IsRoundIfAny}
-use Rattle.pegexplain.specs.LeftLines.{left_steps, way_told}
-use Rattle.pegexplain.specs.LeftNotes.{AreLeftLines, IsWayOr, TellsNullable, is_early, set_before}
+use Rattle.pegexplain.specs.LeftLines.{left_steps, way_reported}
+use Rattle.pegexplain.specs.LeftNotes.{AreLeftLines, IsWayOr, SettlesNullable, is_early, set_before}
 use Rattle.pegexplain.specs.LeftUses.{left_row}
 use Rattle.pegexplain.specs.NullTests.{null_mark_of, nullable_by}
-use Rattle.pegexplain.specs.PegNotes.{ArePegPlaces, IsLeftTold, IsLineBehind, defined_lines, named_lines, sign_of}
+use Rattle.pegexplain.specs.PegNotes.{
+  ArePegPlaces,
+  IsLeftReported,
+  IsFollowingLine,
+  defined_lines,
+  named_lines,
+  sign_of,
+}
 use Rattle.pegexplain.specs.declared.left_notes.TheConstants.{MAX_WAYS}
 use Rattle.pegexplain.specs.declared.places.PegPlaces.{PegPlaces}
 use Rattle.pegexplain.proofs.LeftSameLemmas.{own-rows, rows-same, way-same}
 use Rattle.pegexplain.proofs.LeftWithinLemmas.{found-below}
-use Rattle.pegexplain.proofs.NullTestsLemmas.{null-told, told-null}
+use Rattle.pegexplain.proofs.NullTestsLemmas.{null-reported, reported-null}
 
 -- one truth value holds as the other does
 bits-same : (a b : Bool) → (a ≡ true → b ≡ true) → (b ≡ true → a ≡ true) → a ≡ b
@@ -52,7 +59,7 @@ RoundsAreOne = (rows : List (List ℕ)) (id : ℕ) (a b : Option (List ℕ)) →
     → IsRoundIfAny rows id b → a ≡ b
 
 module _ (rules : List Rule) where
-  null-same : (null other : Pattern → Bool) → TellsNullable rules null → TellsNullable rules other → (e : Pattern)
+  null-same : (null other : Pattern → Bool) → SettlesNullable rules null → SettlesNullable rules other → (e : Pattern)
       → null e ≡ other e
   null-same null other g h e =
       bits-same (null e) (other e) (λ t. (h e).1 ((g e).0 t)) (λ t. (g e).1 ((h e).0 t))
@@ -82,17 +89,17 @@ module _ (rules : List Rule) where
     early-one : (id : ℕ) → is_early marks id ≡ is_early others id
     early-one id = ap (λ (k : ℕ). nat_lt k MAX_WAYS) (before-one id)
 
-  module _ (rounds : RoundsAreOne) (null other : Pattern → Bool) (tells : TellsNullable rules null)
-      (same : TellsNullable rules other) (lines : List ℕ → List ℕ) (defined : List ℕ) where
+  module _ (rounds : RoundsAreOne) (null other : Pattern → Bool) (reports : SettlesNullable rules null)
+      (same : SettlesNullable rules other) (lines : List ℕ → List ℕ) (defined : List ℕ) where
     way-one : (id : ℕ) (early : Bool) (a b : List ℕ) → IsWayOr rules null lines defined id early a
         → IsWayOr rules other lines defined id early b → a ≡ b
     way-one id true a b g h =
-        let alike = null-same null other tells same in
+        let alike = null-same null other reports same in
         let steps : left_steps rules null ≡ left_steps rules other =
         rows-same null other alike (id_in rules) (id_in rules) (λ n. refl) rules in
         let chains = rounds (left_steps rules other) id g.chain h.chain
         (subst (λ (rows : List (List ℕ)). IsRoundIfAny rows id g.chain) steps g.is_round) h.is_round in
-        g.is ∙ ap (way_told rules null lines id) chains
+        g.is ∙ ap (way_reported rules null lines id) chains
         ∙ way-same null other alike lines lines (λ n. refl) rules id h.chain ∙ sym h.is
     way-one id false a b g h = g ∙ sym h
 
@@ -108,12 +115,12 @@ module _ (rules : List Rule) where
 module _ (listing : (text : List ℕ) (a b : List Tok) → AreTokens (length text) text a → AreTokens (length text) text b
     → a ≡ b) (reading : (text : List ℕ) (a b : List Rule) → Reads text a → Reads text b → a ≡ b)
     (rounds : RoundsAreOne) (text : List ℕ) where
-  pub left-told-one : (name a b : List ℕ) → IsLeftTold text name a → IsLeftTold text name b → a ≡ b
-  left-told-one name a b g h =
+  pub left-reported-one : (name a b : List ℕ) → IsLeftReported text name a → IsLeftReported text name b → a ≡ b
+  left-reported-one name a b g h =
       let tokens = listing text h.tokens g.tokens h.are_tokens g.are_tokens in
       let rules = reading text h.definitions g.definitions h.reads g.reads in
-      left-lines-one (firsts [] g.definitions) rounds g.null h.null g.tells
-      (subst (λ (ds : List Rule). TellsNullable (firsts [] ds) h.null) rules h.tells) (named_lines text g.tokens)
+      left-lines-one (firsts [] g.definitions) rounds g.null h.null g.reports
+      (subst (λ (ds : List Rule). SettlesNullable (firsts [] ds) h.null) rules h.reports) (named_lines text g.tokens)
       (defined_lines text g.tokens name) g.recursive h.recursive g.are_recursive
       (subst (λ (ds : List Rule). AreMarks (IsLeftRecursive (firsts [] ds)) (firsts [] ds) h.recursive) rules
       h.are_recursive) (id_in (firsts [] g.definitions) name) a b g.is
@@ -146,27 +153,30 @@ module _ (text : List ℕ) (found : PegPlaces) (are : ArePegPlaces text found) w
     pub late-by : found.ways ≤ id → is_early found.recursive.items id ≡ false
     late-by le = sym (are.ways id id-marked) ∙ le-ltb id found.ways le
 
-  module _ (name told : List ℕ) where
-    pub left-told : (o : Option ℕ) → find_in found.rules name ≡ o → AreLeftLines (rules_of found.rules) null_by
-        (named_lines text are.places.tokens) (defined_lines text are.places.tokens name) found.recursive.items o told
-        → IsLeftTold text name told
-    left-told o is lines = record {
+  module _ (name reported : List ℕ) where
+    pub left-reported : (o : Option ℕ) → find_in found.rules name ≡ o → AreLeftLines (rules_of found.rules) null_by
+        (named_lines text are.places.tokens) (defined_lines text are.places.tokens name) found.recursive.items o
+        reported
+        → IsLeftReported text name reported
+    left-reported o is lines = record {
       tokens = are.places.tokens;
       are_tokens = are.places.are_tokens;
       definitions = are.rules.definitions;
       reads = are.rules.reads;
       null = null_by;
-      tells = subst (λ (rs : List Rule). TellsNullable rs null_by) are.rules.rules_are (λ e. (
-        null-told found.rules found.nulls.items are.rules.exact are.marks e,
-        (λ t. told-null found.rules found.nulls.items are.rules.exact are.marks t),
+      reports = subst (λ (rs : List Rule). SettlesNullable rs null_by) are.rules.rules_are (λ e. (
+        null-reported found.rules found.nulls.items are.rules.exact are.marks e,
+        (λ t. reported-null found.rules found.nulls.items are.rules.exact are.marks t),
       ));
       recursive = found.recursive.items;
       are_recursive = subst (λ (rs : List Rule). AreMarks (IsLeftRecursive rs) rs found.recursive.items)
           are.rules.rules_are are.recursive;
       is = subst (λ (rs : List Rule). AreLeftLines rs null_by (named_lines text are.places.tokens)
-          (defined_lines text are.places.tokens name) found.recursive.items (id_in rs name) told) are.rules.rules_are
+          (defined_lines text are.places.tokens name) found.recursive.items (id_in rs name) reported)
+          are.rules.rules_are
           (subst (λ (id : Option ℕ). AreLeftLines (rules_of found.rules) null_by (named_lines text are.places.tokens)
-          (defined_lines text are.places.tokens name) found.recursive.items id told) (sym is ∙ ids-agree name) lines);
+          (defined_lines text are.places.tokens name) found.recursive.items id reported)
+          (sym is ∙ ids-agree name) lines);
     }
 
     places-defined : defined_line found.places.names (map defined_at found.places.heads.items) name
@@ -177,28 +187,29 @@ module _ (text : List ℕ) (found : PegPlaces) (are : ArePegPlaces text found) w
         are.places.names_are
 
     -- where it is defined
-    pub told-defined : (id : ℕ) → find_in found.rules name ≡ Some id → is_early found.recursive.items id ≡ false
-        → told ≡ defined_line found.places.names (map defined_at found.places.heads.items) name
-        → IsLeftTold text name told
-    told-defined id is late e =
-        left-told (Some id) is
+    pub reported-defined : (id : ℕ) → find_in found.rules name ≡ Some id → is_early found.recursive.items id ≡ false
+        → reported ≡ defined_line found.places.names (map defined_at found.places.heads.items) name
+        → IsLeftReported text name reported
+    reported-defined id is late e =
+        left-reported (Some id) is
         (subst (λ (early : Bool). IsWayOr (rules_of found.rules) null_by (named_lines text are.places.tokens)
-        (defined_lines text are.places.tokens name) id early told) (sym late) (e ∙ places-defined))
+        (defined_lines text are.places.tokens name) id early reported) (sym late) (e ∙ places-defined))
 
     -- the way back
-    pub told-way : (id : ℕ) (chain : Option (List ℕ)) → find_in found.rules name ≡ Some id
+    pub reported-way : (id : ℕ) (chain : Option (List ℕ)) → find_in found.rules name ≡ Some id
         → is_early found.recursive.items id ≡ true
         → IsRoundIfAny (map (λ rule. left_row (find_in found.rules) null_by (pattern_of rule.body)) found.rules.rules)
-        id chain → told ≡ way_told (rules_of found.rules) null_by (mention_lines_by found.places kinds.Use) id chain
-        → IsLeftTold text name told
-    told-way id chain is early round e =
+        id chain → reported ≡ way_reported (rules_of found.rules) null_by
+        (mention_lines_by found.places kinds.Use) id chain
+        → IsLeftReported text name reported
+    reported-way id chain is early round e =
         let steps : map (λ rule. left_row (find_in found.rules) null_by (pattern_of rule.body)) found.rules.rules
         ≡ left_steps (rules_of found.rules) null_by =
         own-rows null_by null_by (λ d. refl) (find_in found.rules) (id_in (rules_of found.rules)) ids-agree
         found.rules.rules in
-        left-told (Some id) is
+        left-reported (Some id) is
         (subst (λ (b : Bool). IsWayOr (rules_of found.rules) null_by (named_lines text are.places.tokens)
-        (defined_lines text are.places.tokens name) id b told) (sym early) (record {
+        (defined_lines text are.places.tokens name) id b reported) (sym early) (record {
           chain = chain;
           is_round = subst (λ (rows : List (List ℕ)). IsRoundIfAny rows id chain) steps round;
           is = e ∙ way-same null_by null_by (λ d. refl)
@@ -208,6 +219,6 @@ module _ (text : List ℕ) (found : PegPlaces) (are : ArePegPlaces text found) w
         }))
 
 -- it follows notes on such rules
-pub left-behind : (text : List ℕ) (kind : NoteKind) (name line : List ℕ) → kind ≡ LeftRecursion
-    → IsLeftTold text name line → IsLineBehind text kind name line
-left-behind text kind name line is told = rw is told
+pub left-after : (text : List ℕ) (kind : NoteKind) (name line : List ℕ) → kind ≡ LeftRecursion
+    → IsLeftReported text name line → IsFollowingLine text kind name line
+left-after text kind name line is reported = rw is reported

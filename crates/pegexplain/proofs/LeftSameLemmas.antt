@@ -9,8 +9,8 @@ use Rattle.pegread.specs.Pattern.{Pattern, Patterns, Any, Bytes, Set, Name, Seq,
 use Rattle.pegread.specs.Pattern.{Open, Close, none, more, Rule}
 use Rattle.pegread.specs.PegViews.{pattern_of, rule_of}
 use Rattle.pegread.specs.declared.expr.Expr.{Expr}
-use Rattle.pegexplain.specs.LeftLines.{is_left_use, line_of_first, skipped_if, step_between, step_line, step_told}
-use Rattle.pegexplain.specs.LeftLines.{steps_told, way_told}
+use Rattle.pegexplain.specs.LeftLines.{is_left_use, line_of_first, skipped_if, step_between, step_line, step_reported}
+use Rattle.pegexplain.specs.LeftLines.{steps_reported, way_reported}
 use Rattle.pegexplain.specs.LeftUses.{NameUse, alternative_uses, alternatives_skipped, left_row, member_uses}
 use Rattle.pegexplain.specs.LeftUses.{members_skipped, or_else, skipped_in, use_ids, uses_in}
 use Rattle.pegexplain.specs.declared.left_lines.TheConstants.{MAX_STEPS}
@@ -81,7 +81,7 @@ module _ (null other : Pattern → Bool) (same : (e : Pattern) → null e ≡ ot
           ∙ ap (λ (o : Option (List Pattern)). or_else (skipped_in other name e) o) (in-one-same es)
 
   module _ (lines others : List ℕ → List ℕ) (same-lines : (name : List ℕ) → lines name ≡ others name) where
-    step-same : (a b : Rule) → step_told null lines a b ≡ step_told other others a b
+    step-same : (a b : Rule) → step_reported null lines a b ≡ step_reported other others a b
     step-same a b =
         ap (λ (us : List NameUse). step_line (line_of_first (is_left_use b.name) us (lines a.name)) a.name b.name
         (skipped_if (skipped_in null b.name a.body))) (uses-same true a.body)
@@ -96,17 +96,17 @@ module _ (null other : Pattern → Bool) (same : (e : Pattern) → null e ≡ ot
     between-same (Some a) (Some b) = step-same a b
 
     steps-same : (rules : List Rule) (first budget : ℕ) (ids : List ℕ)
-        → steps_told rules null lines first budget ids ≡ steps_told rules other others first budget ids
+        → steps_reported rules null lines first budget ids ≡ steps_reported rules other others first budget ids
     steps-same rules first budget [] = refl
     steps-same rules first zero (id ∷ ids) = refl
     steps-same rules first (suc budget) (id ∷ ids) =
-        ap (λ (z : List ℕ). z ++ steps_told rules null lines first budget ids)
+        ap (λ (z : List ℕ). z ++ steps_reported rules null lines first budget ids)
         (between-same (slice_get rules id) (slice_get rules (slice_index_or ids 0 first)))
         ∙ ap (λ (z : List ℕ). step_between other others (slice_get rules id)
         (slice_get rules (slice_index_or ids 0 first)) ++ z) (steps-same rules first budget ids)
 
     pub way-same : (rules : List Rule) (first : ℕ) (chain : Option (List ℕ))
-        → way_told rules null lines first chain ≡ way_told rules other others first chain
+        → way_reported rules null lines first chain ≡ way_reported rules other others first chain
     way-same rules first None = refl
     way-same rules first (Some ids) = steps-same rules first MAX_STEPS ids
 

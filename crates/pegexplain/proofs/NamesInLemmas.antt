@@ -8,7 +8,7 @@ use Rattle.diagnostics.specs.BodyMentions.{mentions_in}
 use Rattle.diagnostics.specs.DefinitionHeads.{definitions_in, sign_at}
 use Rattle.diagnostics.specs.ReportedTrees.{Heading, headings, placed_uses, ReportTree}
 use Rattle.diagnostics.proofs.ReportTreeLemmas.{placed, Keeps, keeps-none, keeps-both, keeps-names, keeps-before}
-use Rattle.diagnostics.proofs.ReportTreeLemmas.{keeps-behind}
+use Rattle.diagnostics.proofs.ReportTreeLemmas.{keeps-after}
 use Rattle.gramcheck.specs.Uses.{names_in, names_in_all}
 use Rattle.pegread.specs.Pattern.{Pattern, Patterns, none, more, Rule}
 use Rattle.pegread.specs.Reading.{Reads}
@@ -81,7 +81,7 @@ one-more w h {s} o k = keeps-before uses_within word_heads NoArrow w (skip-uses 
 
 one-within : (w : Word) → NoName w → {s r : List Word} {names : List (List ℕ)} → Uses s (w ∷ r) names
     → Uses s r names
-one-within w h {r = r} k = keeps-behind uses_within word_heads NoArrow w (skip-uses w h r) (skip-heads w h r) k
+one-within w h {r = r} k = keeps-after uses_within word_heads NoArrow w (skip-uses w h r) (skip-heads w h r) k
 
 -- a word alone
 word-alone : (w : Word) → NoName w → (r : List Word) → NoArrow r → NoArrow (w ∷ r) → Uses (w ∷ r) r []

@@ -9,7 +9,7 @@ use Rattle.std.specs.Prelude.{slice_get, option_to_list}
 use Rattle.gramcheck.specs.Outcome.{Event, Fails, Gives, Takes, begins_with, bytes_fail, bytes_take, rest_takes, seq}
 use Rattle.pegread.specs.Pattern.{Pattern, Any, Bytes, Set, Name, Seq, Choice, Star, Plus, Opt, And, Not, Act}
 use Rattle.pegread.specs.Pattern.{Open, Close, Rule, none, more}
-use Rattle.pegexplain.specs.HiddenLiterals.{first_beginning, first_literal, hiding, whole_literal}
+use Rattle.pegexplain.specs.HiddenLiterals.{first_prefix, first_literal, hiding, whole_literal}
 use Rattle.pegexplain.specs.NeverTaken.{BeginsWith, IsFront, IsTaken, NeverTaken, is_literal, leads_sequence}
 use Rattle.pegexplain.specs.NeverTaken.{whole_literals}
 
@@ -214,11 +214,11 @@ module _ (before after : List Pattern) (e : Pattern) (earlier : List ℕ) where
       let both : true ≡ false = sym yes ∙ bars in
       absurd (cc both)
 
-  tells-found : (found : Option (List ℕ)) → first_literal e ≡ found
-      → first_beginning (whole_literals before) found ≡ Some earlier
+  reports-found : (found : Option (List ℕ)) → first_literal e ≡ found
+      → first_prefix (whole_literals before) found ≡ Some earlier
       → NeverTaken (before ++ e ∷ after) (length before) earlier
-  tells-found None is h = absurd (cc h)
-  tells-found (Some later) is h =
+  reports-found None is h = absurd (cc h)
+  reports-found (Some later) is h =
       let w = found-first (starts later) before earlier h in
       let within = w.within in
       record {
@@ -234,24 +234,24 @@ module _ (before after : List Pattern) (e : Pattern) (earlier : List ℕ) where
             (sym (at-front before (e ∷ after) j (omega (arith, lt, within))) ∙ at));
       }
 
-  pub hidden-told : hiding (whole_literals before) e ≡ Some earlier
+  pub hidden-reported : hiding (whole_literals before) e ≡ Some earlier
       → NeverTaken (before ++ e ∷ after) (length before) earlier
-  hidden-told h = tells-found (first_literal e) refl h
+  hidden-reported h = reports-found (first_literal e) refl h
 
   not-starts : (later bytes : List ℕ) → (IsFront bytes later → ⊥) → starts later bytes ≡ false
   not-starts later bytes bars = ⊎_elim (λ yes. absurd (bars (starts-front later bytes yes))) (λ f. f)
       (cases_Bool (starts later bytes))
 
-  pub told-hidden : NeverTaken (before ++ e ∷ after) (length before) earlier
+  pub reported-hidden : NeverTaken (before ++ e ∷ after) (length before) earlier
       → hiding (whole_literals before) e ≡ Some earlier
-  told-hidden n =
+  reported-hidden n =
       let same : n.alternative ≡ e = (let f : Some n.alternative ≡ Some e = sym n.there ∙ at-length before after e in
       cc f) in
       let own : first_literal e ≡ Some n.later = sym (ap first_literal same) ∙ begins-first n.begins in
       let within = n.before in
       let does : starts n.later earlier ≡ true = ap (λ (z : List ℕ). starts z earlier) n.front.whole
       ∙ front-starts earlier n.front.rest in
-      ap (first_beginning (whole_literals before)) own
+      ap (first_prefix (whole_literals before)) own
       ∙ first-found (starts n.later) before n.place earlier
       (sym (at-front before (e ∷ after) n.place within) ∙ n.literal) does
       (λ j bytes lt at. not-starts n.later bytes (n.first j bytes lt

@@ -102,87 +102,87 @@ module _ (rules : table.Rules Expr) (marks : List Bool) (exact : rules.names ≡
   name-whole name (Some id) is h = subst (λ k. IsMarked marks k) (sym (is-id rules exact name (Some id) is)) h
 
   mutual
-    pub null-told : (e : Pattern) → nullable_by may_be e ≡ true → Nullable (rules_of rules) e
-    null-told Any h = absurd (cc h)
-    null-told (Bytes []) h = no_bytes
-    null-told (Bytes (b ∷ bs)) h = absurd (cc h)
-    null-told (Set test) h = absurd (cc h)
-    null-told (Name name) h = name-sound name (find_in rules name) refl h
-    null-told (Seq es) h = a_seq (all-told es h)
-    null-told (Choice es) h = a_choice (some-told es h)
-    null-told (Star e) h = a_star
-    null-told (Plus e) h = a_plus (null-told e h)
-    null-told (Opt e) h = an_opt
-    null-told (And e) h = an_and
-    null-told (Not e) h = a_not
-    null-told (Act template) h = an_act
-    null-told Open h = an_open
-    null-told Close h = a_close
+    pub null-reported : (e : Pattern) → nullable_by may_be e ≡ true → Nullable (rules_of rules) e
+    null-reported Any h = absurd (cc h)
+    null-reported (Bytes []) h = no_bytes
+    null-reported (Bytes (b ∷ bs)) h = absurd (cc h)
+    null-reported (Set test) h = absurd (cc h)
+    null-reported (Name name) h = name-sound name (find_in rules name) refl h
+    null-reported (Seq es) h = a_seq (all-reported es h)
+    null-reported (Choice es) h = a_choice (some-reported es h)
+    null-reported (Star e) h = a_star
+    null-reported (Plus e) h = a_plus (null-reported e h)
+    null-reported (Opt e) h = an_opt
+    null-reported (And e) h = an_and
+    null-reported (Not e) h = a_not
+    null-reported (Act template) h = an_act
+    null-reported Open h = an_open
+    null-reported Close h = a_close
 
-    all-told : (es : Patterns) → all_nullable_by may_be es ≡ true → AllNullable (rules_of rules) es
-    all-told none h = all_none
-    all-told (more e es) h =
+    all-reported : (es : Patterns) → all_nullable_by may_be es ≡ true → AllNullable (rules_of rules) es
+    all-reported none h = all_none
+    all-reported (more e es) h =
         let b = both-true (nullable_by may_be e) (all_nullable_by may_be es) h in
-        all_more (null-told e b.0) (all-told es b.1)
+        all_more (null-reported e b.0) (all-reported es b.1)
 
-    some-told : (es : Patterns) → some_nullable_by may_be es ≡ true → SomeNullable (rules_of rules) es
-    some-told none h = absurd (cc h)
-    some-told (more e es) h = one-of (nullable_by may_be e) (some_nullable_by may_be es) h
-        (λ yes. some_first (null-told e yes)) (λ yes. some_later (some-told es yes))
+    some-reported : (es : Patterns) → some_nullable_by may_be es ≡ true → SomeNullable (rules_of rules) es
+    some-reported none h = absurd (cc h)
+    some-reported (more e es) h = one-of (nullable_by may_be e) (some_nullable_by may_be es) h
+        (λ yes. some_first (null-reported e yes)) (λ yes. some_later (some-reported es yes))
 
   mutual
-    pub told-null : {e : Pattern} → Nullable (rules_of rules) e → nullable_by may_be e ≡ true
-    told-null no_bytes = refl
-    told-null an_act = refl
-    told-null an_open = refl
-    told-null a_close = refl
-    told-null an_and = refl
-    told-null a_not = refl
-    told-null an_opt = refl
-    told-null a_star = refl
-    told-null (a_plus h) = told-null h
-    told-null (a_seq h) = told-all h
-    told-null (a_choice h) = told-some h
-    told-null (a_name {n} {e} is h) = name-whole n (find_in rules n) refl (null-marked n e is h)
+    pub reported-null : {e : Pattern} → Nullable (rules_of rules) e → nullable_by may_be e ≡ true
+    reported-null no_bytes = refl
+    reported-null an_act = refl
+    reported-null an_open = refl
+    reported-null a_close = refl
+    reported-null an_and = refl
+    reported-null a_not = refl
+    reported-null an_opt = refl
+    reported-null a_star = refl
+    reported-null (a_plus h) = reported-null h
+    reported-null (a_seq h) = reported-all h
+    reported-null (a_choice h) = reported-some h
+    reported-null (a_name {n} {e} is h) = name-whole n (find_in rules n) refl (null-marked n e is h)
 
-    told-all : {es : Patterns} → AllNullable (rules_of rules) es → all_nullable_by may_be es ≡ true
-    told-all all_none = refl
-    told-all (all_more h hs) = true-both _ _ (told-null h) (told-all hs)
+    reported-all : {es : Patterns} → AllNullable (rules_of rules) es → all_nullable_by may_be es ≡ true
+    reported-all all_none = refl
+    reported-all (all_more h hs) = true-both _ _ (reported-null h) (reported-all hs)
 
-    told-some : {es : Patterns} → SomeNullable (rules_of rules) es → some_nullable_by may_be es ≡ true
-    told-some (some_first {e} {es} h) = ap (λ b. b || some_nullable_by may_be es) (told-null h)
-    told-some (some_later {e} {es} h) = later (nullable_by may_be e) (told-some h)
+    reported-some : {es : Patterns} → SomeNullable (rules_of rules) es → some_nullable_by may_be es ≡ true
+    reported-some (some_first {e} {es} h) = ap (λ b. b || some_nullable_by may_be es) (reported-null h)
+    reported-some (some_later {e} {es} h) = later (nullable_by may_be e) (reported-some h)
       where
         later : (b : Bool) → some_nullable_by may_be es ≡ true → b || some_nullable_by may_be es ≡ true
         later true k = refl
         later false k = k
 
-  repeats-told : (e : Pattern) → loops_by may_be e ≡ true → RepeatsNothing (rules_of rules) e
-  repeats-told (Star e) h = starred (null-told e h)
-  repeats-told (Plus e) h = repeated (null-told e h)
-  repeats-told Any h = absurd (cc h)
-  repeats-told (Bytes bytes) h = absurd (cc h)
-  repeats-told (Set test) h = absurd (cc h)
-  repeats-told (Name name) h = absurd (cc h)
-  repeats-told (Seq es) h = absurd (cc h)
-  repeats-told (Choice es) h = absurd (cc h)
-  repeats-told (Opt e) h = absurd (cc h)
-  repeats-told (And e) h = absurd (cc h)
-  repeats-told (Not e) h = absurd (cc h)
-  repeats-told (Act template) h = absurd (cc h)
-  repeats-told Open h = absurd (cc h)
-  repeats-told Close h = absurd (cc h)
+  repeats-reported : (e : Pattern) → loops_by may_be e ≡ true → RepeatsNothing (rules_of rules) e
+  repeats-reported (Star e) h = starred (null-reported e h)
+  repeats-reported (Plus e) h = repeated (null-reported e h)
+  repeats-reported Any h = absurd (cc h)
+  repeats-reported (Bytes bytes) h = absurd (cc h)
+  repeats-reported (Set test) h = absurd (cc h)
+  repeats-reported (Name name) h = absurd (cc h)
+  repeats-reported (Seq es) h = absurd (cc h)
+  repeats-reported (Choice es) h = absurd (cc h)
+  repeats-reported (Opt e) h = absurd (cc h)
+  repeats-reported (And e) h = absurd (cc h)
+  repeats-reported (Not e) h = absurd (cc h)
+  repeats-reported (Act template) h = absurd (cc h)
+  repeats-reported Open h = absurd (cc h)
+  repeats-reported Close h = absurd (cc h)
 
   no-repeat : (e : Pattern) → loops_by may_be e ≡ false → RepeatsNothing (rules_of rules) e → ⊥
-  no-repeat e never (starred h) = (let ever = told-null h in cc)
-  no-repeat e never (repeated h) = (let ever = told-null h in cc)
+  no-repeat e never (starred h) = (let ever = reported-null h in cc)
+  no-repeat e never (repeated h) = (let ever = reported-null h in cc)
 
   -- the first one by the tests is the first one
-  pub loop-told : (repeats : List Pattern) (found : Option RepeatAt) → IsLoopBy may_be repeats found
+  pub loop-reported : (repeats : List Pattern) (found : Option RepeatAt) → IsLoopBy may_be repeats found
       → IsLoopOf (rules_of rules) repeats found
-  loop-told repeats None h = λ k d at. no-repeat d (h k d at)
-  loop-told repeats (Some r) h = record {
+  loop-reported repeats None h = λ k d at. no-repeat d (h k d at)
+  loop-reported repeats (Some r) h = record {
     there = h.there;
-    loops = repeats-told r.repeat h.loops;
+    loops = repeats-reported r.repeat h.loops;
     first = λ k d lt at. no-repeat d (h.first k d lt at);
   }

@@ -7,7 +7,7 @@ use Rattle.std.proofs.lemmas.List.{length-map, take-map, take_min}
 use Rattle.std.specs.List.{flat_map}
 use Rattle.std.specs.Prelude.{slice_get}
 use Rattle.diagnostics.specs.MentionLines.{mention_lines_by}
-use Rattle.diagnostics.specs.NoteLines.{more_told}
+use Rattle.diagnostics.specs.NoteLines.{more_reported}
 use Rattle.diagnostics.specs.declared.noteplaces.mentions.MentionKind.TheVariants.{Literal}
 use Rattle.diagnostics.proofs.ExplainedNoteLemmas.{places-mention}
 use Rattle.pegread.specs.Definitions.{firsts}
@@ -22,90 +22,101 @@ use Rattle.ruletable.specs.declared.table.NameCase.TheVariants.{Exact}
 use Rattle.pegexplain.specs.PegNotes.{ArePegPlaces, sign_of}
 use Rattle.pegexplain.specs.declared.places.PegPlaces.{PegPlaces}
 use Rattle.pegexplain.specs.CodeHints.{hint_found}
-use Rattle.pegexplain.specs.PegHints.{ArePegHints, HintAt, hint_line, hint_told, hints_of, hints_told, literal_lines}
-use Rattle.pegexplain.specs.PegHints.{rule_told}
+use Rattle.pegexplain.specs.PegHints.{
+  ArePegHints,
+  HintAt,
+  hint_line,
+  hint_reported,
+  hints_of,
+  hints_reported,
+  literal_lines,
+}
+use Rattle.pegexplain.specs.PegHints.{rule_reported}
 use Rattle.pegexplain.specs.declared.hints.hints.Hint.{Hint}
-use Rattle.pegexplain.specs.declared.hints.told.TheConstants.{MAX_HINTS}
+use Rattle.pegexplain.specs.declared.hints.reported.TheConstants.{MAX_HINTS}
 
-told-behind : (f : HintAt → List ℕ) (hints : List Hint) (n : ℕ) (d : Hint) → n < length hints
+reported-after : (f : HintAt → List ℕ) (hints : List Hint) (n : ℕ) (d : Hint) → n < length hints
     → flat_map f (map hint_found (take (suc n) hints))
     ≡ flat_map f (map hint_found (take n hints)) ++ f (hint_found (get_or hints n d))
-told-behind f [] n d lt = absurd (omega (arith, lt))
-told-behind f (h ∷ hints) zero d lt = append-nil (f (hint_found h))
-told-behind f (h ∷ hints) (suc n) d lt =
-    ap (λ (z : List ℕ). f (hint_found h) ++ z) (told-behind f hints n d (omega (arith, lt)))
+reported-after f [] n d lt = absurd (omega (arith, lt))
+reported-after f (h ∷ hints) zero d lt = append-nil (f (hint_found h))
+reported-after f (h ∷ hints) (suc n) d lt =
+    ap (λ (z : List ℕ). f (hint_found h) ++ z) (reported-after f hints n d (omega (arith, lt)))
     ∙ sym (append_assoc (f (hint_found h)) (flat_map f (map hint_found (take n hints)))
     (f (hint_found (get_or hints n d))))
 
 -- one hint more
-pub told-more : (f : HintAt → List ℕ) (hints : List Hint) (n : ℕ) (d : Hint) (all old new : List ℕ) → n < length hints
+pub reported-more : (f : HintAt → List ℕ) (hints : List Hint) (n : ℕ) (d : Hint) (all old new : List ℕ)
+    → n < length hints
     → new ≡ old ++ f (hint_found (get_or hints n d)) → old ≡ all ++ flat_map f (map hint_found (take n hints))
     → new ≡ all ++ flat_map f (map hint_found (take (n + 1) hints))
-told-more f hints n d all old new lt more before =
+reported-more f hints n d all old new lt more before =
     let here = f (hint_found (get_or hints n d)) in
     more ∙ ap (λ (z : List ℕ). z ++ here) before
     ∙ append_assoc all (flat_map f (map hint_found (take n hints))) here
-    ∙ ap (λ (z : List ℕ). all ++ z) (sym (told-behind f hints n d lt))
+    ∙ ap (λ (z : List ℕ). all ++ z) (sym (reported-after f hints n d lt))
     ∙ ap (λ (k : ℕ). all ++ flat_map f (map hint_found (take k hints))) (sym (add-one n))
 
 min-turned : (a b : ℕ) → min a b ≡ min b a
 min-turned a b = omega arith
 
 -- the first ones, and how many more there are
-pub first-told : (lines : List ℕ → List ℕ) (hints : List Hint) (k : ℕ) (old out new : List ℕ)
-    → k ≡ min (length hints) MAX_HINTS → out ≡ old ++ flat_map (hint_told lines) (map hint_found (take k hints))
-    → new ≡ out ++ more_told (length hints - k) → new ≡ old ++ hints_told lines (map hint_found hints)
-first-told lines hints k old out new shown first rest =
+pub first-reported : (lines : List ℕ → List ℕ) (hints : List Hint) (k : ℕ) (old out new : List ℕ)
+    → k ≡ min (length hints) MAX_HINTS → out ≡ old ++ flat_map (hint_reported lines) (map hint_found (take k hints))
+    → new ≡ out ++ more_reported (length hints - k) → new ≡ old ++ hints_reported lines (map hint_found hints)
+first-reported lines hints k old out new shown first rest =
     let long = length-map hints hint_found in
     let left : length hints - k ≡ length (map hint_found hints) - MAX_HINTS = omega (arith, shown, long) in
-    let front : flat_map (hint_told lines) (map hint_found (take k hints))
-    ≡ flat_map (hint_told lines) (take MAX_HINTS (map hint_found hints)) =
-    ap (λ (n : ℕ). flat_map (hint_told lines) (map hint_found (take n hints))) (shown
+    let front : flat_map (hint_reported lines) (map hint_found (take k hints))
+    ≡ flat_map (hint_reported lines) (take MAX_HINTS (map hint_found hints)) =
+    ap (λ (n : ℕ). flat_map (hint_reported lines) (map hint_found (take n hints))) (shown
     ∙ min-turned (length hints) MAX_HINTS)
-    ∙ ap (λ (hs : List Hint). flat_map (hint_told lines) (map hint_found hs)) (take_min MAX_HINTS hints)
-    ∙ ap (λ (hs : List HintAt). flat_map (hint_told lines) hs) (sym (take-map hint_found MAX_HINTS hints)) in
-    rest ∙ ap (λ (z : List ℕ). z ++ more_told (length hints - k)) (first
+    ∙ ap (λ (hs : List Hint). flat_map (hint_reported lines) (map hint_found hs)) (take_min MAX_HINTS hints)
+    ∙ ap (λ (hs : List HintAt). flat_map (hint_reported lines) hs) (sym (take-map hint_found MAX_HINTS hints)) in
+    rest ∙ ap (λ (z : List ℕ). z ++ more_reported (length hints - k)) (first
     ∙ ap (λ (z : List ℕ). old ++ z) front)
-    ∙ append_assoc old (flat_map (hint_told lines) (take MAX_HINTS (map hint_found hints)))
-    (more_told (length hints - k))
-    ∙ ap (λ (n : ℕ). old ++ (flat_map (hint_told lines) (take MAX_HINTS (map hint_found hints)) ++ more_told n)) left
+    ∙ append_assoc old (flat_map (hint_reported lines) (take MAX_HINTS (map hint_found hints)))
+    (more_reported (length hints - k))
+    ∙ ap (λ (n : ℕ). old ++ (flat_map (hint_reported lines) (take MAX_HINTS (map hint_found hints)) ++ more_reported n))
+    left
 
 -- the rule of a hint, and its line after it
-pub hint-join : (o a b rule later earlier known lines : List ℕ) (place : ℕ) (line : Option ℕ) → a ≡ o ++ rule_told rule
+pub hint-join : (o a b rule later earlier known lines : List ℕ) (place : ℕ) (line : Option ℕ) → a ≡ o
+    ++ rule_reported rule
     → b ≡ a ++ hint_line line later earlier → line ≡ slice_get known place → known ≡ lines
-    → b ≡ o ++ (rule_told rule ++ hint_line (slice_get lines place) later earlier)
+    → b ≡ o ++ (rule_reported rule ++ hint_line (slice_get lines place) later earlier)
 hint-join o a b rule later earlier known lines place line f g is same =
     g ∙ ap (λ (z : List ℕ). z ++ hint_line line later earlier) f
-    ∙ append_assoc o (rule_told rule) (hint_line line later earlier)
-    ∙ ap (λ (l : Option ℕ). o ++ (rule_told rule ++ hint_line l later earlier))
+    ∙ append_assoc o (rule_reported rule) (hint_line line later earlier)
+    ∙ ap (λ (l : Option ℕ). o ++ (rule_reported rule ++ hint_line l later earlier))
     (is ∙ ap (λ (ls : List ℕ). slice_get ls place) same)
 
 -- lines that are the same report the same
 module _ (f g : List ℕ → List ℕ) (same : (name : List ℕ) → f name ≡ g name) where
-  each-same : (hints : List HintAt) → flat_map (hint_told f) hints ≡ flat_map (hint_told g) hints
+  each-same : (hints : List HintAt) → flat_map (hint_reported f) hints ≡ flat_map (hint_reported g) hints
   each-same [] = refl
   each-same (h ∷ hints) =
-      ap (λ (ls : List ℕ). (rule_told h.rule ++ hint_line (slice_get ls h.place) h.later h.earlier)
-      ++ flat_map (hint_told f) hints) (same h.rule)
-      ∙ ap (λ (z : List ℕ). hint_told g h ++ z) (each-same hints)
+      ap (λ (ls : List ℕ). (rule_reported h.rule ++ hint_line (slice_get ls h.place) h.later h.earlier)
+      ++ flat_map (hint_reported f) hints) (same h.rule)
+      ∙ ap (λ (z : List ℕ). hint_reported g h ++ z) (each-same hints)
 
-  pub told-same : (hints : List HintAt) → hints_told f hints ≡ hints_told g hints
-  told-same hints =
-      ap (λ (z : List ℕ). z ++ more_told (length hints - MAX_HINTS)) (each-same (take MAX_HINTS hints))
+  pub reported-same : (hints : List HintAt) → hints_reported f hints ≡ hints_reported g hints
+  reported-same hints =
+      ap (λ (z : List ℕ). z ++ more_reported (length hints - MAX_HINTS)) (each-same (take MAX_HINTS hints))
 
 -- what the code reports by its positions
-pub places-hint : (text : List ℕ) (found : PegPlaces) (told : List ℕ) → ArePegPlaces text found
-    → told ≡ hints_told (mention_lines_by found.places Literal) (hints_of (rules_of found.rules))
-    → ArePegHints text told
-places-hint text found told are e = record {
+pub places-hint : (text : List ℕ) (found : PegPlaces) (reported : List ℕ) → ArePegPlaces text found
+    → reported ≡ hints_reported (mention_lines_by found.places Literal) (hints_of (rules_of found.rules))
+    → ArePegHints text reported
+places-hint text found reported are e = record {
   tokens = are.places.tokens;
   are_tokens = are.places.are_tokens;
   definitions = are.rules.definitions;
   reads = are.rules.reads;
-  is = e ∙ told-same (mention_lines_by found.places Literal) (literal_lines text are.places.tokens)
+  is = e ∙ reported-same (mention_lines_by found.places Literal) (literal_lines text are.places.tokens)
       (λ name. places-mention White First is_end sign_of Any Exact text found.places Literal name are.places)
       (hints_of (rules_of found.rules))
-      ∙ ap (λ (rules : List Rule). hints_told (literal_lines text are.places.tokens) (hints_of rules))
+      ∙ ap (λ (rules : List Rule). hints_reported (literal_lines text are.places.tokens) (hints_of rules))
       are.rules.rules_are;
 }
 
@@ -114,8 +125,8 @@ pub hints-one : ((text : List ℕ) (a b : List Tok) → AreTokens (length text) 
     → (text a b : List ℕ) → ArePegHints text a → ArePegHints text b → a ≡ b
 hints-one listing reading text a b g h =
     g.is
-    ∙ ap (λ (ts : List Tok). hints_told (literal_lines text ts) (hints_of (firsts [] g.definitions)))
+    ∙ ap (λ (ts : List Tok). hints_reported (literal_lines text ts) (hints_of (firsts [] g.definitions)))
     (listing text g.tokens h.tokens g.are_tokens h.are_tokens)
-    ∙ ap (λ (ds : List Rule). hints_told (literal_lines text h.tokens) (hints_of (firsts [] ds)))
+    ∙ ap (λ (ds : List Rule). hints_reported (literal_lines text h.tokens) (hints_of (firsts [] ds)))
     (reading text g.definitions h.definitions g.reads h.reads)
     ∙ sym h.is

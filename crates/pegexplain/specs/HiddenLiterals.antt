@@ -17,13 +17,13 @@ first_literal (Seq (more e es)) = whole_literal e
 first_literal e = whole_literal e
 
 -- the first of some literals with which another one begins
-abbrev pub first_beginning : List (List ℕ) → Option (List ℕ) → Option (List ℕ)
-first_beginning before None = None
-first_beginning before (Some later) = find (λ earlier. starts_with (λ x y. x == y) later earlier) before
+abbrev pub first_prefix : List (List ℕ) → Option (List ℕ) → Option (List ℕ)
+first_prefix before None = None
+first_prefix before (Some later) = find (λ earlier. starts_with (λ x y. x == y) later earlier) before
 
 -- the literal by which an alternative is never taken, of those that are the alternatives before it
 abbrev pub hiding : List (List ℕ) → Pattern → Option (List ℕ)
-hiding before e = first_beginning before (first_literal e)
+hiding before e = first_prefix before (first_literal e)
 
 -- a literal, and that by which the alternative that begins with it is never taken, if there is one
 pub record LiteralAt : Type 0 where

@@ -5,11 +5,11 @@ use Rattle.fixpoint.specs.Leads.{Leads}
 use Rattle.gramcheck.specs.Left.{IsLeftRecursive, Nullable}
 use Rattle.pegread.specs.Definitions.{id_in}
 use Rattle.pegread.specs.Pattern.{Pattern, Rule}
-use Rattle.pegexplain.specs.LeftLines.{IsWayTold}
+use Rattle.pegexplain.specs.LeftLines.{IsWayReported}
 
 -- the test says exactly which expressions may take nothing
-abbrev pub TellsNullable : List Rule → (Pattern → Bool) → Type 0
-TellsNullable rules null = (e : Pattern) → (null e ≡ true) ↔ Nullable rules e
+abbrev pub SettlesNullable : List Rule → (Pattern → Bool) → Type 0
+SettlesNullable rules null = (e : Pattern) → (null e ≡ true) ↔ Nullable rules e
 
 -- where each row has the rules to which left steps lead, a rule leads back to itself exactly if it is left-recursive
 -- (Ford 2004, section 3.6)
@@ -34,10 +34,10 @@ EndsEarly marks end = (id : ℕ) → id < length marks → nat_lt id end ≡ is_
 module _ (rules : List Rule) (null : Pattern → Bool) (lines : List ℕ → List ℕ) where
   -- of an early one the steps of the way back, and of another one where it is defined
   abbrev pub IsWayOr : List ℕ → ℕ → Bool → List ℕ → Type 0
-  IsWayOr defined id true told = IsWayTold rules null lines id told
-  IsWayOr defined id false told = told ≡ defined
+  IsWayOr defined id true reported = IsWayReported rules null lines id reported
+  IsWayOr defined id false reported = reported ≡ defined
 
   -- of no rule there are none
   abbrev pub AreLeftLines : List ℕ → List Bool → Option ℕ → List ℕ → Type 0
-  AreLeftLines defined marks None told = told ≡ []
-  AreLeftLines defined marks (Some id) told = IsWayOr defined id (is_early marks id) told
+  AreLeftLines defined marks None reported = reported ≡ []
+  AreLeftLines defined marks (Some id) reported = IsWayOr defined id (is_early marks id) reported

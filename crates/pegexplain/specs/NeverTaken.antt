@@ -44,6 +44,6 @@ abbrev pub whole_literals : List Pattern → List (List ℕ)
 whole_literals = flat_map (λ e. option_to_list (whole_literal e))
 
 -- an alternative after others is hidden exactly if it is never taken
-abbrev pub TellsNeverTaken : Type 0
-TellsNeverTaken = (before after : List Pattern) (e : Pattern) (earlier : List ℕ)
+abbrev pub ReportsNeverTaken : Type 0
+ReportsNeverTaken = (before after : List Pattern) (e : Pattern) (earlier : List ℕ)
     → (hiding (whole_literals before) e ≡ Some earlier) ↔ NeverTaken (before ++ e ∷ after) (length before) earlier

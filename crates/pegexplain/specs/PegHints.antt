@@ -5,7 +5,7 @@ use Rattle.std.specs.List.{enumerate_from, flat_map}
 use Rattle.diagnostics.specs.ShownBytes.{cut}
 use Rattle.diagnostics.specs.DefinitionHeads.{sign_at}
 use Rattle.diagnostics.specs.MentionLines.{lines_mentioned}
-use Rattle.diagnostics.specs.NoteLines.{more_told}
+use Rattle.diagnostics.specs.NoteLines.{more_reported}
 use Rattle.diagnostics.specs.declared.noteplaces.mentions.MentionKind.TheVariants.{Literal}
 use Rattle.pegprint.specs.Canon.{text_of}
 use Rattle.pegread.specs.Definitions.{firsts}
@@ -42,8 +42,8 @@ abbrev pub hints_of : List Rule → List HintAt
 hints_of rules = flat_map (λ rule. body_hints rule.name rule.body) rules
 
 -- what is reported of the rule
-abbrev pub rule_told : List ℕ → List ℕ
-rule_told rule = codes "alternative never taken in rule '" ++ (cut rule ++ codes "'\n")
+abbrev pub rule_reported : List ℕ → List ℕ
+rule_reported rule = codes "alternative never taken in rule '" ++ (cut rule ++ codes "'\n")
 
 -- the line of the later literal, and both
 abbrev pub hint_line : Option ℕ → List ℕ → List ℕ → List ℕ
@@ -53,21 +53,21 @@ hint_line (Some line) later earlier = codes "  line " ++ (decimal line ++ (codes
 
 -- where it is known on which lines the literals of a rule stand
 module _ (lines : List ℕ → List ℕ) where
-  abbrev pub hint_told : HintAt → List ℕ
-  hint_told h = rule_told h.rule ++ hint_line (slice_get (lines h.rule) h.place) h.later h.earlier
+  abbrev pub hint_reported : HintAt → List ℕ
+  hint_reported h = rule_reported h.rule ++ hint_line (slice_get (lines h.rule) h.place) h.later h.earlier
 
   -- the first 16 hints, and how many more there are
-  abbrev pub hints_told : List HintAt → List ℕ
-  hints_told hints = flat_map hint_told (take 16 hints) ++ more_told (length hints - 16)
+  abbrev pub hints_reported : List HintAt → List ℕ
+  hints_reported hints = flat_map hint_reported (take 16 hints) ++ more_reported (length hints - 16)
 
 -- on which lines the literals in the first definition of a name stand
 abbrev pub literal_lines : List ℕ → List Tok → List ℕ → List ℕ
 literal_lines text tokens rule = lines_mentioned Any Exact text (map (sign_at sign_of) tokens) Literal rule
 
 -- what is reported of the rules of a text that stand
-pub record ArePegHints (text told : List ℕ) : Type 0 where
+pub record ArePegHints (text reported : List ℕ) : Type 0 where
   pub tokens : List Tok
   pub are_tokens : AreTokens (length text) text tokens
   pub definitions : List Rule
   pub reads : Reads text definitions
-  pub is : told ≡ hints_told (literal_lines text tokens) (hints_of (firsts [] definitions))
+  pub is : reported ≡ hints_reported (literal_lines text tokens) (hints_of (firsts [] definitions))

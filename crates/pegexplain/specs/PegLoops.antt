@@ -41,9 +41,9 @@ repeat_line (Some line) e = codes "  line " ++ (decimal line ++ (codes ": " ++ (
     ++ codes " repeats what may take nothing\n")))
 
 -- the line of one whose mark has that place among the marks on these lines
-abbrev pub repeat_told : List ℕ → Option RepeatAt → List ℕ
-repeat_told lines None = []
-repeat_told lines (Some r) = repeat_line (slice_get lines r.place) r.repeat
+abbrev pub repeat_reported : List ℕ → Option RepeatAt → List ℕ
+repeat_reported lines None = []
+repeat_reported lines (Some r) = repeat_line (slice_get lines r.place) r.repeat
 
 module _ (rules : List Rule) where
   -- it repeats what may take nothing
@@ -66,7 +66,7 @@ module _ (rules : List Rule) where
   pub record IsLoopLine (lines : List ℕ) (body : Pattern) (line : List ℕ) : Type 0 where
     pub found : Option RepeatAt
     pub is_first : IsLoopOf (repeats_in body) found
-    pub is : line ≡ repeat_told lines found
+    pub is : line ≡ repeat_reported lines found
 
   -- and for a rule, if it has a body
   abbrev pub IsLoopLineIf : List ℕ → Option Pattern → List ℕ → Type 0

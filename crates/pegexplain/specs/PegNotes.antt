@@ -28,7 +28,7 @@ use Rattle.ruletable.specs.declared.table.NameCase.TheVariants.{Exact}
 use Rattle.gramcheck.specs.GrammarNotes.{AreMarks}
 use Rattle.gramcheck.specs.Left.{IsLeftRecursive, Nullable}
 use Rattle.gramcheck.specs.Uses.{names_in}
-use Rattle.pegexplain.specs.LeftNotes.{AreLeftLines, EndsEarly, TellsNullable}
+use Rattle.pegexplain.specs.LeftNotes.{AreLeftLines, EndsEarly, SettlesNullable}
 use Rattle.pegexplain.specs.PegLoops.{IsLoopLineIf}
 use Rattle.pegexplain.specs.declared.places.PegPlaces.{PegPlaces}
 
@@ -53,7 +53,7 @@ abbrev pub marked_lines : List ℕ → List Tok → List ℕ → List ℕ
 marked_lines text tokens name = lines_mentioned Any Exact text (map (sign_at sign_of) tokens) Repeat name
 
 -- the line of the first repetition, in the rule of that name, of what may take nothing
-pub record IsLoopTold (text : List ℕ) (name line : List ℕ) : Type 0 where
+pub record IsLoopReported (text : List ℕ) (name line : List ℕ) : Type 0 where
   pub tokens : List Tok
   pub are_tokens : AreTokens (length text) text tokens
   pub definitions : List Rule
@@ -70,30 +70,30 @@ abbrev pub defined_lines : List ℕ → List Tok → List ℕ → List ℕ
 defined_lines text tokens name = defined_line Exact (definitions_in Any text (map (sign_at sign_of) tokens)) name
 
 -- the steps of the way from the left-recursive rule of that name back to itself, if it is among the first ones
-pub record IsLeftTold (text : List ℕ) (name line : List ℕ) : Type 0 where
+pub record IsLeftReported (text : List ℕ) (name line : List ℕ) : Type 0 where
   pub tokens : List Tok
   pub are_tokens : AreTokens (length text) text tokens
   pub definitions : List Rule
   pub reads : Reads text definitions
   pub null : Pattern → Bool
-  pub tells : TellsNullable (firsts [] definitions) null
+  pub reports : SettlesNullable (firsts [] definitions) null
   pub recursive : List Bool
   pub are_recursive : AreMarks (IsLeftRecursive (firsts [] definitions)) (firsts [] definitions) recursive
   pub is : AreLeftLines (firsts [] definitions) null (named_lines text tokens) (defined_lines text tokens name)
       recursive (id_in (firsts [] definitions) name) line
 
 -- they follow notes on left-recursive rules, and on rules that repeat what may take nothing
-abbrev pub IsLineBehind : List ℕ → NoteKind → List ℕ → List ℕ → Type 0
-IsLineBehind text LeftRecursion name line = IsLeftTold text name line
-IsLineBehind text Loop name line = IsLoopTold text name line
-IsLineBehind text _ name line = line ≡ []
+abbrev pub IsFollowingLine : List ℕ → NoteKind → List ℕ → List ℕ → Type 0
+IsFollowingLine text LeftRecursion name line = IsLeftReported text name line
+IsFollowingLine text Loop name line = IsLoopReported text name line
+IsFollowingLine text _ name line = line ≡ []
 
 -- the lines after a note, where that name is given for the start rule
 pub record ExplainsNote (text : List ℕ) (start : Option (List ℕ)) (note : Said) (why : List ℕ) : Type 0 where
   pub lines : List ℕ
   pub line : List ℕ
   pub explains : IsNoteExplained White First is_end sign_of Any Exact text start note lines
-  pub behind : IsLineBehind text note.kind note.name line
+  pub after : IsFollowingLine text note.kind note.name line
   pub is : why ≡ lines ++ line
 
 -- the code's rules are those of a text

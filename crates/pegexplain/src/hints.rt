@@ -3,7 +3,7 @@
 mod hints;
 mod laws;
 mod literals;
-mod told;
+mod reported;
 
 pub use laws::{never_taken, one_text_of_hints};
-pub use told::{MAX_HINTS, peg_hints};
+pub use reported::{MAX_HINTS, peg_hints};

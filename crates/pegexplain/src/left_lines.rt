@@ -4,8 +4,8 @@ ghost use Rattle.pegprint.specs.CanonMembers.{member_text as member, members_tex
 ghost use Rattle.pegread.specs.PegViews.{pattern_of, patterns, rules_of};
 ghost use Rattle.diagnostics.specs.MentionLines.{mention_lines_by};
 ghost use Rattle.pegexplain.specs.FoundUses.{use_found};
-ghost use Rattle.pegexplain.specs.LeftLines.{is_left_use, line_of_first, skipped_if, skipped_told, step_between};
-ghost use Rattle.pegexplain.specs.LeftLines.{step_line, steps_told};
+ghost use Rattle.pegexplain.specs.LeftLines.{is_left_use, line_of_first, skipped_if, skipped_reported, step_between};
+ghost use Rattle.pegexplain.specs.LeftLines.{step_line, steps_reported};
 ghost use Rattle.pegexplain.specs.LeftUses.{uses_in};
 ghost use Rattle.pegexplain.specs.NullTests.{null_mark_of, nullable_by};
 
@@ -92,7 +92,7 @@ fn members_text(alloc: Global, first: &Expr, rest: &[&Expr]) -> Result<Vec<u8>, 
 // Adds the text on the members that a step skips.
 fn push_skipped(alloc: Global, out: &mut Vec<u8>, skipped: &[&Expr]) -> Result<(), Memory>
     ensures { OnOk result (out.new.items ≡ out.old.items
-        ++ skipped_told (map (λ x. pattern_of x.now) skipped.now)) }
+        ++ skipped_reported (map (λ x. pattern_of x.now) skipped.now)) }
 {
     match skipped.split_first() {
         Some((first, rest)) => {
@@ -123,9 +123,9 @@ fn push_step(
     line: Option<usize>,
     from: &[u8],
     to: &[u8],
-    behind: &[u8],
+    after: &[u8],
 ) -> Result<(), Memory>
-    ensures { OnOk result (out.new.items ≡ out.old.items ++ step_line line from.now to.now behind.now) }
+    ensures { OnOk result (out.new.items ≡ out.old.items ++ step_line line from.now to.now after.now) }
 {
     let Some(line) = line else {
         return Ok(());
@@ -137,7 +137,7 @@ fn push_step(
     out.extend_from_slice(b"' begins with '")?;
     push_cut(out, to)?;
     out.extend_from_slice(b"'")?;
-    out.extend_from_slice(behind)?;
+    out.extend_from_slice(after)?;
     out.extend_from_slice(b"\n")?;
     Ok(())
 }
@@ -164,8 +164,8 @@ fn push_step_between(
     let name = places.rules.name(to);
     let line = left_line(alloc, places, rule, body, name)?;
     let skipped = skipped_before(alloc, &places.rules, &places.nulls, name, body)?;
-    let behind = skipped_text(alloc, skipped)?;
-    push_step(out, line, rule, name, behind.as_slice())?;
+    let after = skipped_text(alloc, skipped)?;
+    push_step(out, line, rule, name, after.as_slice())?;
     Ok(())
 }
 
@@ -184,7 +184,7 @@ fn next_of(rest: &[usize], first: usize) -> usize
 ///
 /// # Errors
 /// `Memory` if an allocation fails.
-#[cycle(telling)]
+#[cycle(reporting)]
 pub fn push_steps(
     alloc: Global,
     out: &mut Vec<u8>,
@@ -193,7 +193,7 @@ pub fn push_steps(
     budget: usize,
     ids: &[usize],
 ) -> Result<(), Memory>
-    ensures { OnOk result (out.new.items ≡ out.old.items ++ steps_told (rules_of places.now.rules)
+    ensures { OnOk result (out.new.items ≡ out.old.items ++ steps_reported (rules_of places.now.rules)
         (nullable_by (null_mark_of places.now.rules places.now.nulls.items))
         (mention_lines_by places.now.places MentionKind.Use) first budget ids.now) }
 {

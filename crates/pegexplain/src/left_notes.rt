@@ -7,11 +7,11 @@ ghost use Rattle.diagnostics.specs.declared.noteplaces.mentions.MentionKind.TheV
 ghost use Rattle.pegread.specs.PegViews.{pattern_of, rules_of};
 ghost use Rattle.ruletable.specs.Rules.{find_in};
 ghost use Rattle.fixpoint.specs.ShortChains.{IsRoundIfAny};
-ghost use Rattle.pegexplain.specs.LeftLines.{way_told};
+ghost use Rattle.pegexplain.specs.LeftLines.{way_reported};
 ghost use Rattle.pegexplain.specs.LeftNotes.{EndsEarly};
 ghost use Rattle.pegexplain.specs.LeftUses.{left_row};
 ghost use Rattle.pegexplain.specs.NullTests.{null_mark_of, nullable_by};
-ghost use Rattle.pegexplain.specs.PegNotes.{ArePegPlaces, IsLeftTold};
+ghost use Rattle.pegexplain.specs.PegNotes.{ArePegPlaces, IsLeftReported};
 
 use crate::left_lines::{MAX_STEPS, push_steps};
 use crate::left_uses::left_rows;
@@ -67,7 +67,7 @@ fn push_way(alloc: Global, out: &mut Vec<u8>, places: &PegPlaces, id: usize) -> 
         × IsRoundIfAny (map (λ rule. left_row (find_in places.now.rules)
         (nullable_by (null_mark_of places.now.rules places.now.nulls.items)) (pattern_of rule.body))
         places.now.rules.rules) id chain
-        × (out.new.items ≡ out.old.items ++ way_told (rules_of places.now.rules)
+        × (out.new.items ≡ out.old.items ++ way_reported (rules_of places.now.rules)
         (nullable_by (null_mark_of places.now.rules places.now.nulls.items))
         (mention_lines_by places.now.places Use) id chain)) }
 {
@@ -92,7 +92,7 @@ pub(crate) fn push_left(
     name: &[u8],
 ) -> Result<(), Memory>
     ensures { OnOk result ((text : List ℕ) → ArePegPlaces text places.now → (line : List ℕ)
-        × IsLeftTold text name.now line × (out.new.items ≡ out.old.items ++ line)) }
+        × IsLeftReported text name.now line × (out.new.items ≡ out.old.items ++ line)) }
 {
     let Some(id) = places.rules.find(name)? else {
         return Ok(());

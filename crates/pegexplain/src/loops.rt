@@ -3,7 +3,7 @@ ghost use Rattle.std.specs.Prelude.{◌≡◌, ◌++◌, Some, map, Option, IfOk
 ghost use Rattle.pegprint.specs.Canon.{text_of as canonical};
 ghost use Rattle.pegread.specs.PegViews.{pattern_of, patterns_of};
 ghost use Rattle.pegexplain.specs.NullTests.{IsLoopBy, null_mark_of};
-ghost use Rattle.pegexplain.specs.PegLoops.{RepeatAt, repeat_line, repeat_told, repeats_in, repeats_in_all};
+ghost use Rattle.pegexplain.specs.PegLoops.{RepeatAt, repeat_line, repeat_reported, repeats_in, repeats_in_all};
 ghost use Rattle.pegexplain.specs.FoundRepeats.{repeat_found};
 
 use crate::nulls::is_loop;
@@ -109,7 +109,7 @@ fn push_repeat(
     found: Option<Repeat<'_>>,
 ) -> Result<(), Memory>
     ensures { OnOk result (out.new.items
-        ≡ out.old.items ++ repeat_told lines.now (option_map repeat_found found.entry)) }
+        ≡ out.old.items ++ repeat_reported lines.now (option_map repeat_found found.entry)) }
 {
     let Some(found) = found else {
         return Ok(());
@@ -134,7 +134,7 @@ pub(crate) fn push_first_loop(
 ) -> Result<(), Memory>
     ensures { OnOk result ((found : Option RepeatAt)
         × IsLoopBy (null_mark_of rules.now marks.now) (repeats_in (pattern_of body.now)) found
-        × (out.new.items ≡ out.old.items ++ repeat_told lines.now found)) }
+        × (out.new.items ≡ out.old.items ++ repeat_reported lines.now found)) }
 {
     let mut repeats = Vec::new(alloc);
     add_repeats(body, &mut repeats)?;

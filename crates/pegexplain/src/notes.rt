@@ -1,7 +1,7 @@
 //! Explanations of notes.
 ghost use Rattle.std.specs.Prelude.{◌≡◌, ◌++◌, ℕ, List, Option, IfOk, OnOk, option_copied};
 ghost use Rattle.ruletable.specs.Notes.{Said, said_of};
-ghost use Rattle.pegexplain.specs.PegNotes.{ArePegPlaces, ExplainsNote, IsLineBehind, IsLoopTold};
+ghost use Rattle.pegexplain.specs.PegNotes.{ArePegPlaces, ExplainsNote, IsFollowingLine, IsLoopReported};
 
 use crate::left_notes::push_left;
 use crate::loops::push_first_loop;
@@ -21,7 +21,7 @@ fn push_loop(
     name: &[u8],
 ) -> Result<(), Memory>
     ensures { OnOk result ((text : List ℕ) → ArePegPlaces text places.now → (line : List ℕ)
-        × IsLoopTold text name.now line × (out.new.items ≡ out.old.items ++ line)) }
+        × IsLoopReported text name.now line × (out.new.items ≡ out.old.items ++ line)) }
 {
     let Some(id) = places.rules.find(name)? else {
         return Ok(());
@@ -39,14 +39,14 @@ fn push_loop(
 }
 
 // Adds the line that follows those of a note, if one does.
-fn push_behind(
+fn push_after(
     alloc: Global,
     out: &mut Vec<u8>,
     places: &PegPlaces,
     note: &Note,
 ) -> Result<(), Memory>
     ensures { OnOk result ((text : List ℕ) → ArePegPlaces text places.now → (line : List ℕ)
-        × IsLineBehind text note.now.kind note.now.name.items line × (out.new.items ≡ out.old.items ++ line)) }
+        × IsFollowingLine text note.now.kind note.now.name.items line × (out.new.items ≡ out.old.items ++ line)) }
 {
     match note.kind {
         NoteKind::LeftRecursion => {
@@ -82,7 +82,7 @@ pub fn explain_peg_note(
         → ExplainsNote text (option_copied start.entry) (said_of note.now) why.items) }
 {
     let mut why = explain_note(alloc, &places.places, start, note)?;
-    push_behind(alloc, &mut why, places, note)?;
+    push_after(alloc, &mut why, places, note)?;
     Ok(why)
 }
 

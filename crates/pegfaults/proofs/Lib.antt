@@ -3,4 +3,4 @@ pub mod CanStandLemmas
 pub mod TakenTokensLemmas
 pub mod PegExplainedLemmas
 pub mod PegWhyLemmas
-mod TellsKindsLemmas
+mod ReportsKindsLemmas

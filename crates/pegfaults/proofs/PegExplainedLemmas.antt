@@ -8,18 +8,18 @@ use Rattle.lexer.specs.Pieces.{LiesIn}
 use Rattle.lexer.specs.TokenLists.{start_of}
 use Rattle.lexer.specs.declared.limits.TheConstants.{MAX_GRAMMAR}
 use Rattle.diagnostics.specs.PhraseLists.{listed}
-use Rattle.diagnostics.specs.ToldPhrases.{AreTold}
-use Rattle.diagnostics.proofs.PhraseLemmas.{told-same}
+use Rattle.diagnostics.specs.ReportedPhrases.{AreAllReported}
+use Rattle.diagnostics.proofs.PhraseLemmas.{reported-same}
 use Rattle.pegread.specs.declared.kind.Kind.{Kind}
 use Rattle.pegread.specs.Reading.{IsHopeless, IsTooDeep, IsDecidedAt, IsFaultOf}
 use Rattle.pegread.specs.Tokens.{Tok, AreTokens}
 use Rattle.ruletable.specs.declared.fault.ReadFault.{ReadFault}
 use Rattle.ruletable.specs.declared.fault.ReadFault.TheVariants as faults
 use Rattle.pegfaults.specs.declared.stand.Place.{Place}
-use Rattle.pegfaults.specs.PegDecisions.{IsTokenOf, TellsKinds, NoneDecides}
+use Rattle.pegfaults.specs.PegDecisions.{IsTokenOf, ReportsKinds, NoneDecides}
 use Rattle.pegfaults.specs.PegExpected.{CanStand, phrases}
 use Rattle.pegfaults.specs.PegExplained.{token_place, Why, hopeless, too_deep}
-use Rattle.pegfaults.specs.PegMistakes.{mistake_told}
+use Rattle.pegfaults.specs.PegMistakes.{mistake_reported}
 use Rattle.pegfaults.specs.PegStands.{allows}
 
 -- a token of a text lies in it
@@ -34,25 +34,25 @@ start-within text t D lies h =
     let within = here.within in
     omega arith
 
-module _ (place : Place) (ts : List Tok) (i : ℕ) (h : TellsKinds place ts i) where
+module _ (place : Place) (ts : List Tok) (i : ℕ) (h : ReportsKinds place ts i) where
   by-test : (k : Kind) (b : Bool) → allows place k ≡ b → CanStand ts i k → allows place k ≡ true
   by-test k true e s = e
   by-test k false e s = absurd (h.other k e s)
 
   -- what the place says can stand there
-  pub place-tells : {ws : List (List ℕ)} → AreTold (λ k. allows place k ≡ true) phrases ws
-      → AreTold (CanStand ts i) phrases ws
-  place-tells t = told-same h.stand (λ k s. by-test k (allows place k) refl s) t
+  pub place-reports : {ws : List (List ℕ)} → AreAllReported (λ k. allows place k ≡ true) phrases ws
+      → AreAllReported (CanStand ts i) phrases ws
+  place-reports t = reported-same h.stand (λ k s. by-test k (allows place k) refl s) t
 
 module _ (text : List ℕ) (t : Tok) (within : length text ≤ MAX_GRAMMAR) where
-  pub hopeless-why : (place : Place) (told : List (List ℕ)) (why : List ℕ) →
-      IsTokenOf text t (λ ts i. IsHopeless ts i × TellsKinds place ts i)
-      → AreTold (λ k. allows place k ≡ true) phrases told
+  pub hopeless-why : (place : Place) (reported : List (List ℕ)) (why : List ℕ) →
+      IsTokenOf text t (λ ts i. IsHopeless ts i × ReportsKinds place ts i)
+      → AreAllReported (λ k. allows place k ≡ true) phrases reported
       → ((all : List Tok) → AreTokens (length text) text all → why ≡ token_place text t ++ (codes "expected "
-      ++ (listed told ++ (codes "\n" ++ mistake_told text all t))))
+      ++ (listed reported ++ (codes "\n" ++ mistake_reported text all t))))
       → Why text why
-  hopeless-why place told why h tells e = rw (e h.all h.are_tokens)
-      (hopeless within h.are_tokens h.there h.holds.0 (place-tells place h.all h.number h.holds.1 tells))
+  hopeless-why place reported why h reports e = rw (e h.all h.are_tokens)
+      (hopeless within h.are_tokens h.there h.holds.0 (place-reports place h.all h.number h.holds.1 reports))
 
   pub deep-why : (why : List ℕ) → IsTokenOf text t IsTooDeep
       → why ≡ token_place text t ++ codes "200 brackets are open before it\n" → Why text why
@@ -77,8 +77,8 @@ fault-decided text (faults.NumberTooLarge line) m l h = absurd h
 pub two-join : (o a b place said : List ℕ) → o ≡ [] → a ≡ o ++ place → b ≡ a ++ said → b ≡ place ++ said
 two-join o a b place said z f g = rw (g, f, z) refl
 
-pub five-join : (o a b c d e place said told end facts : List ℕ) → o ≡ [] → a ≡ o ++ place → b ≡ a ++ said
-    → c ≡ b ++ told → d ≡ c ++ end → e ≡ d ++ facts → e ≡ place ++ (said ++ (told ++ (end ++ facts)))
-five-join o a b c d e place said told end facts z f g h k l =
-    let whole : e ≡ (((place ++ said) ++ told) ++ end) ++ facts = rw (l, k, h, g, f, z) refl in
+pub five-join : (o a b c d e place said reported end facts : List ℕ) → o ≡ [] → a ≡ o ++ place → b ≡ a ++ said
+    → c ≡ b ++ reported → d ≡ c ++ end → e ≡ d ++ facts → e ≡ place ++ (said ++ (reported ++ (end ++ facts)))
+five-join o a b c d e place said reported end facts z f g h k l =
+    let whole : e ≡ (((place ++ said) ++ reported) ++ end) ++ facts = rw (l, k, h, g, f, z) refl in
     whole ∙ simp append_assoc

@@ -5,8 +5,8 @@ use Rattle.std.proofs.Common.{length, take}
 use Rattle.lexer.proofs.ViabilityLemmas as viability
 use Rattle.lexer.specs.declared.limits.TheConstants.{MAX_OPEN}
 use Rattle.diagnostics.specs.PhraseLists.{listed}
-use Rattle.diagnostics.specs.ToldPhrases.{AreTold}
-use Rattle.diagnostics.proofs.OneToldLemmas.{one-told}
+use Rattle.diagnostics.specs.ReportedPhrases.{AreAllReported}
+use Rattle.diagnostics.proofs.OneReportedLemmas.{one-reported}
 use Rattle.ruletable.specs.declared.fault.ReadFault.{ReadFault}
 use Rattle.ruletable.specs.declared.fault.ReadFault.TheVariants as faults
 use Rattle.pegread.specs.Spelling.{Grammar, Viable}
@@ -17,7 +17,7 @@ use Rattle.pegread.proofs.IsShallowLemmas.{shallow-take}
 use Rattle.pegread.proofs.SliceLemmas.{tokens-one}
 use Rattle.pegfaults.specs.PegExpected.{CanStand, phrases}
 use Rattle.pegfaults.specs.PegExplained.{Why, too_long, hopeless, too_deep, Explains, token_place}
-use Rattle.pegfaults.specs.PegMistakes.{mistake_told}
+use Rattle.pegfaults.specs.PegMistakes.{mistake_reported}
 
 abbrev Decides : List Tok → ℕ → Type 0
 Decides ts i = IsHopeless ts i ⊎ IsTooDeep ts i
@@ -54,28 +54,28 @@ not-both text all others i j t u are are' at at' h k =
     let deep : IsTooDeep all j = (let d = k in rw one.lists at d) in
     viability.not-both Viable AreWithin viable-take within-take all i h (let d = deep in rw one.numbers at d)
 
-abbrev told_lines : List ℕ → List Tok → Tok → List (List ℕ) → List ℕ
-told_lines text all t told =
-    token_place text t ++ (codes "expected " ++ (listed told ++ (codes "\n" ++ mistake_told text all t)))
+abbrev reported_lines : List ℕ → List Tok → Tok → List (List ℕ) → List ℕ
+reported_lines text all t reported =
+    token_place text t ++ (codes "expected " ++ (listed reported ++ (codes "\n" ++ mistake_reported text all t)))
 
 one-why : (text a b : List ℕ) → Why text a → Why text b → a ≡ b
 one-why text a b (too_long l) (too_long m) = refl
-one-why text a b (too_long l) (hopeless w are at h told) = absurd (omega (arith, l, w))
+one-why text a b (too_long l) (hopeless w are at h reported) = absurd (omega (arith, l, w))
 one-why text a b (too_long l) (too_deep w are at h) = absurd (omega (arith, l, w))
-one-why text a b (hopeless w are at h told) (too_long l) = absurd (omega (arith, l, w))
+one-why text a b (hopeless w are at h reported) (too_long l) = absurd (omega (arith, l, w))
 one-why text a b (too_deep w are at h) (too_long l) = absurd (omega (arith, l, w))
-one-why text a b (hopeless {all = all} {i = i} {t = t} {told = said} w are at h told)
-    (hopeless {all = others} {i = j} {t = u} {told = say} v are' at' k tell) =
+one-why text a b (hopeless {all = all} {i = i} {t = t} {reported = said} w are at h reported)
+    (hopeless {all = others} {i = j} {t = u} {reported = say} v are' at' k report) =
     let one = one-token text all others i j t u are are' at at' (inl h) (inl k) in
-    let there : AreTold (CanStand all i) phrases say = (let d = tell in rw (one.lists, one.numbers) at d) in
-    ap (λ (ts : List Tok). told_lines text ts t said) (sym one.lists)
-    ∙ ap (λ (x : Tok). told_lines text others x said) one.tokens
-    ∙ ap (λ (ws : List (List ℕ)). told_lines text others u ws) (one-told told there)
-one-why text a b (hopeless {all = all} {i = i} {t = t} w are at h told)
+    let there : AreAllReported (CanStand all i) phrases say = (let d = report in rw (one.lists, one.numbers) at d) in
+    ap (λ (ts : List Tok). reported_lines text ts t said) (sym one.lists)
+    ∙ ap (λ (x : Tok). reported_lines text others x said) one.tokens
+    ∙ ap (λ (ws : List (List ℕ)). reported_lines text others u ws) (one-reported reported there)
+one-why text a b (hopeless {all = all} {i = i} {t = t} w are at h reported)
     (too_deep {all = others} {i = j} {t = u} v are' at' k) =
     absurd (not-both text all others i j t u are are' at at' h k)
 one-why text a b (too_deep {all = all} {i = i} {t = t} w are at h)
-    (hopeless {all = others} {i = j} {t = u} v are' at' k told) =
+    (hopeless {all = others} {i = j} {t = u} v are' at' k reported) =
     absurd (not-both text others all j i u t are' are at' at k h)
 one-why text a b (too_deep {all = all} {i = i} {t = t} w are at h)
     (too_deep {all = others} {i = j} {t = u} v are' at' k) =

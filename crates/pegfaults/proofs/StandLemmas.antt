@@ -16,7 +16,7 @@ use Rattle.pegread.specs.Machine.{levels_in, Mark, no_mark}
 use Rattle.pegread.specs.Machine.{not_mark, and_mark, fresh, read, read_name, snoc, apply, fresh_step, read_step}
 use Rattle.pegread.specs.Machine.{name_step, step}
 use Rattle.pegfaults.specs.declared.stand.Place.{Place}
-use Rattle.pegfaults.specs.PegStands.{place_of, stand_of, goes, behind_primary}
+use Rattle.pegfaults.specs.PegStands.{place_of, stand_of, goes, after_primary}
 
 -- the kind of the tokens that say a word
 abbrev pub kind_said : Word → Kind
@@ -105,7 +105,7 @@ fresh-goes h o bs es and_mark (Action t) = refl
 fresh-goes h o bs es and_mark End = refl
 
 read-goes : (h : Head) (o : List Level) (bs es : Patterns) (m : Mark) (x : Pattern) (w : Word)
-    → place_after (read_step h o bs es m x w) ≡ behind_primary (levels o) (kind_said w)
+    → place_after (read_step h o bs es m x w) ≡ after_primary (levels o) (kind_said w)
 read-goes h o bs es m x Quest = refl
 read-goes h o bs es m x Star = refl
 read-goes h o bs es m x Plus = refl

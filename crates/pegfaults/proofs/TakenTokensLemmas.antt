@@ -26,7 +26,7 @@ use Rattle.pegread.proofs.SaysLemmas.{token-says}
 use Rattle.pegread.proofs.SliceLemmas.{tokens-one}
 use Rattle.pegfaults.specs.declared.stand.Place.{Place}
 use Rattle.pegfaults.specs.declared.stand.Stand.TheVariants.{Start}
-use Rattle.pegfaults.specs.PegDecisions.{IsTokenOf, TellsKinds, NoneDecides}
+use Rattle.pegfaults.specs.PegDecisions.{IsTokenOf, ReportsKinds, NoneDecides}
 use Rattle.pegfaults.specs.PegStands.{place_of, place_at, goes}
 use Rattle.pegfaults.proofs.CanStandLemmas.{after-some, goes-bad, viable-taken, step-there, stops-there, can-stand}
 use Rattle.pegfaults.proofs.CanStandLemmas.{cannot-stand}
@@ -85,9 +85,9 @@ module _ {text : List ℕ} {left : List Tok → Type 0} {place : Place} {ts : Li
 
   -- no token of its kind can stand there
   pub hopeless-there : goes place.stand place.depth (kind_of t) ≡ None
-      → IsTokenOf text t (λ us i. IsHopeless us i × TellsKinds place us i) × (place.depth ≤ MAX_OPEN)
+      → IsTokenOf text t (λ us i. IsHopeless us i × ReportsKinds place us i) × (place.depth ≤ MAX_OPEN)
   hopeless-there none = (
-    there-is (λ us i. IsHopeless us i × TellsKinds place us i) (
+    there-is (λ us i. IsHopeless us i × ReportsKinds place us i) (
       hopeless-next h.config h.say h.reached h.shallow t others
           (stops-there h.config h.say h.reached h.shallow place h.stands t none),
       record {

@@ -20,13 +20,13 @@ pub record IsTokenOf (text : List ℕ) (t : Tok) (Holds : List Tok → ℕ → T
   pub holds : Holds all number
 
 -- the place says which kinds can stand where token i does
-pub record TellsKinds (place : Place) (ts : List Tok) (i : ℕ) : Type 0 where
+pub record ReportsKinds (place : Place) (ts : List Tok) (i : ℕ) : Type 0 where
   pub stand : (k : Kind) → allows place k ≡ true → CanStand ts i k
   pub other : (k : Kind) → allows place k ≡ false → CanStand ts i k → ⊥
 
 abbrev pub Decides : List ℕ → Decision → Type 0
 Decides text (Hopeless place token) =
-    IsTokenOf text (tok_of token) (λ ts i. IsHopeless ts i × TellsKinds place ts i) × (place.depth ≤ max_open)
+    IsTokenOf text (tok_of token) (λ ts i. IsHopeless ts i × ReportsKinds place ts i) × (place.depth ≤ max_open)
 Decides text (TooDeep token) = IsTokenOf text (tok_of token) IsTooDeep
 
 -- no token of the text decides

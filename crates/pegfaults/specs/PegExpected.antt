@@ -1,6 +1,6 @@
 -- What can stand at a place of a grammar's text, and the phrases for it.
 use Rattle.std.specs.Prelude.{◌≡◌, ℕ, List, [], ◌∷◌, ◌++◌, take, codes}
-use Rattle.diagnostics.specs.ToldPhrases.{Phrase}
+use Rattle.diagnostics.specs.ReportedPhrases.{Phrase}
 use Rattle.lexer.specs.TokenLists.{kind_of}
 use Rattle.pegread.specs.declared.kind.Kind.{Kind}
 use Rattle.pegread.specs.declared.kind.Kind.TheVariants.{Ident, Arrow, Begin, EndCap, Slash, Amp, Bang, Quest, Star}

@@ -4,7 +4,7 @@ use Rattle.std.specs.Prelude.{ℕ, ◌==◌, ◌&&◌, Bool, false, List, [], �
 use Rattle.std.specs.List.{list_any}
 use Rattle.std.specs.Option.{option_map_or}
 use Rattle.diagnostics.specs.CodePoints.{in_utf16, point_rows, quote_rows}
-use Rattle.diagnostics.specs.FirstBytes.{Row, row, fact_line, first_fact, first_told}
+use Rattle.diagnostics.specs.FirstBytes.{Row, row, fact_line, first_fact, first_reported}
 use Rattle.pegread.specs.declared.kind.Kind.TheVariants.{Bad, Ident}
 use Rattle.lexer.specs.TokenLists.{tok}
 use Rattle.pegread.specs.Slices.{starts_name}
@@ -51,13 +51,13 @@ abbrev pub bad_rows : List Row
 bad_rows = quote_rows (codes "literals stand in ' or \"") ++ (leg_rows ++ other_rows)
 
 -- The line of the first mistake that a text with these tokens shows, or nothing, if bytes that begin no token decide.
-abbrev pub bad_told : List ℕ → List Tok → ℕ → List ℕ → List ℕ
-bad_told text all start z =
+abbrev pub bad_reported : List ℕ → List Tok → ℕ → List ℕ → List ℕ
+bad_reported text all start z =
     if in_utf16 text then fact_line (codes "the text is UTF-16, not UTF-8")
     else if is_label all start z then fact_line (codes "\"name:element\" is of leg(1)")
-    else option_map_or fact_line (first_fact point_rows z) (first_told bad_rows z)
+    else option_map_or fact_line (first_fact point_rows z) (first_reported bad_rows z)
 
 -- the same of the token that decides
-abbrev pub mistake_told : List ℕ → List Tok → Tok → List ℕ
-mistake_told text all (tok Bad z p) = bad_told text all p.start z
-mistake_told text all (tok _ z p) = []
+abbrev pub mistake_reported : List ℕ → List Tok → Tok → List ℕ
+mistake_reported text all (tok Bad z p) = bad_reported text all p.start z
+mistake_reported text all (tok _ z p) = []

@@ -72,11 +72,11 @@ prefixed n Action false = None
 prefixed n k acts = primary n k
 
 -- after a primary
-abbrev pub behind_primary : ℕ → Kind → Option Place
-behind_primary n Quest = Some (place_at Fresh n)
-behind_primary n Star = Some (place_at Fresh n)
-behind_primary n Plus = Some (place_at Fresh n)
-behind_primary n k = unmarked n k
+abbrev pub after_primary : ℕ → Kind → Option Place
+after_primary n Quest = Some (place_at Fresh n)
+after_primary n Star = Some (place_at Fresh n)
+after_primary n Plus = Some (place_at Fresh n)
+after_primary n k = unmarked n k
 
 -- the place after a token of the kind, where n brackets are open
 abbrev pub goes : Stand → ℕ → Kind → Option Place
@@ -87,10 +87,10 @@ goes Named n _ = None
 goes Fresh n k = unmarked n k
 goes Not n k = prefixed n k true
 goes And n k = prefixed n k false
-goes Primary n k = behind_primary n k
+goes Primary n k = after_primary n k
 goes Name n Arrow = begun n
-goes Name n k = behind_primary n k
-goes PrefixedName n k = behind_primary n k
+goes Name n k = after_primary n k
+goes PrefixedName n k = after_primary n k
 goes Done n k = None
 
 -- whether a token of the kind can stand there

@@ -3,18 +3,18 @@ ghost use Rattle.std.specs.Prelude.{◌≡◌, ℕ, ◌≤◌, ◌++◌, List, t
 ghost use Rattle.lexer.specs.TokenLists.{tok_of};
 ghost use Rattle.lexer.specs.GrammarLimits.{max_grammar, max_open};
 ghost use Rattle.diagnostics.specs.PhraseLists.{listed};
-ghost use Rattle.diagnostics.specs.ToldPhrases.{AreTold};
+ghost use Rattle.diagnostics.specs.ReportedPhrases.{AreAllReported};
 ghost use Rattle.pegread.specs.Reading.{IsFaultOf};
 ghost use Rattle.pegfaults.specs.PegDecisions.{NoneDecides};
 ghost use Rattle.pegfaults.specs.PegExpected.{phrases};
 ghost use Rattle.pegfaults.specs.PegExplained.{token_place, Why, Explains};
-ghost use Rattle.pegfaults.specs.PegMistakes.{mistake_told};
+ghost use Rattle.pegfaults.specs.PegMistakes.{mistake_reported};
 ghost use Rattle.pegfaults.specs.PegStands.{allows};
 ghost use Rattle.pegread.specs.Tokens.{Tok, AreTokens};
 
 use crate::deciding_token::{Decision, deciding_token};
 use crate::mistakes::push_mistake;
-use crate::phrases::told_phrases;
+use crate::phrases::reported_phrases;
 use crate::stand::Place;
 use diagnostics::{push_phrases, push_place};
 use lexer::{Token, tokens_make_up};
@@ -39,11 +39,11 @@ fn push_token_place(out: &mut Vec<u8>, text: &[u8], token: Token<'_, Kind>) -> R
 // Adds what can stand there.
 fn push_expected(alloc: Global, out: &mut Vec<u8>, place: Place) -> Result<(), Memory>
     requires { place.depth ≤ max_open }
-    ensures { OnOk result ((told : List (List ℕ)) × AreTold (λ k. allows place k ≡ true) phrases told
-        × (out.new.items ≡ out.old.items ++ listed told)) }
+    ensures { OnOk result ((reported : List (List ℕ)) × AreAllReported (λ k. allows place k ≡ true) phrases reported
+        × (out.new.items ≡ out.old.items ++ listed reported)) }
 {
-    let told = told_phrases(alloc, place)?;
-    push_phrases(out, told.as_slice())?;
+    let reported = reported_phrases(alloc, place)?;
+    push_phrases(out, reported.as_slice())?;
     Ok(())
 }
 
@@ -56,10 +56,11 @@ fn hopeless_lines(
 ) -> Result<Vec<u8>, Memory>
     requires depth { place.depth ≤ max_open }
     requires within { token.span.start ≤ length text.now }
-    ensures { IfOk result (λ v. (told : List (List ℕ)) × AreTold (λ k. allows place k ≡ true) phrases told
+    ensures { IfOk result (λ v. (reported : List (List ℕ)) × AreAllReported
+        (λ k. allows place k ≡ true) phrases reported
         × ((all : List Tok) → AreTokens (length text.now) text.now all
-        → v.items ≡ token_place text.now (tok_of token.entry) ++ (codes "expected " ++ (listed told
-        ++ (codes "\n" ++ mistake_told text.now all (tok_of token.entry)))))) }
+        → v.items ≡ token_place text.now (tok_of token.entry) ++ (codes "expected " ++ (listed reported
+        ++ (codes "\n" ++ mistake_reported text.now all (tok_of token.entry)))))) }
 {
     let mut out = Vec::new(alloc);
     push_token_place(&mut out, text, token)?;

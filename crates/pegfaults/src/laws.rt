@@ -1,7 +1,7 @@
 //! Laws of what explains a fault: a fault has one text, and no kind of token is left out.
 ghost use Rattle.std.specs.Prelude.{◌≡◌, ℕ, List};
 ghost use Rattle.ruletable.specs.declared.fault.ReadFault.{ReadFault};
-ghost use Rattle.diagnostics.specs.ToldPhrases.{AreTold, TellAll};
+ghost use Rattle.diagnostics.specs.ReportedPhrases.{AreAllReported, ReportAll};
 ghost use Rattle.pegread.specs.Reading.{IsHopeless};
 ghost use Rattle.pegread.specs.Tokens.{Tok};
 ghost use Rattle.pegfaults.specs.PegExpected.{CanStand, phrases};
@@ -16,6 +16,6 @@ pub fn one_explanation()
 /// Says that an explanation leaves nothing out: a kind of token can stand in place of the token that decides exactly if
 /// a reported phrase means it.
 pub fn nothing_left_out()
-    ensures { (all : List Tok) (i : ℕ) (told : List (List ℕ)) → IsHopeless all i
-        → AreTold (CanStand all i) phrases told → TellAll (CanStand all i) phrases told }
+    ensures { (all : List Tok) (i : ℕ) (reported : List (List ℕ)) → IsHopeless all i
+        → AreAllReported (CanStand all i) phrases reported → ReportAll (CanStand all i) phrases reported }
 {}

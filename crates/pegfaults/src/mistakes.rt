@@ -4,7 +4,14 @@ ghost use Rattle.std.specs.List.{list_any};
 ghost use Rattle.lexer.specs.TokenLists.{tok_of};
 ghost use Rattle.diagnostics.specs.FactRows.{row_of};
 ghost use Rattle.pegread.specs.Tokens.{Tok, AreTokens};
-ghost use Rattle.pegfaults.specs.PegMistakes.{bad_rows, bad_told, begins_label, is_label, mistake_told, names_to};
+ghost use Rattle.pegfaults.specs.PegMistakes.{
+  bad_rows,
+  bad_reported,
+  begins_label,
+  is_label,
+  mistake_reported,
+  names_to,
+};
 
 use diagnostics::{Fact, facts, find_fact, is_utf16, point_facts, push_fact, push_line};
 use lexer::{Token, tokens};
@@ -91,7 +98,7 @@ fn is_leg_label(text: &[u8], token: Token<'_, Kind>) -> bool
 // Adds the line of a token that is none of peg(1).
 fn push_bad(out: &mut Vec<u8>, text: &[u8], token: Token<'_, Kind>) -> Result<(), Memory>
     ensures { OnOk result ((all : List Tok) → AreTokens (length text.now) text.now all → out.new.items
-        ≡ out.old.items ++ bad_told text.now all token.entry.span.start token.entry.slice.now) }
+        ≡ out.old.items ++ bad_reported text.now all token.entry.span.start token.entry.slice.now) }
 {
     if is_utf16(text) {
         return push_line(out, b"the text is UTF-16, not UTF-8");
@@ -99,8 +106,8 @@ fn push_bad(out: &mut Vec<u8>, text: &[u8], token: Token<'_, Kind>) -> Result<()
     if is_leg_label(text, token) {
         return push_line(out, b"\"name:element\" is of leg(1)");
     }
-    if let Some(told) = find_fact(point_facts(), token.slice) {
-        return push_line(out, told);
+    if let Some(reported) = find_fact(point_facts(), token.slice) {
+        return push_line(out, reported);
     }
     push_fact(out, bad_facts(), token.slice)
 }
@@ -114,7 +121,7 @@ pub(crate) fn push_mistake(
     token: Token<'_, Kind>,
 ) -> Result<(), Memory>
     ensures { OnOk result ((all : List Tok) → AreTokens (length text.now) text.now all
-        → out.new.items ≡ out.old.items ++ mistake_told text.now all (tok_of token.entry)) }
+        → out.new.items ≡ out.old.items ++ mistake_reported text.now all (tok_of token.entry)) }
 {
     match token.kind {
         Kind::Bad => push_bad(out, text, token),

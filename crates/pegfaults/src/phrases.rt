@@ -2,7 +2,7 @@
 ghost use Rattle.std.specs.Prelude.{◌≡◌, ◌≤◌, true, map, IfOk};
 ghost use Rattle.std.specs.List.{list_all, list_any};
 ghost use Rattle.lexer.specs.GrammarLimits.{max_open};
-ghost use Rattle.diagnostics.specs.ToldPhrases.{AreTold, tells};
+ghost use Rattle.diagnostics.specs.ReportedPhrases.{AreAllReported, reports};
 ghost use Rattle.pegfaults.specs.PegExpected.{phrases};
 ghost use Rattle.pegfaults.specs.PegStands.{allows};
 ghost use Rattle.pegfaults.specs.PhraseRows.{phrase_of};
@@ -127,9 +127,9 @@ fn allows_any(place: Place, kinds: &[Kind]) -> bool
     false
 }
 
-fn is_told(place: Place, phrase: &Phrase) -> bool
+fn is_reported(place: Place, phrase: &Phrase) -> bool
     requires { place.depth ≤ max_open }
-    ensures { result ≡ tells (allows place) (phrase_of phrase.now) }
+    ensures { result ≡ reports (allows place) (phrase_of phrase.now) }
 {
     allows_all(place, phrase.kinds) && !allows_any(place, phrase.bars)
 }
@@ -141,27 +141,27 @@ fn all_phrases() -> &'static [Phrase]
 }
 
 // The words of the phrases of a table that are reported.
-fn told_of(alloc: Global, place: Place, table: &[Phrase]) -> Result<Vec<&'static [u8]>, Memory>
+fn reported_of(alloc: Global, place: Place, table: &[Phrase]) -> Result<Vec<&'static [u8]>, Memory>
     requires { place.depth ≤ max_open }
-    ensures { IfOk result (λ v. AreTold (λ k. allows place k ≡ true) (map phrase_of table.now)
+    ensures { IfOk result (λ v. AreAllReported (λ k. allows place k ≡ true) (map phrase_of table.now)
         (map (λ w. w.now) v.items)) }
 {
-    let mut told = Vec::new(alloc);
+    let mut reported = Vec::new(alloc);
     for phrase in table {
-        if is_told(place, phrase) {
-            told.push(phrase.words)?;
+        if is_reported(place, phrase) {
+            reported.push(phrase.words)?;
         }
     }
-    Ok(told)
+    Ok(reported)
 }
 
 /// Returns the words of the phrases for what can stand there, in their order.
 ///
 /// # Errors
 /// `Memory` if an allocation fails.
-pub(crate) fn told_phrases(alloc: Global, place: Place) -> Result<Vec<&'static [u8]>, Memory>
+pub(crate) fn reported_phrases(alloc: Global, place: Place) -> Result<Vec<&'static [u8]>, Memory>
     requires { place.depth ≤ max_open }
-    ensures { IfOk result (λ v. AreTold (λ k. allows place k ≡ true) phrases (map (λ w. w.now) v.items)) }
+    ensures { IfOk result (λ v. AreAllReported (λ k. allows place k ≡ true) phrases (map (λ w. w.now) v.items)) }
 {
-    told_of(alloc, place, all_phrases())
+    reported_of(alloc, place, all_phrases())
 }

@@ -2,7 +2,7 @@
 ghost use Rattle.std.specs.Prelude.{◌≡◌, ◌≤◌, Some};
 ghost use Rattle.lexer.specs.GrammarLimits.{max_open};
 ghost use Rattle.pegfaults.specs.PegStands.{closed, ended, begun, primary, unmarked};
-ghost use Rattle.pegfaults.specs.PegStands.{behind_primary, prefixed, goes, allows};
+ghost use Rattle.pegfaults.specs.PegStands.{after_primary, prefixed, goes, allows};
 
 use pegread::Kind;
 
@@ -103,9 +103,9 @@ fn take_unmarked(depth: usize, kind: Kind) -> Option<Place>
 }
 
 // After a primary.
-fn take_behind(depth: usize, kind: Kind) -> Option<Place>
+fn take_after(depth: usize, kind: Kind) -> Option<Place>
     requires { depth ≤ max_open }
-    ensures { result ≡ behind_primary depth kind }
+    ensures { result ≡ after_primary depth kind }
 {
     match kind {
         Kind::Quest | Kind::Star | Kind::Plus => at(Stand::Fresh, depth),
@@ -157,10 +157,10 @@ impl Place {
             Stand::Fresh => take_unmarked(self.depth, kind),
             Stand::Not => take_prefixed(self.depth, kind, true),
             Stand::And => take_prefixed(self.depth, kind, false),
-            Stand::Primary | Stand::PrefixedName => take_behind(self.depth, kind),
+            Stand::Primary | Stand::PrefixedName => take_after(self.depth, kind),
             Stand::Name => match kind {
                 Kind::Arrow => begin(self.depth),
-                _ => take_behind(self.depth, kind),
+                _ => take_after(self.depth, kind),
             },
             Stand::Done => None,
         }

@@ -28,7 +28,7 @@ module _ (g : MarkedNodes) (b n : ℕ) (ms : List ℕ) where
       → F i pairs → F (i + 1) sum
   fails_next i pairs sum c lt at is h before =
       let no_key : tail_in g n i ≡ false =
-      sym (tails_at (shapes_of g.nodes.now) g.keys.now g.behind.now n i (Choice ms) at) in
+      sym (tails_at (shapes_of g.nodes.now) g.keys.now g.after.now n i (Choice ms) at) in
       fails_as (suc i) (i + 1) (pairs + c) sum (omega arith) (sym is)
       (fail_more before (slice_get-get_or ms i 0 lt) no_key h)
 

@@ -159,10 +159,10 @@ module _ (g : MarkedNodes) (b n : ℕ) (ms : List ℕ) (i : ℕ) where
         (all Stays 0 (members_end (slice_get_past ms i le)))
 
     module _ (lt : i < length ms) (at : slice_get (shapes_of g.nodes.now) n ≡ Some (Seq ms))
-        (t : get_or (tails_of g.behind.now (Seq ms)) i false ≡ false) (m d : Decided)
+        (t : get_or (tails_of g.after.now (Seq ms)) i false ≡ false) (m d : Decided)
         (h : DecidesBelow g b (get_or ms i 0) m) (sum : (d.verdict ≡ m.verdict) × (d.count ≡ count + m.count)) where
       seq_has_no_key : tail_in g n i ≡ false
-      seq_has_no_key = sym (tails_at (shapes_of g.nodes.now) g.keys.now g.behind.now n i (Seq ms) at) ∙ t
+      seq_has_no_key = sym (tails_at (shapes_of g.nodes.now) g.keys.now g.after.now n i (Seq ms) at) ∙ t
 
       pub members_more : m.verdict ≡ Stays → (v : ByteVerdict) (e : ℕ) → M (i + 1) v e → M 0 v (d.count + e)
       members_more is v e r =
@@ -195,7 +195,7 @@ module _ (g : MarkedNodes) (b n : ℕ) (ms : List ℕ) (i : ℕ) where
     module _ (lt : i < length ms) (at : slice_get (shapes_of g.nodes.now) n ≡ Some (Choice ms)) (m d : Decided)
         (h : DecidesBelow g b (get_or ms i 0) m) (sum : (d.verdict ≡ m.verdict) × (d.count ≡ count + m.count)) where
       choice_has_no_key : tail_in g n i ≡ false
-      choice_has_no_key = sym (tails_at (shapes_of g.nodes.now) g.keys.now g.behind.now n i (Choice ms) at)
+      choice_has_no_key = sym (tails_at (shapes_of g.nodes.now) g.keys.now g.after.now n i (Choice ms) at)
 
       pub alternatives_more : m.verdict ≡ Fails → (v : ByteVerdict) (e : ℕ) → A (i + 1) v e → A 0 v (d.count + e)
       alternatives_more is v e r =

@@ -65,8 +65,8 @@ pieces_before (b ∷ s) g f = both (pieces_before s g f) (is_word b) refl
     both less false h = rw (h, less) refl
 
 -- put after a template, they stand
-pub filled_behind : (s g c : List ℕ) → AreOther g → filled (s ++ g) c ≡ filled s c ++ g
-filled_behind s g c f =
+pub filled_after : (s g c : List ℕ) → AreOther g → filled (s ++ g) c ≡ filled s c ++ g
+filled_after s g c f =
     let stand : filled g c ≡ g = ap (λ v. filled v c) (sym (append-nil g)) ∙ filled_before g [] c f ∙ append-nil g in
     ap (λ v. flat_map (filled_piece c) v) (pieces_before s g f)
     ∙ flat_map-append (filled_piece c) (pieces_of s) (pieces_of g)
@@ -87,8 +87,8 @@ module _ (t : List ℕ) (n m : ℕ) (front : drop n t ≡ cut_front t)
   others_in_front : AreOther (take n t)
   others_in_front = others_before (take n t) (drop n t) (rw (take-append-drop n t) front)
 
-  others_behind : AreOther (drop m (drop n t))
-  others_behind =
+  others_after : AreOther (drop m (drop n t))
+  others_after =
       let turned : reverse (drop m (drop n t)) ++ reverse (take m (drop n t)) ≡ reverse (drop n t) =
       sym (reverse-append (take m (drop n t)) (drop m (drop n t))) ∙ ap reverse (take-append-drop m (drop n t)) in
       subst AreOther (reverse-reverse (drop m (drop n t))) (AreOther-reverse (reverse (drop m (drop n t)))
@@ -97,4 +97,4 @@ module _ (t : List ℕ) (n m : ℕ) (front : drop n t ≡ cut_front t)
   pub filled_whole : (c : List ℕ) → filled t c ≡ take n t ++ (filled (take m (drop n t)) c ++ drop m (drop n t))
   filled_whole c = ap (λ v. filled v c) (sym in_three)
       ∙ filled_before (take n t) (take m (drop n t) ++ drop m (drop n t)) c others_in_front
-      ∙ ap (λ v. take n t ++ v) (filled_behind (take m (drop n t)) (drop m (drop n t)) c others_behind)
+      ∙ ap (λ v. take n t ++ v) (filled_after (take m (drop n t)) (drop m (drop n t)) c others_after)

@@ -181,22 +181,22 @@ module _ (start : ℕ) (nodes : List Shape) (bodies : List ℕ) where
         (λ there. let n = named_at i there.0 m shape at there.1 in namer_is m Nobody nobody i there.0 n.0 n.1)
         (names_at i m shape names))
 
-    pub marks_are : (keys behind singles : List Bool) (widths : List (Option ℕ)) → AreSingles start nodes bodies singles
+    pub marks_are : (keys after singles : List Bool) (widths : List (Option ℕ)) → AreSingles start nodes bodies singles
         → AreWidths nodes bodies widths
         → ((m : ℕ) → get_or keys m true ≡ false → IsPlain start nodes bodies m ⊎ IsLoop start nodes bodies m)
-        → ((m : ℕ) → get_or behind m true ≡ false → IsPassed namers singles widths m)
-        → AreMarks start nodes bodies (node_marks (marks_of nodes keys behind))
-        (tail_marks (marks_of nodes keys behind))
-    marks_are keys behind singles widths single wide plain passed = record {
+        → ((m : ℕ) → get_or after m true ≡ false → IsPassed namers singles widths m)
+        → AreMarks start nodes bodies (node_marks (marks_of nodes keys after))
+        (tail_marks (marks_of nodes keys after))
+    marks_are keys after singles widths single wide plain passed = record {
       plain = plain;
       fixed = λ n i m ms at there free.
-          let row : get_or (map (tails_of behind) nodes) n [] ≡ tails_of behind (Seq ms) =
-          get_or_from_slice_get (map (tails_of behind) nodes) n (tails_of behind (Seq ms)) []
-          (slice_get-map (tails_of behind) nodes n ∙ ap (option_map (tails_of behind)) at) in
-          let mark : get_or (map (λ k. get_or behind k true) ms) i false ≡ get_or behind m true =
-          get_or_from_slice_get (map (λ k. get_or behind k true) ms) i (get_or behind m true) false
-          (slice_get-map (λ k. get_or behind k true) ms i ∙ ap (option_map (λ k. get_or behind k true)) there) in
-          let none : get_or behind m true ≡ false =
+          let row : get_or (map (tails_of after) nodes) n [] ≡ tails_of after (Seq ms) =
+          get_or_from_slice_get (map (tails_of after) nodes) n (tails_of after (Seq ms)) []
+          (slice_get-map (tails_of after) nodes n ∙ ap (option_map (tails_of after)) at) in
+          let mark : get_or (map (λ k. get_or after k true) ms) i false ≡ get_or after m true =
+          get_or_from_slice_get (map (λ k. get_or after k true) ms) i (get_or after m true) false
+          (slice_get-map (λ k. get_or after k true) ms i ∙ ap (option_map (λ k. get_or after k true)) there) in
+          let none : get_or after m true ≡ false =
           sym mark ∙ subst (λ v. get_or v (suc i) false ≡ false) row free in
           ⊎_elim (λ w. inl (w.0, wide m w.0 w.1))
           (λ a. inr (let x = named_at n i m (Seq ms) at there in
@@ -242,8 +242,8 @@ module _ (start : ℕ) (nodes : List Shape) (bodies : List ℕ) (needs : List De
   comes_single (by_one {n = n} {m = m} {row = row} at h c) = justified_at n (One row) at m h (comes_single c)
 
 -- the marks of a node's tails
-pub tails_at : (nodes : List Shape) (keys behind : List Bool) (n i : ℕ) (shape : Shape) → slice_get nodes n ≡ Some shape
-    → get_or (tails_of behind shape) i false ≡ tail_marks (marks_of nodes keys behind) n i
-tails_at nodes keys behind n i shape at = ap (λ v. get_or v i false)
-    (sym (get_or_from_slice_get (map (tails_of behind) nodes) n (tails_of behind shape) []
-    (slice_get-map (tails_of behind) nodes n ∙ ap (option_map (tails_of behind)) at)))
+pub tails_at : (nodes : List Shape) (keys after : List Bool) (n i : ℕ) (shape : Shape) → slice_get nodes n ≡ Some shape
+    → get_or (tails_of after shape) i false ≡ tail_marks (marks_of nodes keys after) n i
+tails_at nodes keys after n i shape at = ap (λ v. get_or v i false)
+    (sym (get_or_from_slice_get (map (tails_of after) nodes) n (tails_of after shape) []
+    (slice_get-map (tails_of after) nodes n ∙ ap (option_map (tails_of after)) at)))

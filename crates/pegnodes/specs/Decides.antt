@@ -9,7 +9,7 @@ use Rattle.pegnodes.specs.declared.by_byte.MarkedNodes.{MarkedNodes}
 module _ (g : MarkedNodes) where
   -- the marks of the nodes and of their tails
   abbrev pub marks_in : Marks
-  marks_in = marks_of (shapes_of g.nodes.now) g.keys.now g.behind.now
+  marks_in = marks_of (shapes_of g.nodes.now) g.keys.now g.after.now
 
   -- whether a node is a key
   abbrev pub mark_in : ℕ → Bool

@@ -19,21 +19,21 @@ tail_marks marks n i = get_or (get_or marks.tails n []) i false
 -- Which tails of a node are keys, given after which nodes they are: those of a sequence after its members. A whole
 -- sequence is none, and no tail of a choice is one.
 abbrev pub tails_of : List Bool → Shape → List Bool
-tails_of behind Any = []
-tails_of behind (Bytes bs) = []
-tails_of behind (Set s) = []
-tails_of behind (Name id) = []
-tails_of behind (Seq ms) = false ∷ map (λ m. get_or behind m true) ms
-tails_of behind (Choice ms) = []
-tails_of behind (Star m) = []
-tails_of behind (Plus m k) = []
-tails_of behind (Opt m) = []
-tails_of behind (And m) = []
-tails_of behind (Not m) = []
-tails_of behind (Act t) = []
-tails_of behind Open = []
-tails_of behind Close = []
+tails_of after Any = []
+tails_of after (Bytes bs) = []
+tails_of after (Set s) = []
+tails_of after (Name id) = []
+tails_of after (Seq ms) = false ∷ map (λ m. get_or after m true) ms
+tails_of after (Choice ms) = []
+tails_of after (Star m) = []
+tails_of after (Plus m k) = []
+tails_of after (Opt m) = []
+tails_of after (And m) = []
+tails_of after (Not m) = []
+tails_of after (Act t) = []
+tails_of after Open = []
+tails_of after Close = []
 
 -- the marks of all nodes and their tails
 abbrev pub marks_of : List Shape → List Bool → List Bool → Marks
-marks_of nodes keys behind = record { nodes = keys; tails = map (tails_of behind) nodes }
+marks_of nodes keys after = record { nodes = keys; tails = map (tails_of after) nodes }

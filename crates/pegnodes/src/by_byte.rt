@@ -41,7 +41,7 @@ pub struct MarkedNodes<'a> {
     /// Of each node whether it is a key.
     pub keys: &'a [bool],
     /// Of each node whether the tail of a sequence after it is a key.
-    pub behind: &'a [bool],
+    pub after: &'a [bool],
 }
 
 // How deep a node is looked into.
@@ -194,7 +194,7 @@ fn by_members(
 {
     let mut count = 0;
     for i in 0..members.len() {
-        if is_key_of_members(members, grammar.behind, i) {
+        if is_key_of_members(members, grammar.after, i) {
             return None;
         }
         let member = below(grammar, members[i], b, levels)?;

@@ -217,7 +217,7 @@ fn node_keys(
 
 // Returns whether the tail after a member of a sequence is a key: unless the member's width is known, or its only namer
 // is asked for at one position at most.
-fn is_key_behind(namers: &[Namer], singles: &[bool], widths: &[Option<usize>], m: usize) -> bool
+fn is_key_after(namers: &[Namer], singles: &[bool], widths: &[Option<usize>], m: usize) -> bool
     ensures { result ≡ false → IsPassed namers.now singles.now widths.now m }
 {
     if let Some(_) = width_of(widths, m) {
@@ -230,20 +230,20 @@ fn is_key_behind(namers: &[Namer], singles: &[bool], widths: &[Option<usize>], m
 }
 
 // Marks the members after which tails are keys.
-fn behind_keys(
+fn after_keys(
     alloc: Global,
     namers: &[Namer],
     singles: &[bool],
     widths: &[Option<usize>],
 ) -> Result<Vec<bool>, Memory>
-    ensures { IfOk result (λ behind. (m : ℕ) → get_or behind.items m true ≡ false
+    ensures { IfOk result (λ after. (m : ℕ) → get_or after.items m true ≡ false
         → IsPassed namers.now singles.now widths.now m) }
 {
-    let mut behind = Vec::with_capacity(alloc, namers.len())?;
+    let mut after = Vec::with_capacity(alloc, namers.len())?;
     for m in 0..namers.len() {
-        behind.push(is_key_behind(namers, singles, widths, m))?;
+        after.push(is_key_after(namers, singles, widths, m))?;
     }
-    Ok(behind)
+    Ok(after)
 }
 
 /// Which nodes are keys, and after which nodes the tails of sequences are.
@@ -252,28 +252,28 @@ pub struct Keys {
     /// Of each node whether it is a key.
     pub nodes: Vec<bool>,
     /// Of each node whether the tail of a sequence after it is a key.
-    pub behind: Vec<bool>,
+    pub after: Vec<bool>,
 }
 
 /// Returns whether the tail of a sequence of these members from the i-th on is a key, given after which members it is.
-pub(crate) fn is_key_of_members(members: &[usize], behind: &[bool], i: usize) -> bool
-    ensures { result ≡ get_or (tails_of behind.now (Seq members.now)) i false }
+pub(crate) fn is_key_of_members(members: &[usize], after: &[bool], i: usize) -> bool
+    ensures { result ≡ get_or (tails_of after.now (Seq members.now)) i false }
 {
     if i == 0 {
         return false;
     }
     match members.get(i - 1) {
-        Some(member) => mark_or(behind, *member, true),
+        Some(member) => mark_or(after, *member, true),
         None => false,
     }
 }
 
 /// Returns whether the tail of a node from member `i` on is a key, given after which members it is.
-pub fn is_key_from(node: &Node, behind: &[bool], i: usize) -> bool
-    ensures { result ≡ get_or (tails_of behind.now (shape_of node.now)) i false }
+pub fn is_key_from(node: &Node, after: &[bool], i: usize) -> bool
+    ensures { result ≡ get_or (tails_of after.now (shape_of node.now)) i false }
 {
     match node {
-        Node::Seq(members) => is_key_of_members(members, behind, i),
+        Node::Seq(members) => is_key_of_members(members, after, i),
         Node::Any
         | Node::Bytes(_)
         | Node::Set(_)
@@ -306,17 +306,14 @@ pub fn find_keys(
 ) -> Result<Keys, Memory>
     requires { start < length bodies.now }
     ensures { IfOk result (λ keys. AreMarks start (shapes_of nodes.now) bodies.now
-        (node_marks (marks_of (shapes_of nodes.now) keys.nodes.items keys.behind.items))
-        (tail_marks (marks_of (shapes_of nodes.now) keys.nodes.items keys.behind.items))) }
+        (node_marks (marks_of (shapes_of nodes.now) keys.nodes.items keys.after.items))
+        (tail_marks (marks_of (shapes_of nodes.now) keys.nodes.items keys.after.items))) }
 {
     let root = bodies[start];
     let namers = namers(alloc, nodes, bodies)?;
     let widths = widths(alloc, nodes, bodies)?;
     let singles = singles(alloc, nodes, &namers, root)?;
     let keys = node_keys(alloc, nodes, &namers, &singles, root)?;
-    let behind = behind_keys(alloc, &namers, &singles, &widths)?;
-    Ok(Keys {
-        nodes: keys,
-        behind,
-    })
+    let after = after_keys(alloc, &namers, &singles, &widths)?;
+    Ok(Keys { nodes: keys, after })
 }

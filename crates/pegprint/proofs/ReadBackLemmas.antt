@@ -16,7 +16,7 @@ use Rattle.lexer.specs.TokenLists.{tok}
 use Rattle.pegread.specs.Tokens.{Tok}
 use Rattle.lexer.specs.Viability.{say_none, say_more}
 use Rattle.pegread.specs.Words.{Word, Says, says_lparen, says_rparen, SayAll}
-use Rattle.pegread.proofs.IsShallowLemmas.{behind_word, word-opens}
+use Rattle.pegread.proofs.IsShallowLemmas.{after_word, word-opens}
 use Rattle.pegprint.proofs.ListedRulesLemmas.{within, listed, listed_members, listed_alternatives, listed_more}
 use Rattle.pegprint.proofs.ListedRulesLemmas.{listed_rules, spelled-rules}
 use Rattle.pegprint.proofs.SameWordsLemmas.{same_word, same_name, SameWords, same_none, same_more, grammar-again}
@@ -39,7 +39,7 @@ use Rattle.ruletable.specs.Rules as table
 -- with d brackets open before the words, at most m are open anywhere in them
 abbrev pub StaysIn : ℕ → ℕ → List Word → Type 0
 StaysIn m d [] = d ≤ m
-StaysIn m d (w ∷ ws) = (d ≤ m) × StaysIn m (behind_word w d) ws
+StaysIn m d (w ∷ ws) = (d ≤ m) × StaysIn m (after_word w d) ws
 
 pub words-stay : (m d : ℕ) {ts : List Tok} {ws : List Word} → SayAll ts ws → IsShallow m d ts → StaysIn m d ws
 words-stay m d say_none h = h

@@ -37,8 +37,8 @@ token-alone : {mark first : ℕ} {bs r : List ℕ} → Closes mark bs r → (s :
 token-alone c [] e = absurd (let x = closes-shorter c in omega (arith, ap length e))
 token-alone {first = first} {bs = bs} {r = r} c (b ∷ u) e =
     let same : b ≡ first = cc in
-    let behind : bs ≡ u ++ r = cc in
-    (u, ap (λ (v : ℕ). v ∷ u) same, closes-alone c u behind)
+    let after : bs ≡ u ++ r = cc in
+    (u, ap (λ (v : ℕ). v ∷ u) same, closes-alone c u after)
 
 literal-stands : {t r : List ℕ} → Stands Literal t r → (s : List ℕ) → t ≡ s ++ r → IsLiteral s
 literal-stands (single c) s e = let x = token-alone c s e in rw (x.1) (single_quoted x.2)

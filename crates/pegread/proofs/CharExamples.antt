@@ -74,8 +74,8 @@ module _ where
   plain-range h k = item_range (char-plain h) (char-plain k)
 
   -- after a range, a `-` is one character
-  dash_behind_range : Ranges (codes "a-c-e") ((97, 99) ∷ (45, 45) ∷ (101, 101) ∷ [])
-  dash_behind_range = more_items (plain-range (omega arith) (omega arith))
+  dash_after_range : Ranges (codes "a-c-e") ((97, 99) ∷ (45, 45) ∷ (101, 101) ∷ [])
+  dash_after_range = more_items (plain-range (omega arith) (omega arith))
       (more_items (plain-item (omega arith) (λ g. g)) (more_items (plain-item (omega arith) (λ g. g)) no_items))
 
   -- at the end too
@@ -104,8 +104,8 @@ module _ where
   none_at_all = positive {inside = []} {xs = []} _ refl tt no_items (λ b. refl)
 
   -- a `^` that doesn't follow the bracket is one character
-  hat_behind : SpellsSet (codes "[a^]") (bytes_in (in_ranges ((97, 97) ∷ (94, 94) ∷ [])))
-  hat_behind = positive {inside = codes "a^"} _ refl (omega arith)
+  hat_after : SpellsSet (codes "[a^]") (bytes_in (in_ranges ((97, 97) ∷ (94, 94) ∷ [])))
+  hat_after = positive {inside = codes "a^"} _ refl (omega arith)
       (more_items (plain-item (omega arith) (λ g. g)) (more_items (plain-item (omega arith) (λ g. g)) no_items))
       (λ b. refl)
 

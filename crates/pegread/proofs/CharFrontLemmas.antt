@@ -116,8 +116,8 @@ pub no-char : (t r : List ℕ) (b : ℕ) → Char t r b → SpellsNone t → ⊥
 no-char t r b h n = form-some h.form n
 
 -- which bytes are digits and letters
-pub octal-tells : (x : ℕ) → ((n : ℕ) × Octal x n) ⊎ ((n : ℕ) → Octal x n → ⊥)
-octal-tells x = elim (cases_lt x 48) [
+pub octal-reports : (x : ℕ) → ((n : ℕ) × Octal x n) ⊎ ((n : ℕ) → Octal x n → ⊥)
+octal-reports x = elim (cases_lt x 48) [
   | inl h ↦ inr (no-octal x (inl h))
   | inr h ↦ elim (cases_lt 55 x) [
     | inl k ↦ inr (no-octal x (inr k))
@@ -125,8 +125,8 @@ octal-tells x = elim (cases_lt x 48) [
   ]
 ]
 
-pub hex-tells : (x : ℕ) → ((n : ℕ) × Hex x n) ⊎ ((n : ℕ) → Hex x n → ⊥)
-hex-tells x = elim (cases_lt x 58) [
+pub hex-reports : (x : ℕ) → ((n : ℕ) × Hex x n) ⊎ ((n : ℕ) → Hex x n → ⊥)
+hex-reports x = elim (cases_lt x 58) [
   | inl h ↦ elim (cases_lt x 48) [
     | inl k ↦ inr (no-hex x (inl k) (inl (omega arith)) (inl (omega arith)))
     | inr k ↦ inl (x - 48, hex-digit x (x - 48) (omega arith) (omega arith))
@@ -167,8 +167,8 @@ no-letter l n b letter_r = n.carriage_return refl
 no-letter l n b letter_t = n.tab refl
 no-letter l n b letter_v = n.vertical_tab refl
 
-letter-tells : (l : ℕ) → ((b : ℕ) × Letter l b) ⊎ ((b : ℕ) → Letter l b → ⊥)
-letter-tells l = elim (cases_eq l 97) [
+letter-reports : (l : ℕ) → ((b : ℕ) × Letter l b) ⊎ ((b : ℕ) → Letter l b → ⊥)
+letter-reports l = elim (cases_eq l 97) [
   | inl e ↦ inl (7, rw e letter_a)
   | inr a ↦
       elim (cases_eq l 98) [
@@ -211,17 +211,17 @@ letter-tells l = elim (cases_eq l 97) [
       ]
 ]
 
-first-tells : {D : ℕ → ℕ → Type 0} → ((x : ℕ) → ((n : ℕ) × D x n) ⊎ ((n : ℕ) → D x n → ⊥)) → (t : List ℕ)
+first-reports : {D : ℕ → ℕ → Type 0} → ((x : ℕ) → ((n : ℕ) × D x n) ⊎ ((n : ℕ) → D x n → ⊥)) → (t : List ℕ)
     → ((r : List ℕ) × (n : ℕ) × DigitFirst D t r n) ⊎ NoDigit D t
-first-tells f [] = inr no_digit-empty
-first-tells f (x ∷ t) = elim (f x) [ inl h ↦ inl (t, h.0, digit_first h.1) | inr h ↦ inr (no_digit-here h) ]
+first-reports f [] = inr no_digit-empty
+first-reports f (x ∷ t) = elim (f x) [ inl h ↦ inl (t, h.0, digit_first h.1) | inr h ↦ inr (no_digit-here h) ]
 
 abbrev Some : List ℕ → Type 0
 Some t = (r : List ℕ) × (b : ℕ) × Char t r b
 
 some-hex : (t : List ℕ) → Some (92 ∷ 120 ∷ t)
-some-hex t = elim (first-tells hex-tells t) [
-  | inl h ↦ elim (first-tells hex-tells h.0) [
+some-hex t = elim (first-reports hex-reports t) [
+  | inl h ↦ elim (first-reports hex-reports h.0) [
     | inl k ↦ (k.0, 16 * h.1 + k.1, char-two_hex h.2 k.2)
     | inr n ↦ (h.0, h.1, char-one_hex h.2 n)
   ]
@@ -229,10 +229,10 @@ some-hex t = elim (first-tells hex-tells t) [
 ]
 
 some-octal : (x k : ℕ) (t : List ℕ) → Octal x k → Some (92 ∷ x ∷ t)
-some-octal x k t o = elim (first-tells octal-tells t) [
+some-octal x k t o = elim (first-reports octal-reports t) [
   | inl h ↦ elim (cases_lt 3 k) [
     | inl l ↦ (h.0, 8 * k + h.1, char-two_octal o h.2 (inl l))
-    | inr l ↦ elim (first-tells octal-tells h.0) [
+    | inr l ↦ elim (first-reports octal-reports h.0) [
       | inl i ↦ (i.0, 64 * k + (8 * h.1 + i.1), char-three_octal o l h.2 i.2)
       | inr n ↦ (h.0, 8 * k + h.1, char-two_octal o h.2 (inr n))
     ]
@@ -243,9 +243,9 @@ some-octal x k t o = elim (first-tells octal-tells t) [
 some-escape : (x : ℕ) (t : List ℕ) → Some (92 ∷ x ∷ t)
 some-escape x t = elim (cases_eq x 120) [
   | inl e ↦ rw e (some-hex t)
-  | inr n ↦ elim (octal-tells x) [
+  | inr n ↦ elim (octal-reports x) [
     | inl o ↦ some-octal x o.0 t o.1
-    | inr d ↦ elim (letter-tells x) [
+    | inr d ↦ elim (letter-reports x) [
       | inl l ↦ (t, l.0, char-letter l.1)
       | inr k ↦ (t, x, char-itself k (record { octal = d; hex = n }))
     ]

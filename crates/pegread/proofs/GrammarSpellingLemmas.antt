@@ -147,8 +147,8 @@ back-fresh g h o bs es not_mark (Action z) t k = primary-rest (Close g h o) bs e
 back-fresh g h o bs es and_mark (Action z) t k = absurd k
 back-fresh g h o bs es m LParen t k =
     let inner = all-alternatives k.2 in
-    let behind = k.3 in
-    primary-rest (Close g h o) bs es m (ok-no_action m _ tt) (parens (expression (rw behind.1 at inner))) behind.2
+    let after = k.3 in
+    primary-rest (Close g h o) bs es m (ok-no_action m _ tt) (parens (expression (rw after.1 at inner))) after.2
 back-fresh g h o bs es no_mark Bang t k = join-item (Close g h o) bs es (bang k.2) k.3
 back-fresh g h o bs es not_mark Bang t k = absurd k
 back-fresh g h o bs es and_mark Bang t k = absurd k

@@ -15,23 +15,23 @@ use Rattle.pegread.specs.Words.{SayAll}
 use Rattle.pegread.specs.Machine.{snoc, apply, Mark, no_mark, not_mark, and_mark, fresh, read, read_name, Level, level}
 use Rattle.pegread.specs.Machine.{Head, Config, start, named, body, done, fresh_step, read_step, name_step, step, run}
 use Rattle.pegread.specs.Machine.{levels, levels_in}
-use Rattle.pegread.specs.Limits.{open_behind, IsShallow}
+use Rattle.pegread.specs.Limits.{open_after, IsShallow}
 use Rattle.std.proofs.lemmas.List.{take-append-drop}
 use Rattle.lexer.proofs.ViabilityLemmas.{run-snoc, say-snoc}
 
 -- the brackets that are open after a word
-abbrev pub behind_word : Word → ℕ → ℕ
-behind_word LParen d = suc d
-behind_word RParen zero = zero
-behind_word RParen (suc d) = d
-behind_word _ d = d
+abbrev pub after_word : Word → ℕ → ℕ
+after_word LParen d = suc d
+after_word RParen zero = zero
+after_word RParen (suc d) = d
+after_word _ d = d
 
 abbrev LevelsOf : Option Config → ℕ → Type 0
 LevelsOf None n = Unit {0}
 LevelsOf (Some d) n = levels_in d ≡ n
 
 fresh-levels : (h : Head) (o : List Level) (bs es : Patterns) (m : Mark) (w : Word)
-    → LevelsOf (fresh_step h o bs es m w) (behind_word w (levels o))
+    → LevelsOf (fresh_step h o bs es m w) (after_word w (levels o))
 fresh-levels h o bs es m (Ident n p) = refl
 fresh-levels h o bs es m (Literal z) = refl
 fresh-levels h o bs es m (Class f) = refl
@@ -58,21 +58,21 @@ fresh-levels h o bs es and_mark End = tt
 fresh-levels h o bs es m _ = tt
 
 read-levels : (h : Head) (o : List Level) (bs es : Patterns) (m : Mark) (x : Pattern) (w : Word)
-    → LevelsOf (read_step h o bs es m x w) (behind_word w (levels o))
+    → LevelsOf (read_step h o bs es m x w) (after_word w (levels o))
 read-levels h o bs es m x Quest = refl
 read-levels h o bs es m x Star = refl
 read-levels h o bs es m x Plus = refl
 read-levels h o bs es m x w = fresh-levels h o bs (snoc es (apply m x)) no_mark w
 
 name-levels : (h : Head) (o : List Level) (bs es : Patterns) (m : Mark) (n : List ℕ) (p : Span) (w : Word)
-    → LevelsOf (name_step h o bs es m n p w) (behind_word w (levels o))
+    → LevelsOf (name_step h o bs es m n p w) (after_word w (levels o))
 name-levels h [] bs es no_mark n p Arrow = refl
 name-levels h [] bs es not_mark n p Arrow = tt
 name-levels h [] bs es and_mark n p Arrow = tt
 name-levels h (l ∷ o) bs es m n p Arrow = tt
 name-levels h o bs es m n p w = read-levels h o bs es m (Name n) w
 
-step-levels : (c : Config) (w : Word) → LevelsOf (step c w) (behind_word w (levels_in c))
+step-levels : (c : Config) (w : Word) → LevelsOf (step c w) (after_word w (levels_in c))
 step-levels start (Ident n p) = refl
 step-levels start _ = tt
 step-levels (named n p) Arrow = refl
@@ -82,7 +82,7 @@ step-levels (body h o bs es m (read x)) w = read-levels h o bs es m x w
 step-levels (body h o bs es m (read_name n p)) w = name-levels h o bs es m n p w
 step-levels (done rules) w = tt
 
-pub word-opens : {t : Tok} {w : Word} (d : ℕ) → Says t w → behind_word w d ≡ open_behind (kind_of t) d
+pub word-opens : {t : Tok} {w : Word} (d : ℕ) → Says t w → after_word w d ≡ open_after (kind_of t) d
 word-opens d says_name = refl
 word-opens d says_arrow = refl
 word-opens d says_begin = refl
@@ -105,11 +105,11 @@ word-opens d says_end = refl
 -- the brackets that are open after a list, of those that were before
 abbrev pub open_count : ℕ → List Tok → ℕ
 open_count d [] = d
-open_count d (t ∷ ts) = open_count (open_behind (kind_of t) d) ts
+open_count d (t ∷ ts) = open_count (open_after (kind_of t) d) ts
 
 step-opens : {t : Tok} {w : Word} (c d : Config) → Says t w → step c w ≡ Some d
-    → levels_in d ≡ open_behind (kind_of t) (levels_in c)
-step-opens {t} {w} c d s h = (let l = step-levels c w in let k : LevelsOf (Some d) (behind_word w (levels_in c)) =
+    → levels_in d ≡ open_after (kind_of t) (levels_in c)
+step-opens {t} {w} c d s h = (let l = step-levels c w in let k : LevelsOf (Some d) (after_word w (levels_in c)) =
     rw h at l in k) ∙ word-opens (levels_in c) s
 
 levels-onwards : (ts : List Tok) (ws : List Word) (n : ℕ) (d : Config)
@@ -124,7 +124,7 @@ pub run-levels : {ts : List Tok} {ws : List Word} (c d : Config) → SayAll ts w
     → levels_in d ≡ open_count (levels_in c) ts
 run-levels c d say_none h = ap levels_in (let same : d ≡ c = cc in same)
 run-levels c d (say_more {t} {w} {ts} {ws} s all) h =
-    levels-onwards ts ws (open_behind (kind_of t) (levels_in c)) d (λ e r. run-levels e d all r) (step c w)
+    levels-onwards ts ws (open_after (kind_of t) (levels_in c)) d (λ e r. run-levels e d all r) (step c w)
     (λ e r. step-opens c e s r) h
 
 pub shallow-none : (m : ℕ) → IsShallow m 0 []
@@ -132,13 +132,13 @@ shallow-none m = omega arith
 
 shallow-within : (m d : ℕ) (ts : List Tok) → IsShallow m d ts → open_count d ts ≤ m
 shallow-within m d [] h = h
-shallow-within m d (tok k z p ∷ ts) h = shallow-within m (open_behind k d) ts h.1
+shallow-within m d (tok k z p ∷ ts) h = shallow-within m (open_after k d) ts h.1
 
 -- a shorter prefix
 pub shallow-front : (m d : ℕ) (ts us : List Tok) → IsShallow m d (ts ++ us) → IsShallow m d ts
 shallow-front m d [] [] h = h
 shallow-front m d [] (tok k z p ∷ us) h = h.0
-shallow-front m d (tok k z p ∷ ts) us h = (h.0, shallow-front m (open_behind k d) ts us h.1)
+shallow-front m d (tok k z p ∷ ts) us h = (h.0, shallow-front m (open_after k d) ts us h.1)
 
 pub shallow-take : (m d i : ℕ) (ts : List Tok) → IsShallow m d ts → IsShallow m d (take i ts)
 shallow-take m d i ts h = shallow-front m d (take i ts) (drop i ts) (rw (take-append-drop i ts) h)
@@ -146,7 +146,7 @@ shallow-take m d i ts h = shallow-front m d (take i ts) (drop i ts) (rw (take-ap
 shallow-snoc : (m d : ℕ) (ts : List Tok) (t : Tok) → IsShallow m d ts → open_count d (ts ++ t ∷ []) ≤ m
     → IsShallow m d (ts ++ t ∷ [])
 shallow-snoc m d [] (tok k z p) h le = (h, le)
-shallow-snoc m d (tok k z p ∷ ts) t h le = (h.0, shallow-snoc m (open_behind k d) ts t h.1 le)
+shallow-snoc m d (tok k z p ∷ ts) t h le = (h.0, shallow-snoc m (open_after k d) ts t h.1 le)
 
 -- the machine took one token more
 module _ {ts : List Tok} {ws : List Word} {t : Tok} {w : Word} (c d : Config) (say : SayAll ts ws)

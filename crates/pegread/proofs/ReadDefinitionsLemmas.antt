@@ -154,10 +154,10 @@ module _ {text : List ℕ} {left : TokenIter Kind} {c : Config} {before : Option
       is-here = hopeless-next c h.say h.reached h.shallow t others stops
 
       is-predicate : is_predicate before (kind_of t) ≡ true → IsCodePredicate (ts ++ t ∷ others) (length ts)
-      is-predicate e = behind-amp (predicate-kinds before (kind_of t) e)
+      is-predicate e = after-amp (predicate-kinds before (kind_of t) e)
         where
-          behind-amp : (before ≡ Some Amp) × (kind_of t ≡ Action) → IsCodePredicate (ts ++ t ∷ others) (length ts)
-          behind-amp (amp, action) =
+          after-amp : (before ≡ Some Amp) × (kind_of t ≡ Action) → IsCodePredicate (ts ++ t ∷ others) (length ts)
+          after-amp (amp, action) =
               let p = last-place ts (t ∷ others) Amp (sym h.last ∙ amp) in
               record {
                 place = p.0;

@@ -128,22 +128,22 @@ pub white-alone : {t r : List ℕ} → White t r → StandsAlone White t r
 white-alone no_more = record { part = record { front = []; whole = refl }; alone = no_more }
 white-alone (piece (blank {b} p) h) =
     let x = white-alone h in
-    let behind = x.part in
+    let after = x.part in
     record {
-      part = record { front = b ∷ behind.front; whole = ap (λ (z : List ℕ). b ∷ z) behind.whole };
+      part = record { front = b ∷ after.front; whole = ap (λ (z : List ℕ). b ∷ z) after.whole };
       alone = piece (blank p) x.alone;
     }
 white-alone {r} (piece (comment c) h) =
     let x = comment-part c in
     let y = white-alone h in
-    let behind = y.part in
+    let after = y.part in
     record {
       part = record {
-        front = 35 ∷ (x.part ++ behind.front);
-        whole = ap (λ (z : List ℕ). 35 ∷ z) (x.cut ∙ ap (λ (z : List ℕ). x.part ++ z) behind.whole
-            ∙ sym (append_assoc x.part behind.front r));
+        front = 35 ∷ (x.part ++ after.front);
+        whole = ap (λ (z : List ℕ). 35 ∷ z) (x.cut ∙ ap (λ (z : List ℕ). x.part ++ z) after.whole
+            ∙ sym (append_assoc x.part after.front r));
       };
-      alone = piece (comment (x.alone behind.front (line_end-front behind.front r behind.whole x.ends))) y.alone;
+      alone = piece (comment (x.alone after.front (line_end-front after.front r after.whole x.ends))) y.alone;
     }
 
 pub white-shorter : {t r : List ℕ} → White t r → length r ≤ length t

@@ -35,13 +35,13 @@ closes-alone {mark} {t} {r} c s e = let x = cut-alone c in
     cut-alone (escape {b} k) = let x = cut-alone k in (92 ∷ b ∷ x.0, ap (λ (z : List ℕ). 92 ∷ b ∷ z) x.1, escape x.2)
     cut-alone (plain {b} p q k) = let x = cut-alone k in (b ∷ x.0, ap (λ (z : List ℕ). b ∷ z) x.1, plain p q x.2)
 
-paired-behind_escape : {b : ℕ} {bs : List ℕ} → Paired (92 ∷ b ∷ bs) → Paired bs
-paired-behind_escape (paired_escape p) = p
-paired-behind_escape (paired_plain h p) = absurd (h refl)
+paired-after_escape : {b : ℕ} {bs : List ℕ} → Paired (92 ∷ b ∷ bs) → Paired bs
+paired-after_escape (paired_escape p) = p
+paired-after_escape (paired_plain h p) = absurd (h refl)
 
-pub paired-behind_plain : {b : ℕ} {bs : List ℕ} → b ≢ 92 → Paired (b ∷ bs) → Paired bs
-paired-behind_plain h (paired_escape p) = absurd (h refl)
-paired-behind_plain h (paired_plain k p) = p
+pub paired-after_plain : {b : ℕ} {bs : List ℕ} → b ≢ 92 → Paired (b ∷ bs) → Paired bs
+paired-after_plain h (paired_escape p) = absurd (h refl)
+paired-after_plain h (paired_plain k p) = p
 
 octal-no_escape : {x n : ℕ} → Octal x n → x ≢ 92
 octal-no_escape h = let a = octal-is h in omega arith
@@ -50,16 +50,16 @@ hex-no_escape : {x n : ℕ} → Hex x n → x ≢ 92
 hex-no_escape h = let a = hex-is h in omega arith
 
 form-paired : {t r : List ℕ} {b : ℕ} → Form t r b → Paired t → Paired r
-form-paired (unescaped h) p = paired-behind_plain h p
-form-paired (letter h) p = paired-behind_escape p
-form-paired (octal_three h k i j) p = paired-behind_plain (octal-no_escape j)
-    (paired-behind_plain (octal-no_escape i) (paired-behind_escape p))
-form-paired (octal_two h k) p = paired-behind_plain (octal-no_escape k) (paired-behind_escape p)
-form-paired (octal_one h) p = paired-behind_escape p
-form-paired (hex_two h k) p = paired-behind_plain (hex-no_escape k)
-    (paired-behind_plain (hex-no_escape h) (paired-behind_escape p))
-form-paired (hex_one h) p = paired-behind_plain (hex-no_escape h) (paired-behind_escape p)
-form-paired (itself h k) p = paired-behind_escape p
+form-paired (unescaped h) p = paired-after_plain h p
+form-paired (letter h) p = paired-after_escape p
+form-paired (octal_three h k i j) p = paired-after_plain (octal-no_escape j)
+    (paired-after_plain (octal-no_escape i) (paired-after_escape p))
+form-paired (octal_two h k) p = paired-after_plain (octal-no_escape k) (paired-after_escape p)
+form-paired (octal_one h) p = paired-after_escape p
+form-paired (hex_two h k) p = paired-after_plain (hex-no_escape k)
+    (paired-after_plain (hex-no_escape h) (paired-after_escape p))
+form-paired (hex_one h) p = paired-after_plain (hex-no_escape h) (paired-after_escape p)
+form-paired (itself h k) p = paired-after_escape p
 
 -- what follows a character has no backslash alone either
 pub char-paired : {t r : List ℕ} {b : ℕ} → Char t r b → Paired t → Paired r

@@ -9,7 +9,7 @@ use Rattle.pegread.specs.Chars.{Char, SpellsNone, Paired}
 use Rattle.pegread.specs.Classes.{IsClass, bracketed, GoesOn, Item, item_char, item_range, Ranges, no_items, more_items}
 use Rattle.pegread.specs.Classes.{in_ranges, bytes_in, complement, NoHat, SpellsSet, positive, negative, SpellsItems}
 use Rattle.pegread.proofs.CharFrontLemmas.{char-one, char-shorter, no-char, some-char}
-use Rattle.pegread.proofs.SpellsBytesLemmas.{closed-by, char-paired, none-paired, paired-behind_plain, same-inside}
+use Rattle.pegread.proofs.SpellsBytesLemmas.{closed-by, char-paired, none-paired, paired-after_plain, same-inside}
 
 -- after the `-` of a range the class goes on
 goes-on : (m : List ℕ) {r : List ℕ} {b : ℕ} → Char m r b → GoesOn (45 ∷ m)
@@ -26,8 +26,8 @@ item-same (item_range h l) (item_char k n) = let e = char-one _ _ _ _ _ k h in a
 item-same (item_range {m = m} h l) (item_range {m = u} k i) =
     let e = char-one _ _ _ _ _ h k in
     let dashes = e.0 in
-    let behind : m ≡ u = cc in
-    let f = char-one _ _ _ _ _ l (rw (sym behind) at i) in
+    let after : m ≡ u = cc in
+    let f = char-one _ _ _ _ _ l (rw (sym after) at i) in
     (f.0, e.1, f.1)
 
 item-some : {t r : List ℕ} {a b : ℕ} → Item t r a b → SpellsNone t → ⊥
@@ -51,7 +51,7 @@ item-shorter (item_range h k) = let x = char-shorter h in let y = char-shorter k
 -- what follows an item has no backslash alone
 pub item-paired : {t r : List ℕ} {a b : ℕ} → Item t r a b → Paired t → Paired r
 item-paired (item_char h n) p = char-paired h p
-item-paired (item_range h k) p = char-paired k (paired-behind_plain (omega arith) (char-paired h p))
+item-paired (item_range h k) p = char-paired k (paired-after_plain (omega arith) (char-paired h p))
 
 pub item-smaller : {t r : List ℕ} {a b : ℕ} → Item t r a b → length r < length t
 item-smaller h = item-shorter h
@@ -70,7 +70,7 @@ item-from t (b ∷ c ∷ cs) a h p = elim (cases_eq b 45) [
   where
     range-from : Char t (45 ∷ c ∷ cs) a → Paired (45 ∷ c ∷ cs) → HasItem t
     range-from k q = elim (some-char (c ∷ cs)) [
-      | inl e ↦ absurd (let x : c ∷ cs ≡ [] = none-paired (c ∷ cs) e (paired-behind_plain (omega arith) q) in cc)
+      | inl e ↦ absurd (let x : c ∷ cs ≡ [] = none-paired (c ∷ cs) e (paired-after_plain (omega arith) q) in cc)
       | inr x ↦ (x.0, a, x.1, item_range k x.2)
     ]
 
@@ -116,7 +116,7 @@ negative-set slice inside e p = let x = some-ranges inside p in
 set-of : (slice inside : List ℕ) → slice ≡ 91 ∷ (inside ++ 93 ∷ []) → Paired inside → HasSet slice
 set-of slice [] e p = positive-set slice [] e tt p
 set-of slice (b ∷ bs) e p = elim (cases_eq b 94) [
-  | inl k ↦ negative-set slice bs (rw k at e) (paired-behind_plain (omega arith) p)
+  | inl k ↦ negative-set slice bs (rw k at e) (paired-after_plain (omega arith) p)
   | inr n ↦ positive-set slice (b ∷ bs) e n p
 ]
 

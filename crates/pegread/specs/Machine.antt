@@ -67,10 +67,10 @@ unmarked not_mark x = None
 unmarked and_mark x = None
 
 -- only where no `&` waits
-abbrev pub not_behind_and : Mark → Option Config → Option Config
-not_behind_and no_mark x = x
-not_behind_and not_mark x = x
-not_behind_and and_mark x = None
+abbrev pub not_after_and : Mark → Option Config → Option Config
+not_after_and no_mark x = x
+not_after_and not_mark x = x
+not_after_and and_mark x = None
 
 -- a bracket closes round an expression
 abbrev pub close_step : List Level → Head → Pattern → Option Config
@@ -95,7 +95,7 @@ fresh_step h o bs es m (Class f) = Some (body h o bs es m (read (Set f)))
 fresh_step h o bs es m Dot = Some (body h o bs es m (read Any))
 fresh_step h o bs es m Begin = Some (body h o bs es m (read Open))
 fresh_step h o bs es m EndCap = Some (body h o bs es m (read Close))
-fresh_step h o bs es m (Action t) = not_behind_and m (Some (body h o bs es m (read (Act t))))
+fresh_step h o bs es m (Action t) = not_after_and m (Some (body h o bs es m (read (Act t))))
 fresh_step h o bs es m LParen = Some (body h (level bs es m ∷ o) none none no_mark fresh)
 fresh_step h o bs es m Bang = unmarked m (Some (body h o bs es not_mark fresh))
 fresh_step h o bs es m Amp = unmarked m (Some (body h o bs es and_mark fresh))

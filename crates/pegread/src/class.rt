@@ -30,7 +30,7 @@ fn items_set(text: &[u8]) -> ByteSet
     let mut rest = text;
     while let Some(item) = next_item(rest) {
         set.add_range(item.first, item.last);
-        rest = item.behind;
+        rest = item.after;
     }
     set
 }
@@ -43,29 +43,25 @@ struct ClassItem<'a> {
     /// The last byte of the range.
     last: u8,
     /// The rest of the class after the item.
-    behind: &'a [u8],
+    after: &'a [u8],
 }
 
 // The item at the front of a text.
 fn next_item(text: &[u8]) -> Option<ClassItem<'_>>
     requires { Paired text.now }
-    ensures { MatchOption result (text.now ≡ []) (λ x. Item text.now x.behind.now x.first x.last) }
+    ensures { MatchOption result (text.now ≡ []) (λ x. Item text.now x.after.now x.first x.last) }
 {
     let (first, rest) = next_char(text)?;
     match after_byte(rest, b'-') {
         // a `-` that ends the class is a character
         Some(end) if !end.is_empty() => {
-            let (last, behind) = next_char(end)?;
-            Some(ClassItem {
-                first,
-                last,
-                behind,
-            })
+            let (last, after) = next_char(end)?;
+            Some(ClassItem { first, last, after })
         }
         _ => Some(ClassItem {
             first,
             last: first,
-            behind: rest,
+            after: rest,
         }),
     }
 }

@@ -36,12 +36,12 @@ fn next_escape(text: &[u8]) -> Option<(u8, &[u8])>
 fn hex_escape(text: &[u8]) -> (u8, &[u8])
     ensures { Char (code "\\" ∷ code "x" ∷ text.now) result.1.now result.0 }
 {
-    let Some((high, behind)) = next_hex(text) else {
+    let Some((high, after)) = next_hex(text) else {
         return (b'x', text);
     };
-    match next_hex(behind) {
+    match next_hex(after) {
         Some((low, rest)) => (high * 16 + low, rest),
-        None => (high, behind),
+        None => (high, after),
     }
 }
 
@@ -51,16 +51,16 @@ fn octal_escape(first: u8, text: &[u8]) -> (u8, &[u8])
     requires { first ≤ 7 }
     ensures { Char (code "\\" ∷ (code "0" + first) ∷ text.now) result.1.now result.0 }
 {
-    let Some((second, behind)) = next_octal(text) else {
+    let Some((second, after)) = next_octal(text) else {
         return (first, text);
     };
     let two = first * 8 + second;
     if first > 3 {
-        return (two, behind);
+        return (two, after);
     }
-    match next_octal(behind) {
+    match next_octal(after) {
         Some((third, rest)) => (two * 8 + third, rest),
-        None => (two, behind),
+        None => (two, after),
     }
 }
 

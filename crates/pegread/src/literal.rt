@@ -26,9 +26,9 @@ fn text_bytes(alloc: Global, text: &[u8]) -> Result<Vec<u8>, Memory>
 {
     let mut bytes = Vec::new(alloc);
     let mut rest = text;
-    while let Some((byte, behind)) = next_char(rest) {
+    while let Some((byte, after)) = next_char(rest) {
         bytes.push(byte)?;
-        rest = behind;
+        rest = after;
     }
     Ok(bytes)
 }

@@ -5,7 +5,7 @@ use Rattle.std.proofs.Common.{subst, arith, length-append}
 use Rattle.std.proofs.lemmas.List.{append-nil}
 use Rattle.std.specs.Prelude.{Result, Ok, Err}
 use Rattle.std.specs.Io.KnownBytes.{Appends}
-use Rattle.ruletable.specs.Writing.{AppendsPart, IsBeginning}
+use Rattle.ruletable.specs.Writing.{AppendsPart, IsPrefixOf}
 use Rattle.ruletable.specs.declared.sink.WriteFault.{WriteFault}
 use Rattle.pegread.specs.PegViews.{rules_of}
 use Rattle.gramcheck.specs.Grammar.{Grammar}
@@ -55,19 +55,19 @@ module _ (g : Grammar) (front back : List ℕ) (raw : Bool) where
   )
 
 -- of all bytes that begin with a piece
-pub attempt_behind : (g : Grammar) (front items : List ℕ) (raw : Bool) (old new : Option (List ℕ))
-    (r : Result Attempt WriteFault) → IsBeginning front items →
+pub attempt_after : (g : Grammar) (front items : List ℕ) (raw : Bool) (old new : Option (List ℕ))
+    (r : Result Attempt WriteFault) → IsPrefixOf front items →
     IsAttempt g front true raw old new r → r ≢ Ok TooLong → (more : Bool) → IsAttempt g items more raw old new r
-attempt_behind g front items raw old new r (back, is) a other more =
+attempt_after g front items raw old new r (back, is) a other more =
     rw is (attempt_longer g front back raw old new r a other more)
 
-none_behind : (back : List ℕ) → length back ≡ 0 → back ≡ []
-none_behind [] e = refl
-none_behind (b ∷ back) e = absurd (cc e)
+none_after : (back : List ℕ) → length back ≡ 0 → back ≡ []
+none_after [] e = refl
+none_after (b ∷ back) e = absurd (cc e)
 
 -- a first piece as long as all is all
-pub whole_piece : (front items : List ℕ) → IsBeginning front items → length front ≡ length items → front ≡ items
+pub whole_piece : (front items : List ℕ) → IsPrefixOf front items → length front ≡ length items → front ≡ items
 whole_piece front items (back, is) e =
     let l = ap length is in
-    let none = none_behind back (omega (arith, l, length-append front back, e)) in
+    let none = none_after back (omega (arith, l, length-append front back, e)) in
     sym (is ∙ ap (λ t. front ++ t) none ∙ append-nil front)

@@ -9,7 +9,7 @@ use Rattle.std.specs.Io.KnownBytes.{Appends, Consumes}
 use Rattle.ruletable.specs.Writing.{Flags}
 use Rattle.ruletable.specs.declared.sink.WriteFault.{WriteFault}
 use Rattle.ruletable.proofs.AppendsLemmas.{Appends-join, Appends-kept, AppendsPart-join}
-use Rattle.feed.specs.Feed.{IsToldBy, input_limit}
+use Rattle.feed.specs.Feed.{IsReportedBy, input_limit}
 use Rattle.feed.specs.declared.held.Flow.{Flow}
 use Rattle.pegread.specs.Pattern.{Rule}
 use Rattle.pegread.specs.PegViews.{rules_of}
@@ -20,7 +20,7 @@ use Rattle.pegrun.specs.PegStopped.{IsCut}
 use Rattle.pegrun.specs.PegReply.{RunStates}
 use Rattle.pegrun.specs.Units.{Units, none, one_more, Ends, taken_at, unit_count}
 use Rattle.toolrun.specs.Agrees.{Agrees}
-use Rattle.toolrun.specs.RunSteps.{Begins, EndsTold, HasToldRun}
+use Rattle.toolrun.specs.RunSteps.{Begins, EndsReported, HasReportedRun}
 use Rattle.toolrun.specs.Stopped.{Fulfils}
 use Rattle.toolrun.specs.Stream.{Stream, passed}
 use Rattle.pegrun.specs.PegSettings.{PegSettings}
@@ -29,17 +29,17 @@ use Rattle.toolrun.specs.declared.ending.Ending.{Ending}
 use Rattle.toolrun.specs.declared.ending.Ending.TheVariants.{Plain, Explained, Unexplained}
 use Rattle.toolrun.specs.declared.stop.Stop.TheVariants.{Quiet, NoMatch, LongUnit, LongLine, Broken, NoMemory, Refused}
 use Rattle.toolrun.specs.declared.stop.Stop.TheVariants.{Unreadable}
-use Rattle.toolrun.proofs.StopsAsLemmas.{run_told, did_not_tell}
+use Rattle.toolrun.proofs.StopsAsLemmas.{run_reported, did_not_report}
 use Rattle.matchfailure.specs.NoMatchLines.{long_unit_lines}
-use Rattle.matchfailure.specs.NoMatches.{IsNoMatchTold, unit_before}
-use Rattle.pegrun.specs.PastUnits.{EndsBehind, LinesBehind}
-use Rattle.pegrun.specs.StopsExplained.{MayLack, StopLines, TellsNothing, UnitBefore, WhyStopped, one_before}
+use Rattle.matchfailure.specs.NoMatches.{IsNoMatchReported, unit_before}
+use Rattle.pegrun.specs.PastUnits.{EndsAfter, LinesAfter}
+use Rattle.pegrun.specs.StopsExplained.{MayLack, StopLines, ReportsNothing, UnitBefore, WhyStopped, one_before}
 use Rattle.pegrun.specs.declared.past.Past.{Past}
-use Rattle.matchfailure.specs.InputPlaces.{place_behind}
+use Rattle.matchfailure.specs.InputPlaces.{place_after}
 use Rattle.matchfailure.specs.declared.explain.place.TextPlace.{TextPlace}
 use Rattle.pegrun.proofs.FollowsLemmas.{unit_at_byte}
 use Rattle.toolrun.proofs.ExplainedIfLemmas.{if_asked, if_not_asked}
-use Rattle.pegrun.proofs.WhyStoppedLemmas.{no_lines, some_told}
+use Rattle.pegrun.proofs.WhyStoppedLemmas.{no_lines, some_reported}
 use Rattle.pegrun.proofs.SomeReplyLemmas.{units_go_on, unit_goes_on}
 use Rattle.pegrun.specs.declared.unit.UnitStep.TheVariants.{Takes, Stops}
 
@@ -58,7 +58,7 @@ module _ (rules : List Rule) (start : ℕ) (settings : PegSettings) (input : Inp
 
   -- the unit that was taken is the one before the next, and is kept
   pub unit_kept : (n : ℕ) → IsStep rules start settings input place mid new (Ok (Takes n)) → (past : Past)
-      (before items : List ℕ) → length before ≡ place → (next : TextPlace) → next ≡ place_behind before
+      (before items : List ℕ) → length before ≡ place → (next : TextPlace) → next ≡ place_after before
       → past.at ≡ next → past.bytes.items ≡ take n items → n ≤ length items →
       UnitBefore rules start settings input (place + n) (unit_before past.at.byte (length past.bytes.items))
   unit_kept n (unit, is, more, some) past before items here next stands at bytes le =
@@ -100,29 +100,30 @@ module _ (rules : List Rule) (start : ℕ) (settings : PegSettings) (input : Inp
     front_is = subst (λ (n : ℕ). take n input.bytes ≡ before) here
         (ap (take (length before)) (bytes ∙ append_assoc before held more) ∙ take-append_seam before (held ++ more))
 
-    lines_are : (stop : Stop) (why : List ℕ) → LinesBehind rules start past before held stop why
+    lines_are : (stop : Stop) (why : List ℕ) → LinesAfter rules start past before held stop why
         → StopLines rules start settings input place stop why
     lines_are (Quiet status) why lines = absurd lines
-    lines_are (NoMatch at) why (kept, told) = (
+    lines_are (NoMatch at) why (kept, reported) = (
       unit_before past.at.byte (length past.bytes.items),
       unit kept,
-      subst (λ (t : List ℕ). IsNoMatchTold rules start t (unit_before past.at.byte (length past.bytes.items)) place why)
+      subst (λ (t : List ℕ). IsNoMatchReported rules start t (unit_before past.at.byte (length past.bytes.items)) place
+          why)
           (sym taken_is)
-          (subst (λ (n : ℕ). IsNoMatchTold rules start (before ++ held)
-          (unit_before past.at.byte (length past.bytes.items)) n why) here told),
+          (subst (λ (n : ℕ). IsNoMatchReported rules start (before ++ held)
+          (unit_before past.at.byte (length past.bytes.items)) n why) here reported),
     )
     lines_are (LongUnit at limit) why lines =
-        lines ∙ ap (λ (t : List ℕ). long_unit_lines (place_behind t)) (sym front_is)
+        lines ∙ ap (λ (t : List ℕ). long_unit_lines (place_after t)) (sym front_is)
     lines_are (LongLine line limit) why lines = absurd lines
     lines_are Broken why lines = absurd lines
     lines_are NoMemory why lines = absurd lines
     lines_are (Refused fault) why lines = absurd lines
     lines_are Unreadable why lines = absurd lines
 
-    ends_so : (stop : Stop) (last : List ℕ) (ending : Ending) → EndsBehind rules start past before held stop ending
+    ends_so : (stop : Stop) (last : List ℕ) (ending : Ending) → EndsAfter rules start past before held stop ending
         → Ends rules start settings input place last stop →
-        EndsTold (Units rules start settings input) (Ends rules start settings input) (taken_at settings input)
-        TellsNothing (WhyStopped rules start settings input) (MayLack rules start settings input) place last ending
+        EndsReported (Units rules start settings input) (Ends rules start settings input) (taken_at settings input)
+        ReportsNothing (WhyStopped rules start settings input) (MayLack rules start settings input) place last ending
     ends_so stop last (Plain is) (same, without) ends =
         rw same (
           refl,
@@ -132,7 +133,7 @@ module _ (rules : List Rule) (start : ℕ) (settings : PegSettings) (input : Inp
                 (no_lines rules start settings input place stop without),
           ),
         )
-    ends_so stop last (Explained told is why) (alone, same, lines) ends =
+    ends_so stop last (Explained reported is why) (alone, same, lines) ends =
         rw same (
           alone,
           inr (
@@ -141,37 +142,37 @@ module _ (rules : List Rule) (start : ℕ) (settings : PegSettings) (input : Inp
                 (lines_are stop why.items lines),
           ),
         )
-    ends_so stop last (Unexplained told is) (alone, same, has) ends = rw same (alone, ends, (asked, has))
+    ends_so stop last (Unexplained reported is) (alone, same, has) ends = rw same (alone, ends, (asked, has))
 
-    refused_so : (ending : Ending) → EndsBehind rules start past before held NoMemory ending
-        → EndsTold (Units rules start settings input) (Ends rules start settings input) (taken_at settings input)
-        TellsNothing (WhyStopped rules start settings input) (MayLack rules start settings input) place [] ending
+    refused_so : (ending : Ending) → EndsAfter rules start past before held NoMemory ending
+        → EndsReported (Units rules start settings input) (Ends rules start settings input) (taken_at settings input)
+        ReportsNothing (WhyStopped rules start settings input) (MayLack rules start settings input) place [] ending
     refused_so (Plain is) (same, without) =
         (refl, inl (record { refused = same; nothing = refl; unexplained = refl }))
-    refused_so (Explained told is why) (alone, same, lines) = absurd lines
-    refused_so (Unexplained told is) (alone, same, has) = absurd has
+    refused_so (Explained reported is why) (alone, same, lines) = absurd lines
+    refused_so (Unexplained reported is) (alone, same, has) = absurd has
 
     pub stops_explained : (stop : Stop) (ending : Ending)
         → IsStep rules start settings input place mid new (Ok (Stops stop))
-        → EndsBehind rules start past before held stop ending → taken ≡ taken_at settings input place →
+        → EndsAfter rules start past before held stop ending → taken ≡ taken_at settings input place →
         IsCut rules start settings input taken old new (Ok ending)
-    stops_explained stop ending (inl refused) behind at = (
+    stops_explained stop ending (inl refused) after at = (
       place,
       text,
       [],
       units,
       rw append-nil (Appends-kept old mid new text wrote refused.1),
       at,
-      refused_so ending (subst (λ (s : Stop). EndsBehind rules start past before held s ending) refused.0 behind),
+      refused_so ending (subst (λ (s : Stop). EndsAfter rules start past before held s ending) refused.0 after),
     )
-    stops_explained stop ending (inr ended) behind at = (
+    stops_explained stop ending (inr ended) after at = (
       place,
       text,
       ended.0,
       units,
       Appends-join old mid new text ended.0 wrote ended.2,
       at,
-      ends_so stop ended.0 ending behind ended.1,
+      ends_so stop ended.0 ending after ended.1,
     )
 
   module _ (past : Past) (before held more : List ℕ) (here : length before ≡ place)
@@ -180,10 +181,10 @@ module _ (rules : List Rule) (start : ℕ) (settings : PegSettings) (input : Inp
       → UnitBefore rules start settings input place (unit_before past.at.byte (length past.bytes.items)))
       (stop : Stop) (ending : Ending) (step : IsStep rules start settings input place mid new (Ok (Stops stop)))
       (plain : settings.explain ≡ false → ending ≡ Plain stop)
-      (told : settings.explain ≡ true → EndsBehind rules start past before held stop ending)
+      (reported : settings.explain ≡ true → EndsAfter rules start past before held stop ending)
       (at : taken ≡ taken_at settings input place) where
     stops_by : (asked : Bool) → settings.explain ≡ asked → IsCut rules start settings input taken old new (Ok ending)
-    stops_by true e = stops_explained e past before held more here bytes took (unit e) stop ending step (told e) at
+    stops_by true e = stops_explained e past before held more here bytes took (unit e) stop ending step (reported e) at
     stops_by false e = rw (plain e) (stops_plain e stop step at)
 
     pub stops_at_place : IsCut rules start settings input taken old new (Ok ending)
@@ -214,19 +215,19 @@ goes_on g sound settings input place text units = units_go_on g settings input s
 pub cut_has_run : (g : Grammar) → IsSoundGrammar g → (settings : PegSettings) (input : Input) (taken : ℕ)
     (old new : Option (List ℕ)) (r : Result Ending WriteFault) →
     IsCut (rules_of g.rules) g.start settings input taken old new r →
-    HasToldRun (Units (rules_of g.rules) g.start settings input) (Ends (rules_of g.rules) g.start settings input)
-    (taken_at settings input) TellsNothing (WhyStopped (rules_of g.rules) g.start settings input)
+    HasReportedRun (Units (rules_of g.rules) g.start settings input) (Ends (rules_of g.rules) g.start settings input)
+    (taken_at settings input) ReportsNothing (WhyStopped (rules_of g.rules) g.start settings input)
     (MayLack (rules_of g.rules) g.start settings input) taken old new r
 cut_has_run g sound settings input taken old new (Ok ending) cut = cut
 cut_has_run g sound settings input taken old new (Err fault) (place, k, text, last, units, unit, part, took) =
     let goes = unit_goes_on g settings input sound place k text last units unit in
-    let told = some_told (rules_of g.rules) g.start settings input goes.reply goes.replies in (
+    let reported = some_reported (rules_of g.rules) g.start settings input goes.reply goes.replies in (
       text ++ last,
       record {
-        reply = told.0;
-        states = told.1;
-        front = rw told.2 goes.front;
-        taken = omega (arith, took, told.3, goes.taken);
+        reply = reported.0;
+        states = reported.1;
+        front = rw reported.2 goes.front;
+        taken = omega (arith, took, reported.3, goes.taken);
       },
       part,
     )
@@ -234,19 +235,20 @@ cut_has_run g sound settings input taken old new (Err fault) (place, k, text, la
 -- the reader is given back as it was after the last unit
 pub units_were_run : (g : Grammar) → IsSoundGrammar g → (settings : PegSettings)
     → {R : Type 0} (remaining : R → Option (List ℕ)) (failed ended : R → Bool) (old now final : R) (out : Stream)
-    (left : ℕ) (flow : Flow) (r : Result Ending WriteFault) → final ≡ now → IsToldBy (remaining now) (failed now)
+    (left : ℕ) (flow : Flow) (r : Result Ending WriteFault) → final ≡ now → IsReportedBy (remaining now) (failed now)
     (ended now) left flow →
     ((seen : List ℕ) × Consumes (remaining old) (remaining now) seen × (left + length seen ≡ input_limit) ×
     ((input : Input) → Agrees seen flow input → IsCut (rules_of g.rules) g.start settings input (length seen) out.old
     out.new r)) →
     Flags out.was out.failed r → Fulfils (RunStates (rules_of g.rules) g.start settings)
     (passed remaining failed old final) out r
-units_were_run g sound settings remaining failed ended old now final out left flow r is told (seen, gives, count, cut)
+units_were_run g sound settings remaining failed ended old now final out left flow r is reported
+    (seen, gives, count, cut)
     flag =
-    run_told (Units (rules_of g.rules) g.start settings) (Ends (rules_of g.rules) g.start settings)
-    (taken_at settings) (goes_on g sound settings) (λ input. TellsNothing)
+    run_reported (Units (rules_of g.rules) g.start settings) (Ends (rules_of g.rules) g.start settings)
+    (taken_at settings) (goes_on g sound settings) (λ input. ReportsNothing)
     (WhyStopped (rules_of g.rules) g.start settings) (MayLack (rules_of g.rules) g.start settings)
-    remaining failed ended old now final out left flow r is told (
+    remaining failed ended old now final out left flow r is reported (
       seen,
       gives,
       count,
@@ -262,7 +264,7 @@ pub no_unit_was_run : (g : Grammar) → IsSoundGrammar g → (settings : PegSett
     (record { old = r0; new = r0; was = r_was; failed = r_failed })
     (record { old = s0; new = s0; was = o_was; failed = o_was }) r
 no_unit_was_run g sound settings r0 s0 r_was r_failed o_was =
-    did_not_tell (Units (rules_of g.rules) g.start settings) (Ends (rules_of g.rules) g.start settings)
-    (taken_at settings) (goes_on g sound settings) (λ input. TellsNothing)
+    did_not_report (Units (rules_of g.rules) g.start settings) (Ends (rules_of g.rules) g.start settings)
+    (taken_at settings) (goes_on g sound settings) (λ input. ReportsNothing)
     (WhyStopped (rules_of g.rules) g.start settings) (MayLack (rules_of g.rules) g.start settings)
     0 (λ input. none) (λ input. refl) r0 s0 r_was r_failed o_was

@@ -5,11 +5,11 @@ use Rattle.std.proofs.Common.{subst, arith, length-append, length-take, append_a
 use Rattle.std.proofs.Common.{Vec, Global}
 use Rattle.std.specs.Prelude.{Result, Ok, Err, IfOk}
 use Rattle.ruletable.specs.declared.memory.Memory.{Memory}
-use Rattle.matchfailure.specs.NoMatches.{IsNoMatchTold, unit_before}
-use Rattle.matchfailure.specs.InputPlaces.{place_behind}
+use Rattle.matchfailure.specs.NoMatches.{IsNoMatchReported, unit_before}
+use Rattle.matchfailure.specs.InputPlaces.{place_after}
 use Rattle.matchfailure.specs.declared.explain.place.TextPlace.{TextPlace}
 use Rattle.pegread.specs.Pattern.{Rule}
-use Rattle.pegrun.specs.PastUnits.{EndsBehind, Follows, IsEndingWith}
+use Rattle.pegrun.specs.PastUnits.{EndsAfter, Follows, IsEndingWith}
 use Rattle.pegrun.specs.StopsExplained.{UnitBefore, none_before}
 use Rattle.pegrun.specs.declared.past.Past.{Past}
 use Rattle.toolrun.specs.Input.{Input}
@@ -19,7 +19,7 @@ use Rattle.toolrun.specs.declared.ending.Ending.TheVariants.{Plain, Explained, U
 use Rattle.toolrun.specs.declared.stop.Stop.TheVariants.{NoMatch}
 
 -- nothing is kept at the front
-pub follows_front : (past : Past) → past.at ≡ place_behind [] → past.bytes.items ≡ [] → past.next ≡ place_behind []
+pub follows_front : (past : Past) → past.at ≡ place_after [] → past.bytes.items ≡ [] → past.next ≡ place_after []
     → Follows past []
 follows_front past at bytes next = record {
   next = next;
@@ -35,7 +35,7 @@ pub front_is_first : (rules : List Rule) (start : ℕ) (settings : PegSettings) 
 front_is_first rules start settings input past bytes = rw bytes none_before
 
 -- the unit that was taken is kept after the bytes before it
-pub unit_at_byte : (at : TextPlace) (bytes before items : List ℕ) (n : ℕ) → at ≡ place_behind before
+pub unit_at_byte : (at : TextPlace) (bytes before items : List ℕ) (n : ℕ) → at ≡ place_after before
     → bytes ≡ take n items → n ≤ length items → 0 < n → unit_before at.byte (length bytes) ≡ Some (length before)
 unit_at_byte at bytes before items zero is kept le some = absurd (omega (arith, some))
 unit_at_byte at bytes before items (suc n) is kept le some =
@@ -46,27 +46,30 @@ unit_at_byte at bytes before items (suc n) is kept le some =
 pub ends_unmatched : (rules : List Rule) (start : ℕ) (past : Past) (before held : List ℕ) (at : ℕ)
     (why : Result (Vec ℕ Global) Memory) (ending : Ending) →
     IfOk why (λ w. (front : List ℕ) → Follows past front → (past.lost ≡ false)
-    × IsNoMatchTold rules start (front ++ held) (unit_before past.at.byte (length past.bytes.items)) (length front)
+    × IsNoMatchReported rules start (front ++ held) (unit_before past.at.byte (length past.bytes.items)) (length front)
     w.items) → Follows past before → IsEndingWith (NoMatch at) why ending →
-    EndsBehind rules start past before held (NoMatch at) ending
-ends_unmatched rules start past before held at why (Plain is) told follows so = absurd so
-ends_unmatched rules start past before held at (Ok why) (Explained first is lines) told follows (none, same, are) =
-    (none, same, rw are (told before follows))
-ends_unmatched rules start past before held at (Err fault) (Explained first is lines) told follows (none, same, are) =
+    EndsAfter rules start past before held (NoMatch at) ending
+ends_unmatched rules start past before held at why (Plain is) reported follows so = absurd so
+ends_unmatched rules start past before held at (Ok why) (Explained first is lines) reported follows (none, same, are) =
+    (none, same, rw are (reported before follows))
+ends_unmatched rules start past before held at (Err fault) (Explained first is lines) reported follows
+    (none, same, are) =
     absurd are
-ends_unmatched rules start past before held at why (Unexplained first is) told follows (none, same) = (none, same, tt)
+ends_unmatched rules start past before held at why (Unexplained first is) reported follows (none, same) =
+    (none, same, tt)
 
 -- what explains it, of the bytes that are kept and those that are held
-pub told_behind_kept : (rules : List Rule) (start : ℕ) (past : Past) (held seen : List ℕ) (last : ℕ)
+pub reported_after_kept : (rules : List Rule) (start : ℕ) (past : Past) (held seen : List ℕ) (last : ℕ)
     (result : Result (Vec ℕ Global) Memory) → past.lost ≡ false → seen ≡ past.bytes.items ++ held
     → last ≡ length past.bytes.items →
-    IfOk result (λ why. (front : List ℕ) → past.at ≡ place_behind front → IsNoMatchTold rules start (front ++ seen)
+    IfOk result (λ why. (front : List ℕ) → past.at ≡ place_after front → IsNoMatchReported rules start (front ++ seen)
     (unit_before past.at.byte last) (past.at.byte + last) why.items) →
     IfOk result (λ why. (before : List ℕ) → Follows past before → (past.lost ≡ false)
-    × IsNoMatchTold rules start (before ++ held) (unit_before past.at.byte (length past.bytes.items)) (length before)
+    × IsNoMatchReported rules start (before ++ held) (unit_before past.at.byte (length past.bytes.items))
+    (length before)
     why.items)
-told_behind_kept rules start past held seen last (Err fault) kept is many told = tt
-told_behind_kept rules start past held seen last (Ok why) kept is many told = λ before follows.
+reported_after_kept rules start past held seen last (Err fault) kept is many reported = tt
+reported_after_kept rules start past held seen last (Ok why) kept is many reported = λ before follows.
     let whole : before ≡ follows.front ++ past.bytes.items = follows.whole kept in
     let text : follows.front ++ seen ≡ before ++ held = ap (λ (t : List ℕ). follows.front ++ t) is
     ∙ sym (append_assoc follows.front past.bytes.items held) ∙ ap (λ (t : List ℕ). t ++ held) (sym whole) in
@@ -75,10 +78,10 @@ told_behind_kept rules start past held seen last (Ok why) kept is many told = λ
     let byte : past.at.byte + last ≡ length before =
     omega (arith, here, many, size, length-append follows.front past.bytes.items) in (
       kept,
-      subst (λ (t : List ℕ). IsNoMatchTold rules start t (unit_before past.at.byte (length past.bytes.items))
+      subst (λ (t : List ℕ). IsNoMatchReported rules start t (unit_before past.at.byte (length past.bytes.items))
           (length before) why.items) text
-          (subst (λ (n : ℕ). IsNoMatchTold rules start (follows.front ++ seen)
+          (subst (λ (n : ℕ). IsNoMatchReported rules start (follows.front ++ seen)
           (unit_before past.at.byte (length past.bytes.items)) n why.items) byte
-          (subst (λ (n : ℕ). IsNoMatchTold rules start (follows.front ++ seen) (unit_before past.at.byte n)
-          (past.at.byte + last) why.items) many (told follows.front follows.at))),
+          (subst (λ (n : ℕ). IsNoMatchReported rules start (follows.front ++ seen) (unit_before past.at.byte n)
+          (past.at.byte + last) why.items) many (reported follows.front follows.at))),
     )

@@ -3,7 +3,7 @@
 use Rattle.std.proofs.Common.{◌≡◌, ℕ, ◌+◌, Bool, List, [], length, Option, Some, None, refl, arith}
 use Rattle.std.specs.Prelude.{IfSome}
 use Rattle.std.specs.Io.KnownBytes.{Consumes}
-use Rattle.feed.specs.Feed.{IsToldBy, input_limit}
+use Rattle.feed.specs.Feed.{IsReportedBy, input_limit}
 use Rattle.feed.specs.declared.held.Flow.{Flow}
 use Rattle.pegread.specs.Pattern.{Rule}
 use Rattle.pegrun.specs.MatchCalls.{HasFewCalls}
@@ -20,25 +20,25 @@ module _ (rules : List Rule) (start : ℕ) (settings : PegSettings) (was calls :
       × HasFewCalls rules start settings (input_from given taken failed) (length taken) was calls)
 
   few_given : (old new : Option (List ℕ)) (failed ended : Bool) (left : ℕ) (flow : Flow)
-      → IsToldBy new failed ended left flow →
+      → IsReportedBy new failed ended left flow →
       ((seen : List ℕ) × Consumes old new seen × (left + length seen ≡ input_limit) ×
       ((input : Input) → Agrees seen flow input → HasFewCalls rules start settings input (length seen) was calls))
       → FewGiven old new failed
-  few_given None new failed ended left flow told run = tt
-  few_given (Some given) new failed ended left flow told (seen, gives, count, few) = (
+  few_given None new failed ended left flow reported run = tt
+  few_given (Some given) new failed ended left flow reported (seen, gives, count, few) = (
     seen,
     gives,
-    few (input_from given seen failed) (agrees_of given seen new failed ended left flow gives count told),
+    few (input_from given seen failed) (agrees_of given seen new failed ended left flow gives count reported),
   )
 
   -- the reader is given back as it was after the last unit
   pub few_calls_given : {R : Type 0} (remaining : R → Option (List ℕ)) (failed ended : R → Bool) (old now final : R)
-      (left : ℕ) (flow : Flow) → final ≡ now → IsToldBy (remaining now) (failed now) (ended now) left flow →
+      (left : ℕ) (flow : Flow) → final ≡ now → IsReportedBy (remaining now) (failed now) (ended now) left flow →
       ((seen : List ℕ) × Consumes (remaining old) (remaining now) seen × (left + length seen ≡ input_limit) ×
       ((input : Input) → Agrees seen flow input → HasFewCalls rules start settings input (length seen) was calls))
       → FewGiven (remaining old) (remaining final) (failed final)
-  few_calls_given remaining failed ended old now final left flow is told run =
-      rw is (few_given (remaining old) (remaining now) (failed now) (ended now) left flow told run)
+  few_calls_given remaining failed ended old now final left flow is reported run =
+      rw is (few_given (remaining old) (remaining now) (failed now) (ended now) left flow reported run)
 
 -- nothing was read, and no match was asked for
 pub no_calls_given : (rules : List Rule) (start : ℕ) (settings : PegSettings) (calls : ℕ) (old : Option (List ℕ))

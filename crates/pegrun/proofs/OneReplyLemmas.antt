@@ -6,7 +6,7 @@ use Rattle.pegread.specs.Pattern.{Rule}
 use Rattle.gramcheck.specs.Outcome.{Outcome, Fails, Takes, RuleGives}
 use Rattle.gramcheck.proofs.StartRuleLemmas.{same_of_start}
 use Rattle.toolrun.specs.Input.{Input}
-use Rattle.matchfailure.specs.NoMatches.{IsNoMatchTold}
+use Rattle.matchfailure.specs.NoMatches.{IsNoMatchReported}
 use Rattle.pegrun.specs.PegReply.{PlainReplies, Replies}
 use Rattle.pegrun.specs.StopsExplained.{StopLines, UnitBefore, WhyStopped, none_before, one_before}
 use Rattle.toolrun.specs.Reply.{Reply, explained_reply}
@@ -24,7 +24,7 @@ use Rattle.toolrun.proofs.OneStatementLemmas.{one-explained}
 -- what explains that no unit goes on is one text
 abbrev pub NoMatchesAreOne : Type 0
 NoMatchesAreOne = (rules : List Rule) (start : ℕ) (text : List ℕ) (before : Option ℕ) (last : ℕ) (a b : List ℕ)
-    → IsNoMatchTold rules start text before last a → IsNoMatchTold rules start text before last b → a ≡ b
+    → IsNoMatchReported rules start text before last a → IsNoMatchReported rules start text before last b → a ≡ b
 
 -- two replies of the same parts
 same_reply : (a b : Reply) → a.out ≡ b.out → a.err ≡ b.err → a.status ≡ b.status → a.taken ≡ b.taken → a ≡ b
@@ -74,7 +74,7 @@ module _ (rules : List Rule) (start : ℕ) (settings : PegSettings) (input : Inp
   data Compares (s : ℕ) (text : List ℕ) (s' : ℕ) (text' : List ℕ) : Type 0 where
     same : s ≡ s' → text ≡ text' → Compares s text s' text'
     before : Reaches s s' → Compares s text s' text'
-    behind : Reaches s' s → Compares s text s' text'
+    after : Reaches s' s → Compares s text s' text'
 
   -- one more unit after units that begin so
   begins_further : (at k : ℕ) (front more : List ℕ) → UnitAt at k more → 0 < k → Compares 0 [] at front
@@ -89,7 +89,7 @@ module _ (rules : List Rule) (start : ℕ) (settings : PegSettings) (input : Inp
       })
   begins_further at k front more unit some (before r) =
       before (record { bytes = r.bytes; text = r.text; unit = r.unit; some = r.some; within = omega (arith, r.within) })
-  begins_further at k front more unit some (behind r) = absurd (omega (arith, r.some, r.within))
+  begins_further at k front more unit some (after r) = absurd (omega (arith, r.some, r.within))
 
   -- units lead nowhere, or begin with one of some bytes
   compares_begin : (s : ℕ) (text : List ℕ) → UnitsTo s text → Compares 0 [] s text
@@ -100,8 +100,8 @@ module _ (rules : List Rule) (start : ℕ) (settings : PegSettings) (input : Inp
   -- the other way round
   compares_turned : (s s' : ℕ) (text text' : List ℕ) → Compares s text s' text' → Compares s' text' s text
   compares_turned s s' text text' (same here is) = same (sym here) (sym is)
-  compares_turned s s' text text' (before r) = behind r
-  compares_turned s s' text text' (behind r) = before r
+  compares_turned s s' text text' (before r) = after r
+  compares_turned s s' text text' (after r) = before r
 
   -- both go on by a unit
   module _ (s k s' k' : ℕ) (text more text' more' : List ℕ) (unit : UnitAt s k more) (unit' : UnitAt s' k' more')
@@ -125,30 +125,30 @@ module _ (rules : List Rule) (start : ℕ) (settings : PegSettings) (input : Inp
           some = q.some;
           within = omega (arith, q.within);
         })
-    both_before r (behind q) =
+    both_before r (after q) =
         let h = one_unit s k r.bytes more r.text unit r.unit in
         absurd (omega (arith, h.bytes, r.within, q.some, q.within))
 
     -- the first went on from the end of the second without its last unit
-    both_behind : Reaches s' s → Compares s text (s' + k') (text' ++ more') → Compares (s + k) (text ++ more) (s' + k')
+    both_after : Reaches s' s → Compares s text (s' + k') (text' ++ more') → Compares (s + k) (text ++ more) (s' + k')
         (text' ++ more')
-    both_behind r (same here is) =
-        behind (record {
+    both_after r (same here is) =
+        after (record {
           bytes = k;
           text = more;
           unit = subst (λ v. UnitAt v k more) here unit;
           some = some;
           within = omega (arith, here);
         })
-    both_behind r (behind q) =
-        behind (record {
+    both_after r (after q) =
+        after (record {
           bytes = q.bytes;
           text = q.text;
           unit = q.unit;
           some = q.some;
           within = omega (arith, q.within);
         })
-    both_behind r (before q) =
+    both_after r (before q) =
         let h = one_unit s' k' r.bytes more' r.text unit' r.unit in
         absurd (omega (arith, h.bytes, r.within, q.some, q.within))
 
@@ -162,7 +162,7 @@ module _ (rules : List Rule) (start : ℕ) (settings : PegSettings) (input : Inp
         let t = h.texts in
         same (omega (arith, here, e)) cc
     compares_both (before r) whole whole' = both_before r whole'
-    compares_both (behind r) whole whole' = both_behind r whole
+    compares_both (after r) whole whole' = both_after r whole
 
   -- the first goes on by a unit, and up to there all compare with it
   goes_on : (s k : ℕ) (text more : List ℕ) → UnitsTo s text → (unit : UnitAt s k more) → (some : 0 < k) →
@@ -368,7 +368,7 @@ module _ (rules : List Rule) (start : ℕ) (settings : PegSettings) (input : Inp
         stops = stop;
       }
   replies_settled a b r q (before to) = absurd (no_end r.point q.point r.last r.stop to r.ends)
-  replies_settled a b r q (behind to) = absurd (no_end q.point r.point q.last q.stop to q.ends)
+  replies_settled a b r q (after to) = absurd (no_end q.point r.point q.last q.stop to q.ends)
 
   one_run : (a b : Reply) (r : PlainReply a) (q : PlainReply b) → OneRun a b r q
   one_run a b r q = replies_settled a b r q (units_compare r.point r.before r.steps q.point q.before q.steps)
@@ -380,7 +380,7 @@ module _ (rules : List Rule) (start : ℕ) (settings : PegSettings) (input : Inp
   one_before_of s k s' k' text last text' last' unit unit' some some' e (before r) =
       let h = one_unit s k r.bytes last r.text unit r.unit in
       absurd (omega (arith, h.bytes, r.within, e, some'))
-  one_before_of s k s' k' text last text' last' unit unit' some some' e (behind r) =
+  one_before_of s k s' k' text last text' last' unit unit' some some' e (after r) =
       let h = one_unit s' k' r.bytes last' r.text unit' r.unit in
       absurd (omega (arith, h.bytes, r.within, e, some))
 
@@ -395,16 +395,16 @@ module _ (rules : List Rule) (start : ℕ) (settings : PegSettings) (input : Inp
       ap (λ (x : ℕ). Some x) (one_before_of at k s' k' text last text' last' unit unit' some some' e
       (units_compare at text units s' text' units'))
 
-  module _ (one_told : NoMatchesAreOne) where
+  module _ (one_reported : NoMatchesAreOne) where
     -- what explains a stop is one text
     one_lines : (s : ℕ) (stop : Stop) (a b : List ℕ) → StopLines rules start settings input s stop a
         → StopLines rules start settings input s stop b → a ≡ b
     one_lines s (Quiet status) a b g h = g ∙ sym h
-    one_lines s (NoMatch at) a b (first, is, told) (other, too, tells) =
+    one_lines s (NoMatch at) a b (first, is, reported) (other, too, reports) =
         let same = one_before_at s first is s other too refl in
         let seen : List ℕ = take (taken_at settings input s) input.bytes in
-        one_told rules start seen other s a b
-        (subst (λ (v : Option ℕ). IsNoMatchTold rules start seen v s a) same told) tells
+        one_reported rules start seen other s a b
+        (subst (λ (v : Option ℕ). IsNoMatchReported rules start seen v s a) same reported) reports
     one_lines s (LongUnit at limit) a b g h = g ∙ sym h
     one_lines s (LongLine line limit) a b g h = g ∙ sym h
     one_lines s Broken a b g h = g ∙ sym h
@@ -419,17 +419,18 @@ module _ (rules : List Rule) (start : ℕ) (settings : PegSettings) (input : Inp
         (subst (λ (v : Stop). WhyStopped rules start settings input t v a) is
         (subst (λ (v : ℕ). WhyStopped rules start settings input v stop a) here g)) h
 
-    one_told_reply : (a b : Reply) → Replies rules start settings input a → Replies rules start settings input b
+    one_reported_reply : (a b : Reply) → Replies rules start settings input a → Replies rules start settings input b
         → a ≡ b
-    one_told_reply a b r q =
+    one_reported_reply a b r q =
         let run = one_run r.plain q.plain r.replies q.replies in
         let why = one_why r.replies.point q.replies.point r.replies.stop q.replies.stop r.why q.why run.points run.stops
         r.explains q.explains in
-        r.told ∙ ap (λ t. explained_reply t r.plain r.why) (r.tells ∙ sym q.tells)
+        r.reported ∙ ap (λ t. explained_reply t r.plain r.why) (r.reports ∙ sym q.reports)
         ∙ ap (λ (v : Reply). explained_reply q.before v r.why) run.replies
-        ∙ ap (explained_reply q.before q.plain) why ∙ sym q.told
+        ∙ ap (explained_reply q.before q.plain) why ∙ sym q.reported
 
 -- one reply
 pub one_reply : NoMatchesAreOne → (rules : List Rule) (start : ℕ) (settings : PegSettings) (input : Input) (a b : Reply)
     → Replies rules start settings input a → Replies rules start settings input b → a ≡ b
-one_reply one_told rules start settings input a b r q = one_told_reply rules start settings input one_told a b r q
+one_reply one_reported rules start settings input a b r q = one_reported_reply rules start settings input one_reported a
+    b r q

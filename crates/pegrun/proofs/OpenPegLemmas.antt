@@ -17,18 +17,19 @@ use Rattle.ruletable.specs.Rules as table
 use Rattle.ruletable.specs.declared.memory.Memory.{Memory}
 use Rattle.toolrun.specs.Input.{Input}
 use Rattle.toolrun.specs.Reply.{Reply}
-use Rattle.toolrun.specs.ToldNotes.{HintedNotes}
+use Rattle.toolrun.specs.ReportedNotes.{HintedNotes}
 use Rattle.toolrun.specs.declared.settings.Mode.TheVariants.{Run}
 use Rattle.pegrun.specs.PegSettings.{PegSettings}
 
 -- what a run of an open grammar states is what a run of its text states after the notes
-pub open_peg_states : (text : List ℕ) (settings : PegSettings) (input : Input) (notes : List Said) (told : List ℕ)
+pub open_peg_states : (text : List ℕ) (settings : PegSettings) (input : Input) (notes : List Said) (reported : List ℕ)
     (grammar : Grammar) (stated : Reply) → settings.mode ≡ Run → IsPegOpened text settings notes (Some grammar)
-    → HintedNotes settings (ExplainsNote text) (ArePegHints text) notes told
-    → RunStates (rules_of grammar.rules) grammar.start settings input stated → States text settings input told stated
-open_peg_states text settings input notes told grammar stated run is tells does =
+    → HintedNotes settings (ExplainsNote text) (ArePegHints text) notes reported
+    → RunStates (rules_of grammar.rules) grammar.start settings input stated
+    → States text settings input reported stated
+open_peg_states text settings input notes reported grammar stated run is reports does =
     let g = is.ready.1 in
-    runs is.definitions notes told grammar.start stated is.reads is.are_notes tells is.ready.0 run g.start
+    runs is.definitions notes reported grammar.start stated is.reads is.are_notes reports is.ready.0 run g.start
     (rw g.rules at does)
 
 -- a grammar that is ready has the rules and the start rule of the one that was checked

@@ -10,7 +10,7 @@ use Rattle.std.proofs.lemmas.Grind.{flat_map-append}
 use Rattle.std.proofs.Math.Nat.{min-eq_left, min-eq_right}
 use Rattle.std.proofs.lemmas.List.{append-nil, length-take-le, take_all, take-append-drop}
 use Rattle.std.specs.Io.KnownBytes.{Appends, Consumes}
-use Rattle.ruletable.specs.Writing.{AppendsPart, IsBeginning}
+use Rattle.ruletable.specs.Writing.{AppendsPart, IsPrefixOf}
 use Rattle.ruletable.specs.declared.sink.WriteFault.{WriteFault}
 use Rattle.feed.specs.Feed.{Grows, IsHeld, allowance_of, bytes_of, capacity_of, flow_of, reader_of}
 use Rattle.feed.specs.declared.feed.Feed.{Feed}
@@ -20,7 +20,7 @@ use Rattle.feed.specs.declared.held.Held.TheVariants.{Full, End, Fault}
 use Rattle.feed.proofs.GrowsLemmas.{Consumes-same}
 use Rattle.pegread.specs.Pattern.{Rule}
 use Rattle.pegread.specs.PegViews.{rules_of}
-use Rattle.ruletable.proofs.AppendsLemmas.{Appends-same, IsBeginning-take, IsBeginning-trans}
+use Rattle.ruletable.proofs.AppendsLemmas.{Appends-same, IsPrefixOf-take, IsPrefixOf-trans}
 use Rattle.gramcheck.specs.Grammar.{Grammar}
 use Rattle.pegmatch.specs.Text.{text_of}
 use Rattle.toolrun.specs.Agrees.{Agrees}
@@ -240,7 +240,7 @@ moved_units rules start settings input s text it =
 
 -- what the feed is after so many bytes were let go, and after it was filled
 module _ {R : Type 0} (remaining : R → Option (List ℕ)) (units : ByteUnits) (settings : PegSettings) (f0 f1 f2 : Feed R)
-    (bytes : List ℕ) (some : 0 < length bytes) (first : IsBeginning bytes (bytes_of f0))
+    (bytes : List ℕ) (some : 0 < length bytes) (first : IsPrefixOf bytes (bytes_of f0))
     (are_known : prefix_len (is_known units) bytes ≡ length bytes) (count : ℕ) (is_count : count ≡ length bytes)
     (room : MayPass settings) (capacity : capacity_of f0 ≡ settings.limit + 1)
     (skip_bytes : bytes_of f1 ≡ drop (count - 1) (bytes_of f0)) (skip_reader : reader_of f1 ≡ reader_of f0)
@@ -479,11 +479,11 @@ nothing_passed remaining units settings f out = record {
 }
 
 -- the first of the bytes of a first piece
-pub kept_first : (bytes piece held : List ℕ) (k n : ℕ) → bytes ≡ take k (take n piece) → IsBeginning piece held
-    → IsBeginning bytes held
+pub kept_first : (bytes piece held : List ℕ) (k n : ℕ) → bytes ≡ take k (take n piece) → IsPrefixOf piece held
+    → IsPrefixOf bytes held
 kept_first bytes piece held k n is first =
-    rw is (IsBeginning-trans (take k (take n piece)) (take n piece) held (IsBeginning-take k (take n piece))
-    (IsBeginning-trans (take n piece) piece held (IsBeginning-take n piece) first))
+    rw is (IsPrefixOf-trans (take k (take n piece)) (take n piece) held (IsPrefixOf-take k (take n piece))
+    (IsPrefixOf-trans (take n piece) piece held (IsPrefixOf-take n piece) first))
 
 prefix_take : (p : ℕ → Bool) (xs : List ℕ) (n : ℕ) → n ≤ prefix_len p xs → prefix_len p (take n xs) ≡ n
 prefix_take p [] zero le = refl

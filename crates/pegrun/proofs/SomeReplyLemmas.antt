@@ -4,7 +4,7 @@ use Rattle.std.proofs.Common.{◌≡◌, ℕ, suc, zero, ◌+◌, ◌<◌, ◌�
 use Rattle.std.proofs.Common.{sym, arith, inl, inr, ◌⊎◌, length-drop}
 use Rattle.std.proofs.Math.Nat.{min-le_left, min-le_right, le-min}
 use Rattle.std.proofs.lemmas.Bool.{cases_lt, cases_eq}
-use Rattle.ruletable.proofs.AppendsLemmas.{IsBeginning-same, IsBeginning-trans}
+use Rattle.ruletable.proofs.AppendsLemmas.{IsPrefixOf-same, IsPrefixOf-trans}
 use Rattle.pegread.specs.PegViews.{rules_of}
 use Rattle.gramcheck.specs.Grammar.{Grammar, IsSoundGrammar}
 use Rattle.pegnodes.specs.Nodes.{shapes_of}
@@ -74,7 +74,7 @@ module _ (g : Grammar) (settings : PegSettings) (input : Input) where
   goes_to_stop s text last stop units ends = record {
     reply = reply_of s (text ++ last) stop;
     replies = replies_there s text last stop units ends;
-    front = IsBeginning-same (text ++ last);
+    front = IsPrefixOf-same (text ++ last);
     taken = omega arith;
   }
 
@@ -91,7 +91,7 @@ module _ (g : Grammar) (settings : PegSettings) (input : Input) where
   goes_before s t text more le h = record {
     reply = h.reply;
     replies = h.replies;
-    front = IsBeginning-trans text (text ++ more) h.reply.out (more, refl) h.front;
+    front = IsPrefixOf-trans text (text ++ more) h.reply.out (more, refl) h.front;
     taken = takes_more s t h.reply.taken le h.taken;
   }
 

@@ -30,8 +30,8 @@ use Rattle.toolrun.specs.RunSteps as steps
 use Rattle.pegrun.specs.PegSettings.{PegSettings}
 use Rattle.toolrun.proofs.OneStatementLemmas.{Stated, one_stated, one-explained, is_noted, is_checked, is_run}
 use Rattle.toolrun.proofs.OneStatementLemmas.{is_again, is_printed}
-use Rattle.toolrun.proofs.ToldNotesLemmas.{hinted-one, told-one}
-use Rattle.toolrun.specs.ToldNotes.{HintedNotes, ToldNotes, WhyNoted}
+use Rattle.toolrun.proofs.ReportedNotesLemmas.{hinted-one, reported-one}
+use Rattle.toolrun.specs.ReportedNotes.{HintedNotes, ReportedNotes, WhyNoted}
 
 -- the notes on redefinitions are one list
 again_is_one : (definitions : List Rule) (a b : List Said) → AreAgain definitions a → AreAgain definitions b → a ≡ b
@@ -67,25 +67,27 @@ module _ (settings : PegSettings) (input : Input) where
       → IsStart (start_given settings) (firsts [] definitions) t →
       RunStates (firsts [] definitions) s settings input a → RunStates (firsts [] definitions) t settings input b
       → a.status ≢ 5 → b.status ≢ 5 → a ≡ b
-  one_run_from one_told definitions s t a b i j (steps.replied_told r g) (steps.replied_told q h) m n =
+  one_run_from one_reported definitions s t a b i j (steps.replied_reported r g) (steps.replied_reported q h) m n =
       let same : t ≡ s = start_is_one (start_given settings) definitions t s j i in
-      one_reply one_told (firsts [] definitions) s settings input a b g (let k = h in rw same at k)
-  one_run_from one_told definitions s t a b i j (steps.unexplained plain replies told tells lack) h m n =
+      one_reply one_reported (firsts [] definitions) s settings input a b g (let k = h in rw same at k)
+  one_run_from one_reported definitions s t a b i j (steps.unexplained plain replies reported reports lack) h m n =
       absurd (m refl)
-  one_run_from one_told definitions s t a b i j (steps.cut_short point out told reply before tells replies front) h
+  one_run_from one_reported definitions s t a b i j (steps.cut_short point out reported reply before reports replies
+      front) h
       m n =
       absurd (m refl)
-  one_run_from one_told definitions s t a b i j g (steps.unexplained plain replies told tells lack) m n =
+  one_run_from one_reported definitions s t a b i j g (steps.unexplained plain replies reported reports lack) m n =
       absurd (n refl)
-  one_run_from one_told definitions s t a b i j g (steps.cut_short point out told reply before tells replies front) m
+  one_run_from one_reported definitions s t a b i j g (steps.cut_short point out reported reply before reports replies
+      front) m
       n =
       absurd (n refl)
 
   one_run : NoMatchesAreOne → (definitions : List Rule) (a b : Reply) → RunOf definitions a → RunOf definitions b
       → a.status ≢ 5
       → b.status ≢ 5 → a ≡ b
-  one_run one_told definitions a b g h m n =
-      one_run_from one_told definitions g.start h.start a b g.is_start h.is_start g.states h.states m n
+  one_run one_reported definitions a b g h m n =
+      one_run_from one_reported definitions g.start h.start a b g.is_start h.is_start g.states h.states m n
 
   notes_are_one : (definitions : List Rule) (a b : List Said) → AreNotesOn definitions (start_given settings) a
       → AreNotesOn definitions (start_given settings) b → a ≡ b
@@ -98,34 +100,35 @@ module _ (settings : PegSettings) (input : Input) where
     IsStated = Stated (IsFaultOf text) (λ fault. Explained settings (Explains text fault)) (Reads text)
         (λ definitions. AreNotesOn definitions (start_given settings))
         (λ definitions notes. is_refused notes ≡ true) (λ definitions notes. is_refused notes ≡ false) AreAgain
-        (HintedNotes settings (ExplainsNote text) (ArePegHints text)) (ToldNotes settings (ExplainsNote text)) RunOf
+        (HintedNotes settings (ExplainsNote text) (ArePegHints text)) (ReportedNotes settings (ExplainsNote text)) RunOf
         printed_text settings.mode
 
     parts_of : (notes : List ℕ) (reply : Reply) → States text settings input notes reply → reply.status ≢ 5
         → IsStated notes reply
-    parts_of notes reply (refused fault why f m told) ample = inl (record {
+    parts_of notes reply (refused fault why f m reported) ample = inl (record {
       fault = fault;
       is_fault = f;
       other = m;
       why = why;
-      explains = told;
+      explains = reported;
       none = refl;
-      told = refl;
+      reported = refl;
     })
     parts_of notes reply (unexplained fault f m asked) ample = absurd (ample refl)
-    parts_of notes reply (noted ds said told r are tells bad mode) ample =
-        inr (record { definitions = ds; reads = r; states = is_noted said told are tells bad mode })
-    parts_of notes reply (checked ds said told r are tells fine mode) ample =
-        inr (record { definitions = ds; reads = r; states = is_checked said told are tells fine mode })
-    parts_of notes reply (runs ds said told start stated r are tells fine mode is run) ample = inr (record {
+    parts_of notes reply (noted ds said reported r are reports bad mode) ample =
+        inr (record { definitions = ds; reads = r; states = is_noted said reported are reports bad mode })
+    parts_of notes reply (checked ds said reported r are reports fine mode) ample =
+        inr (record { definitions = ds; reads = r; states = is_checked said reported are reports fine mode })
+    parts_of notes reply (runs ds said reported start stated r are reports fine mode is run) ample = inr (record {
       definitions = ds;
       reads = r;
-      states = is_run said told stated are tells fine mode (record { start = start; is_start = is; states = run });
+      states = is_run said reported stated are reports fine mode (record
+          { start = start; is_start = is; states = run });
     })
-    parts_of notes reply (cut_notes ds said told r are cut mode) ample = absurd (ample refl)
-    parts_of notes reply (again ds said told r are tells some mode) ample =
-        inr (record { definitions = ds; reads = r; states = is_again said told are tells some mode })
-    parts_of notes reply (cut_again ds said told r are cut mode) ample = absurd (ample refl)
+    parts_of notes reply (cut_notes ds said reported r are cut mode) ample = absurd (ample refl)
+    parts_of notes reply (again ds said reported r are reports some mode) ample =
+        inr (record { definitions = ds; reads = r; states = is_again said reported are reports some mode })
+    parts_of notes reply (cut_again ds said reported r are cut mode) ample = absurd (ample refl)
     parts_of notes reply (printed ds r are mode) ample =
         inr (record { definitions = ds; reads = r; states = is_printed are mode })
     parts_of notes reply (no_memory within) ample = absurd (ample refl)
@@ -133,18 +136,18 @@ module _ (settings : PegSettings) (input : Input) where
     one_of_text : NoMatchesAreOne → ExplanationsAreOne → NotesAreOne → HintsAreOne → (notes others : List ℕ)
         (a b : Reply) → IsStated notes a
         → IsStated others b → a.status ≢ 5 → b.status ≢ 5 → (notes ≡ others) × (a ≡ b)
-    one_of_text one_told one lines hints = one_stated (IsFaultOf text)
+    one_of_text one_reported one lines hints = one_stated (IsFaultOf text)
         (λ fault. Explained settings (Explains text fault))
         (Reads text)
         (λ definitions. AreNotesOn definitions (start_given settings))
         (λ definitions notes. is_refused notes ≡ true) (λ definitions notes. is_refused notes ≡ false) AreAgain
-        (HintedNotes settings (ExplainsNote text) (ArePegHints text)) (ToldNotes settings (ExplainsNote text)) RunOf
+        (HintedNotes settings (ExplainsNote text) (ArePegHints text)) (ReportedNotes settings (ExplainsNote text)) RunOf
         printed_text settings.mode (one-reading text) (one-fault text)
         (λ fault. one-explained settings (Explains text fault) (one text fault)) (no-fault text) notes_are_one
         again_is_one
         (hinted-one settings (ExplainsNote text) (ArePegHints text) one_line (hints text))
-        (λ notes. told-one one_line)
-        (λ definitions notes bad fine. absurd (cc)) (one_run one_told)
+        (λ notes. reported-one one_line)
+        (λ definitions notes bad fine. absurd (cc)) (one_run one_reported)
       where
         one_line : (note : Said) (a b : List ℕ) → WhyNoted settings (ExplainsNote text) note a
             → WhyNoted settings (ExplainsNote text) note b → a ≡ b
@@ -157,8 +160,8 @@ pub statement_is_one : NoMatchesAreOne → ExplanationsAreOne → NotesAreOne �
     (notes others : List ℕ) (a b : Reply) →
     States text settings input notes a → States text settings input others b → a.status ≢ 5 → b.status ≢ 5
     → (notes ≡ others) × (a ≡ b)
-statement_is_one told one lines hints text settings input notes others a b g h m n =
-    one_of_text settings input text told one lines hints notes others a b (parts_of settings input text notes a g m)
+statement_is_one reported one lines hints text settings input notes others a b g h m n =
+    one_of_text settings input text reported one lines hints notes others a b (parts_of settings input text notes a g m)
     (parts_of settings input text others b h n) m n
 
 -- what spells definitions is not too long
@@ -166,33 +169,34 @@ long-unread : {text : List ℕ} {definitions : List Rule} → IsFaultOf text Too
 long-unread long r = let within = r.within in omega arith
 
 -- a text that is too long is reported as that, whether an allocation fails or not
-pub long_is_told : (text : List ℕ) (settings : PegSettings) (input : Input) (notes : List ℕ) (reply : Reply)
+pub long_is_reported : (text : List ℕ) (settings : PegSettings) (input : Input) (notes : List ℕ) (reply : Reply)
     → IsFaultOf text TooLong → States text settings input notes reply
     → (notes ≡ []) × IsLongReply settings (Explains text TooLong) reply
-long_is_told text settings input notes reply long (refused fault why f other told) =
+long_is_reported text settings input notes reply long (refused fault why f other reported) =
     let is : fault ≡ TooLong = one-fault text fault TooLong f long other (λ e. cc) in (
       refl,
       inl (
         why,
-        subst (λ (f : ReadFault). Explained settings (Explains text f) why) is told,
+        subst (λ (f : ReadFault). Explained settings (Explains text f) why) is reported,
         ap (λ f. refusal f why) is,
       ),
     )
-long_is_told text settings input notes reply long (unexplained fault f other asked) = (
+long_is_reported text settings input notes reply long (unexplained fault f other asked) = (
   refl,
   inr (asked, ap unexplained_fault (one-fault text fault TooLong f long other (λ e. cc))),
 )
-long_is_told text settings input notes reply long (noted ds said told r are tells bad mode) =
+long_is_reported text settings input notes reply long (noted ds said reported r are reports bad mode) =
     absurd (long-unread long r)
-long_is_told text settings input notes reply long (checked ds said told r are tells fine mode) =
+long_is_reported text settings input notes reply long (checked ds said reported r are reports fine mode) =
     absurd (long-unread long r)
-long_is_told text settings input notes reply long (runs ds said told start stated r are tells fine mode is run) =
+long_is_reported text settings input notes reply long (runs ds said reported start stated r are reports fine mode is
+    run) =
     absurd (long-unread long r)
-long_is_told text settings input notes reply long (cut_notes ds said told r are cut mode) =
+long_is_reported text settings input notes reply long (cut_notes ds said reported r are cut mode) =
     absurd (long-unread long r)
-long_is_told text settings input notes reply long (again ds said told r are tells some mode) =
+long_is_reported text settings input notes reply long (again ds said reported r are reports some mode) =
     absurd (long-unread long r)
-long_is_told text settings input notes reply long (cut_again ds said told r are cut mode) =
+long_is_reported text settings input notes reply long (cut_again ds said reported r are cut mode) =
     absurd (long-unread long r)
-long_is_told text settings input notes reply long (printed ds r are mode) = absurd (long-unread long r)
-long_is_told text settings input notes reply long (no_memory within) = absurd (omega arith)
+long_is_reported text settings input notes reply long (printed ds r are mode) = absurd (long-unread long r)
+long_is_reported text settings input notes reply long (no_memory within) = absurd (omega arith)

@@ -7,7 +7,7 @@ use Rattle.pegrun.specs.StopsExplained.{HasLines, StopLines}
 use Rattle.toolrun.proofs.ExplainedIfLemmas.{if_asked, if_not_asked}
 use Rattle.toolrun.specs.Input.{Input}
 use Rattle.toolrun.specs.Reply.{Reply, explained_reply, unexplained_reply}
-use Rattle.toolrun.specs.RunSteps.{replied_told, unexplained}
+use Rattle.toolrun.specs.RunSteps.{replied_reported, unexplained}
 use Rattle.pegrun.specs.PegSettings.{PegSettings}
 use Rattle.toolrun.specs.declared.stop.Stop.{Stop}
 use Rattle.toolrun.specs.declared.stop.Stop.TheVariants.{Quiet, NoMatch, LongUnit, LongLine, Broken, NoMemory, Refused}
@@ -35,36 +35,37 @@ module _ (rules : List Rule) (start : ℕ) (settings : PegSettings) (input : Inp
   no_lines s (Refused fault) without = refl
   no_lines s Unreadable without = refl
 
-  told_if : (asked : Bool) → settings.explain ≡ asked → (reply : Reply) → PlainReplies rules start settings input reply
+  reported_if : (asked : Bool) → settings.explain ≡ asked → (reply : Reply)
+      → PlainReplies rules start settings input reply
       → (stated : Reply) × RunStates rules start settings input stated × (stated.out ≡ reply.out)
       × (stated.taken ≡ reply.taken)
-  told_if false plain reply r = (
+  reported_if false plain reply r = (
     explained_reply [] reply [],
-    replied_told _ (record {
+    replied_reported _ (record {
       plain = reply;
       replies = r;
       before = [];
-      tells = refl;
+      reports = refl;
       why = [];
       explains = if_not_asked settings.explain (StopLines rules start settings input r.point r.stop) plain;
-      told = refl;
+      reported = refl;
     }),
     refl,
     refl,
   )
-  told_if true asked reply r = elim (lines_or_none r.stop) [
+  reported_if true asked reply r = elim (lines_or_none r.stop) [
     | inl has ↦ (unexplained_reply [] reply, unexplained reply r [] refl (asked, has), refl, refl)
     | inr without ↦ (
       explained_reply [] reply [],
-      replied_told _ (record {
+      replied_reported _ (record {
         plain = reply;
         replies = r;
         before = [];
-        tells = refl;
+        reports = refl;
         why = [];
         explains = if_asked settings.explain (StopLines rules start settings input r.point r.stop) [] asked
             (no_lines r.point r.stop without);
-        told = refl;
+        reported = refl;
       }),
       refl,
       refl,
@@ -72,8 +73,8 @@ module _ (rules : List Rule) (start : ℕ) (settings : PegSettings) (input : Inp
   ]
 
 -- each reply without explanations is that of something stated
-pub some_told : (rules : List Rule) (start : ℕ) (settings : PegSettings) (input : Input) (reply : Reply)
+pub some_reported : (rules : List Rule) (start : ℕ) (settings : PegSettings) (input : Input) (reply : Reply)
     → PlainReplies rules start settings input reply
     → (stated : Reply) × RunStates rules start settings input stated × (stated.out ≡ reply.out)
     × (stated.taken ≡ reply.taken)
-some_told rules start settings input reply r = told_if rules start settings input settings.explain refl reply r
+some_reported rules start settings input reply r = reported_if rules start settings input settings.explain refl reply r

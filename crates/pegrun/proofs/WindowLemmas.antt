@@ -26,10 +26,10 @@ module _ (g : Grammar) (x : List ℕ) (limit : ℕ) where
   abbrev window : List ℕ
   window = take (suc limit) x
 
-  abbrev behind : List ℕ
-  behind = drop (suc limit) x
+  abbrev after : List ℕ
+  after = drop (suc limit) x
 
-  window_whole : window ++ behind ≡ x
+  window_whole : window ++ after ≡ x
   window_whole = take-append-drop (suc limit) x
 
   window_full : limit < length x → length window ≡ suc limit
@@ -45,7 +45,7 @@ module _ (g : Grammar) (x : List ℕ) (limit : ℕ) where
         record {
           looked = looked;
           gives = subst (λ t. StartGives g t o looked) window_whole
-              (grows_of_start (rules_of g.rules) g.start window behind looked o lt d);
+              (grows_of_start (rules_of g.rules) g.start window after looked o lt d);
           within = omega arith;
         }
     | inr all ↦
@@ -61,7 +61,7 @@ module _ (g : Grammar) (x : List ℕ) (limit : ℕ) where
       text_of raw window events ≡ text_of raw x events
   seen_text raw k events looked d =
       let r = rises_of_start (rules_of g.rules) g.start window k looked events d in
-      sym (text_same raw window behind k events r.0 r.1) ∙ ap (λ t. text_of raw t events) window_whole
+      sym (text_same raw window after k events r.0 r.1) ∙ ap (λ t. text_of raw t events) window_whole
 
   -- what compares the last byte of a full window looks at more than the limit on the rest
   pub seen_long : IsSoundGrammar g → (o : Outcome) → limit < length x → StartGives g window o (length window) →
@@ -72,9 +72,9 @@ module _ (g : Grammar) (x : List ℕ) (limit : ℕ) where
         | inl over ↦ (some.0, some.1, some.2, over)
         | inr le ↦
             let l = window_full more in
-            let there : StartGives g (window ++ behind) some.0 some.1 =
+            let there : StartGives g (window ++ after) some.0 some.1 =
             subst (λ t. StartGives g t some.0 some.1) (sym window_whole) some.2 in
-            let here = shrinks_of_start (rules_of g.rules) g.start window behind some.1 some.0 (omega arith) there in
+            let here = shrinks_of_start (rules_of g.rules) g.start window after some.1 some.0 (omega arith) there in
             let same = same_of_start (rules_of g.rules) g.start window some.1 (length window) some.0 o here d in
             absurd (omega (arith, same.looked))
       ]

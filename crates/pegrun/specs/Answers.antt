@@ -15,7 +15,7 @@ use Rattle.toolrun.specs.Input.{Input}
 use Rattle.pegrun.specs.Noted.{AreNotesOn, AreAgain, start_given}
 use Rattle.pegrun.specs.PegReply.{printed_text, RunStates}
 use Rattle.toolrun.specs.Reply.{Reply, notes_alone, refusal, unexplained_fault, without_memory}
-use Rattle.toolrun.specs.ToldNotes.{CutNotes, HintedNotes, ToldNotes}
+use Rattle.toolrun.specs.ReportedNotes.{CutNotes, HintedNotes, ReportedNotes}
 use Rattle.toolrun.specs.declared.settings.Mode.TheVariants.{Run, Check, Print}
 use Rattle.pegrun.specs.PegSettings.{PegSettings}
 
@@ -29,34 +29,34 @@ pub data States (text : List ℕ) (settings : PegSettings) (input : Input) : Lis
   unexplained : (fault : ReadFault) → IsFaultOf text fault → fault ≢ Memory → settings.explain ≡ true
       → States text settings input [] (unexplained_fault fault)
   -- the text is a grammar that a note rejects
-  noted : (definitions : List Rule) (notes : List Said) (told : List ℕ) → Reads text definitions
+  noted : (definitions : List Rule) (notes : List Said) (reported : List ℕ) → Reads text definitions
       → AreNotesOn definitions (start_given settings) notes
-      → HintedNotes settings (ExplainsNote text) (ArePegHints text) notes told →
-      is_refused notes ≡ true → settings.mode ≢ Print → States text settings input told (notes_alone 2)
+      → HintedNotes settings (ExplainsNote text) (ArePegHints text) notes reported →
+      is_refused notes ≡ true → settings.mode ≢ Print → States text settings input reported (notes_alone 2)
   -- it is a grammar that no note rejects, and no more is asked
-  checked : (definitions : List Rule) (notes : List Said) (told : List ℕ) → Reads text definitions
+  checked : (definitions : List Rule) (notes : List Said) (reported : List ℕ) → Reads text definitions
       → AreNotesOn definitions (start_given settings) notes
-      → HintedNotes settings (ExplainsNote text) (ArePegHints text) notes told →
-      is_refused notes ≡ false → settings.mode ≡ Check → States text settings input told (notes_alone 0)
+      → HintedNotes settings (ExplainsNote text) (ArePegHints text) notes reported →
+      is_refused notes ≡ false → settings.mode ≡ Check → States text settings input reported (notes_alone 0)
   -- its start rule is run on the input
-  runs : (definitions : List Rule) (notes : List Said) (told : List ℕ) (start : ℕ) (stated : Reply)
+  runs : (definitions : List Rule) (notes : List Said) (reported : List ℕ) (start : ℕ) (stated : Reply)
       → Reads text definitions → AreNotesOn definitions (start_given settings) notes
-      → HintedNotes settings (ExplainsNote text) (ArePegHints text) notes told → is_refused notes ≡ false
+      → HintedNotes settings (ExplainsNote text) (ArePegHints text) notes reported → is_refused notes ≡ false
       → settings.mode ≡ Run
       → IsStart (start_given settings) (firsts [] definitions) start →
-      RunStates (firsts [] definitions) start settings input stated → States text settings input told stated
+      RunStates (firsts [] definitions) start settings input stated → States text settings input reported stated
   -- an allocation failed in explaining its notes: the first of them are reported
-  cut_notes : (definitions : List Rule) (notes : List Said) (told : List ℕ) → Reads text definitions
-      → AreNotesOn definitions (start_given settings) notes → CutNotes settings (ExplainsNote text) notes told
-      → settings.mode ≢ Print → States text settings input told (without_memory [] 0)
+  cut_notes : (definitions : List Rule) (notes : List Said) (reported : List ℕ) → Reads text definitions
+      → AreNotesOn definitions (start_given settings) notes → CutNotes settings (ExplainsNote text) notes reported
+      → settings.mode ≢ Print → States text settings input reported (without_memory [] 0)
   -- it is only to be printed, but defines a rule again
-  again : (definitions : List Rule) (notes : List Said) (told : List ℕ) → Reads text definitions
-      → AreAgain definitions notes → ToldNotes settings (ExplainsNote text) notes told → notes ≢ []
-      → settings.mode ≡ Print → States text settings input told (notes_alone 2)
+  again : (definitions : List Rule) (notes : List Said) (reported : List ℕ) → Reads text definitions
+      → AreAgain definitions notes → ReportedNotes settings (ExplainsNote text) notes reported → notes ≢ []
+      → settings.mode ≡ Print → States text settings input reported (notes_alone 2)
   -- an allocation failed in explaining that
-  cut_again : (definitions : List Rule) (notes : List Said) (told : List ℕ) → Reads text definitions
-      → AreAgain definitions notes → CutNotes settings (ExplainsNote text) notes told → settings.mode ≡ Print
-      → States text settings input told (without_memory [] 0)
+  cut_again : (definitions : List Rule) (notes : List Said) (reported : List ℕ) → Reads text definitions
+      → AreAgain definitions notes → CutNotes settings (ExplainsNote text) notes reported → settings.mode ≡ Print
+      → States text settings input reported (without_memory [] 0)
   -- it is only to be printed, and defines no rule again
   printed : (definitions : List Rule) → Reads text definitions → AreAgain definitions [] → settings.mode ≡ Print
       → States text settings input [] (printed_text definitions)

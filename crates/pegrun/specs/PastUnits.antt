@@ -3,8 +3,8 @@ use Rattle.std.specs.Prelude.{◌≡◌, ℕ, ◌+◌, ◌≤◌, ◌++◌, fals
 use Rattle.std.proofs.Common.{Vec, Global}
 use Rattle.pegread.specs.Pattern.{Rule}
 use Rattle.matchfailure.specs.NoMatchLines.{long_unit_lines}
-use Rattle.matchfailure.specs.NoMatches.{IsNoMatchTold, unit_before}
-use Rattle.matchfailure.specs.InputPlaces.{place_behind}
+use Rattle.matchfailure.specs.NoMatches.{IsNoMatchReported, unit_before}
+use Rattle.matchfailure.specs.InputPlaces.{place_after}
 use Rattle.ruletable.specs.declared.memory.Memory.{Memory}
 use Rattle.pegrun.specs.StopsExplained.{HasLines}
 use Rattle.pegrun.specs.declared.past.Past.{Past}
@@ -17,24 +17,25 @@ use Rattle.toolrun.specs.declared.stop.Stop.TheVariants.{Unreadable}
 
 -- the next unit begins after these bytes, and the last of them are kept, unless an allocation failed
 pub record Follows (past : Past) (before : List ℕ) : Type 0 where
-  pub next : past.next ≡ place_behind before
+  pub next : past.next ≡ place_after before
   pub front : List ℕ
-  pub at : past.at ≡ place_behind front
+  pub at : past.at ≡ place_after front
   pub room : length front + length past.bytes.items ≤ length before
   pub whole : past.lost ≡ false → before ≡ front ++ past.bytes.items
 
 -- the lines that explain a stop after these bytes, where those are held
-abbrev pub LinesBehind : List Rule → ℕ → Past → List ℕ → List ℕ → Stop → List ℕ → Type 0
-LinesBehind rules start past before held (Quiet status) why = ⊥
-LinesBehind rules start past before held (NoMatch at) why = (past.lost ≡ false)
-    × IsNoMatchTold rules start (before ++ held) (unit_before past.at.byte (length past.bytes.items)) (length before)
+abbrev pub LinesAfter : List Rule → ℕ → Past → List ℕ → List ℕ → Stop → List ℕ → Type 0
+LinesAfter rules start past before held (Quiet status) why = ⊥
+LinesAfter rules start past before held (NoMatch at) why = (past.lost ≡ false)
+    × IsNoMatchReported rules start (before ++ held) (unit_before past.at.byte (length past.bytes.items))
+    (length before)
     why
-LinesBehind rules start past before held (LongUnit at limit) why = why ≡ long_unit_lines (place_behind before)
-LinesBehind rules start past before held (LongLine line limit) why = ⊥
-LinesBehind rules start past before held Broken why = ⊥
-LinesBehind rules start past before held NoMemory why = ⊥
-LinesBehind rules start past before held (Refused fault) why = ⊥
-LinesBehind rules start past before held Unreadable why = ⊥
+LinesAfter rules start past before held (LongUnit at limit) why = why ≡ long_unit_lines (place_after before)
+LinesAfter rules start past before held (LongLine line limit) why = ⊥
+LinesAfter rules start past before held Broken why = ⊥
+LinesAfter rules start past before held NoMemory why = ⊥
+LinesAfter rules start past before held (Refused fault) why = ⊥
+LinesAfter rules start past before held Unreadable why = ⊥
 
 -- the run ends with these lines, or an allocation failed
 abbrev pub AreLinesOf : Result (Vec ℕ Global) Memory → List ℕ → Type 0
@@ -44,13 +45,14 @@ AreLinesOf (Err fault) lines = ⊥
 -- how a run ends that stopped so, where these lines explain it, or an allocation failed
 abbrev pub IsEndingWith : Stop → Result (Vec ℕ Global) Memory → Ending → Type 0
 IsEndingWith stop why (Plain is) = ⊥
-IsEndingWith stop why (Explained told is lines) = (refusals_text told ≡ []) × (is ≡ stop) × AreLinesOf why lines.items
-IsEndingWith stop why (Unexplained told is) = (refusals_text told ≡ []) × (is ≡ stop)
+IsEndingWith stop why (Explained reported is lines) = (refusals_text reported ≡ []) × (is ≡ stop)
+    × AreLinesOf why lines.items
+IsEndingWith stop why (Unexplained reported is) = (refusals_text reported ≡ []) × (is ≡ stop)
 
 -- how a run ends that stopped so and is explained
-abbrev pub EndsBehind : List Rule → ℕ → Past → List ℕ → List ℕ → Stop → Ending → Type 0
-EndsBehind rules start past before held stop (Plain is) = (is ≡ stop) × (HasLines stop → ⊥)
-EndsBehind rules start past before held stop (Explained told is why) = (refusals_text told ≡ []) × (is ≡ stop)
-    × LinesBehind rules start past before held stop why.items
-EndsBehind rules start past before held stop (Unexplained told is) = (refusals_text told ≡ []) × (is ≡ stop)
+abbrev pub EndsAfter : List Rule → ℕ → Past → List ℕ → List ℕ → Stop → Ending → Type 0
+EndsAfter rules start past before held stop (Plain is) = (is ≡ stop) × (HasLines stop → ⊥)
+EndsAfter rules start past before held stop (Explained reported is why) = (refusals_text reported ≡ []) × (is ≡ stop)
+    × LinesAfter rules start past before held stop why.items
+EndsAfter rules start past before held stop (Unexplained reported is) = (refusals_text reported ≡ []) × (is ≡ stop)
     × HasLines stop

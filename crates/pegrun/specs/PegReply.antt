@@ -3,7 +3,7 @@ use Rattle.std.specs.Prelude.{ℕ, List, []}
 use Rattle.pegprint.specs.Canon.{grammar_text}
 use Rattle.pegread.specs.Definitions.{firsts}
 use Rattle.pegread.specs.Pattern.{Rule}
-use Rattle.pegrun.specs.StopsExplained.{MayLack, TellsNothing, WhyStopped}
+use Rattle.pegrun.specs.StopsExplained.{MayLack, ReportsNothing, WhyStopped}
 use Rattle.pegrun.specs.Units.{Units, Ends, taken_at}
 use Rattle.toolrun.specs.Input.{Input}
 use Rattle.toolrun.specs.Reply.{Reply, text_alone}
@@ -21,13 +21,13 @@ PlainReplies rules start settings input reply = steps.Replies (Units rules start
 
 -- the units of the input in turn, how the run ends, and the lines that explain that, if it is asked
 abbrev pub Replies : List Rule → ℕ → PegSettings → Input → Reply → Type 0
-Replies rules start settings input reply = steps.RepliesTold (Units rules start settings input)
-    (Ends rules start settings input) (taken_at settings input) TellsNothing (WhyStopped rules start settings input)
+Replies rules start settings input reply = steps.RepliesReported (Units rules start settings input)
+    (Ends rules start settings input) (taken_at settings input) ReportsNothing (WhyStopped rules start settings input)
     (MayLack rules start settings input) reply
 
 -- A run states its reply, or the text of the first units if an allocation fails. If one fails in explaining how the run
 -- ends, the reply is not explained.
 abbrev pub RunStates : List Rule → ℕ → PegSettings → Input → Reply → Type 0
-RunStates rules start settings input reply = steps.ToldStates (Units rules start settings input)
-    (Ends rules start settings input) (taken_at settings input) TellsNothing (WhyStopped rules start settings input)
+RunStates rules start settings input reply = steps.ReportedStates (Units rules start settings input)
+    (Ends rules start settings input) (taken_at settings input) ReportsNothing (WhyStopped rules start settings input)
     (MayLack rules start settings input) reply

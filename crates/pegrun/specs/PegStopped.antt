@@ -5,10 +5,10 @@ use Rattle.ruletable.specs.Writing.{AppendsPart}
 use Rattle.ruletable.specs.declared.sink.WriteFault.{WriteFault}
 use Rattle.pegread.specs.Pattern.{Rule}
 use Rattle.toolrun.specs.Input.{Input}
-use Rattle.pegrun.specs.StopsExplained.{MayLack, TellsNothing, WhyStopped}
+use Rattle.pegrun.specs.StopsExplained.{MayLack, ReportsNothing, WhyStopped}
 use Rattle.pegrun.specs.Units.{IsUnit, Units, Ends, taken_at}
 use Rattle.pegrun.specs.PegSettings.{PegSettings}
-use Rattle.toolrun.specs.RunSteps.{EndsTold}
+use Rattle.toolrun.specs.RunSteps.{EndsReported}
 use Rattle.toolrun.specs.declared.ending.Ending.{Ending}
 
 -- After so many bytes were taken: the text of units and of a last one of no bytes, after which the run ends so, with
@@ -18,7 +18,8 @@ abbrev pub IsCut : List Rule → ℕ → PegSettings → Input → ℕ → Optio
 IsCut rules start settings input taken old new (Ok ending) = (place : ℕ) × (text last : List ℕ) ×
     Units rules start settings input place text × Appends old new (text ++ last)
     × (taken ≡ taken_at settings input place) ×
-    EndsTold (Units rules start settings input) (Ends rules start settings input) (taken_at settings input) TellsNothing
+    EndsReported (Units rules start settings input) (Ends rules start settings input)
+    (taken_at settings input) ReportsNothing
     (WhyStopped rules start settings input) (MayLack rules start settings input) place last ending
 IsCut rules start settings input taken old new (Err fault) = (place k : ℕ) × (text last : List ℕ) ×
     Units rules start settings input place text × IsUnit rules start settings input place k last

@@ -2,8 +2,8 @@
 use Rattle.std.specs.Prelude.{◌≡◌, ℕ, ◌+◌, ◌<◌, ⊤, true, List, [], take, Option, Some, None}
 use Rattle.pegread.specs.Pattern.{Rule}
 use Rattle.matchfailure.specs.NoMatchLines.{long_unit_lines}
-use Rattle.matchfailure.specs.NoMatches.{IsNoMatchTold}
-use Rattle.matchfailure.specs.InputPlaces.{place_behind}
+use Rattle.matchfailure.specs.NoMatches.{IsNoMatchReported}
+use Rattle.matchfailure.specs.InputPlaces.{place_after}
 use Rattle.pegrun.specs.Units.{IsUnit, Units, taken_at}
 use Rattle.toolrun.specs.Explained.{Explained}
 use Rattle.toolrun.specs.Input.{Input}
@@ -24,8 +24,8 @@ HasLines (Refused fault) = ⊥
 HasLines Unreadable = ⊥
 
 -- such a run writes nothing before its message
-abbrev pub TellsNothing : ℕ → List ℕ → Type 0
-TellsNothing place told = told ≡ []
+abbrev pub ReportsNothing : ℕ → List ℕ → Type 0
+ReportsNothing place reported = reported ≡ []
 
 module _ (rules : List Rule) (start : ℕ) (settings : PegSettings) (input : Input) where
   -- the place of the unit before the one that is begun at s, or none where no unit is before it
@@ -39,8 +39,8 @@ module _ (rules : List Rule) (start : ℕ) (settings : PegSettings) (input : Inp
   abbrev pub StopLines : ℕ → Stop → List ℕ → Type 0
   StopLines s (Quiet status) why = why ≡ []
   StopLines s (NoMatch at) why = (before : Option ℕ) × UnitBefore s before
-      × IsNoMatchTold rules start (take (taken_at settings input s) input.bytes) before s why
-  StopLines s (LongUnit at limit) why = why ≡ long_unit_lines (place_behind (take s input.bytes))
+      × IsNoMatchReported rules start (take (taken_at settings input s) input.bytes) before s why
+  StopLines s (LongUnit at limit) why = why ≡ long_unit_lines (place_after (take s input.bytes))
   StopLines s (LongLine line limit) why = why ≡ []
   StopLines s Broken why = why ≡ []
   StopLines s NoMemory why = why ≡ []

@@ -64,10 +64,10 @@ fn cut<M: Matcher, R: Source, O: Sink>(
     requires capacity { capacity_of feed.old ≡ settings.now.limit + 1 }
     requires empty { bytes_of feed.old ≡ [] }
     requires allowance { allowance_of feed.old ≡ input_limit }
-    requires told { IsTrueOfReader R.remaining R.failed R.ended feed.old }
+    requires reported { IsTrueOfReader R.remaining R.failed R.ended feed.old }
     requires out_is_fresh { O.failed out.old ≡ false }
     ensures loan { SameLoan feed.old feed.new }
-    ensures told { IsTrueOfReader R.remaining R.failed R.ended feed.new }
+    ensures reported { IsTrueOfReader R.remaining R.failed R.ended feed.new }
     ensures units { (seen : List ℕ) × Consumes (R.remaining (reader_of feed.old)) (R.remaining
         (reader_of feed.new)) seen ×
         (allowance_of feed.new + length seen ≡ input_limit) ×

@@ -10,15 +10,15 @@ ghost use Rattle.pegrun.specs.PegReply.{RunStates};
 ghost use Rattle.ruletable.specs.Notes.{Said};
 ghost use Rattle.toolrun.specs.Input.{Input};
 ghost use Rattle.toolrun.specs.Reply.{Reply};
-ghost use Rattle.toolrun.specs.ToldNotes.{HintedNotes};
+ghost use Rattle.toolrun.specs.ReportedNotes.{HintedNotes};
 ghost use Rattle.toolrun.specs.declared.settings.Mode.TheVariants.{Run};
 ghost use Rattle.pegrun.specs.PegSettings.{PegSettings};
 
 /// Says that a run of an open grammar states what a run of its text states after the notes and hints. It does nothing.
 pub fn runs_as_a_run()
-    ensures { (text : List ℕ) (settings : PegSettings) (input : Input) (notes : List Said) (told : List ℕ)
+    ensures { (text : List ℕ) (settings : PegSettings) (input : Input) (notes : List Said) (reported : List ℕ)
         (grammar : Grammar) (stated : Reply) → settings.mode ≡ Run → IsPegOpened text settings notes (Some grammar) →
-        HintedNotes settings (ExplainsNote text) (ArePegHints text) notes told →
+        HintedNotes settings (ExplainsNote text) (ArePegHints text) notes reported →
         RunStates (rules_of grammar.rules) grammar.start settings input stated →
-        States text settings input told stated }
+        States text settings input reported stated }
 {}

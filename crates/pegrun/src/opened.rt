@@ -9,7 +9,7 @@ ghost use Rattle.pegrun.specs.PegReply.{RunStates};
 ghost use Rattle.ruletable.specs.Notes.{said_of};
 ghost use Rattle.toolrun.specs.Stopped.{Fulfils};
 ghost use Rattle.toolrun.specs.Stream.{passed};
-ghost use Rattle.toolrun.specs.ToldNotes.{HintedNotes};
+ghost use Rattle.toolrun.specs.ReportedNotes.{HintedNotes};
 
 use crate::engine::{Counted, run_units};
 use crate::options::PegSettings;

@@ -1,7 +1,7 @@
 //! Prints units of one byte from the table, many at a time.
 ghost use Rattle.std.specs.Prelude.{◌≡◌, ◌+◌, ◌<◌, ◌^◌, IfSome, Ok, false, length, true};
 ghost use Rattle.std.specs.List.{prefix_len};
-ghost use Rattle.ruletable.specs.Writing.{Flags, IsBeginning};
+ghost use Rattle.ruletable.specs.Writing.{Flags, IsPrefixOf};
 ghost use Rattle.feed.specs.Feed.{IsTrueOfReader, SameLoan, bytes_of, capacity_of};
 ghost use Rattle.pegrun.specs.ByteUnits.{is_known};
 ghost use Rattle.pegrun.specs.PassedUnits.{HasPassed, can_run};
@@ -40,7 +40,7 @@ fn runnable(why: Held, count: usize, held: usize, limit: usize) -> usize
 /// if that is empty, or if an allocation fails.
 fn known_front<R: Source>(units: &ByteUnits, feed: &Feed<'_, R>) -> Option<Vec<u8>>
     ensures some { IfSome result (λ bytes. 0 < length bytes.items) }
-    ensures first { IfSome result (λ bytes. IsBeginning bytes.items (bytes_of feed.now)) }
+    ensures first { IfSome result (λ bytes. IsPrefixOf bytes.items (bytes_of feed.now)) }
     ensures known { IfSome result (λ bytes. prefix_len (is_known units.now) bytes.items ≡ length bytes.items) }
 {
     let piece = feed.front();
@@ -64,10 +64,10 @@ pub(crate) fn pass_known<R: Source, O: Sink>(
     out: &mut O,
 ) -> Result<Passed, WriteFault>
     requires capacity { capacity_of feed.old ≡ settings.now.limit + 1 }
-    requires told { IsTrueOfReader R.remaining R.failed R.ended feed.old }
+    requires reported { IsTrueOfReader R.remaining R.failed R.ended feed.old }
     requires out_is_fresh { O.failed out.old ≡ false }
     ensures loan { SameLoan feed.old feed.new }
-    ensures told { IsTrueOfReader R.remaining R.failed R.ended feed.new }
+    ensures reported { IsTrueOfReader R.remaining R.failed R.ended feed.new }
     ensures passed { HasPassed R.remaining units.now settings.now feed.old feed.new (O.contents out.old)
         (O.contents out.new) result }
     ensures flag { Flags (O.failed out.old) (O.failed out.new) result }

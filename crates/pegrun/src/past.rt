@@ -2,10 +2,10 @@
 ghost use Rattle.std.specs.Prelude.{◌≡◌, ℕ, ◌+◌, ◌^◌, ◌<◌, ◌≤◌, ◌++◌, [], List, IfOk, length, take, true, false};
 ghost use Rattle.feed.specs.Feed.{SameFeed, bytes_of};
 ghost use Rattle.matchfailure.specs.FailureSearches.{evaluated_by};
-ghost use Rattle.matchfailure.specs.NoMatches.{IsNoMatchTold, unit_before};
-ghost use Rattle.matchfailure.specs.InputPlaces.{place_behind};
+ghost use Rattle.matchfailure.specs.NoMatches.{IsNoMatchReported, unit_before};
+ghost use Rattle.matchfailure.specs.InputPlaces.{place_after};
 ghost use Rattle.pegread.specs.PegViews.{rules_of};
-ghost use Rattle.pegrun.specs.PastUnits.{EndsBehind, Follows, IsEndingWith};
+ghost use Rattle.pegrun.specs.PastUnits.{EndsAfter, Follows, IsEndingWith};
 
 use crate::options::PegSettings;
 use feed::{Feed, Source};
@@ -13,7 +13,7 @@ use gramcheck::SoundPeg;
 use matchfailure::{FailureSearch, TextPlace, explain_long_unit};
 use ruletable::Memory;
 use std::alloc::Global;
-use toolrun::{Ending, Stop, ToldRefusals};
+use toolrun::{Ending, ReportedRefusals, Stop};
 
 /// The last unit that was taken, of which the bytes are kept, and where the next one begins.
 #[derive(Drop)]
@@ -33,10 +33,10 @@ pub struct Past {
 impl Past {
     /// Returns the state at the front of an input: no unit was taken.
     pub fn new(alloc: Global) -> Past
-        ensures at { result.at ≡ place_behind [] }
+        ensures at { result.at ≡ place_after [] }
         ensures bytes { result.bytes.items ≡ [] }
         ensures lost { result.lost ≡ false }
-        ensures next { result.next ≡ place_behind [] }
+        ensures next { result.next ≡ place_after [] }
     {
         Past {
             alloc,
@@ -49,16 +49,16 @@ impl Past {
 
     /// Keeps a unit of these bytes.
     fn keep(&mut self, unit: &[u8])
-        requires stands { (front : List ℕ) × (self.old.next ≡ place_behind front)
+        requires stands { (front : List ℕ) × (self.old.next ≡ place_after front)
             × (length front + length unit.now < 2 ^ 63) }
         ensures at { self.new.at ≡ self.old.next }
-        ensures next { (front : List ℕ) → self.old.next ≡ place_behind front
-            → self.new.next ≡ place_behind (front ++ unit.now) }
+        ensures next { (front : List ℕ) → self.old.next ≡ place_after front
+            → self.new.next ≡ place_after (front ++ unit.now) }
         ensures bytes { self.new.lost ≡ false → self.new.bytes.items ≡ unit.now }
         ensures room { length self.new.bytes.items ≤ length unit.now }
     {
         self.at = self.next;
-        self.next = self.next.behind(unit);
+        self.next = self.next.after(unit);
         self.bytes.clear();
         self.lost = self.bytes.extend_from_slice(unit).is_err();
     }
@@ -67,11 +67,11 @@ impl Past {
     #[inline(never)]
     fn take<R: Source>(&mut self, feed: &mut Feed<'_, R>, n: usize)
         requires held { n ≤ length (bytes_of feed.old) }
-        requires stands { (front : List ℕ) × (self.old.next ≡ place_behind front) × (length front + n < 2 ^ 63) }
+        requires stands { (front : List ℕ) × (self.old.next ≡ place_after front) × (length front + n < 2 ^ 63) }
         ensures same { SameFeed feed.old feed.new }
         ensures at { self.new.at ≡ self.old.next }
-        ensures next { (front : List ℕ) → self.old.next ≡ place_behind front
-            → self.new.next ≡ place_behind (front ++ take n (bytes_of feed.old)) }
+        ensures next { (front : List ℕ) → self.old.next ≡ place_after front
+            → self.new.next ≡ place_after (front ++ take n (bytes_of feed.old)) }
         ensures bytes { self.new.lost ≡ false → self.new.bytes.items ≡ take n (bytes_of feed.old) }
         ensures room { length self.new.bytes.items ≤ n }
     {
@@ -111,8 +111,8 @@ impl Past {
         requires stands { (before : List ℕ) × Follows self.old before
             × (length before + length (bytes_of feed.old) < 2 ^ 63) }
         ensures same { SameFeed feed.old feed.new }
-        ensures told { IfOk result (λ why. (before : List ℕ) → Follows self.old before → (self.old.lost ≡ false)
-            × IsNoMatchTold (rules_of peg.now.rules) peg.now.start (before ++ bytes_of feed.old)
+        ensures reported { IfOk result (λ why. (before : List ℕ) → Follows self.old before → (self.old.lost ≡ false)
+            × IsNoMatchReported (rules_of peg.now.rules) peg.now.start (before ++ bytes_of feed.old)
             (unit_before self.old.at.byte (length self.old.bytes.items)) (length before) why.items) }
         ensures twice { evaluated_by search.new ≤ evaluated_by search.old + 2 }
     {
@@ -129,10 +129,14 @@ impl Past {
 fn with_lines(alloc: Global, stop: Stop, why: Result<Vec<u8>, Memory>) -> Ending
     ensures { IsEndingWith stop why result }
 {
-    let told = ToldRefusals::none(alloc);
+    let reported = ReportedRefusals::none(alloc);
     match why {
-        Ok(why) => Ending::Explained { told, stop, why },
-        Err(Memory) => Ending::Unexplained { told, stop },
+        Ok(why) => Ending::Explained {
+            reported,
+            stop,
+            why,
+        },
+        Err(Memory) => Ending::Unexplained { reported, stop },
     }
 }
 
@@ -147,7 +151,7 @@ fn explained_stop<R: Source>(
     requires stands { (before : List ℕ) × Follows past.old before
         × (length before + length (bytes_of feed.old) < 2 ^ 63) }
     ensures same { SameFeed feed.old feed.new }
-    ensures told { (before : List ℕ) → Follows past.old before → EndsBehind (rules_of peg.now.rules) peg.now.start
+    ensures reported { (before : List ℕ) → Follows past.old before → EndsAfter (rules_of peg.now.rules) peg.now.start
         past.old before (bytes_of feed.old) stop result }
     ensures twice { evaluated_by search.new ≤ evaluated_by search.old + 2 }
 {
@@ -172,8 +176,8 @@ pub fn ending_at<R: Source>(
     requires stands { settings.now.explain ≡ true → (before : List ℕ) × Follows past.old before
         × (length before + length (bytes_of feed.old) < 2 ^ 63) }
     ensures same { SameFeed feed.old feed.new }
-    ensures told { settings.now.explain ≡ true → (before : List ℕ) → Follows past.old before
-        → EndsBehind (rules_of peg.now.rules) peg.now.start past.old before (bytes_of feed.old) stop result }
+    ensures reported { settings.now.explain ≡ true → (before : List ℕ) → Follows past.old before
+        → EndsAfter (rules_of peg.now.rules) peg.now.start past.old before (bytes_of feed.old) stop result }
     ensures plain { settings.now.explain ≡ false → result ≡ Ending.Plain stop }
     ensures twice { evaluated_by search.new ≤ evaluated_by search.old + 2 }
     ensures unasked { settings.now.explain ≡ false → evaluated_by search.new ≡ evaluated_by search.old }

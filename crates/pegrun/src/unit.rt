@@ -196,9 +196,9 @@ fn is_over(settings: &PegSettings<'_>, start: usize) -> bool
 /// only unit.
 fn step_over<R: Source>(feed: &mut Feed<'_, R>, start: usize) -> UnitStep
     requires within { start + length (bytes_of feed.old) + allowance_of feed.old ≡ input_limit }
-    requires told { IsTrueOfReader R.remaining R.failed R.ended feed.old }
+    requires reported { IsTrueOfReader R.remaining R.failed R.ended feed.old }
     ensures loan { SameLoan feed.old feed.new }
-    ensures told { IsTrueOfReader R.remaining R.failed R.ended feed.new }
+    ensures reported { IsTrueOfReader R.remaining R.failed R.ended feed.new }
     ensures grows { Grows R.remaining feed.old feed.new }
     ensures step { (held : _) × IsHeld feed.new held × (result ≡ step_held held start (start
         + length (bytes_of feed.new))) }
@@ -225,10 +225,10 @@ pub fn next_unit<M: Matcher, R: Source, O: Sink>(
     requires sound { IsSoundGrammar peg.now }
     requires capacity { capacity_of feed.old ≡ settings.now.limit + 1 }
     requires within { start + length (bytes_of feed.old) + allowance_of feed.old ≡ input_limit }
-    requires told { IsTrueOfReader R.remaining R.failed R.ended feed.old }
+    requires reported { IsTrueOfReader R.remaining R.failed R.ended feed.old }
     requires out_is_fresh { O.failed out.old ≡ false }
     ensures loan { SameLoan feed.old feed.new }
-    ensures told { IsTrueOfReader R.remaining R.failed R.ended feed.new }
+    ensures reported { IsTrueOfReader R.remaining R.failed R.ended feed.new }
     ensures grows { Grows R.remaining feed.old feed.new }
     ensures follows { (before : List ℕ) (input : Input) → length before ≡ start → Agrees (before
         ++ bytes_of feed.new) (flow_of feed.new) input →

@@ -7,7 +7,7 @@ use Rattle.std.proofs.Common.{IsTrue}
 use Rattle.std.proofs.lemmas.List.{length-take-le, take_all}
 use Rattle.std.proofs.Math.Seq.{take-length}
 use Rattle.abnfread.specs.Element.{Rule}
-use Rattle.abnfcheck.specs.Beginnings.{BeginsMember, IsFurthest}
+use Rattle.abnfcheck.specs.Prefixes.{BeginsMember, IsFurthest}
 use Rattle.abnfcheck.specs.Derivable.{AreLetters, RuleDerives}
 use Rattle.flatgrammar.proofs.CallOfLemmas.{some_same}
 use Rattle.flatgrammar.proofs.PlacesLemmas.{holds_origin}
@@ -16,15 +16,15 @@ use Rattle.flatgrammar.specs.Flat.{Turns, Opt, Name, Nothing}
 use Rattle.flatgrammar.specs.FlatVerdicts.{IsLastSet}
 use Rattle.flatgrammar.specs.Holds.{Holds, begins, called, has_read, returned}
 use Rattle.flatgrammar.specs.NodeSteps.{IfSomeSet}
-use Rattle.lowering.specs.ToldBeginnings.{TellsBeginnings}
-use Rattle.flatgrammar.specs.Blocks.{spot}
+use Rattle.lowering.specs.GivenPrefixes.{GivesPrefixes}
+use Rattle.flatgrammar.specs.Blocks.{dot}
 use Rattle.flatgrammar.specs.declared.block.DottedRule.{DottedRule}
-use Rattle.earleyitems.specs.ChartSets.{AreSpotsOf, IsSet}
+use Rattle.earleyitems.specs.ChartSets.{AreDotsOf, IsSet}
 use Rattle.lazydfa.specs.ExpectedSets.{AreReadersAt}
 use Rattle.refusedlines.specs.LetterRuns.{AreApartFrom, RunsHave}
 use Rattle.refusedlines.specs.declared.letterruns.run.LetterRun.{LetterRun}
 use Rattle.refusedlines.specs.Following.{AreFollowing}
-use Rattle.refusedlines.specs.ReadLetters.{SpotReads, SpotsRead, read_by}
+use Rattle.refusedlines.specs.ReadLetters.{DotReads, DotsRead, read_by}
 
 -- what is derived is its own longest viable prefix
 pub derived_is_furthest : (has : ℕ → Bool) (rules : List Rule) (id : ℕ) (x : List ℕ) → RuleDerives has rules id x
@@ -87,7 +87,7 @@ module _ (flat : Flat) where
 
   -- places and dotted rules
   place_reads : {q r : Place} {set : Set} (c : ℕ) → Reads flat q set r → Has set c
-      → (s : ℕ) × (k : ℕ) × (q ≡ at s k) × SpotReads flat (spot s k) c
+      → (s : ℕ) × (k : ℕ) × (q ≡ at s k) × DotReads flat (dot s k) c
   place_reads c (reads {s = s} {k = k} {set = set} node (letter {sets = sets} at_k)) has =
       (s, k, refl, rw (node, at_k) has)
 
@@ -97,18 +97,18 @@ module _ (flat : Flat) where
   letters_reads s c sets node None is h = elim h [ ]
   letters_reads s c sets node (Some set) is h = (set, at s.node (s.step + 1), reads node (letter is), h)
 
-  spot_reads : (s : DottedRule) (c : ℕ) (o : Option Node) → slice_get flat.nodes s.node ≡ o
+  dot_reads : (s : DottedRule) (c : ℕ) (o : Option Node) → slice_get flat.nodes s.node ≡ o
       → IfSomeSet (read_by o s.step) c
       → (set : Set) × (r : Place) × Reads flat (at s.node s.step) set r × Has set c
-  spot_reads s c None is h = elim h [ ]
-  spot_reads s c (Some (Letters sets)) is h = letters_reads s c sets is (slice_get sets s.step) refl h
-  spot_reads s c (Some (Concat ms)) is h = elim h [ ]
-  spot_reads s c (Some (Alt ms)) is h = elim h [ ]
-  spot_reads s c (Some (Rep a b m)) is h = elim h [ ]
-  spot_reads s c (Some (Turns b m)) is h = elim h [ ]
-  spot_reads s c (Some (Opt m)) is h = elim h [ ]
-  spot_reads s c (Some (Name r)) is h = elim h [ ]
-  spot_reads s c (Some Nothing) is h = elim h [ ]
+  dot_reads s c None is h = elim h [ ]
+  dot_reads s c (Some (Letters sets)) is h = letters_reads s c sets is (slice_get sets s.step) refl h
+  dot_reads s c (Some (Concat ms)) is h = elim h [ ]
+  dot_reads s c (Some (Alt ms)) is h = elim h [ ]
+  dot_reads s c (Some (Rep a b m)) is h = elim h [ ]
+  dot_reads s c (Some (Turns b m)) is h = elim h [ ]
+  dot_reads s c (Some (Opt m)) is h = elim h [ ]
+  dot_reads s c (Some (Name r)) is h = elim h [ ]
+  dot_reads s c (Some Nothing) is h = elim h [ ]
 
 -- the letters of a line, and one more
 get_front : (z : List ℕ) (c : ℕ) (k : ℕ) → k < length z → slice_get (z ++ c ∷ []) k ≡ slice_get z k
@@ -125,17 +125,17 @@ pub letters_push : (has : ℕ → Bool) (z : List ℕ) (c : ℕ) → AreLetters 
 letters_push has [] c all is = (is, tt)
 letters_push has (a ∷ z) c all is = (all.0, letters_push has z c all.1 is)
 
-module _ (has : ℕ → Bool) (rules : List Rule) (id : ℕ) (flat : Flat) (tells : TellsBeginnings has rules id flat)
+module _ (has : ℕ → Bool) (rules : List Rule) (id : ℕ) (flat : Flat) (reports : GivesPrefixes has rules id flat)
     (z : List ℕ) (short : length z + 1 ≤ flat.limit) (letters : AreLetters has z) where
-  module _ (spots : List DottedRule) (are : AreReadersAt flat z (length z) spots) where
-    read_follows : (c : ℕ) → has c ≡ true → SpotsRead flat spots c
+  module _ (dots : List DottedRule) (are : AreReadersAt flat z (length z) dots) where
+    read_follows : (c : ℕ) → has c ≡ true → DotsRead flat dots c
         → BeginsMember has rules id (z ++ c ∷ []) (length z + 1)
     read_follows c is r =
-        let there = are.held r.spot r.stands in
+        let there = are.held r.dot r.stands in
         let on = same_held flat z (z ++ c ∷ []) (length z) (λ k lt. sym (get_front z c k lt)) there.1 (omega arith) in
-        let found = spot_reads flat r.spot c (slice_get flat.nodes r.spot.node) refl r.reads in
+        let found = dot_reads flat r.dot c (slice_get flat.nodes r.dot.node) refl r.reads in
         let size = length-append z (c ∷ []) in
-        (tells.viable (z ++ c ∷ []) (length z + 1) (omega (arith, size, short)) (letters_push has z c letters is)
+        (reports.viable (z ++ c ∷ []) (length z + 1) (omega (arith, size, short)) (letters_push has z c letters is)
         (omega arith) (omega (arith, size))).0
         (record {
           place = found.1;
@@ -144,53 +144,53 @@ module _ (has : ℕ → Bool) (rules : List Rule) (id : ℕ) (flat : Flat) (tell
         })
 
     follows_read : (c : ℕ) → has c ≡ true → BeginsMember has rules id (z ++ c ∷ []) (length z + 1)
-        → SpotsRead flat spots c
+        → DotsRead flat dots c
     follows_read c is b =
         let size = length-append z (c ∷ []) in
-        let item = (tells.viable (z ++ c ∷ []) (length z + 1) (omega (arith, size, short))
+        let item = (reports.viable (z ++ c ∷ []) (length z + 1) (omega (arith, size, short))
         (letters_push has z c letters is) (omega arith) (omega (arith, size))).1 b in
         let r = item_reads flat (z ++ c ∷ []) (length z) c (get_last z c) item.held refl in
         let back = same_held flat (z ++ c ∷ []) z (length z) (get_front z c) r.held (omega arith) in
         let s = place_reads flat c r.reads r.has in
         record {
-          spot = spot s.0 s.1;
-          stands = are.all (spot s.0 s.1) r.origin r.set r.next
+          dot = dot s.0 s.1;
+          stands = are.all (dot s.0 s.1) r.origin r.set r.next
               (subst (λ v. Holds flat z (length z) v r.origin) s.2 back)
               (subst (λ v. Reads flat v r.set r.next) s.2 r.reads);
           reads = s.3;
         }
 
     pub are_following : (runs : List LetterRun) (ends : Bool) → AreApartFrom 0 runs
-        → ((c : ℕ) → RunsHave runs c ↔ ((has c ≡ true) × SpotsRead flat spots c))
+        → ((c : ℕ) → RunsHave runs c ↔ ((has c ≡ true) × DotsRead flat dots c))
         → (IsTrue ends ↔ Holds flat z (length z) (at flat.whole 1) 0)
         → AreFollowing has rules id z (length z) runs ends
-    are_following runs ends apart tell end =
+    are_following runs ends apart report end =
         let all = take-length z in
-        let told = tells.tells z (omega (arith, short)) letters in
+        let reported = reports.reports z (omega (arith, short)) letters in
         record {
           apart = apart;
           letters = λ c. (
-            λ h. let r = (tell c).0 h in record {
+            λ h. let r = (report c).0 h in record {
               letter = r.0;
               begins = subst (λ v. BeginsMember has rules id (v ++ c ∷ []) (length z + 1)) (sym all)
                   (read_follows c r.0 r.1);
             },
-            λ h. (tell c).1 (
+            λ h. (report c).1 (
               h.letter,
               follows_read c h.letter
                   (subst (λ v. BeginsMember has rules id (v ++ c ∷ []) (length z + 1)) all h.begins),
             ),
           );
           end = (
-            λ h. subst (λ v. RuleDerives has rules id v) (sym all) (told.0 (end.0 h)),
-            λ h. end.1 (told.1 (subst (λ v. RuleDerives has rules id v) all h)),
+            λ h. subst (λ v. RuleDerives has rules id v) (sym all) (reported.0 (end.0 h)),
+            λ h. end.1 (reported.1 (subst (λ v. RuleDerives has rules id v) all h)),
           );
         }
 
 -- the dotted rules of a whole item set
 pub readers_of_set : (flat : Flat) (z : List ℕ) (n : ℕ) (set : List (Place × ℕ)) → IsSet flat z n set
-    → (spots : List DottedRule) → AreSpotsOf set spots → AreReadersAt flat z n spots
-readers_of_set flat z n set is_set spots are = record {
+    → (dots : List DottedRule) → AreDotsOf set dots → AreReadersAt flat z n dots
+readers_of_set flat z n set is_set dots are = record {
   held = λ s stands.
       let there = (are s).0 stands in
       (there.origin, is_set.held (at s.node s.step) there.origin there.stands);
@@ -206,9 +206,9 @@ agree_front (a ∷ x) zero k lt = absurd (omega (arith, lt))
 agree_front (a ∷ x) (suc n) zero lt = refl
 agree_front (a ∷ x) (suc n) (suc k) lt = agree_front x n k (omega (arith, lt))
 
-readers_of_front : (flat : Flat) (x : List ℕ) (n : ℕ) → n ≤ length x → (spots : List DottedRule)
-    → AreReadersAt flat x n spots → AreReadersAt flat (take n x) n spots
-readers_of_front flat x n within spots are = record {
+readers_of_front : (flat : Flat) (x : List ℕ) (n : ℕ) → n ≤ length x → (dots : List DottedRule)
+    → AreReadersAt flat x n dots → AreReadersAt flat (take n x) n dots
+readers_of_front flat x n within dots are = record {
   held = λ s stands. let h = are.held s stands in
       (h.0, same_held flat x (take n x) n (agree_front x n) h.1 (omega arith));
   all = λ s i symbols r held rd.
@@ -243,14 +243,14 @@ take_following has rules id x z n m runs ends is within size a =
     }
 
 -- .. and where the last item set is known
-pub last_is_furthest : (has : ℕ → Bool) (rules : List Rule) (id : ℕ) (flat : Flat) → TellsBeginnings has rules id flat
+pub last_is_furthest : (has : ℕ → Bool) (rules : List Rule) (id : ℕ) (flat : Flat) → GivesPrefixes has rules id flat
     → (x : List ℕ) (n : ℕ) → length x ≤ flat.limit → AreLetters has x → IsLastSet flat x n
     → IsFurthest has rules id x n
-last_is_furthest has rules id flat tells x n short letters last = record {
+last_is_furthest has rules id flat reports x n short letters last = record {
   within = last.within;
-  begins = λ some. (tells.viable x n short letters some last.within).0 (last.item some);
+  begins = λ some. (reports.viable x n short letters some last.within).0 (last.item some);
   last = λ m past most begins.
-      last.last m past most ((tells.viable x m short letters (omega (arith, past)) most).1 begins);
+      last.last m past most ((reports.viable x m short letters (omega (arith, past)) most).1 begins);
 }
 
 letters_front : (has : ℕ → Bool) (n : ℕ) (x : List ℕ) → AreLetters has x → AreLetters has (take n x)
@@ -259,18 +259,18 @@ letters_front has (suc n) [] all = tt
 letters_front has (suc n) (a ∷ x) all = (all.0, letters_front has n x all.1)
 
 -- what can follow, by the last item set of a line
-pub following_of_set : (has : ℕ → Bool) (rules : List Rule) (id : ℕ) (flat : Flat) → TellsBeginnings has rules id flat
-    → (x : List ℕ) (n : ℕ) → length x + 1 ≤ flat.limit → AreLetters has x → n ≤ length x → (spots : List DottedRule)
-    → AreReadersAt flat x n spots → (runs : List LetterRun) (ends : Bool) → AreApartFrom 0 runs
-    → ((c : ℕ) → RunsHave runs c ↔ ((has c ≡ true) × SpotsRead flat spots c))
+pub following_of_set : (has : ℕ → Bool) (rules : List Rule) (id : ℕ) (flat : Flat) → GivesPrefixes has rules id flat
+    → (x : List ℕ) (n : ℕ) → length x + 1 ≤ flat.limit → AreLetters has x → n ≤ length x → (dots : List DottedRule)
+    → AreReadersAt flat x n dots → (runs : List LetterRun) (ends : Bool) → AreApartFrom 0 runs
+    → ((c : ℕ) → RunsHave runs c ↔ ((has c ≡ true) × DotsRead flat dots c))
     → (IsTrue ends ↔ Holds flat x n (at flat.whole 1) 0) → AreFollowing has rules id x n runs ends
-following_of_set has rules id flat tells x n short letters within spots are runs ends apart tell end =
+following_of_set has rules id flat reports x n short letters within dots are runs ends apart report end =
     let size = length-take-le n x within in
     take_following has rules id x (take n x) n (length (take n x)) runs ends refl within refl
-    (are_following has rules id flat tells (take n x) (omega (arith, size, within, short))
-    (letters_front has n x letters) spots
-    (subst (λ v. AreReadersAt flat (take n x) v spots) (sym size) (readers_of_front flat x n within spots are))
-    runs ends apart tell
+    (are_following has rules id flat reports (take n x) (omega (arith, size, within, short))
+    (letters_front has n x letters) dots
+    (subst (λ v. AreReadersAt flat (take n x) v dots) (sym size) (readers_of_front flat x n within dots are))
+    runs ends apart report
     (subst (λ v. IsTrue ends ↔ Holds flat (take n x) v (at flat.whole 1) 0) (sym size) (
       λ yes. same_held flat x (take n x) n (agree_front x n) (end.0 yes) (omega arith),
       λ held. end.1 (same_held flat (take n x) x n (λ k lt. sym (agree_front x n k lt)) held (omega arith)),

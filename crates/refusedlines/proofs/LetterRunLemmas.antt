@@ -78,11 +78,11 @@ apart_further n (r ∷ runs) m last k h le some far =
     (h.0, h.1, apart_further (r.last + 2) runs m last k h.2 le some far)
 
 -- no number before the first
-have_behind : (n : ℕ) (runs : List LetterRun) (c : ℕ) → AreApartFrom n runs → RunsHave runs c → n ≤ c
-have_behind n [] c a h = elim h [ ]
-have_behind n (r ∷ runs) c a (inl h) = let le = a.0 in let lo = h.0 in omega arith
-have_behind n (r ∷ runs) c a (inr h) =
-    let rest = have_behind (r.last + 2) runs c a.2 h in let le = a.0 in let some = a.1 in omega arith
+have_after : (n : ℕ) (runs : List LetterRun) (c : ℕ) → AreApartFrom n runs → RunsHave runs c → n ≤ c
+have_after n [] c a h = elim h [ ]
+have_after n (r ∷ runs) c a (inl h) = let le = a.0 in let lo = h.0 in omega arith
+have_after n (r ∷ runs) c a (inr h) =
+    let rest = have_after (r.last + 2) runs c a.2 h in let le = a.0 in let some = a.1 in omega arith
 
 -- a run put after those that are apart from it
 module _ (old front : List LetterRun) (last run : LetterRun) (is : old ≡ front ++ last ∷ [])
@@ -130,7 +130,7 @@ module _ (old front : List LetterRun) (last run : LetterRun) (is : old ≡ front
         to h = by (cases_lt last.last c)
           where
             by : (last.last < c) ⊎ (c ≤ last.last) → RunHas last c ⊎ RunHas run c
-            by (inl behind) = let hi = h.1 in inr (omega arith, omega arith)
+            by (inl after) = let hi = h.1 in inr (omega arith, omega arith)
             by (inr within) = let lo = h.0 in inl (omega arith, within)
 
         from : RunHas last c ⊎ RunHas run c → RunHas joined c
@@ -192,7 +192,7 @@ put_same old new run are c = (to, from)
 begins_by : (n : ℕ) (r s : LetterRun) (runs others : List LetterRun) → AreApartFrom n (r ∷ runs)
     → AreApartFrom n (s ∷ others) → ((c : ℕ) → RunsHave (s ∷ others) c → RunsHave (r ∷ runs) c) → r.first ≤ s.first
 begins_by n r s runs others a b same =
-    have_behind r.first (r ∷ runs) s.first (le_refl r.first, a.1, a.2) (same s.first (inl (le_refl s.first, b.1)))
+    have_after r.first (r ∷ runs) s.first (le_refl r.first, a.1, a.2) (same s.first (inl (le_refl s.first, b.1)))
 
 -- nor does it end earlier, if it begins with it
 ends_by : (n : ℕ) (r s : LetterRun) (runs others : List LetterRun) → AreApartFrom n (r ∷ runs)
@@ -205,7 +205,7 @@ ends_by n r s runs others a b same begin = by (cases_lt r.last s.last)
 
     none : r.last < s.last → RunHas r (r.last + 1) ⊎ RunsHave runs (r.last + 1) → ⊥
     none lt (inl h) = let hi = h.1 in omega arith
-    none lt (inr h) = let le = have_behind (r.last + 2) runs (r.last + 1) a.2 h in omega arith
+    none lt (inr h) = let le = have_after (r.last + 2) runs (r.last + 1) a.2 h in omega arith
 
     by : (r.last < s.last) ⊎ (s.last ≤ r.last) → s.last ≤ r.last
     by (inl lt) = absurd (none lt (same (r.last + 1) (inl (omega arith, omega arith))))
@@ -218,7 +218,7 @@ rest_same : (n : ℕ) (r s : LetterRun) (runs others : List LetterRun) → AreAp
 rest_same n r s runs others a same end c h = by (same c (inr h))
   where
     by : RunHas s c ⊎ RunsHave others c → RunsHave others c
-    by (inl g) = absurd (let le = have_behind (r.last + 2) runs c a.2 h in let hi = g.1 in omega arith)
+    by (inl g) = absurd (let le = have_after (r.last + 2) runs c a.2 h in let hi = g.1 in omega arith)
     by (inr g) = g
 
 pub apart_one : (n : ℕ) (runs others : List LetterRun) → AreApartFrom n runs → AreApartFrom n others

@@ -3,5 +3,5 @@ pub mod CanFollowLemmas
 pub mod RefusalLemmas
 pub mod OneRefusalLemmas
 pub mod LetterRunLemmas
-pub mod ToldTextLemmas
+pub mod ReportedTextLemmas
 pub mod SymbolPiecesLemmas

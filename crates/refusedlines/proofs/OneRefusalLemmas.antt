@@ -6,7 +6,7 @@ use Rattle.std.proofs.Math.Seq.{take-length}
 use Rattle.std.proofs.lemmas.Bool.{cases_lt}
 use Rattle.std.proofs.lemmas.List.{append-nil, length-take-le}
 use Rattle.abnfread.specs.Element.{Rule}
-use Rattle.abnfcheck.specs.Beginnings.{IsFurthest}
+use Rattle.abnfcheck.specs.Prefixes.{IsFurthest}
 use Rattle.abnfcheck.specs.Derivable.{AreLetters, RuleDerives}
 use Rattle.letters.specs.Letters.{has}
 use Rattle.letters.specs.Utf8Text.{IsLongestText, Spells}
@@ -15,7 +15,7 @@ use Rattle.letters.specs.declared.alphabet.Alphabet.TheVariants.{Bytes, Utf8}
 use Rattle.refusedlines.specs.declared.letterruns.run.LetterRun.{LetterRun}
 use Rattle.refusedlines.specs.Following.{AreFollowing, DerivesNothing}
 use Rattle.refusedlines.specs.RefusedText.{refusal_text, refused_at}
-use Rattle.refusedlines.specs.Refusals.{AreFirstLetters, IsRefusalTold, name_at, octet_count}
+use Rattle.refusedlines.specs.Refusals.{AreFirstLetters, IsRefusalReported, name_at, octet_count}
 
 longest_one : (line : List ℕ) (a b : ℕ) → IsLongestText line a → IsLongestText line b → a ≡ b
 longest_one line a b f g = by (cases_lt a b) (cases_lt b a)
@@ -39,7 +39,8 @@ module _ (one_spelled : (line points others : List ℕ) → Spells points line �
       (one_spelled (take t line) x y (subst (λ v. Spells x (take v line)) same h.1) g.1, same)
 
   pub one_text : (alphabet : Alphabet) (rules : List Rule) (judged : ℕ) (line : List ℕ) (number : ℕ) (a b : List ℕ)
-      → IsRefusalTold alphabet rules judged line number a → IsRefusalTold alphabet rules judged line number b → a ≡ b
+      → IsRefusalReported alphabet rules judged line number a → IsRefusalReported alphabet rules judged line number b
+      → a ≡ b
   one_text alphabet rules judged line number a b p q =
       let letters = letters_one alphabet line p.first q.first p.size q.size p.letters q.letters in
       let x = letters.0 in

@@ -9,7 +9,7 @@ use Rattle.std.proofs.lemmas.Option.{get_or_from_slice_get}
 use Rattle.abnfread.specs.AbnfViews.{rule_of, rules_of}
 use Rattle.abnfread.specs.Element.{Rule}
 use Rattle.abnfread.specs.declared.elem.Elem.{Elem}
-use Rattle.abnfcheck.specs.Beginnings.{IsFurthest}
+use Rattle.abnfcheck.specs.Prefixes.{IsFurthest}
 use Rattle.letters.specs.Letters.{has}
 use Rattle.letters.specs.Utf8Text.{IsLongestText, Spells, end, next, Writes, number, numbers}
 use Rattle.letters.specs.declared.alphabet.Alphabet.{Alphabet}
@@ -19,7 +19,7 @@ use Rattle.refusedlines.specs.declared.letterruns.run.LetterRun.{LetterRun}
 use Rattle.ruletable.specs.Rules as table
 use Rattle.refusedlines.specs.Following.{AreFollowing}
 use Rattle.diagnostics.specs.Pictures.{picture}
-use Rattle.refusedlines.specs.RefusedText.{at_text, expected_text, refusal_text, refused_at, told_expected}
+use Rattle.refusedlines.specs.RefusedText.{at_text, expected_text, refusal_text, refused_at, reported_expected}
 use Rattle.refusedlines.specs.Refusals.{IsExplained, name_at, octet_count, octets}
 use Rattle.refusedlines.specs.declared.refusal.RefusedAt.{RefusedAt}
 
@@ -27,7 +27,7 @@ use Rattle.refusedlines.specs.declared.refusal.RefusedAt.{RefusedAt}
 pub lines_pushed : (alphabet : Alphabet) (number : ℕ) (line : List ℕ) (at : RefusedAt) (place : ℕ)
     (shown runs : List LetterRun) (ends : Bool) (old a b c new : List ℕ) → shown ≡ runs → a ≡ old ++ at_text number at
     → b ≡ a ++ expected_text alphabet shown ends → c ≡ b ++ codes "\n" → new ≡ c ++ picture line place
-    → new ≡ old ++ told_expected alphabet number line at place runs ends
+    → new ≡ old ++ reported_expected alphabet number line at place runs ends
 lines_pushed alphabet number line at place shown runs ends old a b c new same e f g h =
     let x = at_text number at in
     let y = expected_text alphabet runs ends in
@@ -37,11 +37,11 @@ lines_pushed alphabet number line at place shown runs ends old a b c new same e 
     h ∙ ap (λ v. v ++ w) (g ∙ ap (λ v. v ++ z) (expected ∙ ap (λ v. v ++ y) e))
     ∙ append_assoc ((old ++ x) ++ y) z w ∙ append_assoc (old ++ x) y (z ++ w) ∙ append_assoc old x (y ++ (z ++ w))
 
-pub at_pushed : (old a b c : List ℕ) (line n : ℕ) (told : List ℕ) → a ≡ old ++ codes "line " → b ≡ a ++ decimal line
-    → c ≡ b ++ (codes ", letter " ++ (decimal n ++ told))
-    → c ≡ old ++ (codes "line " ++ (decimal line ++ (codes ", letter " ++ (decimal n ++ told))))
-at_pushed old a b c line n told first second third =
-    let rest = codes ", letter " ++ (decimal n ++ told) in
+pub at_pushed : (old a b c : List ℕ) (line n : ℕ) (reported : List ℕ) → a ≡ old ++ codes "line " → b ≡ a ++ decimal line
+    → c ≡ b ++ (codes ", letter " ++ (decimal n ++ reported))
+    → c ≡ old ++ (codes "line " ++ (decimal line ++ (codes ", letter " ++ (decimal n ++ reported))))
+at_pushed old a b c line n reported first second third =
+    let rest = codes ", letter " ++ (decimal n ++ reported) in
     third ∙ ap (λ v. v ++ rest) (second ∙ ap (λ v. v ++ decimal line) first)
     ∙ append_assoc (old ++ codes "line ") (decimal line) rest ∙ append_assoc old (codes "line ") (decimal line ++ rest)
 
@@ -111,11 +111,11 @@ octets_at_least (x ∷ xs) = let rest = octets_at_least xs in let some = octets_
 
 module _ (rules : List Rule) (judged : ℕ) (line : List ℕ) (number_of : ℕ) (runs : List LetterRun) (ends : Bool)
     (name : List ℕ) (at : RefusedAt) (place : ℕ) (old new : List ℕ) (named : name ≡ name_at rules judged) where
-  pub told_bytes : new ≡ old ++ refusal_text Bytes name number_of line at place runs ends
+  pub reported_bytes : new ≡ old ++ refusal_text Bytes name number_of line at place runs ends
       → IsFurthest (has Bytes) rules judged line place
       → AreFollowing (has Bytes) rules judged line place runs ends → at ≡ refused_at place (length line) false
       → IsExplained Bytes rules judged line number_of old new
-  told_bytes put furthest following where_at =
+  reported_bytes put furthest following where_at =
       let torn : nat_lt (length line) (length line) ≡ false = le-ltb (length line) (length line) (omega arith) in
       let within = furthest.within in
       let count : octet_count Bytes (take place line) ≡ place =
@@ -135,13 +135,13 @@ module _ (rules : List Rule) (judged : ℕ) (line : List ℕ) (number_of : ℕ) 
         },
       )
 
-  pub told_points : new ≡ old ++ refusal_text Utf8 name number_of line at place runs ends
+  pub reported_points : new ≡ old ++ refusal_text Utf8 name number_of line at place runs ends
       → (points : List ℕ) (size after : ℕ) → IsLongestText line size → Spells points (take size line)
       → IsFurthest (has Utf8) rules judged points after
       → AreFollowing (has Utf8) rules judged points after runs ends
       → at ≡ refused_at after (length points) (nat_lt size (length line))
       → place ≡ octet_count Utf8 (take after points) → IsExplained Utf8 rules judged line number_of old new
-  told_points put points size after longest spelled furthest following where_at count = (
+  reported_points put points size after longest spelled furthest following where_at count = (
     refusal_text Utf8 name number_of line at place runs ends,
     put,
     record {

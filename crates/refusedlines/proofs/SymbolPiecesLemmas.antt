@@ -6,8 +6,8 @@ use Rattle.letters.specs.declared.alphabet.Alphabet.{Alphabet}
 use Rattle.refusedlines.specs.SymbolPieces.{pieces_by, pieces_with, rest_without}
 use Rattle.refusedlines.specs.declared.letterruns.core_rule.CoreRule.{CoreRule}
 use Rattle.refusedlines.specs.declared.letterruns.run.LetterRun.{LetterRun}
-use Rattle.refusedlines.specs.declared.letterruns.told.ToldLetters.{ToldLetters}
-use Rattle.refusedlines.specs.declared.letterruns.told.ToldLetters.TheVariants.{Named}
+use Rattle.refusedlines.specs.declared.letterruns.reported.ReportedLetters.{ReportedLetters}
+use Rattle.refusedlines.specs.declared.letterruns.reported.ReportedLetters.TheVariants.{Named}
 
 module _ (alphabet : Alphabet) (rules : List CoreRule) (i : ℕ) (d : CoreRule) (runs : List LetterRun)
     (lt : i < length rules) where
@@ -16,7 +16,7 @@ module _ (alphabet : Alphabet) (rules : List CoreRule) (i : ℕ) (d : CoreRule) 
       (rest_without alphabet (get_or rules i d) runs)
   next_rule = rw (add-one, drop-cons rules i d lt) refl
 
-  pub rule_named : (all more whole : List ToldLetters) (rest : List LetterRun)
+  pub rule_named : (all more whole : List ReportedLetters) (rest : List LetterRun)
       → rest_without alphabet (get_or rules i d) runs ≡ Some rest
       → all ++ pieces_by alphabet (drop i rules) runs ≡ whole → more ≡ all ++ Named (get_or rules i d) ∷ []
       → more ++ pieces_by alphabet (drop (i + 1) rules) rest ≡ whole
@@ -27,7 +27,7 @@ module _ (alphabet : Alphabet) (rules : List CoreRule) (i : ℕ) (d : CoreRule) 
       ap (λ v. v ++ those rest) put ∙ append_assoc all (Named (get_or rules i d) ∷ []) (those rest)
       ∙ ap (λ v. all ++ v) (sym step) ∙ before
 
-  pub rule_passed : (all whole : List ToldLetters) → rest_without alphabet (get_or rules i d) runs ≡ None
+  pub rule_passed : (all whole : List ReportedLetters) → rest_without alphabet (get_or rules i d) runs ≡ None
       → all ++ pieces_by alphabet (drop i rules) runs ≡ whole
       → all ++ pieces_by alphabet (drop (i + 1) rules) runs ≡ whole
   rule_passed all whole is before =

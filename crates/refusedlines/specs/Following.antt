@@ -1,7 +1,7 @@
 -- What can follow the first letters of a line.
 use Rattle.std.specs.Prelude.{◌≡◌, ℕ, ◌+◌, ◌↔◌, Bool, true, List, [], ◌∷◌, ◌++◌, take}
 use Rattle.abnfread.specs.Element.{Rule}
-use Rattle.abnfcheck.specs.Beginnings.{BeginsMember}
+use Rattle.abnfcheck.specs.Prefixes.{BeginsMember}
 use Rattle.abnfcheck.specs.Derivable.{AreLetters, RuleDerives}
 use Rattle.refusedlines.specs.LetterRuns.{AreApartFrom, RunsHave}
 use Rattle.refusedlines.specs.declared.letterruns.run.LetterRun.{LetterRun}

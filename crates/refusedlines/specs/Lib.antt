@@ -5,4 +5,4 @@ pub mod RefusedText
 pub mod Refusals
 pub mod LetterRuns
 pub mod SymbolPieces
-pub mod ToldLetters
+pub mod ReportedLetters

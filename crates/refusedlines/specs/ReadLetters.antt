@@ -13,14 +13,14 @@ read_by None k = None
 read_by (Some node) k = read_at node k
 
 -- a dotted rule reads a letter
-abbrev pub SpotReads : Flat → DottedRule → ℕ → Type 0
-SpotReads flat s c = IfSomeSet (read_by (slice_get flat.nodes s.node) s.step) c
+abbrev pub DotReads : Flat → DottedRule → ℕ → Type 0
+DotReads flat s c = IfSomeSet (read_by (slice_get flat.nodes s.node) s.step) c
 
 -- one of the dotted rules reads a letter
-pub record SpotsRead (flat : Flat) (spots : List DottedRule) (c : ℕ) : Type 0 where
-  pub spot : DottedRule
-  pub stands : In spot spots
-  pub reads : SpotReads flat spot c
+pub record DotsRead (flat : Flat) (dots : List DottedRule) (c : ℕ) : Type 0 where
+  pub dot : DottedRule
+  pub stands : In dot dots
+  pub reads : DotReads flat dot c
 
 -- runs got the numbers of Q
 abbrev pub GainLetters : (ℕ → Type 0) → List LetterRun → List LetterRun → Type 0

@@ -2,7 +2,7 @@
 use Rattle.std.specs.Prelude.{◌≡◌, ℕ, ◌+◌, nat_lt, Bool, if◌then◌else◌, List, [], ◌∷◌, ◌++◌, take, length}
 use Rattle.std.specs.Prelude.{slice_index_or, map}
 use Rattle.abnfread.specs.Element.{Rule}
-use Rattle.abnfcheck.specs.Beginnings.{IsFurthest}
+use Rattle.abnfcheck.specs.Prefixes.{IsFurthest}
 use Rattle.letters.specs.Letters.{has}
 use Rattle.letters.specs.Utf8Text.{IsLongestText, Spells}
 use Rattle.letters.specs.declared.alphabet.Alphabet.{Alphabet}
@@ -30,7 +30,7 @@ name_at rules id = slice_index_or (map (λ rule. rule.name) rules) id []
 
 -- The text explains where the line with that number is rejected, and what can follow the longest viable prefix of its
 -- letters.
-pub record IsRefusalTold (alphabet : Alphabet) (rules : List Rule) (judged : ℕ) (line : List ℕ) (number : ℕ)
+pub record IsRefusalReported (alphabet : Alphabet) (rules : List Rule) (judged : ℕ) (line : List ℕ) (number : ℕ)
     (text : List ℕ) : Type 0 where
   pub first : List ℕ
   pub size : ℕ
@@ -46,4 +46,4 @@ pub record IsRefusalTold (alphabet : Alphabet) (rules : List Rule) (judged : ℕ
 -- such a text was added
 abbrev pub IsExplained : Alphabet → List Rule → ℕ → List ℕ → ℕ → List ℕ → List ℕ → Type 0
 IsExplained alphabet rules judged line number old new = (text : List ℕ) × (new ≡ old ++ text)
-    × IsRefusalTold alphabet rules judged line number text
+    × IsRefusalReported alphabet rules judged line number text

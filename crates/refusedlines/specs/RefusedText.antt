@@ -4,8 +4,8 @@ use Rattle.std.specs.Prelude.{zero, suc, map, take, length, ◌-◌}
 use Rattle.std.specs.List.{flat_map}
 use Rattle.letters.specs.declared.alphabet.Alphabet.{Alphabet}
 use Rattle.refusedlines.specs.SymbolPieces.{pieces}
-use Rattle.refusedlines.specs.ToldLetters.{told_text}
-use Rattle.refusedlines.specs.declared.letterruns.told.ToldLetters.{ToldLetters}
+use Rattle.refusedlines.specs.ReportedLetters.{reported_text}
+use Rattle.refusedlines.specs.declared.letterruns.reported.ReportedLetters.{ReportedLetters}
 use Rattle.refusedlines.specs.declared.letterruns.run.LetterRun.{LetterRun}
 use Rattle.diagnostics.specs.Pictures.{picture}
 use Rattle.diagnostics.specs.ShownBytes.{cut}
@@ -27,8 +27,8 @@ more_text zero = []
 more_text (suc n) = codes " and " ++ (decimal (suc n) ++ codes " more")
 
 -- the first pieces, and how many more there are
-abbrev pub pieces_text : List ToldLetters → List ℕ
-pieces_text all = slashed (map told_text (take shown_pieces all)) ++ more_text (length all - shown_pieces)
+abbrev pub pieces_text : List ReportedLetters → List ℕ
+pieces_text all = slashed (map reported_text (take shown_pieces all)) ++ more_text (length all - shown_pieces)
 
 -- that a line may end, after the symbols that can follow
 abbrev pub end_text : List LetterRun → Bool → List ℕ
@@ -63,10 +63,10 @@ nothing_text number name = codes "line " ++ (decimal number ++ (codes ": rule '"
     ++ codes "' derives nothing\n")))
 
 -- what is expected at a position of a line of bytes, and a picture of the position
-abbrev pub told_expected : Alphabet → ℕ → List ℕ → RefusedAt → ℕ → List LetterRun → Bool → List ℕ
-told_expected alphabet number line at place runs ends = at_text number at ++ (expected_text alphabet runs ends
+abbrev pub reported_expected : Alphabet → ℕ → List ℕ → RefusedAt → ℕ → List LetterRun → Bool → List ℕ
+reported_expected alphabet number line at place runs ends = at_text number at ++ (expected_text alphabet runs ends
     ++ (codes "\n" ++ picture line place))
 
 abbrev pub refusal_text : Alphabet → List ℕ → ℕ → List ℕ → RefusedAt → ℕ → List LetterRun → Bool → List ℕ
 refusal_text alphabet name number line at place runs ends = if is_none runs ends then nothing_text number name
-    else told_expected alphabet number line at place runs ends
+    else reported_expected alphabet number line at place runs ends

@@ -4,11 +4,11 @@ use Rattle.std.specs.Prelude.{List, [], ◌∷◌, Option, Some, None, length, c
 use Rattle.std.specs.List.{flat_map, list_all, list_any}
 use Rattle.letters.specs.declared.alphabet.Alphabet.{Alphabet}
 use Rattle.refusedlines.specs.CoreSymbols.{core_runs, core_sets}
-use Rattle.refusedlines.specs.ToldLetters.{told_letters}
+use Rattle.refusedlines.specs.ReportedLetters.{reported_letters}
 use Rattle.refusedlines.specs.declared.letterruns.core_rule.CoreRule.{CoreRule}
 use Rattle.refusedlines.specs.declared.letterruns.run.LetterRun.{LetterRun}
-use Rattle.refusedlines.specs.declared.letterruns.told.ToldLetters.{ToldLetters}
-use Rattle.refusedlines.specs.declared.letterruns.told.ToldLetters.TheVariants.{Through, Named}
+use Rattle.refusedlines.specs.declared.letterruns.reported.ReportedLetters.{ReportedLetters}
+use Rattle.refusedlines.specs.declared.letterruns.reported.ReportedLetters.TheVariants.{Through, Named}
 
 -- the last symbol of the run that begins at 0xE000, the first after the surrogates
 abbrev pub last_across : List LetterRun → Option ℕ
@@ -56,34 +56,34 @@ without_runs (cut ∷ cuts) runs = without_runs cuts (without_run cut runs)
 abbrev pub has_run : List LetterRun → LetterRun → Bool
 has_run runs part = list_any (λ run. nat_le run.first part.first && nat_le part.last run.last) runs
 
-abbrev pub is_range : ToldLetters → Bool
+abbrev pub is_range : ReportedLetters → Bool
 is_range (Through run) = true
 is_range _ = false
 
 -- what terms cost: two a range, one each of the others
-abbrev pub told_cost : List ToldLetters → ℕ
-told_cost terms = length terms + count_by is_range terms
+abbrev pub reported_cost : List ReportedLetters → ℕ
+reported_cost terms = length terms + count_by is_range terms
 
 -- The symbols that are left without those of a core rule; none, if the runs lack a symbol of it, or if what is left
 -- costs more.
 abbrev pub rest_without : Alphabet → CoreRule → List LetterRun → Option (List LetterRun)
 rest_without alphabet rule runs = if list_all (has_run runs) (core_runs rule)
-    && nat_le (told_cost (told_letters alphabet (without_runs (core_runs rule) runs)))
-    (told_cost (told_letters alphabet runs))
+    && nat_le (reported_cost (reported_letters alphabet (without_runs (core_runs rule) runs)))
+    (reported_cost (reported_letters alphabet runs))
     then Some (without_runs (core_runs rule) runs) else None
 
 -- the name of a core rule before the pieces for what is left without it, or the pieces for all
-abbrev pub pieces_with : CoreRule → (List LetterRun → List ToldLetters) → List LetterRun → Option (List LetterRun)
-    → List ToldLetters
+abbrev pub pieces_with : CoreRule → (List LetterRun → List ReportedLetters) → List LetterRun → Option (List LetterRun)
+    → List ReportedLetters
 pieces_with rule those runs None = those runs
 pieces_with rule those runs (Some rest) = Named rule ∷ those rest
 
 -- The pieces for runs: the name of each of these core rules that the runs have and that makes the rest no dearer, the
 -- first ones first, and the terms for the rest.
-abbrev pub pieces_by : Alphabet → List CoreRule → List LetterRun → List ToldLetters
-pieces_by alphabet [] runs = told_letters alphabet runs
+abbrev pub pieces_by : Alphabet → List CoreRule → List LetterRun → List ReportedLetters
+pieces_by alphabet [] runs = reported_letters alphabet runs
 pieces_by alphabet (rule ∷ rules) runs = pieces_with rule (pieces_by alphabet rules) runs
     (rest_without alphabet rule runs)
 
-abbrev pub pieces : Alphabet → List LetterRun → List ToldLetters
+abbrev pub pieces : Alphabet → List LetterRun → List ReportedLetters
 pieces alphabet runs = pieces_by alphabet core_sets (joined_runs runs)

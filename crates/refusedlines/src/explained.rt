@@ -1,14 +1,20 @@
 //! The explanations of rejected lines.
 ghost use Rattle.std.specs.Prelude.{◌≡◌, ◌+◌, ◌<◌, ◌≤◌, ◌^◌, ℕ, Bool, false, List, [], length, take, IfOk, IfSome};
-ghost use Rattle.abnfcheck.specs.Beginnings.{IsFurthest};
+ghost use Rattle.abnfcheck.specs.Prefixes.{IsFurthest};
 ghost use Rattle.abnfread.specs.Element.{Rule};
 ghost use Rattle.letters.specs.declared.alphabet.Alphabet.{Alphabet as the_alphabet};
 ghost use Rattle.refusedlines.specs.Following.{AreFollowing, DerivesNothing};
 ghost use Rattle.abnfread.specs.AbnfViews.{rules_of};
-ghost use Rattle.lowering.specs.ToldBeginnings.{TellsBeginnings};
+ghost use Rattle.lowering.specs.GivenPrefixes.{GivesPrefixes};
 ghost use Rattle.letters.specs.Letters.{has};
 ghost use Rattle.letters.specs.Utf8Text.{IsLongestText, Spells, numbers};
-ghost use Rattle.refusedlines.specs.Refusals.{IsExplained, IsRefusalTold, name_at, octet_count, octets as the_octets};
+ghost use Rattle.refusedlines.specs.Refusals.{
+  IsExplained,
+  IsRefusalReported,
+  name_at,
+  octet_count,
+  octets as the_octets,
+};
 
 use crate::following::{find_following, following_is_one};
 use crate::refusal::{Refusal, RefusedLine, push_refusal, refused_at};
@@ -99,10 +105,10 @@ fn explain_bytes(
 ) -> Result<(), Memory>
     requires within { length line.bytes.now + 1 ≤ explainer.now.flat.now.limit }
     requires flat { IfSome automaton.old (λ a. a ≡ explainer.now.flat.now) }
-    requires tells { TellsBeginnings (has Alphabet.Bytes) (rules_of explainer.now.grammar.now.rules)
+    requires reports { GivesPrefixes (has Alphabet.Bytes) (rules_of explainer.now.grammar.now.rules)
         explainer.now.grammar.now.judged explainer.now.flat.now }
     ensures flat { IfSome automaton.new (λ a. a ≡ explainer.now.flat.now) }
-    ensures told { IfOk result (λ done. IsExplained Alphabet.Bytes (rules_of explainer.now.grammar.now.rules)
+    ensures reported { IfOk result (λ done. IsExplained Alphabet.Bytes (rules_of explainer.now.grammar.now.rules)
         explainer.now.grammar.now.judged line.entry.bytes.now line.entry.number out.old.items out.new.items) }
 {
     let following = find_following(alloc, chart, automaton, explainer.flat, line.bytes)?;
@@ -129,10 +135,10 @@ fn explain_points(
 ) -> Result<(), Memory>
     requires within { length line.bytes.now + 1 ≤ explainer.now.flat.now.limit }
     requires flat { IfSome automaton.old (λ a. a ≡ explainer.now.flat.now) }
-    requires tells { TellsBeginnings (has Alphabet.Utf8) (rules_of explainer.now.grammar.now.rules)
+    requires reports { GivesPrefixes (has Alphabet.Utf8) (rules_of explainer.now.grammar.now.rules)
         explainer.now.grammar.now.judged explainer.now.flat.now }
     ensures flat { IfSome automaton.new (λ a. a ≡ explainer.now.flat.now) }
-    ensures told { IfOk result (λ done. IsExplained Alphabet.Utf8 (rules_of explainer.now.grammar.now.rules)
+    ensures reported { IfOk result (λ done. IsExplained Alphabet.Utf8 (rules_of explainer.now.grammar.now.rules)
         explainer.now.grammar.now.judged line.entry.bytes.now line.entry.number out.old.items out.new.items) }
 {
     let first = first_points(alloc, line.bytes)?;
@@ -168,10 +174,10 @@ pub fn explain_refused(
 ) -> Result<(), Memory>
     requires within { length line.bytes.now + 1 ≤ explainer.now.flat.now.limit }
     requires flat { IfSome automaton.old (λ a. a ≡ explainer.now.flat.now) }
-    requires tells { TellsBeginnings (has explainer.now.letters) (rules_of explainer.now.grammar.now.rules)
+    requires reports { GivesPrefixes (has explainer.now.letters) (rules_of explainer.now.grammar.now.rules)
         explainer.now.grammar.now.judged explainer.now.flat.now }
     ensures flat { IfSome automaton.new (λ a. a ≡ explainer.now.flat.now) }
-    ensures told { IfOk result (λ done. IsExplained explainer.now.letters (rules_of explainer.now.grammar.now.rules)
+    ensures reported { IfOk result (λ done. IsExplained explainer.now.letters (rules_of explainer.now.grammar.now.rules)
         explainer.now.grammar.now.judged line.entry.bytes.now line.entry.number out.old.items out.new.items) }
 {
     match explainer.letters {
@@ -183,7 +189,8 @@ pub fn explain_refused(
 /// Returns nothing. Its contract is a law: at most one text explains a rejected line.
 pub fn refusal_is_one()
     ensures { (alphabet : the_alphabet) (rules : List Rule) (judged : ℕ) (line : List ℕ) (number : ℕ) (a b : List ℕ) →
-        IsRefusalTold alphabet rules judged line number a → IsRefusalTold alphabet rules judged line number b → a ≡ b }
+        IsRefusalReported alphabet rules judged line number a → IsRefusalReported alphabet rules judged line number b
+        → a ≡ b }
 {
     furthest_is_found();
     following_is_one();

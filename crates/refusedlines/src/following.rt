@@ -1,8 +1,8 @@
 //! Symbols that can follow the longest viable prefix of a line.
 ghost use Rattle.std.specs.Prelude.{◌≡◌, ◌+◌, ◌≤◌, ℕ, Bool, List, length, map, IfOk, IfSome};
 ghost use Rattle.abnfread.specs.Element.{Rule};
-ghost use Rattle.abnfcheck.specs.Beginnings.{IsFurthest};
-ghost use Rattle.lowering.specs.ToldBeginnings.{TellsBeginnings};
+ghost use Rattle.abnfcheck.specs.Prefixes.{IsFurthest};
+ghost use Rattle.lowering.specs.GivenPrefixes.{GivesPrefixes};
 ghost use Rattle.letters.specs.Letters.{has};
 ghost use Rattle.refusedlines.specs.declared.letterruns.run.LetterRun.{LetterRun as the_run};
 ghost use Rattle.refusedlines.specs.Following.{AreFollowing};
@@ -13,7 +13,7 @@ use earley::{Chart, judge, viable};
 use flatgrammar::{Flat, Verdict};
 use lazydfa::Automaton;
 use letters::Letter;
-use lowering::{items_tell, values_are_letters};
+use lowering::{items_decide, values_are_letters};
 use ruletable::Memory;
 use std::alloc::Global;
 
@@ -33,11 +33,11 @@ fn furthest_place<L: Letter>(chart: &mut Chart, flat: &Flat, line: &[L]) -> Resu
     requires { length line.now ≤ flat.now.limit }
     ensures within { IfOk result (λ n. n ≤ length line.now) }
     ensures furthest { IfOk result (λ n. (rules : List Rule) (judged : ℕ)
-        → TellsBeginnings (has L.ALPHABET) rules judged flat.now →
+        → GivesPrefixes (has L.ALPHABET) rules judged flat.now →
         IsFurthest (has L.ALPHABET) rules judged (map L.number line.now) n) }
 {
     values_are_letters(line);
-    items_tell();
+    items_decide();
     match viable(chart, flat, line)? {
         Verdict::Yes => Ok(line.len()),
         Verdict::No(n) => Ok(n),
@@ -45,7 +45,7 @@ fn furthest_place<L: Letter>(chart: &mut Chart, flat: &Flat, line: &[L]) -> Resu
 }
 
 // Returns what can follow the letters of a line.
-fn find_behind<L: Letter>(
+fn find_after<L: Letter>(
     alloc: Global,
     chart: &mut Chart,
     flat: &Flat,
@@ -54,14 +54,14 @@ fn find_behind<L: Letter>(
     requires { length line.now + 1 ≤ flat.now.limit }
     ensures after { IfOk result (λ f. f.after ≡ length line.now) }
     ensures following { IfOk result (λ f. (rules : List Rule) (judged : ℕ)
-        → TellsBeginnings (has L.ALPHABET) rules judged flat.now →
+        → GivesPrefixes (has L.ALPHABET) rules judged flat.now →
         AreFollowing (has L.ALPHABET) rules judged (map L.number line.now) (length line.now) f.runs.items f.ends) }
 {
     values_are_letters(line);
     let after = line.len();
     let ends = judge(chart, flat, line)?;
-    let spots = chart.spots(after)?;
-    let runs = letters_read(alloc, L::ALPHABET, flat, &spots)?;
+    let dots = chart.dots(after)?;
+    let runs = letters_read(alloc, L::ALPHABET, flat, &dots)?;
     Ok(Following { after, runs, ends })
 }
 
@@ -75,26 +75,26 @@ fn find_by_states<L: Letter>(
     requires within { length line.now + 1 ≤ flat.now.limit }
     requires flat { IfSome automaton.old (λ a. a ≡ flat.now) }
     ensures flat { IfSome automaton.new (λ a. a ≡ flat.now) }
-    ensures within { IfOk result (λ told. IfSome told (λ f. f.after ≤ length line.now)) }
-    ensures furthest { IfOk result (λ told. IfSome told (λ f. (rules : List Rule) (judged : ℕ)
-        → TellsBeginnings (has L.ALPHABET) rules judged flat.now →
+    ensures within { IfOk result (λ reported. IfSome reported (λ f. f.after ≤ length line.now)) }
+    ensures furthest { IfOk result (λ reported. IfSome reported (λ f. (rules : List Rule) (judged : ℕ)
+        → GivesPrefixes (has L.ALPHABET) rules judged flat.now →
         IsFurthest (has L.ALPHABET) rules judged (map L.number line.now) f.after)) }
-    ensures following { IfOk result (λ told. IfSome told (λ f. (rules : List Rule) (judged : ℕ)
-        → TellsBeginnings (has L.ALPHABET) rules judged flat.now →
+    ensures following { IfOk result (λ reported. IfSome reported (λ f. (rules : List Rule) (judged : ℕ)
+        → GivesPrefixes (has L.ALPHABET) rules judged flat.now →
         AreFollowing (has L.ALPHABET) rules judged (map L.number line.now) f.after f.runs.items f.ends)) }
 {
     values_are_letters(line);
     let Some(states) = automaton else {
         return Ok(None);
     };
-    let Ok(Some(told)) = states.expected(line) else {
+    let Ok(Some(reported)) = states.expected(line) else {
         return Ok(None);
     };
-    let runs = letters_read(alloc, L::ALPHABET, flat, &told.spots)?;
+    let runs = letters_read(alloc, L::ALPHABET, flat, &reported.dots)?;
     Ok(Some(Following {
-        after: told.after,
+        after: reported.after,
         runs,
-        ends: told.ends,
+        ends: reported.ends,
     }))
 }
 
@@ -119,17 +119,17 @@ pub fn find_following<L: Letter>(
     ensures flat { IfSome automaton.new (λ a. a ≡ flat.now) }
     ensures within { IfOk result (λ f. f.after ≤ length line.now) }
     ensures furthest { IfOk result (λ f. (rules : List Rule) (judged : ℕ)
-        → TellsBeginnings (has L.ALPHABET) rules judged flat.now →
+        → GivesPrefixes (has L.ALPHABET) rules judged flat.now →
         IsFurthest (has L.ALPHABET) rules judged (map L.number line.now) f.after) }
     ensures following { IfOk result (λ f. (rules : List Rule) (judged : ℕ)
-        → TellsBeginnings (has L.ALPHABET) rules judged flat.now →
+        → GivesPrefixes (has L.ALPHABET) rules judged flat.now →
         AreFollowing (has L.ALPHABET) rules judged (map L.number line.now) f.after f.runs.items f.ends) }
 {
-    if let Some(told) = find_by_states(alloc, automaton, flat, line)? {
-        return Ok(told);
+    if let Some(reported) = find_by_states(alloc, automaton, flat, line)? {
+        return Ok(reported);
     }
     let after = furthest_place(chart, flat, line)?;
-    find_behind(alloc, chart, flat, &line[..after])
+    find_after(alloc, chart, flat, &line[..after])
 }
 
 /// Returns nothing. Its contract is a law: at most one list of runs has the symbols that can follow the first symbols

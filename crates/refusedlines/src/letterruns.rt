@@ -4,13 +4,13 @@ mod core_rule;
 mod joined;
 mod merged;
 mod pieces;
+mod reported;
+mod reported_text;
 mod run;
-mod told;
-mod told_text;
 
 pub use core_rule::CoreRule;
 pub use merged::{merge_runs, runs_are_one};
 pub use pieces::symbol_pieces;
+pub use reported::{ReportedLetters, reported_letters};
+pub use reported_text::push_expected;
 pub use run::LetterRun;
-pub use told::{ToldLetters, told_letters};
-pub use told_text::push_expected;

@@ -11,7 +11,7 @@ mod refusal;
 pub use explained::{Explainer, explain_refused, nothing_can_stand, refusal_is_one};
 pub use following::{Following, find_following, following_is_one};
 pub use letterruns::{
-    CoreRule, LetterRun, ToldLetters, merge_runs, push_expected, runs_are_one, symbol_pieces,
-    told_letters,
+    CoreRule, LetterRun, ReportedLetters, merge_runs, push_expected, reported_letters,
+    runs_are_one, symbol_pieces,
 };
 pub use refusal::RefusedLine;

@@ -5,7 +5,7 @@ ghost use Rattle.flatgrammar.specs.FlatViews.{node_of, set_of};
 ghost use Rattle.flatgrammar.specs.NodeSteps.{IfSomeSet, read_at};
 ghost use Rattle.letters.specs.Letters.{has};
 ghost use Rattle.refusedlines.specs.LetterRuns.{AreApartFrom, IsSomeRun, RunsHave};
-ghost use Rattle.refusedlines.specs.ReadLetters.{GainLetters, SpotReads, SpotsRead};
+ghost use Rattle.refusedlines.specs.ReadLetters.{GainLetters, DotReads, DotsRead};
 
 use crate::letterruns::{LetterRun, merge_runs};
 use flatgrammar::{DottedRule, Flat, Node, Set};
@@ -102,19 +102,19 @@ fn add_node(
 }
 
 // Adds the letters of an alphabet that a dotted rule reads.
-fn add_spot(
+fn add_dot(
     alphabet: Alphabet,
     flat: &Flat,
-    spot: DottedRule,
+    dot: DottedRule,
     runs: &mut Vec<LetterRun>,
 ) -> Result<(), Memory>
     requires { All IsSomeRun runs.old.items }
     ensures some { IfOk result (λ done. All IsSomeRun runs.new.items) }
-    ensures gain { IfOk result (λ done. GainLetters (λ c. (has alphabet c ≡ true) × SpotReads flat.now spot c)
+    ensures gain { IfOk result (λ done. GainLetters (λ c. (has alphabet c ≡ true) × DotReads flat.now dot c)
         runs.old.items runs.new.items) }
 {
-    if spot.node < flat.nodes() {
-        return add_node(alphabet, flat.node(spot.node), spot.step, runs);
+    if dot.node < flat.nodes() {
+        return add_node(alphabet, flat.node(dot.node), dot.step, runs);
     }
     Ok(())
 }
@@ -125,15 +125,15 @@ pub(crate) fn letters_read(
     alloc: Global,
     alphabet: Alphabet,
     flat: &Flat,
-    spots: &[DottedRule],
+    dots: &[DottedRule],
 ) -> Result<Vec<LetterRun>, Memory>
     ensures apart { IfOk result (λ runs. AreApartFrom 0 runs.items) }
     ensures letters { IfOk result (λ runs. (c : ℕ) → RunsHave runs.items c
-        ↔ ((has alphabet c ≡ true) × SpotsRead flat.now spots.now c)) }
+        ↔ ((has alphabet c ≡ true) × DotsRead flat.now dots.now c)) }
 {
     let mut runs = Vec::new(alloc);
-    for spot in spots {
-        add_spot(alphabet, flat, *spot, &mut runs)?;
+    for dot in dots {
+        add_dot(alphabet, flat, *dot, &mut runs)?;
     }
     merge_runs(alloc, runs)
 }

@@ -1,6 +1,6 @@
 //! The lines that explain a rejected line.
 ghost use Rattle.std.specs.Prelude.{◌≡◌, ◌+◌, ◌<◌, ◌≤◌, ◌^◌, ◌++◌, codes, decimal, length, OnOk};
-ghost use Rattle.refusedlines.specs.RefusedText.{at_text, told_expected, nothing_text, refused_at as the_place};
+ghost use Rattle.refusedlines.specs.RefusedText.{at_text, reported_expected, nothing_text, refused_at as the_place};
 ghost use Rattle.refusedlines.specs.RefusedText.{refusal_text};
 
 use crate::following::Following;
@@ -59,12 +59,12 @@ pub(crate) fn refused_at(after: usize, letters: usize, torn: bool) -> RefusedAt
 }
 
 // Adds the number of a letter, and the text after it.
-fn push_letter(n: usize, told: &[u8], out: &mut Vec<u8>) -> Result<(), Memory>
-    ensures { OnOk result (out.new.items ≡ out.old.items ++ (codes ", letter " ++ (decimal n ++ told.now))) }
+fn push_letter(n: usize, reported: &[u8], out: &mut Vec<u8>) -> Result<(), Memory>
+    ensures { OnOk result (out.new.items ≡ out.old.items ++ (codes ", letter " ++ (decimal n ++ reported.now))) }
 {
     out.extend_from_slice(b", letter ")?;
     push_number(out, n)?;
-    out.extend_from_slice(told)?;
+    out.extend_from_slice(reported)?;
     Ok(())
 }
 
@@ -102,7 +102,7 @@ fn push_lines(
     out: &mut Vec<u8>,
 ) -> Result<(), Memory>
     requires { refusal.now.place ≤ length line.bytes.now }
-    ensures { OnOk result (out.new.items ≡ out.old.items ++ told_expected refusal.now.alphabet line.entry.number
+    ensures { OnOk result (out.new.items ≡ out.old.items ++ reported_expected refusal.now.alphabet line.entry.number
         line.entry.bytes.now refusal.now.at refusal.now.place refusal.now.following.runs.items
         refusal.now.following.ends) }
 {

@@ -4,7 +4,7 @@ use Rattle.std.proofs.Common.{◌≡◌, ℕ, zero, suc, ◌+◌, ◌-◌, ◌<�
 use Rattle.std.proofs.Common.{length, take, drop, refl, sym, ap, ◌∙◌, arith, subst}
 use Rattle.std.proofs.lemmas.List.{length-drop}
 use Rattle.rfcforms.specs.XmlPieces.{MarksPieces, all_read, next_piece, piece_marked, piece_size}
-use Rattle.rfcforms.specs.XmlPieces.{region_behind}
+use Rattle.rfcforms.specs.XmlPieces.{next_region}
 use Rattle.rfcforms.specs.declared.xml.region.Region.{Region}
 use Rattle.rfcforms.specs.declared.xml.region.Region.TheVariants.{Outside, Inside, Cdata}
 
@@ -22,24 +22,24 @@ size-some (Cdata holder) text = omega arith
 
 pub piece-less : (region : Region) (text : List ℕ) (n : ℕ) (rest : List ℕ) → 0 < length text
     → n ≡ piece_size region text → rest ≡ drop n text → length rest < length text
-piece-less region [] n rest some is behind = absurd (omega (arith, some))
-piece-less region (b ∷ bytes) n rest some is behind =
+piece-less region [] n rest some is is_rest = absurd (omega (arith, some))
+piece-less region (b ∷ bytes) n rest some is is_rest =
     let there : length rest ≡ length (b ∷ bytes) - n =
-    ap (λ (xs : List ℕ). length xs) behind ∙ length-drop n (b ∷ bytes) in
+    ap (λ (xs : List ℕ). length xs) is_rest ∙ length-drop n (b ∷ bytes) in
     omega (arith, there, is, size-some region (b ∷ bytes))
 
 pub piece-more : (region after : Region) (text : List ℕ) (n : ℕ) (piece rest more : List ℕ)
     → 0 < length text → n ≡ piece_size region text → piece ≡ take n text → rest ≡ drop n text
-    → after ≡ region_behind region piece → MarksPieces after rest more
+    → after ≡ next_region region piece → MarksPieces after rest more
     → MarksPieces region text (piece_marked region piece ++ more)
-piece-more region after [] n piece rest more some is front behind goes h = absurd (omega (arith, some))
-piece-more region after (b ∷ bytes) n piece rest more some is front behind goes h =
+piece-more region after [] n piece rest more some is front is_rest goes h = absurd (omega (arith, some))
+piece-more region after (b ∷ bytes) n piece rest more some is front is_rest goes h =
     let cut : piece ≡ take (piece_size region (b ∷ bytes)) (b ∷ bytes) =
     front ∙ ap (λ (k : ℕ). take k (b ∷ bytes)) is in
     let left : rest ≡ drop (piece_size region (b ∷ bytes)) (b ∷ bytes) =
-    behind ∙ ap (λ (k : ℕ). drop k (b ∷ bytes)) is in
-    let there : after ≡ region_behind region (take (piece_size region (b ∷ bytes)) (b ∷ bytes)) =
-    goes ∙ ap (λ (xs : List ℕ). region_behind region xs) cut in
+    is_rest ∙ ap (λ (k : ℕ). drop k (b ∷ bytes)) is in
+    let there : after ≡ next_region region (take (piece_size region (b ∷ bytes)) (b ∷ bytes)) =
+    goes ∙ ap (λ (xs : List ℕ). next_region region xs) cut in
     rw cut (next_piece (rw (there, left) at h))
 
 -- nothing is left of a text

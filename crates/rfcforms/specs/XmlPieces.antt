@@ -50,11 +50,11 @@ opened_region piece None = Outside
 opened_region piece (Some holder) = if opens_abnf piece then Inside holder else Outside
 
 -- the region after a piece
-abbrev pub region_behind : Region → List ℕ → Region
-region_behind Outside piece = opened_region piece (holder_at piece)
-region_behind (Inside holder) piece = if text_leads (codes "<![CDATA[") piece then Cdata holder
+abbrev pub next_region : Region → List ℕ → Region
+next_region Outside piece = opened_region piece (holder_at piece)
+next_region (Inside holder) piece = if text_leads (codes "<![CDATA[") piece then Cdata holder
     else if tag_leads (closing_front holder) piece then Outside else Inside holder
-region_behind (Cdata holder) piece = if text_leads (codes "]]>") piece then Inside holder else Cdata holder
+next_region (Cdata holder) piece = if text_leads (codes "]]>") piece then Inside holder else Cdata holder
 
 -- What stands for a byte that belongs to no contents: the byte 1, which no XML text has (section 2.2). CR and LF stay.
 abbrev pub byte_marked : ℕ → ℕ
@@ -74,7 +74,7 @@ piece_marked region piece = if is_markup region piece then map byte_marked piece
 pub data MarksPieces : Region → List ℕ → List ℕ → Type 0 where
   all_read : {region : Region} → MarksPieces region [] []
   next_piece : {region : Region} {b : ℕ} {bytes marked : List ℕ}
-      → MarksPieces (region_behind region (take (piece_size region (b ∷ bytes)) (b ∷ bytes)))
+      → MarksPieces (next_region region (take (piece_size region (b ∷ bytes)) (b ∷ bytes)))
       (drop (piece_size region (b ∷ bytes)) (b ∷ bytes)) marked
       → MarksPieces region (b ∷ bytes)
       (piece_marked region (take (piece_size region (b ∷ bytes)) (b ∷ bytes)) ++ marked)

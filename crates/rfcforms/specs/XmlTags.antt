@@ -11,8 +11,8 @@ use Rattle.rfcforms.specs.declared.xml.region.Holder.TheVariants.{Sourcecode, Ar
 abbrev pub is_white : ℕ → Bool
 is_white b = (b == code " ") || (b == code "\t") || (b == code "\r") || (b == code "\n")
 
-abbrev pub behind_white : List ℕ → List ℕ
-behind_white text = drop (prefix_len is_white text) text
+abbrev pub rest_after_white : List ℕ → List ℕ
+rest_after_white text = drop (prefix_len is_white text) text
 
 abbrev pub byte_leads : ℕ → List ℕ → Bool
 byte_leads byte [] = false
@@ -24,8 +24,9 @@ text_leads front text = starts_with (λ x y. x == y) text front
 
 -- a text that is read as XML: one of these begins it, perhaps after white space
 abbrev pub begins_xml : List ℕ → Bool
-begins_xml text = text_leads (codes "<?xml") (behind_white text) || text_leads (codes "<rfc") (behind_white text)
-    || text_leads (codes "<!DOCTYPE") (behind_white text)
+begins_xml text = text_leads (codes "<?xml") (rest_after_white text)
+    || text_leads (codes "<rfc") (rest_after_white text)
+    || text_leads (codes "<!DOCTYPE") (rest_after_white text)
 
 -- what can follow a name in a tag
 abbrev pub ends_name : List ℕ → Bool
@@ -54,18 +55,18 @@ abbrev pub is_quote : ℕ → Bool
 is_quote b = (b == code "\"") || (b == code "'")
 
 -- the quote that is open after one more byte, where that one was open before; 0 if none is
-abbrev pub quote_behind : ℕ → ℕ → ℕ
-quote_behind quote b = if quote == 0 then (if is_quote b then b else 0) else if b == quote then 0 else quote
+abbrev pub rest_after_quote : ℕ → ℕ → ℕ
+rest_after_quote quote b = if quote == 0 then (if is_quote b then b else 0) else if b == quote then 0 else quote
 
 -- how many bytes a tag has, up to the first `>` outside of quotes, or to the end of the text, where that quote is open
 abbrev pub tag_length : ℕ → List ℕ → ℕ
 tag_length quote [] = 0
 tag_length quote (b ∷ bytes) = if (quote == 0) && (b == code ">") then 1
-    else suc (tag_length (quote_behind quote b) bytes)
+    else suc (tag_length (rest_after_quote quote b) bytes)
 
 -- `type` and `=` begin the text, perhaps with white space between
 abbrev pub begins_type : List ℕ → Bool
-begins_type text = text_leads (codes "type") text && byte_leads (code "=") (behind_white (drop 4 text))
+begins_type text = text_leads (codes "type") text && byte_leads (code "=") (rest_after_white (drop 4 text))
 
 -- what stands in the quotes with which the text begins
 abbrev pub quoted_value : List ℕ → List ℕ
@@ -74,17 +75,17 @@ quoted_value (b ∷ bytes) = if is_quote b then take (prefix_len (λ x. not (x =
 
 -- the value of the attribute with which the text begins
 abbrev pub type_value : List ℕ → List ℕ
-type_value text = quoted_value (behind_white (drop 1 (behind_white (drop 4 text))))
+type_value text = quoted_value (rest_after_white (drop 1 (rest_after_white (drop 4 text))))
 
 -- The value of `type` in a tag, or nothing. That quote is open, and that byte stands before the text.
-abbrev pub type_behind : ℕ → ℕ → List ℕ → List ℕ
-type_behind quote before [] = []
-type_behind quote before (b ∷ bytes) =
+abbrev pub type_after : ℕ → ℕ → List ℕ → List ℕ
+type_after quote before [] = []
+type_after quote before (b ∷ bytes) =
     if (quote == 0) && (is_white before && begins_type (b ∷ bytes)) then type_value (b ∷ bytes)
-    else type_behind (quote_behind quote b) b bytes
+    else type_after (rest_after_quote quote b) b bytes
 
 abbrev pub type_of : List ℕ → List ℕ
-type_of tag = type_behind 0 0 tag
+type_of tag = type_after 0 0 tag
 
 -- An element holds ABNF if its type is missing, empty or `abnf`, and its tag does not end it.
 abbrev pub opens_abnf : List ℕ → Bool

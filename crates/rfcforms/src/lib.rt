@@ -4,5 +4,5 @@
 mod parts;
 mod xml;
 
-pub use parts::{items_before, items_behind};
+pub use parts::{items_after, items_before};
 pub use xml::{Holder, MARK, Region, is_xml, marked_text};

@@ -2,7 +2,7 @@
 ghost use Rattle.std.specs.Prelude.{◌≡◌, drop, take};
 
 /// Returns the items from that position on.
-pub fn items_behind<T>(items: &[T], place: usize) -> &[T]
+pub fn items_after<T>(items: &[T], place: usize) -> &[T]
     ensures { result.now ≡ drop place items.now }
 {
     &items[place.min(items.len())..]

@@ -279,8 +279,8 @@ module _ (has : ℕ → Bool) (old : Flat) (old_last : Place → Bool) (new : Fl
 
 module _ (has : ℕ → Bool) (old_rules new_rules : List Rule) (old_rule new_rule : ℕ) (old : Flat)
     (old_last : Place → Bool) (new : Flat) (new_last : Place → Bool) (most : ℕ)
-    (old_tells : AcceptsRule has old_rules old_rule old old_last most)
-    (new_tells : AcceptsRule has new_rules new_rule new new_last most) (samples : List ℕ)
+    (old_reports : AcceptsRule has old_rules old_rule old old_last most)
+    (new_reports : AcceptsRule has new_rules new_rule new new_last most) (samples : List ℕ)
     (each : AreSamples old new has samples) (found : List FoundPair)
     (found_so : AreFound old old_last new new_last found has) (n : ℕ)
     (searched : AreSearched old old_last new new_last found IsOldDead samples n) (agree : EndWithNew found n) where
@@ -291,8 +291,8 @@ module _ (has : ℕ → Bool) (old_rules new_rules : List Rule) (old_rule new_ru
       → IsNotAfter has old old_last new new_last found found_so samples each n searched agree x alone.symbols
   line_past x le alone =
       alone_past has old old_last new new_last found found_so samples each n searched agree x alone.symbols
-      (derived_accepted has old_rules old_rule old old_last most old_tells x le alone.symbols alone.derives)
-      (λ a. alone.not_new (accepted_derived has new_rules new_rule new new_last most new_tells x le alone.symbols a))
+      (derived_accepted has old_rules old_rule old old_last most old_reports x le alone.symbols alone.derives)
+      (λ a. alone.not_new (accepted_derived has new_rules new_rule new new_last most new_reports x le alone.symbols a))
 
   pub none_up_to : (m : ℕ) → m ≤ most → ((w : List ℕ) → IsWordOf found n w → m < length w) → HasNoLineUpTo Alone m
   none_up_to m le long x short alone =
@@ -317,12 +317,12 @@ module _ (has : ℕ → Bool) (old_rules new_rules : List Rule) (old_rule new_ru
     of_old : Alone w
     of_old = record {
       symbols = symbols_are;
-      derives = accepted_derived has old_rules old_rule old old_last most old_tells w within_most symbols_are
+      derives = accepted_derived has old_rules old_rule old old_last most old_reports w within_most symbols_are
           (fronts_there.old_front.accepts.1 (ended, inl refl));
       not_new = λ d. cc (
         runs,
         (fronts_there.new_front.accepts.0
-            (derived_accepted has new_rules new_rule new new_last most new_tells w within_most symbols_are d)).0,
+            (derived_accepted has new_rules new_rule new new_last most new_reports w within_most symbols_are d)).0,
       );
     }
 

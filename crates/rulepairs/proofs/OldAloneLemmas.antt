@@ -12,7 +12,7 @@ use Rattle.flatgrammar.specs.Flat.{Flat}
 use Rattle.flatgrammar.specs.FlatVerdicts.{DerivesLine}
 use Rattle.flatgrammar.specs.NodeSteps.{flat_of}
 use Rattle.flatgrammar.proofs.CallOfLemmas.{get_map}
-use Rattle.letterclasses.specs.Stacks.{AreUncounted, IsFront, TellsLast}
+use Rattle.letterclasses.specs.Stacks.{AreUncounted, IsFront, MarksLast}
 use Rattle.lazydfa.specs.Conts.{last_of}
 use Rattle.lazydfa.specs.RunVerdicts.{IsOne}
 use Rattle.lazydfa.specs.StateSets.{AreMoreStates, AreStatesOf, grammar_of, IsStartState, last_in, StateSets}
@@ -54,7 +54,7 @@ of_states flat sets s = record {
   is = s.is;
   one = subst (λ v. IsOne v) (sym s.is) s.one;
   uncounted = subst (λ v. AreUncounted v) (sym s.is) s.uncounted;
-  tail_places = subst (λ v. TellsLast v (last_in sets)) (sym s.is) s.tail_places;
+  tail_places = subst (λ v. MarksLast v (last_in sets)) (sym s.is) s.tail_places;
 }
 
 pub still_of : (flat : Flat) (old new : StateSets) → new.tables ≡ old.tables → AreOfGrammar flat old
@@ -63,7 +63,7 @@ still_of flat old new same a = record {
   is = ap (λ v. flat_of v) same ∙ a.is;
   one = subst (λ v. IsOne (flat_of v)) (sym same) a.one;
   uncounted = subst (λ v. AreUncounted (flat_of v)) (sym same) a.uncounted;
-  tail_places = subst (λ v. TellsLast (flat_of v) (last_of v)) (sym same) a.tail_places;
+  tail_places = subst (λ v. MarksLast (flat_of v) (last_of v)) (sym same) a.tail_places;
 }
 
 pub begun_of : (flat : Flat) (none some : StateSets) → AreStatesOf flat none → AreMoreStates none some

@@ -89,12 +89,12 @@ module _ (has : ℕ → Bool) (old : Flat) (old_last : Place → Bool) (new : Fl
 
 -- what the rule derives, stacks accept
 module _ (has : ℕ → Bool) (rules : List Rule) (id : ℕ) (flat : Flat) (last : Place → Bool) (most : ℕ)
-    (tells : AcceptsRule has rules id flat last most) (x : List ℕ) (le : length x ≤ most) (symbols : AreLetters has x)
+    (reports : AcceptsRule has rules id flat last most) (x : List ℕ) (le : length x ≤ most) (symbols : AreLetters has x)
   where
     pub derived_accepted : RuleDerives has rules id x → Accepts flat last x (length x)
-    derived_accepted d = holds_accepted flat tells.uncounted x last tells.tail_places tells.body tells.whole
-        ((tells.derives x le symbols).1 d)
+    derived_accepted d = holds_accepted flat reports.uncounted x last reports.tail_places reports.body reports.whole
+        ((reports.derives x le symbols).1 d)
 
     pub accepted_derived : Accepts flat last x (length x) → RuleDerives has rules id x
-    accepted_derived a = (tells.derives x le symbols).0
-        (accepted_holds flat tells.uncounted x last tells.tail_places tells.body tells.whole a)
+    accepted_derived a = (reports.derives x le symbols).0
+        (accepted_holds flat reports.uncounted x last reports.tail_places reports.body reports.whole a)

@@ -4,7 +4,7 @@ use Rattle.abnfread.specs.Element.{Rule}
 use Rattle.abnfcheck.specs.Derivable.{AreLetters, RuleDerives}
 use Rattle.flatgrammar.specs.Flat.{Flat}
 use Rattle.flatgrammar.specs.FlatVerdicts.{DerivesLine}
-use Rattle.letterclasses.specs.Stacks.{AreUncounted, TellsLast}
+use Rattle.letterclasses.specs.Stacks.{AreUncounted, MarksLast}
 use Rattle.lazydfa.specs.RunVerdicts.{IsOne}
 use Rattle.lazydfa.specs.StateSets.{grammar_of, last_in, StateSets}
 use Rattle.rulepairs.specs.declared.alone.Alone.{Alone}
@@ -31,7 +31,7 @@ pub record AreOfGrammar (flat : Flat) (sets : StateSets) : Type 0 where
   pub is : grammar_of sets ≡ flat
   pub one : IsOne (grammar_of sets)
   pub uncounted : AreUncounted (grammar_of sets)
-  pub tail_places : TellsLast (grammar_of sets) (last_in sets)
+  pub tail_places : MarksLast (grammar_of sets) (last_in sets)
 
 -- a search of states of both grammars, whose first pair are the start states
 pub record IsBegun (old new : Flat) (search : PairSearch) : Type 0 where

@@ -4,7 +4,7 @@ use Rattle.abnfread.specs.Element.{Rule}
 use Rattle.abnfcheck.specs.Derivable.{AreLetters, RuleDerives}
 use Rattle.flatgrammar.specs.Flat.{Flat, Place, Concat}
 use Rattle.flatgrammar.specs.FlatVerdicts.{DerivesLine}
-use Rattle.letterclasses.specs.Stacks.{AreAlike, AreUncounted, IsFront, IsNext, TellsLast}
+use Rattle.letterclasses.specs.Stacks.{AreAlike, AreUncounted, IsFront, IsNext, MarksLast}
 use Rattle.rulepairs.specs.FirstLines.{sort_key}
 
 -- a state of each: the stacks whose top reads a symbol, and whether the whole is done
@@ -59,6 +59,6 @@ pub record AcceptsRule (has : ℕ → Bool) (rules : List Rule) (id : ℕ) (flat
     : Type 0 where
   pub body : ℕ
   pub whole : slice_get flat.nodes flat.whole ≡ Some (Concat (body ∷ []))
-  pub tail_places : TellsLast flat last
+  pub tail_places : MarksLast flat last
   pub uncounted : AreUncounted flat
   pub derives : (x : List ℕ) → length x ≤ most → AreLetters has x → DerivesLine flat x ↔ RuleDerives has rules id x

@@ -32,7 +32,8 @@ pub enum Alone {
 // Returns the symbols that lead to the pair of an index; `None` if there is none, or a parent does not come earlier.
 // `Memory` if an allocation fails.
 fn word_of(alloc: Global, pairs: &[SearchedPair], index: usize) -> Result<Option<Vec<u32>>, Memory>
-    ensures { IfOk result (λ told. IfSome told (λ word. (olds news : StateSets) → IsWordOf (found_pairs olds news
+    ensures { IfOk result (λ reported. IfSome reported (λ word. (olds news : StateSets)
+        → IsWordOf (found_pairs olds news
         pairs.now) index word.items)) }
 {
     let mut word = Vec::new(alloc);
@@ -63,7 +64,7 @@ fn begin_search(
     new: &Flat,
     room: usize,
 ) -> Result<Option<PairSearch>, Memory>
-    ensures { IfOk result (λ told. IfSome told (IsBegun old.now new.now)) }
+    ensures { IfOk result (λ reported. IfSome reported (IsBegun old.now new.now)) }
 {
     let Some(mut olds) = States::new(alloc, old, room)? else {
         return Ok(None);

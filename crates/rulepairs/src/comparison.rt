@@ -29,7 +29,7 @@ pub struct Comparison {
 
 // Lowers a grammar for lines of any length; `None` if a repeat count is too great. `Memory` if an allocation fails.
 fn lower_any(alloc: Global, grammar: &SoundAbnf) -> Result<Option<Flat>, Memory>
-    ensures { IfOk result (λ told. IfSome told (λ flat. (has : ℕ → Bool) → DerivesAsRule has
+    ensures { IfOk result (λ reported. IfSome reported (λ flat. (has : ℕ → Bool) → DerivesAsRule has
         (rules_of grammar.now.rules) grammar.now.judged flat)) }
 {
     if !are_rules_within(grammar.rules(), GREATEST) {

@@ -7,7 +7,7 @@ use Rattle.std.proofs.Math.Seq.{take-add}
 use Rattle.std.proofs.lemmas.List.{take-append-drop, append-nil}
 use Rattle.std.specs.Io.KnownBytes.{Appends, Consumes, Keeps}
 use Rattle.std.specs.Prelude.{Result, Ok, Err}
-use Rattle.ruletable.specs.Writing.{IsBeginning, IsProperBeginning, AppendsPart, Writes}
+use Rattle.ruletable.specs.Writing.{IsPrefixOf, IsProperPrefix, AppendsPart, Writes}
 
 -- one step after another
 pub Appends-join : (a b c : Option (List ℕ)) (xs ys : List ℕ) → Appends a b xs → Appends b c ys → Appends a c (xs ++ ys)
@@ -46,53 +46,53 @@ Appends-more a b c at n bytes f s = rw (take-add at n bytes)
     (Appends-join a b c (take at bytes) (take n (drop at bytes)) f s)
 
 -- beginnings
-pub IsBeginning-take : (n : ℕ) (xs : List ℕ) → IsBeginning (take n xs) xs
-IsBeginning-take n xs = (drop n xs, sym (take-append-drop n xs))
+pub IsPrefixOf-take : (n : ℕ) (xs : List ℕ) → IsPrefixOf (take n xs) xs
+IsPrefixOf-take n xs = (drop n xs, sym (take-append-drop n xs))
 
-pub IsBeginning-same : (xs : List ℕ) → IsBeginning xs xs
-IsBeginning-same xs = ([], sym (append-nil xs))
+pub IsPrefixOf-same : (xs : List ℕ) → IsPrefixOf xs xs
+IsPrefixOf-same xs = ([], sym (append-nil xs))
 
-pub IsBeginning-nil : (xs : List ℕ) → IsBeginning [] xs
-IsBeginning-nil xs = (xs, refl)
+pub IsPrefixOf-nil : (xs : List ℕ) → IsPrefixOf [] xs
+IsPrefixOf-nil xs = (xs, refl)
 
-pub IsBeginning-join : (part whole more : List ℕ) → IsBeginning part whole → IsBeginning part (whole ++ more)
-IsBeginning-join part whole more h = (h.0 ++ more, ap (λ w. w ++ more) h.1 ∙ append_assoc part h.0 more)
+pub IsPrefixOf-join : (part whole more : List ℕ) → IsPrefixOf part whole → IsPrefixOf part (whole ++ more)
+IsPrefixOf-join part whole more h = (h.0 ++ more, ap (λ w. w ++ more) h.1 ∙ append_assoc part h.0 more)
 
-pub IsBeginning-after : (front part whole : List ℕ) → IsBeginning part whole
-    → IsBeginning (front ++ part) (front ++ whole)
-IsBeginning-after front part whole h = (h.0, ap (λ w. front ++ w) h.1 ∙ sym (append_assoc front part h.0))
+pub IsPrefixOf-after : (front part whole : List ℕ) → IsPrefixOf part whole
+    → IsPrefixOf (front ++ part) (front ++ whole)
+IsPrefixOf-after front part whole h = (h.0, ap (λ w. front ++ w) h.1 ∙ sym (append_assoc front part h.0))
 
-pub IsBeginning-trans : (a b c : List ℕ) → IsBeginning a b → IsBeginning b c → IsBeginning a c
-IsBeginning-trans a b c f s = (f.0 ++ s.0, s.1 ∙ ap (λ w. w ++ s.0) f.1 ∙ append_assoc a f.0 s.0)
+pub IsPrefixOf-trans : (a b c : List ℕ) → IsPrefixOf a b → IsPrefixOf b c → IsPrefixOf a c
+IsPrefixOf-trans a b c f s = (f.0 ++ s.0, s.1 ∙ ap (λ w. w ++ s.0) f.1 ∙ append_assoc a f.0 s.0)
 
 -- proper beginnings
-pub IsProperBeginning-take : (n : ℕ) (xs : List ℕ) → n < length xs → IsProperBeginning (take n xs) xs
-IsProperBeginning-take n xs h = (IsBeginning-take n xs, simp length-take (omega arith))
+pub IsProperPrefix-take : (n : ℕ) (xs : List ℕ) → n < length xs → IsProperPrefix (take n xs) xs
+IsProperPrefix-take n xs h = (IsPrefixOf-take n xs, simp length-take (omega arith))
 
-pub IsProperBeginning-join : (part whole more : List ℕ) → IsProperBeginning part whole
-    → IsProperBeginning part (whole ++ more)
-IsProperBeginning-join part whole more h =
-    (IsBeginning-join part whole more h.0, omega (arith, h.1, length-append whole more))
+pub IsProperPrefix-join : (part whole more : List ℕ) → IsProperPrefix part whole
+    → IsProperPrefix part (whole ++ more)
+IsProperPrefix-join part whole more h =
+    (IsPrefixOf-join part whole more h.0, omega (arith, h.1, length-append whole more))
 
-pub IsProperBeginning-after : (front part whole : List ℕ) → IsProperBeginning part whole
-    → IsProperBeginning (front ++ part) (front ++ whole)
-IsProperBeginning-after front part whole h = (
-  IsBeginning-after front part whole h.0,
+pub IsProperPrefix-after : (front part whole : List ℕ) → IsProperPrefix part whole
+    → IsProperPrefix (front ++ part) (front ++ whole)
+IsProperPrefix-after front part whole h = (
+  IsPrefixOf-after front part whole h.0,
   omega (arith, h.1, length-append front part, length-append front whole),
 )
 
-pub IsProperBeginning-trans : (a b c : List ℕ) → IsProperBeginning a b → IsBeginning b c → IsProperBeginning a c
-IsProperBeginning-trans a b c f s =
-    let l = ap length s.1 in (IsBeginning-trans a b c f.0 s, omega (arith, f.1, l, length-append b s.0))
+pub IsProperPrefix-trans : (a b c : List ℕ) → IsProperPrefix a b → IsPrefixOf b c → IsProperPrefix a c
+IsProperPrefix-trans a b c f s =
+    let l = ap length s.1 in (IsPrefixOf-trans a b c f.0 s, omega (arith, f.1, l, length-append b s.0))
 
 -- a whole step, and then a part of the next one
 pub AppendsPart-join : (a b c : Option (List ℕ)) (xs ys : List ℕ) → Appends a b xs → AppendsPart b c ys
     → AppendsPart a c (xs ++ ys)
-AppendsPart-join a b c xs ys f s = (xs ++ s.0, IsProperBeginning-after xs s.0 ys s.1, Appends-join a b c xs s.0 f s.2)
+AppendsPart-join a b c xs ys f s = (xs ++ s.0, IsProperPrefix-after xs s.0 ys s.1, Appends-join a b c xs s.0 f s.2)
 
 -- a part of the first of two steps
 pub AppendsPart-first : (a b : Option (List ℕ)) (xs ys : List ℕ) → AppendsPart a b xs → AppendsPart a b (xs ++ ys)
-AppendsPart-first a b xs ys s = (s.0, IsProperBeginning-join s.0 xs ys s.1, s.2)
+AppendsPart-first a b xs ys s = (s.0, IsProperPrefix-join s.0 xs ys s.1, s.2)
 
 -- a whole step, and then one that may fail
 pub Writes-then : {A E : Type 0} (a b c : Option (List ℕ)) (xs ys : List ℕ) (r : Result A E) → Appends a b xs

@@ -7,16 +7,16 @@ abbrev pub Flags : {A E : Type 0} → Bool → Bool → Result A E → Type 0
 Flags old new r = MatchResult r (λ _. new ≡ old) (λ _. new ≡ true)
 
 -- part stands at the front of whole
-abbrev pub IsBeginning : List ℕ → List ℕ → Type 0
-IsBeginning part whole = (rest : List ℕ) × (whole ≡ part ++ rest)
+abbrev pub IsPrefixOf : List ℕ → List ℕ → Type 0
+IsPrefixOf part whole = (rest : List ℕ) × (whole ≡ part ++ rest)
 
 -- part stands at the front of whole, and is not all of it
-abbrev pub IsProperBeginning : List ℕ → List ℕ → Type 0
-IsProperBeginning part whole = IsBeginning part whole × (length part < length whole)
+abbrev pub IsProperPrefix : List ℕ → List ℕ → Type 0
+IsProperPrefix part whole = IsPrefixOf part whole × (length part < length whole)
 
 -- known bytes grow by a beginning of the text that is not all of it
 abbrev pub AppendsPart : Option (List ℕ) → Option (List ℕ) → List ℕ → Type 0
-AppendsPart old new text = (part : List ℕ) × IsProperBeginning part text × Appends old new part
+AppendsPart old new text = (part : List ℕ) × IsProperPrefix part text × Appends old new part
 
 -- known bytes grow by the text at an `Ok`, and by a beginning of it that is not all at an `Err`
 abbrev pub Writes : {A E : Type 0} → Option (List ℕ) → Option (List ℕ) → List ℕ → Result A E → Type 0

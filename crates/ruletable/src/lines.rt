@@ -11,12 +11,12 @@ pub enum LineRule {
     Any,
 }
 
-fn is_line_end(b: u8, behind: &[u8], rule: LineRule) -> bool
-    ensures { result ≡ ends_line rule b behind.now }
+fn is_line_end(b: u8, after: &[u8], rule: LineRule) -> bool
+    ensures { result ≡ ends_line rule b after.now }
 {
     match rule {
         LineRule::Lf => b == b'\n',
-        LineRule::Any => b == b'\n' || (b == b'\r' && !starts_with_lf(behind)),
+        LineRule::Any => b == b'\n' || (b == b'\r' && !starts_with_lf(after)),
     }
 }
 

@@ -40,9 +40,9 @@ fn add_found(alloc: Global, found: &RuleSearch, out: &mut Text) -> Option<()> {
             out.add(b": lines ");
             out.add_number(*count as u128);
             out.add(b": not ABNF: ");
-            let mut told = SinkOf::new(Vec::new(alloc));
-            write_fault(fault, &mut told).ok()?;
-            out.add(&told.into_inner());
+            let mut reported = SinkOf::new(Vec::new(alloc));
+            write_fault(fault, &mut reported).ok()?;
+            out.add(&reported.into_inner());
         }
     }
     Some(())

@@ -3,7 +3,7 @@
 use crate::flat_grammars::flat;
 use earley::{Chart, judge};
 use flatgrammar::{Flat, items_at_most};
-use lowering::items_tell;
+use lowering::items_decide;
 use std::alloc::Global;
 use testio::{Fields, Text};
 
@@ -55,8 +55,8 @@ fn add_bytes(sets: &mut FilledChart, out: &mut Text) -> Option<()> {
 // Adds how many items a set has; with `!` where the list of them is empty and there are some, or the other way round.
 fn add_items(chart: &Chart, set: usize, out: &mut Text) {
     out.add_number(chart.items(set) as u128);
-    match chart.spots(set) {
-        Ok(spots) if spots.is_empty() == (chart.items(set) == 0) => {}
+    match chart.dots(set) {
+        Ok(dots) if dots.is_empty() == (chart.items(set) == 0) => {}
         _ => out.add(b"!"),
     }
 }
@@ -115,6 +115,6 @@ pub(crate) fn run(alloc: Global, call: &str, fields: &Fields, out: &mut Text) ->
 
 /// `item_laws`: they return.
 pub(crate) fn laws() {
-    items_tell();
+    items_decide();
     items_at_most();
 }

@@ -73,10 +73,10 @@ pub(crate) fn agrees<L: Letter>(judges: &mut Judges, line: &[L]) -> Result<bool,
     };
     let verdict = viable(&mut judges.chart, &judges.flat, line)?;
     let is_derived = judge(&mut judges.chart, &judges.flat, line)?;
-    let told = automaton.viable(line)?;
+    let reported = automaton.viable(line)?;
     let answer = automaton.judge(line)?;
     Ok(
-        (told.is_none() || told == Some(verdict))
+        (reported.is_none() || reported == Some(verdict))
             && (answer.is_none() || answer == Some(is_derived)),
     )
 }
@@ -93,8 +93,8 @@ fn add_verdict(verdict: Verdict, is_counted: bool, out: &mut Text) {
 }
 
 // Adds what an automaton answers on a line, or `none`.
-fn add_told(told: Option<Verdict>, out: &mut Text) {
-    match told {
+fn add_reported(reported: Option<Verdict>, out: &mut Text) {
+    match reported {
         Some(verdict) => add_verdict(verdict, false, out),
         None => out.add(b"none"),
     }
@@ -103,19 +103,19 @@ fn add_told(told: Option<Verdict>, out: &mut Text) {
 // Adds what a line is by the item sets, with `!` where the automaton says something else, or nothing where it must
 // answer; or what the automaton alone says of it.
 fn add_line<L: Letter>(judges: &mut Judges, mode: &[u8], line: &[L], out: &mut Text) -> Option<()> {
-    let told = match &mut judges.automaton {
+    let reported = match &mut judges.automaton {
         Some(automaton) => automaton.viable(line).ok()?,
         None => None,
     };
     if mode == b"automaton".as_slice() {
-        add_told(told, out);
+        add_reported(reported, out);
     } else if line.len() > judges.flat.limit() {
         return None;
     } else {
         let verdict = viable(&mut judges.chart, &judges.flat, line).ok()?;
         let is_viable = mode == b"viable".as_slice();
         add_verdict(verdict, is_viable, out);
-        if told != Some(verdict) && (is_viable || told.is_some()) {
+        if reported != Some(verdict) && (is_viable || reported.is_some()) {
             out.add(b"!");
         }
     }

@@ -129,7 +129,7 @@ fn sets_marks(rt: HostRuntime) -> Result<(), Fail> {
 }
 
 #[test]
-fn tells_tables_that_go_too_far(rt: HostRuntime) {
+fn reports_tables_that_go_too_far(rt: HostRuntime) {
     assert!(rt; !are_within(&[&[0], &[2]]));
     assert!(rt; !are_needs_within(&[Need::All(&[0]), Need::One(&[2])]));
 }

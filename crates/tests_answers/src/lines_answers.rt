@@ -36,7 +36,7 @@ impl Short {
 }
 
 impl Judge<u8> for Short {
-    ghost told = { λ short line said. said ≡ (if ltb short.most (length line)
+    ghost reported = { λ short line said. said ≡ (if ltb short.most (length line)
         then (if short.counts then answer.NoAfter (length line - short.most) else answer.No) else answer.Yes) };
 
     ghost explains = { λ short. short.explains };
@@ -138,7 +138,7 @@ fn another_byte_ends_lines(rt: HostRuntime) {
 }
 
 #[test]
-fn tells_numbers(rt: HostRuntime) {
+fn reports_numbers(rt: HostRuntime) {
     let stop = Stop::Quiet(Status::NoMatch);
     let judge = Short {
         counts: true,
@@ -159,7 +159,7 @@ static LONG_LINES: &[u8] =
     b"abc\nabc\nabc\nabc\nabc\nabc\nabc\nabc\nabc\na\nabc\nabc\nabc\nabc\nabc\nabc\nabc\nabc\nabcd";
 
 /// The explanations of the first sixteen lines.
-static LONG_TOLD: &[u8] =
+static LONG_REPORTED: &[u8] =
     b"long\nlong\nlong\nlong\nlong\nlong\nlong\nlong\nlong\nlong\nlong\nlong\nlong\nlong\nlong\nlong\n";
 
 #[test]
@@ -180,9 +180,15 @@ fn explains_sixteen_lines(rt: HostRuntime) {
         line_buffered: false,
     };
     match run_lines(rt.alloc(), &judge, &mut 0u8, form, &mut reader, &mut out) {
-        Ok(Ending::Explained { told, stop, why }) => {
-            assert!(rt; told.text.as_slice() == LONG_TOLD, "what is told");
-            assert!(rt; told.more == 2, "how many more there are");
+        Ok(
+            Ending::Explained {
+                reported,
+                stop,
+                why,
+            },
+        ) => {
+            assert!(rt; reported.text.as_slice() == LONG_REPORTED, "what is told");
+            assert!(rt; reported.more == 2, "how many more there are");
             assert!(rt; stop == Stop::Quiet(Status::NoMatch), "how it stops");
             assert!(rt; why.is_empty(), "what explains the stop");
         }

@@ -25,7 +25,7 @@ static WRITERS: [Takes; 2] = [
 ];
 
 #[test]
-fn a_failing_writer_keeps_a_beginning_and_sets_the_flag(rt: HostRuntime) {
+fn a_failing_writer_keeps_a_prefix_and_sets_the_flag(rt: HostRuntime) {
     let clock = Cell::new(0);
     for takes in &WRITERS {
         let mut sink = SinkOf::new(Paper::new(rt.alloc(), 2, &clock, *takes));

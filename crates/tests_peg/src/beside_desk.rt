@@ -4,7 +4,7 @@ use crate::desk_steps::evaluated;
 use crate::nodes::sound;
 use gramcheck::SoundPeg;
 use matchfailure::Desk;
-use memo::Spot;
+use memo::MatchTask;
 use packrat::Packrat;
 use pegmatch::{Matcher, Unit};
 use ruletable::Memory;
@@ -30,7 +30,7 @@ fn is_key_alike(
     if !peg.is_key_node(node) {
         return Ok(true);
     }
-    let found = machines.packrat.found(Spot::Pair { node, place })?;
+    let found = machines.packrat.found(MatchTask::Pair { node, place })?;
     Ok(found == machines.desk.found(node, place))
 }
 

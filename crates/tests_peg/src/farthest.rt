@@ -4,7 +4,7 @@ use crate::nodes::sound;
 use gramcheck::SoundPeg;
 use matchfailure::{
     LastUnit, Visit, failing_leaf_stops, fails_so_in_input, farthest_failure, farthest_or_none,
-    one_farthest, one_no_match, stops_fail, told_unit,
+    one_farthest, one_no_match, reported_unit, stops_fail,
 };
 use pegnodes::Node;
 use std::alloc::Global;
@@ -58,10 +58,11 @@ fn position(fields: &Fields, at: usize) -> Option<u128> {
     }
 }
 
-/// `told_unit POSITION | POSITION`: which of two units is reported, by the farthest failing bytes of the unit before
+/// `reported_unit POSITION | POSITION`: which of two units is reported, by the farthest failing bytes of the unit
+/// before
 /// and of the last one.
-pub(crate) fn told_unit_of(fields: &Fields, out: &mut Text) {
-    match told_unit(position(fields, 0), position(fields, 1)) {
+pub(crate) fn reported_unit_of(fields: &Fields, out: &mut Text) {
+    match reported_unit(position(fields, 0), position(fields, 1)) {
         LastUnit::Before => out.add(b"before"),
         LastUnit::Last => out.add(b"last"),
     }

@@ -1,7 +1,7 @@
 //! Stored keys.
 ghost use Rattle.std.specs.Prelude.{◌≡◌};
 
-use memo::{Found, Given, KeyLog, Spot};
+use memo::{Found, Given, KeyLog, MatchTask};
 use ruletable::Memory;
 use std::alloc::Global;
 use testio::{Fields, Text};
@@ -16,10 +16,10 @@ fn outcome_of(fields: &Fields, at: usize) -> Found {
 }
 
 // Adds what is found for a key.
-fn add_found(log: &mut KeyLog, spot: Spot, out: &mut Text) -> Option<()>
+fn add_found(log: &mut KeyLog, task: MatchTask, out: &mut Text) -> Option<()>
     ensures { log.new ≡ log.old }
 {
-    match log.get(spot).ok()? {
+    match log.get(task).ok()? {
         None => out.add(b"none"),
         Some(given) => match given.found {
             Found::Failed => out.add(b"failed"),
@@ -37,19 +37,19 @@ fn add_found(log: &mut KeyLog, spot: Spot, out: &mut Text) -> Option<()>
 /// keys there are then; and what is found then, and in the next unit.
 pub(crate) fn key_of(alloc: Global, fields: &Fields, out: &mut Text) -> Option<()> {
     let (node, place) = (fields.number(0), fields.number(1));
-    let spot = Spot::Pair { node, place };
+    let task = MatchTask::Pair { node, place };
     let found = outcome_of(fields, 2);
     let mut log = KeyLog::new(alloc);
     log.begin_unit(2).ok()?;
-    add_found(&mut log, spot, out)?;
-    let is_stored = node < 2 && log.put(spot, Given { found, events: 0 }).is_ok();
+    add_found(&mut log, task, out)?;
+    let is_stored = node < 2 && log.put(task, Given { found, events: 0 }).is_ok();
     out.add_answer(is_stored);
     out.add(b" ");
     out.add_number(log.len() as u128);
     out.add(b";");
-    add_found(&mut log, spot, out)?;
+    add_found(&mut log, task, out)?;
     log.begin_unit(2).ok()?;
-    add_found(&mut log, spot, out)
+    add_found(&mut log, task, out)
 }
 
 // A log whose entries of a node hold the positions 3 to 5, 10 to 12, and 20.
@@ -63,7 +63,7 @@ fn log_of_runs(alloc: Global) -> Result<KeyLog, Memory> {
         found: Found::Failed,
         events: 0,
     };
-    log.put(Spot::Pair { node: 1, place: 20 }, failed)?;
+    log.put(MatchTask::Pair { node: 1, place: 20 }, failed)?;
     Ok(log)
 }
 
@@ -75,7 +75,7 @@ pub(crate) fn run_of_keys(alloc: Global, fields: &Fields, out: &mut Text) -> Opt
     out.add(b";");
     for at in 0..fields.len() {
         let place = fields.number(at);
-        add_found(&mut log, Spot::Pair { node: 1, place }, out)?;
+        add_found(&mut log, MatchTask::Pair { node: 1, place }, out)?;
     }
     Some(())
 }

@@ -9,6 +9,6 @@ mod laws;
 #[cfg(test)]
 mod readers;
 #[cfg(test)]
-mod told_errors;
+mod reported_errors;
 #[cfg(test)]
 mod writers;

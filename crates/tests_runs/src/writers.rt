@@ -83,11 +83,14 @@ const AGAIN: Written = (Mode::Print, b"S <- 'a'\nS <- 'b'", b"aaa", b"", b"");
 
 /// Checks that the output holds a prefix where it fails at a byte, that this is reported after the notes, and that an
 /// output that failed is not flushed.
-fn check_failing_out<R: Abort + AllocGlobal>(rt: &R, row: &Written, told: &[u8]) {
+fn check_failing_out<R: Abort + AllocGlobal>(rt: &R, row: &Written, reported: &[u8]) {
     let whole = row.3;
     for room in 0..whole.len() {
         let ran = run_row(rt.alloc(), row, with_room(room), ALL);
-        assert!(rt; ran.is(&whole[..room], told, Status::Fault), "room {room}");
+        assert!(rt;
+            ran.is(&whole[..room], reported, Status::Fault),
+            "room {room}"
+        );
         assert!(rt; ran.flushed == (0, 1), "room {room}");
     }
 }
@@ -96,8 +99,8 @@ fn check_failing_out<R: Abort + AllocGlobal>(rt: &R, row: &Written, told: &[u8])
 fn an_output_that_fails_holds_a_prefix(rt: HostRuntime) {
     check_failing_out(&rt, &PLAIN, b"write error\n");
     check_failing_out(&rt, &PRINTED, b"write error\n");
-    let told = b"rule 'T' defined but not used\nrule 'U' defined but not used\nwrite error\n";
-    check_failing_out(&rt, &NOTED, told);
+    let reported = b"rule 'T' defined but not used\nrule 'U' defined but not used\nwrite error\n";
+    check_failing_out(&rt, &NOTED, reported);
 }
 
 #[test]
@@ -137,9 +140,9 @@ fn check_flushes<R: Abort + AllocGlobal>(rt: &R, row: &Written, ends: Status) {
 }
 
 /// Checks the run where the output fails in its flush, which is reported, and where the error output does.
-fn check_failing_flushes<R: Abort + AllocGlobal>(rt: &R, row: &Written, told: &[u8]) {
+fn check_failing_flushes<R: Abort + AllocGlobal>(rt: &R, row: &Written, reported: &[u8]) {
     let ran = run_row(rt.alloc(), row, UNFLUSHED, ALL);
-    assert!(rt; ran.is(row.3, told, Status::Fault));
+    assert!(rt; ran.is(row.3, reported, Status::Fault));
     let ran = run_row(rt.alloc(), row, ALL, UNFLUSHED);
     assert!(rt; ran.is(row.3, row.4, Status::Fault));
 }
@@ -187,6 +190,6 @@ fn notes_are_handed_on_by_one_write(rt: HostRuntime) {
         &mut out,
         &mut err,
     );
-    let (written, told) = (out.into_inner().calls, err.into_inner().calls);
-    assert!(rt; status == Status::Done && written == 0 && told == 1);
+    let (written, reported) = (out.into_inner().calls, err.into_inner().calls);
+    assert!(rt; status == Status::Done && written == 0 && reported == 1);
 }

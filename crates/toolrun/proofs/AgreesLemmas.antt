@@ -10,7 +10,7 @@ use Rattle.std.proofs.lemmas.Grind.{common_steps}
 use Rattle.std.proofs.lemmas.List.{append-nil, take-append-drop}
 use Rattle.std.specs.Io.KnownBytes.{Consumes}
 use Rattle.ruletable.proofs.AppendsLemmas.{Consumes-join}
-use Rattle.feed.specs.Feed.{Grows, IsToldBy, bytes_of, flow_of, input_limit, reader_of}
+use Rattle.feed.specs.Feed.{Grows, IsReportedBy, bytes_of, flow_of, input_limit, reader_of}
 use Rattle.feed.specs.declared.feed.Feed.{Feed}
 use Rattle.feed.specs.declared.held.Flow.{Flow}
 use Rattle.feed.specs.declared.held.Flow.TheVariants.{Open, Ended, Broken}
@@ -143,14 +143,14 @@ module _ (xs seen rest : List ℕ) (left : ℕ) (flow : Flow) (is : xs ≡ seen 
 -- the input of a run agrees with what was seen of it
 pub agrees_of : (xs seen : List ℕ) (new : Option (List ℕ)) (failed ended : Bool) (left : ℕ) (flow : Flow)
     → Consumes (Some xs) new seen → left + length seen ≡ input_limit →
-    IsToldBy new failed ended left flow → Agrees seen flow (input_from xs seen failed)
+    IsReportedBy new failed ended left flow → Agrees seen flow (input_from xs seen failed)
 agrees_of xs seen None failed ended left flow c count fed = absurd c
 agrees_of xs seen (Some rest) false ended left Open c count fed = given_agrees xs seen rest left Open c count
     (λ e. absurd (cc)) (λ e. absurd (cc))
 agrees_of xs seen (Some rest) true ended left Open c count fed = absurd (cc)
-agrees_of xs seen (Some rest) false ended left Ended c count (fine, told, end, some) =
+agrees_of xs seen (Some rest) false ended left Ended c count (fine, reported, end, some) =
     given_agrees xs seen rest left Ended c count (λ e. (end, some)) (λ e. absurd (cc))
-agrees_of xs seen (Some rest) true ended left Ended c count (fine, told, end, some) = absurd (cc)
+agrees_of xs seen (Some rest) true ended left Ended c count (fine, reported, end, some) = absurd (cc)
 agrees_of xs seen (Some rest) false ended left Broken c count (inl bad) = absurd (cc)
 agrees_of xs seen (Some rest) false ended left Broken c count (inr (fine, zero)) =
     given_agrees xs seen rest left Broken c count (λ e. absurd (cc)) (λ e. zero)

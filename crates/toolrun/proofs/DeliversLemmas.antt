@@ -4,59 +4,59 @@ use Rattle.std.proofs.Common.{◌≡◌, ◌≢◌, ◌⊎◌, inl, inr, ℕ, �
 use Rattle.std.proofs.Common.{refl, sym, ◌∙◌, ap, ap₂, append_assoc, append-nil, length-append, subst}
 use Rattle.std.specs.Prelude.{drop, max}
 use Rattle.std.proofs.lemmas.Bool.{cases_eq}
-use Rattle.ruletable.specs.Writing.{IsBeginning}
-use Rattle.ruletable.proofs.AppendsLemmas.{IsBeginning-after, IsBeginning-join, IsBeginning-nil, IsBeginning-same}
-use Rattle.toolrun.specs.Delivery.{Delivers, IsTold, Observed, greatest_met}
+use Rattle.ruletable.specs.Writing.{IsPrefixOf}
+use Rattle.ruletable.proofs.AppendsLemmas.{IsPrefixOf-after, IsPrefixOf-join, IsPrefixOf-nil, IsPrefixOf-same}
+use Rattle.toolrun.specs.Delivery.{Delivers, IsReported, Observed, greatest_met}
 use Rattle.toolrun.specs.Reply.{Reply}
 use Rattle.toolrun.specs.Stop.{write_error}
 
 -- nothing begins nothing else
-pub begins_nothing : (xs ys : List ℕ) → IsBeginning xs ys → ys ≡ [] → xs ≡ []
+pub begins_nothing : (xs ys : List ℕ) → IsPrefixOf xs ys → ys ≡ [] → xs ≡ []
 begins_nothing [] ys b none = refl
 begins_nothing (x ∷ xs) ys (rest, whole) none = absurd (cc)
 
 -- what stands before is told before
-pub told-after : (notes text told : List ℕ) (err_failed : Bool) → IsTold err_failed told text
-    → IsTold err_failed (notes ++ told) (notes ++ text)
-told-after notes text told err_failed t =
-    (IsBeginning-after notes told text t.0, λ err_ok. ap (λ u. notes ++ u) (t.1 err_ok))
+pub reported-after : (notes text reported : List ℕ) (err_failed : Bool) → IsReported err_failed reported text
+    → IsReported err_failed (notes ++ reported) (notes ++ text)
+reported-after notes text reported err_failed t =
+    (IsPrefixOf-after notes reported text t.0, λ err_ok. ap (λ u. notes ++ u) (t.1 err_ok))
 
 -- A run without notes delivers a reply after a text; then it delivers one with notes, if the text has the notes and
 -- nothing more, or goes on into the messages of a reply that writes nothing.
 module _ (text notes : List ℕ) (plain whole : Reply) (run : Observed) (out : whole.out ≡ plain.out)
     (status : whole.status ≡ plain.status) (err : text ++ plain.err ≡ notes ++ whole.err)
-    (stands : (text ≡ notes) ⊎ (IsBeginning notes text × (whole.out ≡ []))) where
-  has_notes : (text ≡ notes) ⊎ (IsBeginning notes text × (whole.out ≡ [])) → IsBeginning notes (text ++ run.err)
-  has_notes (inl is) = rw is (IsBeginning-join notes notes run.err (IsBeginning-same notes))
-  has_notes (inr goes) = IsBeginning-join notes text run.err goes.0
+    (stands : (text ≡ notes) ⊎ (IsPrefixOf notes text × (whole.out ≡ []))) where
+  has_notes : (text ≡ notes) ⊎ (IsPrefixOf notes text × (whole.out ≡ [])) → IsPrefixOf notes (text ++ run.err)
+  has_notes (inl is) = rw is (IsPrefixOf-join notes notes run.err (IsPrefixOf-same notes))
+  has_notes (inr goes) = IsPrefixOf-join notes text run.err goes.0
 
-  writes_broken : Delivers [] plain run → (text ≡ notes) ⊎ (IsBeginning notes text × (whole.out ≡ []))
+  writes_broken : Delivers [] plain run → (text ≡ notes) ⊎ (IsPrefixOf notes text × (whole.out ≡ []))
       → run.out_failed ≡ true → run.out ≢ whole.out
-      → IsTold run.err_failed (text ++ run.err) (notes ++ write_error)
+      → IsReported run.err_failed (text ++ run.err) (notes ++ write_error)
   writes_broken d (inl is) bad other =
-      rw is (told-after notes write_error run.err run.err_failed (d.broken bad (λ same. other (same ∙ sym out))))
+      rw is (reported-after notes write_error run.err run.err_failed (d.broken bad (λ same. other (same ∙ sym out))))
   writes_broken d (inr goes) bad other =
       absurd (other (begins_nothing run.out plain.out d.part (sym out ∙ goes.1) ∙ sym goes.1))
 
   pub delivers_after : Delivers [] plain run → Delivers notes whole (record run { err = text ++ run.err; taken = [] })
   delivers_after d = record {
     part = rw out d.part;
-    out = λ out_ok _. d.out out_ok (IsBeginning-nil run.err) ∙ sym out;
+    out = λ out_ok _. d.out out_ok (IsPrefixOf-nil run.err) ∙ sym out;
     silent = λ isnt. absurd (isnt (has_notes stands));
     unread = λ isnt. refl;
-    told = λ out_ok. rw (sym err) (told-after text plain.err run.err run.err_failed (d.told out_ok));
+    reported = λ out_ok. rw (sym err) (reported-after text plain.err run.err run.err_failed (d.reported out_ok));
     broken = writes_broken d stands;
-    unflushed = λ bad same. subst (λ (t : List ℕ). IsTold run.err_failed (text ++ run.err) t)
+    unflushed = λ bad same. subst (λ (t : List ℕ). IsReported run.err_failed (text ++ run.err) t)
         (sym (append_assoc text plain.err write_error) ∙ ap (λ t. t ++ write_error) err)
-        (told-after text (plain.err ++ write_error) run.err run.err_failed (d.unflushed bad (same ∙ out)));
-    status = λ _ same. rw status (d.status (IsBeginning-nil run.err) (same ∙ out));
+        (reported-after text (plain.err ++ write_error) run.err run.err_failed (d.unflushed bad (same ∙ out)));
+    status = λ _ same. rw status (d.status (IsPrefixOf-nil run.err) (same ∙ out));
     cut = λ other. d.cut (λ same. other (same ∙ sym out));
     unnoted = λ isnt. absurd (isnt (has_notes stands));
   }
 
 -- a text begins another or not
-begins_or_not : (xs ys : List ℕ) → IsBeginning xs ys ⊎ (IsBeginning xs ys → ⊥)
-begins_or_not [] ys = inl (IsBeginning-nil ys)
+begins_or_not : (xs ys : List ℕ) → IsPrefixOf xs ys ⊎ (IsPrefixOf xs ys → ⊥)
+begins_or_not [] ys = inl (IsPrefixOf-nil ys)
 begins_or_not (x ∷ xs) [] = inr (λ is. let e = is.1 in cc)
 begins_or_not (x ∷ xs) (y ∷ ys) = elim (cases_eq x y) [
   | inr other ↦ inr (λ is. other (let e = is.1 in cc))
@@ -80,7 +80,7 @@ module _ (notes : List ℕ) (stated : Reply) (run : Observed) (d : Delivers note
       let four : run.status ≡ 4 = d.cut (λ same. let n = ap length (same ∙ is) in
       omega (arith, n, length-append run.out (b ∷ rest))) in omega (arith, low, four))
 
-  has_all_notes : IsBeginning notes run.err ⊎ (IsBeginning notes run.err → ⊥) → IsBeginning notes run.err
+  has_all_notes : IsPrefixOf notes run.err ⊎ (IsPrefixOf notes run.err → ⊥) → IsPrefixOf notes run.err
   has_all_notes (inl is) = is
   has_all_notes (inr never) = absurd (elim (d.unnoted never) [
     | inl four ↦ omega (arith, low, four)
@@ -92,4 +92,4 @@ module _ (notes : List ℕ) (stated : Reply) (run : Observed) (d : Delivers note
       let out : run.out ≡ stated.out = whole_out d.part.0 d.part.1 in
       let met = d.status (has_all_notes (begins_or_not notes run.err)) out in
       let fine = none_failed stated.status run.out_failed run.err_failed (rw met at low) in
-      (out, (d.told fine.0).1 fine.1, rw (fine.0, fine.1) at met)
+      (out, (d.reported fine.0).1 fine.1, rw (fine.0, fine.1) at met)

@@ -15,8 +15,8 @@ if_not_asked false Why is = refl
 -- where it is not asked there is no text
 pub not_asked_nothing : (asked : Bool) (Why : List ℕ → Type 0) (why : List ℕ) → asked ≡ false
     → ExplainedIf asked Why why → why ≡ []
-not_asked_nothing true Why why is told = absurd (cc)
-not_asked_nothing false Why why is told = told
+not_asked_nothing true Why why is reported = absurd (cc)
+not_asked_nothing false Why why is reported = reported
 
 -- what explains is one text, where what is told if it is asked is one
 pub if-explained : (asked : Bool) (Why : List ℕ → Type 0) → ((a b : List ℕ) → Why a → Why b → a ≡ b)

@@ -11,11 +11,11 @@ use Rattle.toolrun.specs.Explained.{Explained}
 use Rattle.toolrun.specs.Input.{Input}
 use Rattle.toolrun.specs.Language.{AreStated}
 use Rattle.toolrun.specs.NotesText.{notes_text}
-use Rattle.toolrun.specs.Plan.{behind_notes, in_reply, IsPlanned, stopped, told_behind}
+use Rattle.toolrun.specs.Plan.{after_notes, in_reply, IsPlanned, stopped, reported_after}
 use Rattle.toolrun.specs.Reply.{Reply, refusal, text_alone, unexplained_fault, without_memory}
 use Rattle.toolrun.specs.Stop.{unread}
 use Rattle.toolrun.specs.Tasks.{IsTask, task_does}
-use Rattle.toolrun.specs.ToldNotes.{AreToldBefore, CutNotes, HintedNotes, told_whole, told_part}
+use Rattle.toolrun.specs.ReportedNotes.{AreReportedBefore, CutNotes, HintedNotes, reported_whole, reported_part}
 use Rattle.toolrun.specs.declared.plan.Task.{Task}
 use Rattle.toolrun.specs.declared.plan.Task.TheVariants.{Prints}
 use Rattle.toolrun.specs.declared.settings.Mode.{Mode}
@@ -32,11 +32,11 @@ plain-refusal why = ap (λ (t : List ℕ). record { out = []; err = t; status = 
 
 -- what is told first is all that is told
 whole-refusal : (why : ReadFault) (lines : List ℕ)
-    → refusal why lines ≡ told_behind (fault_text why ++ lines) (stopped (Quiet status.Refused))
+    → refusal why lines ≡ reported_after (fault_text why ++ lines) (stopped (Quiet status.Refused))
 whole-refusal why lines = ap (λ (t : List ℕ). record { out = []; err = t; status = 2; taken = 0 })
     (sym (append-nil (fault_text why ++ lines)))
 
-whole-unexplained : (why : ReadFault) → unexplained_fault why ≡ told_behind (fault_text why ++ []) (stopped NoMemory)
+whole-unexplained : (why : ReadFault) → unexplained_fault why ≡ reported_after (fault_text why ++ []) (stopped NoMemory)
 whole-unexplained why =
     ap (λ (t : List ℕ). record { out = []; err = t ++ codes "out of memory\n"; status = 5; taken = 0 })
     (sym (append-nil (fault_text why)))
@@ -56,7 +56,7 @@ module _ (States : Input → List ℕ → Reply → Type 0) (IsFault : ReadFault
     {T : Type 0} (Does : T → Input → Reply → Type 0) where
   refused-plan : (why : ReadFault) → IsFault why → why ≢ fault.Memory
       → IsPlanned States [] Does (Err (Refused why))
-  refused-plan why faulty other = λ input. behind_notes
+  refused-plan why faulty other = λ input. after_notes
       (subst (States input []) (plain-refusal why) (refuses input why faulty other))
 
   pub unread-plan : (why : ReadFault) → IsFault why → IsPlanned States [] Does (Err (unread why))
@@ -64,7 +64,7 @@ module _ (States : Input → List ℕ → Reply → Type 0) (IsFault : ReadFault
   unread-plan (fault.Depth line) faulty = refused-plan (fault.Depth line) faulty (λ e. absurd (cc))
   unread-plan (fault.CodePredicate line) faulty = refused-plan (fault.CodePredicate line) faulty (λ e. absurd (cc))
   unread-plan fault.TooLong faulty = refused-plan fault.TooLong faulty (λ e. absurd (cc))
-  unread-plan fault.Memory faulty = λ input. behind_notes (no_memory input faulty)
+  unread-plan fault.Memory faulty = λ input. after_notes (no_memory input faulty)
   unread-plan (fault.NumberTooLarge line) faulty = refused-plan (fault.NumberTooLarge line) faulty (λ e. absurd (cc))
 
 module _ {Grammar CheckedRules Judged Sound Options : Type 0}
@@ -94,7 +94,7 @@ module _ {Grammar CheckedRules Judged Sound Options : Type 0}
 
     pub plan_without_memory : (why : ReadFault) → why ≡ fault.Memory → HasFault text why → Planned [] (Err (unread why))
     plan_without_memory why is faulty = let f = rw is at faulty in
-        rw is (λ input. behind_notes (law.no_memory text settings input f))
+        rw is (λ input. after_notes (law.no_memory text settings input f))
 
     -- a fault that is explained, and one for whose explanation there is no memory
     pub plan_explained : settings.explain ≡ true → (why : ReadFault) (lines : List ℕ) → HasFault text why
@@ -117,29 +117,30 @@ module _ {Grammar CheckedRules Judged Sound Options : Type 0}
         → IsChecked t start notes rules (Some judged) → IsReady t start notes sound
 
     -- a grammar that was checked, and all whose notes are told
-    pub plan_task : (notes : List Said) (told : List ℕ) (mode : Mode) (rules : CheckedRules) (judged : Option Judged)
+    pub plan_task : (notes : List Said) (reported : List ℕ) (mode : Mode) (rules : CheckedRules)
+        (judged : Option Judged)
         (task : Result (Task Grammar Sound) Stop) → settings.mode ≡ mode
         → mode ≢ Print → IsChecked text (option_copied settings.start) notes rules judged
-        → HintedNotes settings (ExplainsNote text) (AreHints text settings) notes told
-        → IsTask (Makes rules) mode judged task → Planned told task
-    plan_task notes told mode rules None task is other c t e = rw e (λ input.
-        behind_notes (law.noted text settings input notes told rules c t (rw is other)))
-    plan_task notes told Run rules (Some judged) task is other c t made =
+        → HintedNotes settings (ExplainsNote text) (AreHints text settings) notes reported
+        → IsTask (Makes rules) mode judged task → Planned reported task
+    plan_task notes reported mode rules None task is other c t e = rw e (λ input.
+        after_notes (law.noted text settings input notes reported rules c t (rw is other)))
+    plan_task notes reported Run rules (Some judged) task is other c t made =
         let ready = made.1 text (option_copied settings.start) notes c in
         rw made.2 (record {
-          stated = λ input reply r. law.run text settings input notes told made.0 reply ready t is r;
+          stated = λ input reply r. law.run text settings input notes reported made.0 reply ready t is r;
           some = λ input. law.replies text settings input notes made.0 ready;
         })
-    plan_task notes told Check rules (Some judged) task is other c t e = rw e (λ input.
-        behind_notes (law.checked text settings input notes told rules judged c t is))
-    plan_task notes told Print rules (Some judged) task is other c t e = absurd (other refl)
+    plan_task notes reported Check rules (Some judged) task is other c t e = rw e (λ input.
+        after_notes (law.checked text settings input notes reported rules judged c t is))
+    plan_task notes reported Print rules (Some judged) task is other c t e = absurd (other refl)
 
     -- a grammar that was checked, and whose notes are told in part
-    pub plan_cut : (notes : List Said) (told : List ℕ) (rules : CheckedRules) (judged : Option Judged)
+    pub plan_cut : (notes : List Said) (reported : List ℕ) (rules : CheckedRules) (judged : Option Judged)
         → settings.mode ≢ Print → IsChecked text (option_copied settings.start) notes rules judged
-        → CutNotes settings (ExplainsNote text) notes told → Planned told (Err NoMemory)
-    plan_cut notes told rules judged other c t = λ input.
-        behind_notes (law.cut_notes text settings input notes told rules judged c t other)
+        → CutNotes settings (ExplainsNote text) notes reported → Planned reported (Err NoMemory)
+    plan_cut notes reported rules judged other c t = λ input.
+        after_notes (law.cut_notes text settings input notes reported rules judged c t other)
 
     -- a grammar that was checked, and for which no memory was left
     pub plan_unmade : (notes : List Said) (rules : CheckedRules) (judged : Option Judged)
@@ -148,13 +149,15 @@ module _ {Grammar CheckedRules Judged Sound Options : Type 0}
         (law.within_checked text (option_copied settings.start) notes rules judged c)
 
     -- a grammar that was read to be printed, with notes and without
-    pub plan_again : (grammar : Grammar) (notes : List Said) (told : List ℕ) (task : Result (Task Grammar Sound) Stop)
+    pub plan_again : (grammar : Grammar) (notes : List Said) (reported : List ℕ)
+        (task : Result (Task Grammar Sound) Stop)
         → settings.mode ≡ Print → notes ≢ [] → IsPrintable text grammar notes
-        → AreToldBefore settings (ExplainsNote text) notes told (Err (Quiet status.Refused)) task → Planned told task
-    plan_again grammar notes told task print some p (told_whole t) = λ input.
-        behind_notes (law.again text settings input grammar notes told p some t print)
-    plan_again grammar notes told task print some p (told_part t) = λ input.
-        behind_notes (law.cut_again text settings input grammar notes told p some t print)
+        → AreReportedBefore settings (ExplainsNote text) notes reported (Err (Quiet status.Refused)) task
+        → Planned reported task
+    plan_again grammar notes reported task print some p (reported_whole t) = λ input.
+        after_notes (law.again text settings input grammar notes reported p some t print)
+    plan_again grammar notes reported task print some p (reported_part t) = λ input.
+        after_notes (law.cut_again text settings input grammar notes reported p some t print)
 
     pub plan_printed : (grammar : Grammar) (notes : List Said) → settings.mode ≡ Print → notes ≡ []
         → IsPrintable text grammar notes → Planned (notes_text notes) (Ok (Prints grammar))

@@ -9,4 +9,4 @@ pub mod OneStatementLemmas
 pub mod PlainlyLemmas
 pub mod PrintsLemmas
 pub mod StopsAsLemmas
-pub mod ToldNotesLemmas
+pub mod ReportedNotesLemmas

@@ -51,6 +51,6 @@ module _ (a b c : Option (List ℕ)) (notes rest : List Note) (n : ℕ) (w : Wro
   pub wrote_block : Appends b c (notes_text (map said_of (take n rest))) → Wrote a c notes (drop n rest)
   wrote_block h = (w.0 ++ notes_text (map said_of (take n rest)), Appends-join a b c _ _ w.1 h, block-split)
 
-  pub wrote_beginning : AppendsPart b c (notes_text (map said_of (take n rest)))
+  pub wrote_prefix : AppendsPart b c (notes_text (map said_of (take n rest)))
       → AppendsPart a c (notes_text (map said_of notes))
-  wrote_beginning h = rw block-split (AppendsPart-first a c _ _ (AppendsPart-join a b c _ _ w.1 h))
+  wrote_prefix h = rw block-split (AppendsPart-first a c _ _ (AppendsPart-join a b c _ _ w.1 h))

@@ -11,9 +11,9 @@ use Rattle.toolrun.specs.declared.status.Status.TheVariants.{Fault}
 use Rattle.toolrun.specs.declared.stop.Stop.{Stop}
 
 -- the first text that is told
-abbrev pub told_of : Result Ending WriteFault → List ℕ
-told_of (Ok ending) = ended_text ending
-told_of (Err fault) = write_error
+abbrev pub reported_of : Result Ending WriteFault → List ℕ
+reported_of (Ok ending) = ended_text ending
+reported_of (Err fault) = write_error
 
 -- what is told before a fault of the output: how the run ends, or nothing where the output failed before
 abbrev pub text_of : Result Ending WriteFault → List ℕ
@@ -27,9 +27,9 @@ ending_of (Err fault) = Fault
 
 -- an ending is told as stated; after a fault of the output nothing stands before `write error`
 abbrev pub Concludes : Result Ending WriteFault → Bool → Bool → List ℕ → ℕ → Type 0
-Concludes ending out_failed err_failed told code = Reports (text_of ending) (code_of (ending_of ending)) out_failed
-    err_failed told code
+Concludes ending out_failed err_failed reported code = Reports (text_of ending) (code_of (ending_of ending)) out_failed
+    err_failed reported code
 
 -- so is a stop that is not explained
 abbrev pub Finishes : Result Stop WriteFault → Bool → Bool → List ℕ → ℕ → Type 0
-Finishes stop out_failed err_failed told code = Concludes (plainly stop) out_failed err_failed told code
+Finishes stop out_failed err_failed reported code = Concludes (plainly stop) out_failed err_failed reported code

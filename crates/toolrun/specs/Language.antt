@@ -6,7 +6,7 @@ use Rattle.ruletable.specs.declared.fault.ReadFault.TheVariants.{Memory}
 use Rattle.toolrun.specs.Explained.{Explained}
 use Rattle.toolrun.specs.Input.{Input}
 use Rattle.toolrun.specs.Reply.{Reply, notes_alone, refusal, text_alone, unexplained_fault, without_memory}
-use Rattle.toolrun.specs.ToldNotes.{CutNotes, HintedNotes, ToldNotes}
+use Rattle.toolrun.specs.ReportedNotes.{CutNotes, HintedNotes, ReportedNotes}
 use Rattle.toolrun.specs.declared.settings.Mode.TheVariants.{Run, Check, Print}
 use Rattle.toolrun.specs.declared.settings.Settings.{Settings}
 
@@ -37,38 +37,40 @@ pub record AreStated {Grammar CheckedRules Judged Sound Options : Type 0}
   pub no_memory : (text : List ℕ) (settings : Settings Options) (input : Input) → HasFault text Memory
       → States text settings input [] (without_memory [] 0)
   -- a grammar that is refused
-  pub noted : (text : List ℕ) (settings : Settings Options) (input : Input) (notes : List Said) (told : List ℕ)
+  pub noted : (text : List ℕ) (settings : Settings Options) (input : Input) (notes : List Said) (reported : List ℕ)
       (rules : CheckedRules) → IsChecked text (option_copied settings.start) notes rules None
-      → HintedNotes settings (ExplainsNote text) (AreHints text settings) notes told
-      → settings.mode ≢ Print → States text settings input told (notes_alone 2)
+      → HintedNotes settings (ExplainsNote text) (AreHints text settings) notes reported
+      → settings.mode ≢ Print → States text settings input reported (notes_alone 2)
   -- a grammar that is not refused, and only to be checked
-  pub checked : (text : List ℕ) (settings : Settings Options) (input : Input) (notes : List Said) (told : List ℕ)
+  pub checked : (text : List ℕ) (settings : Settings Options) (input : Input) (notes : List Said) (reported : List ℕ)
       (rules : CheckedRules) (judged : Judged)
       → IsChecked text (option_copied settings.start) notes rules (Some judged)
-      → HintedNotes settings (ExplainsNote text) (AreHints text settings) notes told → settings.mode ≡ Check
-      → States text settings input told (notes_alone 0)
+      → HintedNotes settings (ExplainsNote text) (AreHints text settings) notes reported → settings.mode ≡ Check
+      → States text settings input reported (notes_alone 0)
   -- a grammar that is run, and states something for each input
-  pub run : (text : List ℕ) (settings : Settings Options) (input : Input) (notes : List Said) (told : List ℕ)
+  pub run : (text : List ℕ) (settings : Settings Options) (input : Input) (notes : List Said) (reported : List ℕ)
       (sound : Sound) (reply : Reply) → IsReady text (option_copied settings.start) notes sound
-      → HintedNotes settings (ExplainsNote text) (AreHints text settings) notes told → settings.mode ≡ Run
+      → HintedNotes settings (ExplainsNote text) (AreHints text settings) notes reported → settings.mode ≡ Run
       → Runs sound settings input reply
-      → States text settings input told reply
+      → States text settings input reported reply
   pub replies : (text : List ℕ) (settings : Settings Options) (input : Input) (notes : List Said) (sound : Sound)
       → IsReady text (option_copied settings.start) notes sound
       → (reply : Reply) × Runs sound settings input reply
   -- a grammar on whose notes an allocation fails in explaining them
-  pub cut_notes : (text : List ℕ) (settings : Settings Options) (input : Input) (notes : List Said) (told : List ℕ)
+  pub cut_notes : (text : List ℕ) (settings : Settings Options) (input : Input) (notes : List Said) (reported : List ℕ)
       (rules : CheckedRules) (judged : Option Judged)
       → IsChecked text (option_copied settings.start) notes rules judged
-      → CutNotes settings (ExplainsNote text) notes told → settings.mode ≢ Print
-      → States text settings input told (without_memory [] 0)
+      → CutNotes settings (ExplainsNote text) notes reported → settings.mode ≢ Print
+      → States text settings input reported (without_memory [] 0)
   -- a grammar that is only to be printed, but defines a rule again
   pub again : (text : List ℕ) (settings : Settings Options) (input : Input) (grammar : Grammar) (notes : List Said)
-      (told : List ℕ) → IsPrintable text grammar notes → notes ≢ [] → ToldNotes settings (ExplainsNote text) notes told
-      → settings.mode ≡ Print → States text settings input told (notes_alone 2)
+      (reported : List ℕ) → IsPrintable text grammar notes → notes ≢ []
+      → ReportedNotes settings (ExplainsNote text) notes reported
+      → settings.mode ≡ Print → States text settings input reported (notes_alone 2)
   pub cut_again : (text : List ℕ) (settings : Settings Options) (input : Input) (grammar : Grammar) (notes : List Said)
-      (told : List ℕ) → IsPrintable text grammar notes → notes ≢ [] → CutNotes settings (ExplainsNote text) notes told
-      → settings.mode ≡ Print → States text settings input told (without_memory [] 0)
+      (reported : List ℕ) → IsPrintable text grammar notes → notes ≢ []
+      → CutNotes settings (ExplainsNote text) notes reported
+      → settings.mode ≡ Print → States text settings input reported (without_memory [] 0)
   -- a grammar that is only to be printed, and defines no rule again
   pub printed : (text : List ℕ) (settings : Settings Options) (input : Input) (grammar : Grammar)
       → IsPrintable text grammar []

@@ -16,4 +16,4 @@ pub mod Stop
 pub mod Stopped
 pub mod Stream
 pub mod Tasks
-pub mod ToldNotes
+pub mod ReportedNotes

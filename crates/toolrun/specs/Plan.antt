@@ -8,7 +8,7 @@ use Rattle.toolrun.specs.Reply.{Reply}
 use Rattle.toolrun.specs.Status.{code_of}
 use Rattle.toolrun.specs.Stop.{message_of, status_of}
 use Rattle.toolrun.specs.declared.plan.First.{First}
-use Rattle.toolrun.specs.declared.plan.First.TheVariants.{Notes, Told, Fault}
+use Rattle.toolrun.specs.declared.plan.First.TheVariants.{Notes, Reported, Fault}
 use Rattle.toolrun.specs.declared.status.Status.{Status}
 use Rattle.toolrun.specs.declared.status.Status.TheVariants.{Done}
 use Rattle.toolrun.specs.declared.stop.Stop.{Stop}
@@ -23,8 +23,8 @@ does_of Does (Ok task) input reply = Does task input reply
 does_of Does (Err stop) input reply = reply ≡ stopped stop
 
 -- this is written on the error output, and then the run stops so
-abbrev pub IsToldAnd : List ℕ → Stop → Input → List ℕ → Reply → Type 0
-IsToldAnd told stop input notes reply = (notes ≡ told) × (reply ≡ stopped stop)
+abbrev pub IsReportedAnd : List ℕ → Stop → Input → List ℕ → Reply → Type 0
+IsReportedAnd reported stop input notes reply = (notes ≡ reported) × (reply ≡ stopped stop)
 
 -- the status that a run has met before it performs this: that of a stop
 abbrev pub met_before : {T : Type 0} → Result T Stop → Status
@@ -34,12 +34,12 @@ met_before (Err stop) = status_of stop
 -- the text of what is told before anything is read
 abbrev pub first_text : First → List ℕ
 first_text (Notes notes) = notes_text (map said_of notes.items)
-first_text (Told told) = told.items
+first_text (Reported reported) = reported.items
 first_text (Fault fault why) = fault_text fault ++ why.items
 
 -- the reply that tells this text first
-abbrev pub told_behind : List ℕ → Reply → Reply
-told_behind first reply = record {
+abbrev pub reported_after : List ℕ → Reply → Reply
+reported_after first reply = record {
   out = reply.out;
   err = first ++ reply.err;
   status = reply.status;
@@ -47,10 +47,10 @@ told_behind first reply = record {
 }
 
 -- What is stated where this text is told first: it is the notes, or the reply tells it, which writes nothing.
-pub data Behind (States : Input → List ℕ → Reply → Type 0) (input : Input) (first : List ℕ) (reply : Reply) : Type
+pub data Follows (States : Input → List ℕ → Reply → Type 0) (input : Input) (first : List ℕ) (reply : Reply) : Type
     0 where
-  behind_notes : States input first reply → Behind States input first reply
-  in_reply : reply.out ≡ [] → States input [] (told_behind first reply) → Behind States input first reply
+  after_notes : States input first reply → Follows States input first reply
+  in_reply : reply.out ≡ [] → States input [] (reported_after first reply) → Follows States input first reply
 
 -- Behind these notes what is done is what is stated, and for each input something is.
 pub record IsPlan (States : Input → List ℕ → Reply → Type 0) (notes : List ℕ) (Does : Input → Reply → Type 0) : Type
@@ -63,4 +63,4 @@ pub record IsPlan (States : Input → List ℕ → Reply → Type 0) (notes : Li
 abbrev pub IsPlanned : {T : Type 0} → (Input → List ℕ → Reply → Type 0) → List ℕ → (T → Input → Reply → Type 0)
     → Result T Stop → Type 0
 IsPlanned States first Does (Ok task) = IsPlan States first (Does task)
-IsPlanned States first Does (Err stop) = (input : Input) → Behind States input first (stopped stop)
+IsPlanned States first Does (Err stop) = (input : Input) → Follows States input first (stopped stop)

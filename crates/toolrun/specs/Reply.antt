@@ -32,22 +32,28 @@ without_memory out taken = record { out = out; err = codes "out of memory\n"; st
 
 -- an allocation fails after this output and so many bytes of input, where this was told
 abbrev pub cut_reply : List ℕ → List ℕ → ℕ → Reply
-cut_reply told out taken = record { out = out; err = told ++ codes "out of memory\n"; status = 5; taken = taken }
+cut_reply reported out taken = record {
+  out = out;
+  err = reported ++ codes "out of memory\n";
+  status = 5;
+  taken =
+      taken;
+}
 
 -- before the message of a reply stands what is told of refused lines, and behind it stand lines that explain it
 abbrev pub explained_reply : List ℕ → Reply → List ℕ → Reply
-explained_reply told plain why = record {
+explained_reply reported plain why = record {
   out = plain.out;
-  err = told ++ (plain.err ++ why);
+  err = reported ++ (plain.err ++ why);
   status = plain.status;
   taken = plain.taken;
 }
 
 -- an allocation fails in explaining the message of a reply: it stands whole
 abbrev pub unexplained_reply : List ℕ → Reply → Reply
-unexplained_reply told plain = record {
+unexplained_reply reported plain = record {
   out = plain.out;
-  err = told ++ (plain.err ++ codes "out of memory\n");
+  err = reported ++ (plain.err ++ codes "out of memory\n");
   status = 5;
   taken = plain.taken;
 }

@@ -19,14 +19,14 @@ pub record IsRight (States : Input → List ℕ → Reply → Type 0) (given : L
 -- where the reader tells its bytes, the run was right
 abbrev pub Comes : (Input → List ℕ → Reply → Type 0) → Stream → Stream → Stream → ℕ → Type 0
 Comes States reader out err code =
-    IfSome reader.old (λ given. (taken wrote told : List ℕ) × Consumes reader.old reader.new taken
-    × Appends out.old out.new wrote × Appends err.old err.new told ×
+    IfSome reader.old (λ given. (taken wrote reported : List ℕ) × Consumes reader.old reader.new taken
+    × Appends out.old out.new wrote × Appends err.old err.new reported ×
     IsRight States given (record {
       taken = taken;
       read_failed = reader.failed;
       out = wrote;
       out_failed = out.failed;
-      err = told;
+      err = reported;
       err_failed = err.failed;
       status = code;
     }))

@@ -4,7 +4,7 @@ use Rattle.ruletable.specs.declared.sink.WriteFault.{WriteFault}
 use Rattle.toolrun.specs.Stop.{message_of, status_of}
 use Rattle.toolrun.specs.declared.ending.Ending.{Ending}
 use Rattle.toolrun.specs.declared.ending.Ending.TheVariants.{Plain, Explained, Unexplained}
-use Rattle.toolrun.specs.declared.ending.ToldRefusals.{ToldRefusals}
+use Rattle.toolrun.specs.declared.ending.ReportedRefusals.{ReportedRefusals}
 use Rattle.toolrun.specs.declared.status.Status.{Status}
 use Rattle.toolrun.specs.declared.status.Status.TheVariants as status
 use Rattle.toolrun.specs.declared.stop.Stop.{Stop}
@@ -15,26 +15,26 @@ abbrev pub more_refused : ℕ → List ℕ
 more_refused n = if n == 0 then [] else codes "more refused lines: " ++ decimal n ++ codes "\n"
 
 -- the lines that explain the first refused lines, and how many more there are
-abbrev pub refusals_text : ToldRefusals → List ℕ
-refusals_text told = told.text.items ++ more_refused told.more
+abbrev pub refusals_text : ReportedRefusals → List ℕ
+refusals_text reported = reported.text.items ++ more_refused reported.more
 
 -- Refused lines come first. Behind the message stand the lines that explain it; where there is no memory for these the
 -- message stands before that of this.
 abbrev pub ended_text : Ending → List ℕ
 ended_text (Plain stop) = message_of stop
-ended_text (Explained told stop why) = refusals_text told ++ (message_of stop ++ why.items)
-ended_text (Unexplained told stop) = refusals_text told ++ (message_of stop ++ message_of NoMemory)
+ended_text (Explained reported stop why) = refusals_text reported ++ (message_of stop ++ why.items)
+ended_text (Unexplained reported stop) = refusals_text reported ++ (message_of stop ++ message_of NoMemory)
 
 abbrev pub ended_status : Ending → Status
 ended_status (Plain stop) = status_of stop
-ended_status (Explained told stop why) = status_of stop
-ended_status (Unexplained told stop) = status.NoMemory
+ended_status (Explained reported stop why) = status_of stop
+ended_status (Unexplained reported stop) = status.NoMemory
 
 -- how it stops
 abbrev pub stop_of : Ending → Stop
 stop_of (Plain stop) = stop
-stop_of (Explained told stop why) = stop
-stop_of (Unexplained told stop) = stop
+stop_of (Explained reported stop why) = stop
+stop_of (Unexplained reported stop) = stop
 
 -- how a run ends that stopped so, where nothing explains it
 abbrev pub plainly : Result Stop WriteFault → Result Ending WriteFault

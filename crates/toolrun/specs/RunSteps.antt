@@ -1,7 +1,7 @@
 -- What a run of an input in steps states, and what has been written of it.
 use Rattle.std.specs.Prelude.{◌≡◌, ℕ, ◌≤◌, ◌++◌, List, [], Option, Result, Ok, Err, ◌⊎◌}
 use Rattle.std.specs.Io.KnownBytes.{Appends}
-use Rattle.ruletable.specs.Writing.{AppendsPart, IsBeginning}
+use Rattle.ruletable.specs.Writing.{AppendsPart, IsPrefixOf}
 use Rattle.ruletable.specs.declared.sink.WriteFault.{WriteFault}
 use Rattle.toolrun.specs.Reply.{Reply, cut_reply, explained_reply, unexplained_reply}
 use Rattle.toolrun.specs.RunEnd.{refusals_text}
@@ -33,37 +33,37 @@ module _ {Point : Type 0} (Before : Point → List ℕ → Type 0) (Ends : Point
   pub record Begins (least : ℕ) (text : List ℕ) : Type 0 where
     pub reply : Reply
     pub replies : Replies reply
-    pub front : IsBeginning text reply.out
+    pub front : IsPrefixOf text reply.out
     pub taken : least ≤ reply.taken
 
   -- Tells says what is told of refused lines on the way to a point, Why which lines explain how a run ends there, none
   -- where nothing is explained, and MayLack where an allocation may fail in explaining it.
-  module _ (Tells : Point → List ℕ → Type 0) (Why : Point → Stop → List ℕ → Type 0) (MayLack : Point → Stop → Type 0)
+  module _ (Reports : Point → List ℕ → Type 0) (Why : Point → Stop → List ℕ → Type 0) (MayLack : Point → Stop → Type 0)
     where
       -- the reply of all steps: what is told of refused lines, its message, and the lines that explain how the run ends
-      pub record RepliesTold (reply : Reply) : Type 0 where
+      pub record RepliesReported (reply : Reply) : Type 0 where
         pub plain : Reply
         pub replies : Replies plain
         pub before : List ℕ
-        pub tells : Tells replies.point before
+        pub reports : Reports replies.point before
         pub why : List ℕ
         pub explains : Why replies.point replies.stop why
-        pub told : reply ≡ explained_reply before plain why
+        pub reported : reply ≡ explained_reply before plain why
 
       -- A run states its reply so. Where an allocation fails in explaining how it ends, its message stands whole; where
       -- one fails before, the text of the first steps does, and what is told of them.
-      pub data ToldStates : Reply → Type 0 where
-        replied_told : (reply : Reply) → RepliesTold reply → ToldStates reply
-        unexplained : (plain : Reply) (replies : Replies plain) (told : List ℕ) → Tells replies.point told
-            → MayLack replies.point replies.stop → ToldStates (unexplained_reply told plain)
-        cut_short : (point : Point) (out told : List ℕ) (reply : Reply) → Before point out → Tells point told
-            → Replies reply → IsBeginning out reply.out → ToldStates (cut_reply told out reply.taken)
+      pub data ReportedStates : Reply → Type 0 where
+        replied_reported : (reply : Reply) → RepliesReported reply → ReportedStates reply
+        unexplained : (plain : Reply) (replies : Replies plain) (reported : List ℕ) → Reports replies.point reported
+            → MayLack replies.point replies.stop → ReportedStates (unexplained_reply reported plain)
+        cut_short : (point : Point) (out reported : List ℕ) (reply : Reply) → Before point out → Reports point reported
+            → Replies reply → IsPrefixOf out reply.out → ReportedStates (cut_reply reported out reply.taken)
 
       -- something stated that begins with the text, where no fewer bytes are taken
-      pub record BeginsTold (least : ℕ) (text : List ℕ) : Type 0 where
+      pub record BeginsReported (least : ℕ) (text : List ℕ) : Type 0 where
         pub reply : Reply
-        pub states : ToldStates reply
-        pub front : IsBeginning text reply.out
+        pub states : ReportedStates reply
+        pub front : IsPrefixOf text reply.out
         pub taken : least ≤ reply.taken
 
       -- memory is refused there, before anything is written last
@@ -73,17 +73,18 @@ module _ {Point : Type 0} (Before : Point → List ℕ → Type 0) (Ends : Point
         pub unexplained : why ≡ []
 
       -- how a run ends there, with what explains it, or for want of memory
-      abbrev pub EndsTold : Point → List ℕ → Ending → Type 0
-      EndsTold point last (Plain stop) = Tells point []
+      abbrev pub EndsReported : Point → List ℕ → Ending → Type 0
+      EndsReported point last (Plain stop) = Reports point []
           × (IsCutThere last stop [] ⊎ (Ends point last stop × Why point stop []))
-      EndsTold point last (Explained told stop why) = Tells point (refusals_text told)
+      EndsReported point last (Explained reported stop why) = Reports point (refusals_text reported)
           × (IsCutThere last stop why.items ⊎ (Ends point last stop × Why point stop why.items))
-      EndsTold point last (Unexplained told stop) = Tells point (refusals_text told) × Ends point last stop
+      EndsReported point last (Unexplained reported stop) = Reports point (refusals_text reported)
+          × Ends point last stop
           × MayLack point stop
 
       -- after so many bytes were taken: the text of steps and of a last one, after which the run ends so; or
       -- a beginning of the text that something stated begins with
-      abbrev pub HasToldRun : ℕ → Option (List ℕ) → Option (List ℕ) → Result Ending WriteFault → Type 0
-      HasToldRun taken old new (Ok ending) = (point : Point) × (text last : List ℕ) × Before point text
-          × Appends old new (text ++ last) × (taken ≡ taken_at point) × EndsTold point last ending
-      HasToldRun taken old new (Err fault) = (text : List ℕ) × BeginsTold taken text × AppendsPart old new text
+      abbrev pub HasReportedRun : ℕ → Option (List ℕ) → Option (List ℕ) → Result Ending WriteFault → Type 0
+      HasReportedRun taken old new (Ok ending) = (point : Point) × (text last : List ℕ) × Before point text
+          × Appends old new (text ++ last) × (taken ≡ taken_at point) × EndsReported point last ending
+      HasReportedRun taken old new (Err fault) = (text : List ℕ) × BeginsReported taken text × AppendsPart old new text

@@ -1,7 +1,7 @@
 -- What a run has written when it ends, before its messages.
 use Rattle.std.specs.Prelude.{◌≡◌, ◌≢◌, ℕ, ◌≤◌, List, length, Option, Result, Ok, Err, IfOk, IfSome, MatchResult}
 use Rattle.std.specs.Io.KnownBytes.{Appends, Consumes}
-use Rattle.ruletable.specs.Writing.{AppendsPart, Flags, IsProperBeginning}
+use Rattle.ruletable.specs.Writing.{AppendsPart, Flags, IsProperPrefix}
 use Rattle.ruletable.specs.declared.sink.WriteFault.{WriteFault}
 use Rattle.toolrun.specs.RunEnd.{ended_status, ended_text, plainly, stop_of}
 use Rattle.toolrun.specs.Input.{Input, input_from}
@@ -22,7 +22,7 @@ Prints old new text r = MatchResult r (λ stop. (stop ≡ Quiet Done) × Appends
 abbrev pub IsWritten : Result Ending WriteFault → Reply → List ℕ → Type 0
 IsWritten (Ok ending) stated wrote = (wrote ≡ stated.out) × (stated.err ≡ ended_text ending)
     × (stated.status ≡ code_of (ended_status ending))
-IsWritten (Err fault) stated wrote = IsProperBeginning wrote stated.out
+IsWritten (Err fault) stated wrote = IsProperPrefix wrote stated.out
 
 -- What a run that ended so states, and how much of it has been written and taken.
 pub record EndedAs (States : Reply → Type 0) (taken : List ℕ) (ending : Result Ending WriteFault)

@@ -12,19 +12,19 @@ use std::alloc::Global;
 
 /// The explanations of rejected lines.
 #[derive(Drop)]
-pub struct ToldRefusals {
+pub struct ReportedRefusals {
     /// The lines that explain the first ones.
     pub text: Vec<u8>,
     /// How many more there are.
     pub more: usize,
 }
 
-impl ToldRefusals {
+impl ReportedRefusals {
     /// Returns the explanations where no line is rejected: none.
-    pub fn none(alloc: Global) -> ToldRefusals
+    pub fn none(alloc: Global) -> ReportedRefusals
         ensures { refusals_text result ≡ [] }
     {
-        ToldRefusals {
+        ReportedRefusals {
             text: Vec::new(alloc),
             more: 0,
         }
@@ -38,13 +38,13 @@ pub enum Ending {
     Plain(Stop),
     /// It writes the explanations of rejected lines first; it stops so, and these lines explain that.
     Explained {
-        told: ToldRefusals,
+        reported: ReportedRefusals,
         stop: Stop,
         why: Vec<u8>,
     },
     /// It writes the explanations of rejected lines first; it stops so, and an allocation failed in explaining that.
     Unexplained {
-        told: ToldRefusals,
+        reported: ReportedRefusals,
         stop: Stop,
     },
 }
@@ -86,19 +86,19 @@ fn write_more<W: Sink>(more: usize, w: &mut W) -> Result<(), WriteFault>
 }
 
 /// Writes the explanations of rejected lines.
-fn write_refusals<W: Sink>(told: &ToldRefusals, w: &mut W) -> Result<(), WriteFault>
+fn write_refusals<W: Sink>(reported: &ReportedRefusals, w: &mut W) -> Result<(), WriteFault>
     requires { W.failed w.old ≡ false }
-    ensures bytes { Writes (W.contents w.old) (W.contents w.new) (refusals_text told.now) result }
+    ensures bytes { Writes (W.contents w.old) (W.contents w.new) (refusals_text reported.now) result }
     ensures flag { Flags (W.failed w.old) (W.failed w.new) result }
 {
-    match write_whole(w, told.text.as_slice()) {
-        Ok(()) => write_more(told.more, w),
+    match write_whole(w, reported.text.as_slice()) {
+        Ok(()) => write_more(reported.more, w),
         Err(fault) => Err(fault),
     }
 }
 
 /// Writes the line of a stop, and then more.
-fn write_behind<W: Sink>(stop: Stop, more: &[u8], w: &mut W) -> Result<(), WriteFault>
+fn write_after<W: Sink>(stop: Stop, more: &[u8], w: &mut W) -> Result<(), WriteFault>
     requires { W.failed w.old ≡ false }
     ensures bytes { Writes (W.contents w.old) (W.contents w.new) (message_of stop ++ more.now) result }
     ensures flag { Flags (W.failed w.old) (W.failed w.new) result }
@@ -110,19 +110,19 @@ fn write_behind<W: Sink>(stop: Stop, more: &[u8], w: &mut W) -> Result<(), Write
 }
 
 /// Writes the explanations of rejected lines, the line of a stop, and then more.
-fn write_told<W: Sink>(
-    told: &ToldRefusals,
+fn write_reported<W: Sink>(
+    reported: &ReportedRefusals,
     stop: Stop,
     more: &[u8],
     w: &mut W,
 ) -> Result<(), WriteFault>
     requires { W.failed w.old ≡ false }
-    ensures bytes { Writes (W.contents w.old) (W.contents w.new) (refusals_text told.now
+    ensures bytes { Writes (W.contents w.old) (W.contents w.new) (refusals_text reported.now
         ++ (message_of stop ++ more.now)) result }
     ensures flag { Flags (W.failed w.old) (W.failed w.new) result }
 {
-    match write_refusals(told, w) {
-        Ok(()) => write_behind(stop, more, w),
+    match write_refusals(reported, w) {
+        Ok(()) => write_after(stop, more, w),
         Err(fault) => Err(fault),
     }
 }
@@ -136,7 +136,16 @@ pub fn write_ending<W: Sink>(ending: &Ending, w: &mut W) -> Result<(), WriteFaul
 {
     match ending {
         Ending::Plain(stop) => write_stop(*stop, w),
-        Ending::Explained { told, stop, why } => write_told(told, *stop, why.as_slice(), w),
-        Ending::Unexplained { told, stop } => write_told(told, *stop, b"out of memory\n", w),
+        Ending::Explained {
+            reported,
+            stop,
+            why,
+        } => write_reported(reported, *stop, why.as_slice(), w),
+        Ending::Unexplained { reported, stop } => write_reported(
+            reported,
+            *stop,
+            b"out of memory\n",
+            w,
+        ),
     }
 }

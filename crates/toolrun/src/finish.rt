@@ -2,7 +2,7 @@
 ghost use Rattle.std.specs.Prelude.{◌≡◌, ℕ, List, true, false};
 ghost use Rattle.std.specs.Io.KnownBytes.{Appends, Keeps};
 ghost use Rattle.ruletable.specs.Writing.{Flags, Writes};
-ghost use Rattle.toolrun.specs.Finish.{told_of, ending_of, Concludes, Finishes};
+ghost use Rattle.toolrun.specs.Finish.{reported_of, ending_of, Concludes, Finishes};
 ghost use Rattle.toolrun.specs.Flush.{Flushes};
 ghost use Rattle.toolrun.specs.Status.{code_of};
 
@@ -14,7 +14,7 @@ use ruletable::{Sink, WriteFault, write_whole};
 /// Flushes the output, and reports a fault on the error output.
 fn flush_out<O: Sink, E: Sink>(out: &mut O, err: &mut E)
     ensures kept { Keeps (O.contents out.old) (O.contents out.new) }
-    ensures told { (more : List ℕ) × Appends (E.contents err.old) (E.contents err.new) more ×
+    ensures reported { (more : List ℕ) × Appends (E.contents err.old) (E.contents err.new) more ×
         Flushes (O.failed out.old) (O.failed out.new) (E.failed err.old) (E.failed err.new) more }
 {
     if out.has_failed() {
@@ -42,9 +42,9 @@ fn flush_err<E: Sink>(err: &mut E)
 }
 
 /// Writes on the error output how a run ends, or that the output failed.
-fn tell<E: Sink>(ending: &Result<Ending, WriteFault>, err: &mut E) -> Result<(), WriteFault>
+fn report<E: Sink>(ending: &Result<Ending, WriteFault>, err: &mut E) -> Result<(), WriteFault>
     requires { E.failed err.old ≡ false }
-    ensures bytes { Writes (E.contents err.old) (E.contents err.new) (told_of ending.now) result }
+    ensures bytes { Writes (E.contents err.old) (E.contents err.new) (reported_of ending.now) result }
     ensures flag { Flags (E.failed err.old) (E.failed err.new) result }
 {
     match ending {
@@ -73,11 +73,11 @@ pub fn conclude<O: Sink, E: Sink>(
     requires flag { Flags false (O.failed out.old) ending }
     ensures kept { Keeps (O.contents out.old) (O.contents out.new) }
     ensures stays { O.failed out.old ≡ true → O.failed out.new ≡ true }
-    ensures told { (told : List ℕ) × Appends (E.contents err.old) (E.contents err.new) told ×
-        Concludes ending (O.failed out.new) (E.failed err.new) told (code_of result) }
+    ensures reported { (reported : List ℕ) × Appends (E.contents err.old) (E.contents err.new) reported ×
+        Concludes ending (O.failed out.new) (E.failed err.new) reported (code_of result) }
 {
     let base = status_at_end(&ending);
-    let _ = tell(&ending, err);
+    let _ = report(&ending, err);
     flush_out(out, err);
     flush_err(err);
     if out.has_failed() {
@@ -96,8 +96,8 @@ pub fn finish<O: Sink, E: Sink>(stop: Result<Stop, WriteFault>, out: &mut O, err
     requires flag { Flags false (O.failed out.old) stop }
     ensures kept { Keeps (O.contents out.old) (O.contents out.new) }
     ensures stays { O.failed out.old ≡ true → O.failed out.new ≡ true }
-    ensures told { (told : List ℕ) × Appends (E.contents err.old) (E.contents err.new) told ×
-        Finishes stop (O.failed out.new) (E.failed err.new) told (code_of result) }
+    ensures reported { (reported : List ℕ) × Appends (E.contents err.old) (E.contents err.new) reported ×
+        Finishes stop (O.failed out.new) (E.failed err.new) reported (code_of result) }
 {
     conclude(plain_ending(stop), out, err)
 }

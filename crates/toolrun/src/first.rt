@@ -29,7 +29,7 @@ pub fn write_first<W: Sink>(alloc: Global, first: &First, w: &mut W) -> Result<(
 {
     match first {
         First::Notes(notes) => write_notes(alloc, notes.as_slice(), w),
-        First::Told(told) => write_whole(w, told.as_slice()),
+        First::Reported(reported) => write_whole(w, reported.as_slice()),
         First::Fault { fault, why } => write_explained(fault, why.as_slice(), w),
     }
 }

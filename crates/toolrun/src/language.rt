@@ -135,9 +135,9 @@ pub trait Language {
         places: &Self::Places,
         settings: &Settings<'_, Self::Options>,
     ) -> Result<Vec<u8>, Memory>
-        ensures { IfOk result (λ told. (text : List ℕ)
+        ensures { IfOk result (λ reported. (text : List ℕ)
             → are_places text (option_copied settings.now.start) places.now
-            → are_hints text settings.now told.items) };
+            → are_hints text settings.now reported.items) };
 
     /// Checks a grammar, and notes what there is to say of it. `Memory` if an allocation fails.
     fn check(

@@ -9,13 +9,13 @@ mod language;
 mod notes;
 mod opening;
 mod plan;
+mod reported;
 mod settings;
 mod status;
 mod stop;
-mod told;
 mod tool;
 
-pub use ending::{Ending, ToldRefusals, plain_ending};
+pub use ending::{Ending, ReportedRefusals, plain_ending};
 pub use finish::{close as close_run, conclude as conclude_run, finish as end_run};
 pub use first::write_first;
 pub use language::{Checked, Language};

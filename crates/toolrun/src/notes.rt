@@ -67,9 +67,9 @@ pub fn write_notes<W: Sink>(alloc: Global, notes: &[Note], w: &mut W) -> Result<
 {
     let mut rest = notes;
     while !rest.is_empty() {
-        let (block, behind) = rest.split_at(rest.len().min(BLOCK));
+        let (block, after) = rest.split_at(rest.len().min(BLOCK));
         match write_block(alloc, block, w) {
-            Ok(()) => rest = behind,
+            Ok(()) => rest = after,
             Err(fault) => return Err(fault),
         }
     }

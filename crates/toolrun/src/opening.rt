@@ -1,12 +1,12 @@
 //! Opens a grammar: reads its text, checks it, and makes the messages on it.
 ghost use Rattle.std.specs.Prelude.{◌≡◌, IfErr, IfOk, IfSome, map, option_copied};
 ghost use Rattle.ruletable.specs.Notes.{said_of};
-ghost use Rattle.toolrun.specs.ToldNotes.{HintedNotes};
+ghost use Rattle.toolrun.specs.ReportedNotes.{HintedNotes};
 
 use crate::language::{Checked, Language};
 use crate::notes::text_of;
+use crate::reported::{HintText, reported_hints};
 use crate::settings::Settings;
-use crate::told::{HintText, told_hints};
 use ruletable::{Memory, Note, ReadFault};
 use std::alloc::Global;
 
@@ -62,7 +62,7 @@ fn diagnostics_of<L: Language>(
         let text = text_of(alloc, notes)?;
         return Ok((text, rules));
     }
-    match told_hints::<L>(alloc, text, settings, rules, notes) {
+    match reported_hints::<L>(alloc, text, settings, rules, notes) {
         HintText::Whole(text, rules) => Ok((text, rules)),
         HintText::Part(_) => Err(Memory),
     }

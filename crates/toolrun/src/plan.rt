@@ -5,7 +5,7 @@ ghost use Rattle.ruletable.specs.Notes.{Said, said_of};
 ghost use Rattle.toolrun.specs.Plan.{IsPlanned, first_text};
 ghost use Rattle.toolrun.specs.Stop.{unread};
 ghost use Rattle.toolrun.specs.Tasks.{IsTask, task_does};
-ghost use Rattle.toolrun.specs.ToldNotes.{AreToldBefore, HintedNotes};
+ghost use Rattle.toolrun.specs.ReportedNotes.{AreReportedBefore, HintedNotes};
 ghost use Rattle.toolrun.specs.declared.settings.Mode.TheVariants.{Print};
 ghost use Rattle.toolrun.specs.declared.status.Status.TheVariants.{Refused};
 ghost use Rattle.toolrun.specs.declared.stop.Stop.TheVariants.{Quiet};
@@ -13,10 +13,10 @@ ghost use Rattle.toolrun.specs.declared.settings.Settings.{Settings as AllSettin
 
 use crate::language::{Checked, Language};
 use crate::opening::read_checked;
+use crate::reported::{HintText, NoteText, reported_hints, reported_notes};
 use crate::settings::{Mode, Settings};
 use crate::status::Status;
 use crate::stop::{Stop, stop_unread};
-use crate::told::{HintText, NoteText, told_hints, told_notes};
 use ruletable::{Memory, Note, ReadFault};
 use std::alloc::Global;
 
@@ -35,7 +35,7 @@ pub enum First {
     /// The notes on the grammar.
     Notes(Vec<Note>),
     /// Notes on the grammar, each with the lines that explain it.
-    Told(Vec<u8>),
+    Reported(Vec<u8>),
     /// The fault of its text, and the lines that explain it.
     Fault { fault: ReadFault, why: Vec<u8> },
 }
@@ -166,7 +166,7 @@ fn plan_again<L: Language>(
     notes: Vec<Note>,
 ) -> Plan<L::Grammar, L::Sound>
     requires { L.is_read text.now grammar }
-    ensures { AreToldBefore settings.now (L.explains_note text.now) (map said_of notes.items)
+    ensures { AreReportedBefore settings.now (L.explains_note text.now) (map said_of notes.items)
         (first_text result.first) (Err (Quiet Refused)) result.task }
 {
     let task = Err(Stop::Quiet(Status::Refused));
@@ -176,13 +176,13 @@ fn plan_again<L: Language>(
             task,
         };
     }
-    match told_notes::<L>(alloc, text, settings.start, grammar, notes.as_slice()) {
-        NoteText::Whole(told) => Plan {
-            first: First::Told(told),
+    match reported_notes::<L>(alloc, text, settings.start, grammar, notes.as_slice()) {
+        NoteText::Whole(reported) => Plan {
+            first: First::Reported(reported),
             task,
         },
-        NoteText::Part(told) => Plan {
-            first: First::Told(told),
+        NoteText::Part(reported) => Plan {
+            first: First::Reported(reported),
             task: Err(Stop::NoMemory),
         },
     }
@@ -238,12 +238,12 @@ fn plan_opened<L: Language>(
     if !settings.explain {
         return plan_task::<L>(alloc, settings, First::Notes(notes), rules, judged);
     }
-    match told_hints::<L>(alloc, text, settings, rules, notes.as_slice()) {
-        HintText::Whole(told, rules) => {
-            plan_task::<L>(alloc, settings, First::Told(told), rules, judged)
+    match reported_hints::<L>(alloc, text, settings, rules, notes.as_slice()) {
+        HintText::Whole(reported, rules) => {
+            plan_task::<L>(alloc, settings, First::Reported(reported), rules, judged)
         }
-        HintText::Part(told) => Plan {
-            first: First::Told(told),
+        HintText::Part(reported) => Plan {
+            first: First::Reported(reported),
             task: Err(Stop::NoMemory),
         },
     }

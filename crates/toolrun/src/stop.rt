@@ -75,16 +75,16 @@ pub fn write_stop<W: Sink>(stop: Stop, w: &mut W) -> Result<(), WriteFault>
 fn write_numbers<W: Sink>(
     before: &[u8],
     at: usize,
-    behind: &[u8],
+    after: &[u8],
     w: &mut W,
 ) -> Result<(), WriteFault>
     requires { W.failed w.old ≡ false }
-    ensures bytes { Writes (W.contents w.old) (W.contents w.new) (before.now ++ decimal at ++ behind.now) result }
+    ensures bytes { Writes (W.contents w.old) (W.contents w.new) (before.now ++ decimal at ++ after.now) result }
     ensures flag { Flags (W.failed w.old) (W.failed w.new) result }
 {
     let mut digits = Buffer::new();
     let place = digits.format(at).as_bytes();
-    let pieces: [&[u8]; 3] = [before, place, behind];
+    let pieces: [&[u8]; 3] = [before, place, after];
     write_pieces(w, &pieces)
 }
 

@@ -7,7 +7,7 @@ use Rattle.memoryrun.specs.PlannedRun.{IsPlannedRun}
 use Rattle.uses.specs.Taken.{IsTaken}
 use Rattle.toolrun.specs.Delivery.{Delivers, Observed}
 use Rattle.toolrun.specs.Input.{Input, bounded}
-use Rattle.toolrun.specs.Plan.{Behind, IsPlanned, behind_notes, does_of, in_reply, told_behind}
+use Rattle.toolrun.specs.Plan.{Follows, IsPlanned, after_notes, does_of, in_reply, reported_after}
 use Rattle.toolrun.specs.Reply.{Reply}
 use Rattle.toolrun.specs.declared.stop.Stop.{Stop}
 use Rattle.toolrun.proofs.DeliversLemmas.{delivers_whole}
@@ -38,6 +38,6 @@ planned_is_taken States first Does task input out err code plan run zero =
     is_done : run.stated.status ≡ 0
     is_done = done_stated run.notes run.stated _ run.delivers zero
 
-    by : Behind States (bounded input) first run.stated → IsTaken States input
-    by (behind_notes s) = record { notes = first; stated = run.stated; states = s; done = is_done }
-    by (in_reply none s) = record { notes = []; stated = told_behind first run.stated; states = s; done = is_done }
+    by : Follows States (bounded input) first run.stated → IsTaken States input
+    by (after_notes s) = record { notes = first; stated = run.stated; states = s; done = is_done }
+    by (in_reply none s) = record { notes = []; stated = reported_after first run.stated; states = s; done = is_done }

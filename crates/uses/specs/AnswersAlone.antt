@@ -13,4 +13,5 @@ use Rattle.abnfrun.specs.AbnfSettings.{AbnfSettings}
 abbrev pub AnswersAlone : List ℕ → AbnfSettings → List ℕ → Answer → Type 0
 AnswersAlone text settings line said = settings.mode ≡ Run → settings.explain ≡ false
     → settings.options.keeps ≡ false → HasNoEnd (form_of settings).end line
-    → (told : List ℕ) × AbnfStates text settings (line_alone settings line) told (answer_alone settings line said [])
+    → (reported : List ℕ) × AbnfStates text settings (line_alone settings line) reported
+    (answer_alone settings line said [])

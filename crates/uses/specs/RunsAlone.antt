@@ -10,5 +10,5 @@ use Rattle.pegrun.specs.PegSettings.{PegSettings}
 -- A run of the grammar's text on the input writes this, behind what it tells of the grammar. The settings ask for a run
 -- whose messages are not explained.
 abbrev pub RunsAlone : List ℕ → PegSettings → List ℕ → Outputs → Type 0
-RunsAlone text settings input wrote = settings.mode ≡ Run → settings.explain ≡ false → (told : List ℕ)
-    × IsMemoryRun (States text settings) input wrote.out.items (told ++ wrote.err.items) (code_of wrote.status)
+RunsAlone text settings input wrote = settings.mode ≡ Run → settings.explain ≡ false → (reported : List ℕ)
+    × IsMemoryRun (States text settings) input wrote.out.items (reported ++ wrote.err.items) (code_of wrote.status)

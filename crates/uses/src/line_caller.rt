@@ -19,7 +19,7 @@ pub struct Comments {
 }
 
 impl Judge<()> for Comments {
-    ghost told = { λ _ line said. IsCommentAnswer line said };
+    ghost reported = { λ _ line said. IsCommentAnswer line said };
 
     ghost explains = { λ _. true };
 

@@ -1,6 +1,6 @@
 //! The nearest content before a line.
 ghost use Rattle.std.specs.Prelude.{◌≡◌};
-ghost use Rattle.abnfblocks.specs.KeptSteps.{goes_behind, next_behind};
+ghost use Rattle.abnfblocks.specs.KeptSteps.{goes_after, next_after};
 
 use crate::rfctext::line_kind::LineKind;
 
@@ -18,7 +18,7 @@ pub(crate) enum Before {
 impl Before {
     // Returns whether such a line goes, whatever follows it.
     pub(crate) fn takes(self, kind: LineKind) -> bool
-        ensures { result ≡ goes_behind self kind }
+        ensures { result ≡ goes_after self kind }
     {
         match kind {
             LineKind::Feed | LineKind::Foot => true,
@@ -29,8 +29,8 @@ impl Before {
     }
 
     // Returns what stands nearest before the next line, after such a line.
-    pub(crate) fn behind(self, kind: LineKind) -> Before
-        ensures { result ≡ next_behind self kind }
+    pub(crate) fn after(self, kind: LineKind) -> Before
+        ensures { result ≡ next_after self kind }
     {
         match kind {
             LineKind::Feed | LineKind::Foot => Before::Mark,

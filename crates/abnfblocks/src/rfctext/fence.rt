@@ -1,7 +1,7 @@
 //! Fenced blocks of code in Markdown.
 ghost use Rattle.std.specs.Prelude.{◌≡◌, ◌≤◌, ◌==◌, length};
 ghost use Rattle.std.specs.List.{list_all, list_any};
-ghost use Rattle.abnfblocks.specs.Fences.{behind_fence as rest_behind, behind_spaces as spaces_behind, class_of};
+ghost use Rattle.abnfblocks.specs.Fences.{after_fence as rest_after, after_spaces as spaces_after, class_of};
 ghost use Rattle.abnfblocks.specs.Fences.{closing_length as length_closing, fence_length as length_of};
 ghost use Rattle.abnfblocks.specs.Fences.{hides_block as block_hides, information_of};
 ghost use Rattle.abnfblocks.specs.Fences.{is_read_language as language_reads, is_title_fence as title_fence};
@@ -32,17 +32,17 @@ fn run_length(text: &[u8], byte: u8) -> usize
 }
 
 // Returns the line without the spaces that begin it.
-fn behind_spaces(line: &[u8]) -> &[u8]
-    ensures { result.now ≡ spaces_behind line.now }
+fn after_spaces(line: &[u8]) -> &[u8]
+    ensures { result.now ≡ spaces_after line.now }
 {
     &line[run_length(line, b' ')..]
 }
 
 // Returns what follows the fence of that character.
-fn behind_fence(line: &[u8], mark: u8) -> &[u8]
-    ensures { result.now ≡ rest_behind mark line.now }
+fn after_fence(line: &[u8], mark: u8) -> &[u8]
+    ensures { result.now ≡ rest_after mark line.now }
 {
-    let text = behind_spaces(line);
+    let text = after_spaces(line);
     &text[run_length(text, mark)..]
 }
 
@@ -50,7 +50,7 @@ fn behind_fence(line: &[u8], mark: u8) -> &[u8]
 fn fence_length(line: &[u8], mark: u8) -> usize
     ensures { result ≡ length_of mark line.now }
 {
-    let size = run_length(behind_spaces(line), mark);
+    let size = run_length(after_spaces(line), mark);
     if run_length(line, b' ') < 4 && size > 2 {
         size
     } else {
@@ -76,7 +76,7 @@ fn is_bare(text: &[u8]) -> bool
 pub(crate) fn opening_length(line: &[u8], mark: u8) -> usize
     ensures { result ≡ length_opening mark line.now }
 {
-    if mark == b'`' && has_byte(behind_fence(line, mark), b'`') {
+    if mark == b'`' && has_byte(after_fence(line, mark), b'`') {
         return 0;
     }
     fence_length(line, mark)
@@ -86,7 +86,7 @@ pub(crate) fn opening_length(line: &[u8], mark: u8) -> usize
 pub(crate) fn closing_length(line: &[u8], mark: u8) -> usize
     ensures { result ≡ length_closing mark line.now }
 {
-    if is_bare(behind_fence(line, mark)) {
+    if is_bare(after_fence(line, mark)) {
         return fence_length(line, mark);
     }
     0
@@ -132,9 +132,9 @@ fn information(line: &[u8]) -> &[u8]
     ensures { result.now ≡ information_of line.now }
 {
     if fence_length(line, b'`') > 0 {
-        behind_fence(line, b'`')
+        after_fence(line, b'`')
     } else {
-        behind_fence(line, b'~')
+        after_fence(line, b'~')
     }
 }
 

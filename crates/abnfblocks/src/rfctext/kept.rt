@@ -3,7 +3,7 @@ ghost use Rattle.std.specs.Prelude.{◌≡◌, ◌+◌, ◌<◌, [], ◌∷◌, 
 ghost use Rattle.std.specs.List.{suffix_len};
 ghost use Rattle.abnfblocks.specs.Furniture.{KeepsLines};
 ghost use Rattle.abnfblocks.specs.KeptSteps.{is_blank_kind, cut_blanks, after_line};
-ghost use Rattle.abnfblocks.specs.TextLines.{behind_mark, numbered, text_lines, line_parts};
+ghost use Rattle.abnfblocks.specs.TextLines.{after_mark, numbered, text_lines, line_parts};
 
 use crate::rfctext::before::Before;
 use crate::rfctext::text_line::{TextLine, before_cr, part_size};
@@ -64,22 +64,19 @@ pub(crate) fn cut_part(text: &[u8]) -> Parts<'_>
     ensures less { length result.rest.now < length text.now }
 {
     let size = part_size(text);
-    let (first, behind) = text.split_at(size);
-    match behind.split_first() {
+    let (first, after) = text.split_at(size);
+    match after.split_first() {
         Some((_, rest)) => Parts {
             first: before_cr(first),
             rest,
         },
-        None => Parts {
-            first,
-            rest: behind,
-        },
+        None => Parts { first, rest: after },
     }
 }
 
 /// Returns the text without the byte order mark (EF BB BF) that begins it, if one does.
 pub fn without_mark(text: &[u8]) -> &[u8]
-    ensures { result.now ≡ behind_mark text.now }
+    ensures { result.now ≡ after_mark text.now }
 {
     match text.strip_prefix(b"\xEF\xBB\xBF") {
         Some(rest) => rest,
@@ -99,7 +96,7 @@ pub(crate) fn kept_lines(alloc: Global, text: &[u8]) -> Result<Vec<TextLine<'_>>
         let parts = cut_part(rest);
         let line = TextLine::new(number, parts.first);
         take_line(&mut kept, before, line)?;
-        before = before.behind(line.kind);
+        before = before.after(line.kind);
         rest = parts.rest;
         number += 1;
     }

@@ -16,7 +16,7 @@ pub fn linked_reading()
     ensures linked { (a b : List ℕ) (first second : List Definition) → EndsLine a → SpellsAtMargin a first
         → SpellsAtMargin b second
         → SpellsAtMargin (a ++ b) (first ++ map (moved_definition (length a)) second) }
-    ensures behind { (a b : List ℕ) (definitions : List Definition) → EndsLine a → White a []
+    ensures after { (a b : List ℕ) (definitions : List Definition) → EndsLine a → White a []
         → SpellsAtMargin b definitions
         → SpellsAtMargin (a ++ b) (map (moved_definition (length a)) definitions) }
     ensures reads { (text : List ℕ) (definitions : List Definition) → SpellsAtMargin text definitions

@@ -2,7 +2,7 @@
 ghost use Rattle.std.specs.Prelude.{◌≡◌, ◌++◌, ℕ, List, length, map, IfOk, OnOk, option_copied};
 ghost use Rattle.lexer.specs.TokenLists.{AreTokens, tok_of};
 ghost use Rattle.ruletable.specs.Notes.{said, said_of};
-ghost use Rattle.diagnostics.specs.ExplainedNotes.{ArePlaces, AreToldBy};
+ghost use Rattle.diagnostics.specs.ExplainedNotes.{ArePlaces, AreReportedBy};
 
 use crate::noteplaces::heads::heads_of;
 use crate::noteplaces::kept::kept_tokens;
@@ -67,7 +67,8 @@ fn push_lines(
     kind: NoteKind,
     name: &[u8],
 ) -> Result<(), Memory>
-    ensures { OnOk result ((why : List ℕ) × AreToldBy places.now (option_copied start.entry) (said kind name.now) why
+    ensures { OnOk result ((why : List ℕ) × AreReportedBy places.now (option_copied start.entry)
+        (said kind name.now) why
         × (out.new.items ≡ out.old.items ++ why)) }
 {
     match kind {
@@ -95,7 +96,7 @@ pub fn explain_note(
     start: Option<&str>,
     note: &Note,
 ) -> Result<Vec<u8>, Memory>
-    ensures { IfOk result (λ why. AreToldBy places.now (option_copied start.entry) (said_of note.now) why.items) }
+    ensures { IfOk result (λ why. AreReportedBy places.now (option_copied start.entry) (said_of note.now) why.items) }
 {
     let mut out = Vec::new(alloc);
     push_lines(

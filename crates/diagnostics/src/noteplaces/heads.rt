@@ -64,7 +64,7 @@ pub(crate) fn opening_of<'a>(before: Option<Signed<'a>>, token: Signed<'a>) -> O
 }
 
 // The line of a byte, where the line of one before it is known.
-pub(crate) fn line_behind(
+pub(crate) fn line_after(
     text: &[u8],
     at: usize,
     line: usize,
@@ -104,7 +104,7 @@ pub(crate) fn heads_of<K: Kind, S: Signs<K>>(
         let opening = opening_of(before, signed);
         before = Some(signed);
         if let Some(opening) = opening {
-            line = line_behind(text, at, line, opening.start, rule);
+            line = line_after(text, at, line, opening.start, rule);
             at = opening.start;
             let name = Vec::from_slice(alloc, opening.name)?;
             heads.push(Head {

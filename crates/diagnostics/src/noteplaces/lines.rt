@@ -2,7 +2,7 @@
 ghost use Rattle.std.specs.Prelude.{◌≡◌, ◌++◌, map, flat_map, OnOk, IfOk};
 ghost use Rattle.ruletable.specs.Rules.{same_name};
 ghost use Rattle.diagnostics.specs.DefinitionHeads.{defined_at};
-ghost use Rattle.diagnostics.specs.NoteLines.{agains_told, first_line, lines_of, more_told, name_line, named};
+ghost use Rattle.diagnostics.specs.NoteLines.{agains_reported, first_line, lines_of, more_reported, name_line, named};
 ghost use Rattle.diagnostics.specs.NoteLines.{not_adding, redefined_lines};
 
 use crate::noteplaces::heads::Head;
@@ -16,15 +16,15 @@ use std::alloc::Global;
 pub const MAX_AGAIN: usize = 8;
 
 // Adds the line of a definition.
-fn push_name_line(out: &mut Vec<u8>, head: &Head, told: &[u8]) -> Result<(), Memory>
-    ensures { OnOk result (out.new.items ≡ out.old.items ++ name_line told.now (defined_at head.now)) }
+fn push_name_line(out: &mut Vec<u8>, head: &Head, reported: &[u8]) -> Result<(), Memory>
+    ensures { OnOk result (out.new.items ≡ out.old.items ++ name_line reported.now (defined_at head.now)) }
 {
     out.extend_from_slice(b"  line ")?;
     push_number(out, head.line)?;
     out.extend_from_slice(b": '")?;
     push_cut(out, head.name.as_slice())?;
     out.extend_from_slice(b"' ")?;
-    out.extend_from_slice(told)?;
+    out.extend_from_slice(reported)?;
     out.extend_from_slice(b"\n")?;
     Ok(())
 }
@@ -34,7 +34,7 @@ fn push_name_line(out: &mut Vec<u8>, head: &Head, told: &[u8]) -> Result<(), Mem
 /// # Errors
 /// `Memory` if an allocation fails.
 pub fn push_more(out: &mut Vec<u8>, count: usize) -> Result<(), Memory>
-    ensures { OnOk result (out.new.items ≡ out.old.items ++ more_told count) }
+    ensures { OnOk result (out.new.items ≡ out.old.items ++ more_reported count) }
 {
     if count > 0 {
         out.extend_from_slice(b"  and ")?;
@@ -82,19 +82,19 @@ fn not_adding_heads<'a>(alloc: Global, heads: &[&'a Head]) -> Result<Vec<&'a Hea
 }
 
 // Adds a line for each of the definitions.
-fn push_name_lines(out: &mut Vec<u8>, heads: &[&Head], told: &[u8]) -> Result<(), Memory>
-    ensures { OnOk result (out.new.items ≡ out.old.items ++ flat_map (λ h. name_line told.now (defined_at h.now))
+fn push_name_lines(out: &mut Vec<u8>, heads: &[&Head], reported: &[u8]) -> Result<(), Memory>
+    ensures { OnOk result (out.new.items ≡ out.old.items ++ flat_map (λ h. name_line reported.now (defined_at h.now))
         heads.now) }
 {
     for head in heads {
-        push_name_line(out, head, told)?;
+        push_name_line(out, head, reported)?;
     }
     Ok(())
 }
 
 // Adds the lines of the definitions that do not stand.
 fn push_agains(out: &mut Vec<u8>, heads: &[&Head]) -> Result<(), Memory>
-    ensures { OnOk result (out.new.items ≡ out.old.items ++ agains_told (map (λ h. defined_at h.now) heads.now)) }
+    ensures { OnOk result (out.new.items ≡ out.old.items ++ agains_reported (map (λ h. defined_at h.now) heads.now)) }
 {
     let shown = heads.len().min(MAX_AGAIN);
     push_name_lines(out, &heads[..shown], b"is defined again")?;
@@ -103,12 +103,12 @@ fn push_agains(out: &mut Vec<u8>, heads: &[&Head]) -> Result<(), Memory>
 }
 
 // Adds the line of a rule's first definition.
-fn push_first(out: &mut Vec<u8>, heads: &[&Head], told: &[u8]) -> Result<(), Memory>
+fn push_first(out: &mut Vec<u8>, heads: &[&Head], reported: &[u8]) -> Result<(), Memory>
     ensures { OnOk result (out.new.items ≡ out.old.items
-        ++ first_line told.now (map (λ h. defined_at h.now) heads.now)) }
+        ++ first_line reported.now (map (λ h. defined_at h.now) heads.now)) }
 {
     match heads.split_first() {
-        Some((head, _)) => push_name_line(out, head, told),
+        Some((head, _)) => push_name_line(out, head, reported),
         None => Ok(()),
     }
 }

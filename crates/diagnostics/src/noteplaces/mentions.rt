@@ -5,7 +5,7 @@ ghost use Rattle.ruletable.specs.Lines.{line_at};
 ghost use Rattle.diagnostics.specs.BodyMentions.{AreMentions, is_kind as same_kind, mention_of, mentioned_at};
 ghost use Rattle.diagnostics.specs.DefinitionHeads.{signed_at};
 
-use crate::noteplaces::heads::{Signed, line_behind, opening_of};
+use crate::noteplaces::heads::{Signed, line_after, opening_of};
 use crate::noteplaces::sign::{Sign, Signs};
 use lexer::{Kind, Token, tokens_make_up};
 use ruletable::{LineRule, Memory};
@@ -105,7 +105,7 @@ pub(crate) fn mentions_of<K: Kind, S: Signs<K>>(
         let opening = opening_of(last, signed);
         before = Some(signed);
         if let Some(last) = last {
-            line = line_behind(text, at, line, last.start, rule);
+            line = line_after(text, at, line, last.start, rule);
             at = last.start;
             match opening {
                 Some(opening) => within = Some(opening.start),

@@ -49,8 +49,8 @@ fn count_before(text: &[u8], rule: LineRule) -> usize
 }
 
 // How many bytes stand before the first line end, or in all.
-fn count_behind(text: &[u8], rule: LineRule) -> usize
-    ensures behind { result ≡ line_size rule text.now }
+fn count_after(text: &[u8], rule: LineRule) -> usize
+    ensures after { result ≡ line_size rule text.now }
     ensures within { result ≤ length text.now }
 {
     let mut size = 0;
@@ -73,9 +73,9 @@ pub fn line_around(text: &[u8], offset: usize, rule: LineRule) -> LineAround<'_>
     ensures within { result.before ≤ length result.line.now }
 {
     let before = count_before(&text[..offset], rule);
-    let behind = count_behind(&text[offset..], rule);
+    let after = count_after(&text[offset..], rule);
     LineAround {
-        line: &text[offset - before..offset + behind],
+        line: &text[offset - before..offset + after],
         before,
     }
 }

@@ -1,6 +1,6 @@
 //! Lines with a caret below a byte.
 ghost use Rattle.std.specs.Prelude.{◌≡◌, ◌≤◌, ◌++◌, length, replicate, OnOk};
-ghost use Rattle.diagnostics.specs.Pictures.{window_start, left_part, right_part, picture, place_told};
+ghost use Rattle.diagnostics.specs.Pictures.{window_start, left_part, right_part, picture, place_reported};
 
 use crate::picture::around::{LineAround, line_around};
 use crate::picture::shown::{push_dots, push_number, push_shown};
@@ -83,7 +83,7 @@ pub fn push_place(
     rule: LineRule,
 ) -> Result<(), Memory>
     requires { offset ≤ length text.now }
-    ensures { OnOk result (out.new.items ≡ out.old.items ++ place_told rule text.now offset) }
+    ensures { OnOk result (out.new.items ≡ out.old.items ++ place_reported rule text.now offset) }
 {
     let place = line_around(text, offset, rule);
     push_picture(out, place)?;

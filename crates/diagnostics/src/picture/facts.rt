@@ -1,7 +1,7 @@
 //! Facts that the first bytes of a text show.
 ghost use Rattle.std.specs.Prelude.{◌≡◌, ◌++◌, map, OnOk};
 ghost use Rattle.std.specs.Option.{option_map};
-ghost use Rattle.diagnostics.specs.FirstBytes.{first_fact, first_told, fact_line};
+ghost use Rattle.diagnostics.specs.FirstBytes.{first_fact, first_reported, fact_line};
 ghost use Rattle.diagnostics.specs.FactRows.{row_of};
 
 use ruletable::Memory;
@@ -12,14 +12,14 @@ pub struct Fact {
     /// The prefix.
     pub begins: &'static [u8],
     /// The report.
-    pub told: &'static [u8],
+    pub reported: &'static [u8],
 }
 
 /// Makes an array of facts: after the first bytes of each stands what is reported.
 #[macro_export]
 macro_rules! facts {
-    ($($begins:literal => $told:literal,)*) => {
-        [$($crate::Fact { begins: $begins, told: $told }),*]
+    ($($begins:literal => $reported:literal,)*) => {
+        [$($crate::Fact { begins: $begins, reported: $reported }),*]
     };
 }
 
@@ -42,7 +42,7 @@ pub fn find_fact(facts: &[Fact], text: &[u8]) -> Option<&'static [u8]>
 {
     for fact in facts {
         if text.starts_with(fact.begins) {
-            return Some(fact.told);
+            return Some(fact.reported);
         }
     }
     None
@@ -53,10 +53,10 @@ pub fn find_fact(facts: &[Fact], text: &[u8]) -> Option<&'static [u8]>
 /// # Errors
 /// `Memory` if an allocation fails.
 pub fn push_fact(out: &mut Vec<u8>, facts: &[Fact], text: &[u8]) -> Result<(), Memory>
-    ensures { OnOk result (out.new.items ≡ out.old.items ++ first_told (map row_of facts.now) text.now) }
+    ensures { OnOk result (out.new.items ≡ out.old.items ++ first_reported (map row_of facts.now) text.now) }
 {
     match find_fact(facts, text) {
-        Some(told) => push_line(out, told),
+        Some(reported) => push_line(out, reported),
         None => Ok(()),
     }
 }

@@ -4,12 +4,12 @@ ghost use Rattle.std.specs.Prelude.{slice_get};
 ghost use Rattle.flatgrammar.specs.Flat.{Flat, Place, Concat};
 ghost use Rattle.flatgrammar.specs.Holds.{Holds};
 ghost use Rattle.flatgrammar.specs.Holds.{HasItem};
-ghost use Rattle.letterclasses.specs.Stacks.{Reach, Accepts, ReadBy, TellsLast, AreUncounted, AreAlike};
+ghost use Rattle.letterclasses.specs.Stacks.{Reach, Accepts, ReadBy, MarksLast, AreUncounted, AreAlike};
 ghost use Rattle.letterclasses.specs.Stacks.{IsPlain, IsFront, IsNext, IsUnfolded, Lifted, IsReading};
 
 /// Returns nothing. Its contract is a law: stacks and item sets hold the same dotted rules, and accept the same lines.
-pub fn stacks_tell()
-    ensures { (flat : Flat) (last : Place → Bool) (body : ℕ) (x : List ℕ) → TellsLast flat last → AreUncounted flat
+pub fn stacks_decide()
+    ensures { (flat : Flat) (last : Place → Bool) (body : ℕ) (x : List ℕ) → MarksLast flat last → AreUncounted flat
         → slice_get flat.nodes flat.whole ≡ Some (Concat (body ∷ [])) → (j : ℕ) →
         (Accepts flat last x j ↔ Holds flat x j (Place.at flat.whole 1) 0) ×
         (((stack : List Place) × Reach flat last x j stack) ↔ HasItem flat x j) }

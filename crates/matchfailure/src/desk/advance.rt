@@ -1,13 +1,13 @@
 //! Frames that begin and come further.
 ghost use Rattle.std.specs.Prelude.{◌≡◌, List, ◌∷◌, OnOk};
-ghost use Rattle.matchfailure.specs.Desk.{beginning as begun_at};
+ghost use Rattle.matchfailure.specs.Desk.{prefix as begun_at};
 ghost use Rattle.matchfailure.specs.declared.desk.frame.FailureFrame.{FailureFrame};
 
 use crate::desk::frame::{FailureFrame, FailureFrames};
 use ruletable::Memory;
 
 /// Returns the frame of a node at a position that begins.
-pub(crate) fn beginning(node: usize, place: usize) -> FailureFrame
+pub(crate) fn prefix(node: usize, place: usize) -> FailureFrame
     ensures { result ≡ begun_at node place }
 {
     FailureFrame {
@@ -32,5 +32,5 @@ pub(crate) fn advance(
         ∷ (record { node = top.node; place = top.place; next = next; end = end } ∷ below)) }
 {
     frames.come_on(next, end);
-    frames.push(beginning(node, place))
+    frames.push(prefix(node, place))
 }

@@ -4,9 +4,9 @@ ghost use Rattle.std.specs.Prelude.{IfOk, OnOk, OnErr};
 ghost use Rattle.gramcheck.specs.Grammar.{IsSoundGrammar};
 ghost use Rattle.memo.specs.Entries.{found_at};
 ghost use Rattle.matchfailure.specs.declared.desk.frame.FailureFrame.{FailureFrame};
-ghost use Rattle.matchfailure.specs.Desk.{empty, beginning as begun_at, Fits, HasFrames, IsStep, unit_of};
+ghost use Rattle.matchfailure.specs.Desk.{empty, prefix as begun_at, Fits, HasFrames, IsStep, unit_of};
 
-use crate::desk::advance::{advance, beginning};
+use crate::desk::advance::{advance, prefix};
 use crate::desk::cell_map::CellMap;
 use crate::desk::frame::FailureFrames;
 use crate::desk::turn::{Turn, next_turn};
@@ -154,7 +154,7 @@ impl Desk {
     {
         self.reset();
         let root = peg.body_node(peg.start());
-        if self.frames.push(beginning(root, 0)).is_err() {
+        if self.frames.push(prefix(root, 0)).is_err() {
             self.reset();
             return Err(Memory);
         }

@@ -9,16 +9,16 @@ ghost use Rattle.matchfailure.specs.FoundFailures.{IsFound, IsFoundBefore, failu
 ghost use Rattle.gramcheck.specs.Outcome.{Event};
 ghost use Rattle.matchfailure.specs.NodeTexts.{name_of_rule};
 ghost use Rattle.matchfailure.specs.NoMatchLines.{long_unit_lines, no_byte_taken, opening};
-ghost use Rattle.matchfailure.specs.NoMatches.{AreReportedOf, IsNoMatchTold, failing_byte, lines_of_failure};
+ghost use Rattle.matchfailure.specs.NoMatches.{AreReportedOf, IsNoMatchReported, failing_byte, lines_of_failure};
 ghost use Rattle.matchfailure.specs.NoMatches.{unit_before};
 ghost use Rattle.matchfailure.specs.declared.farthest.visit.Visit.{Visit};
-ghost use Rattle.matchfailure.specs.InputPlaces.{place_behind};
+ghost use Rattle.matchfailure.specs.InputPlaces.{place_after};
 ghost use Rattle.matchfailure.specs.UnitEnds.{EndsSo, outcome_at, takes_no_byte};
 
 use crate::explain::lines::lines_of_farthest;
 use crate::explain::place::TextPlace;
 use crate::farthest::{
-    Farthest, LastUnit, UnitSearch, farthest_failure, farthest_is_within, told_unit,
+    Farthest, LastUnit, UnitSearch, farthest_failure, farthest_is_within, reported_unit,
 };
 use diagnostics::{push_cut, push_number};
 use gramcheck::SoundPeg;
@@ -36,20 +36,20 @@ fn lines_of_found(
     found: &Option<Farthest>,
 ) -> Result<Vec<u8>, Memory>
     requires offset { offset ≤ length seen.now }
-    requires stands { (front : List ℕ) × (at ≡ place_behind front) × (length front + length seen.now < 2 ^ 63) }
+    requires stands { (front : List ℕ) × (at ≡ place_after front) × (length front + length seen.now < 2 ^ 63) }
     requires fitting { IfSome found.now (IsFitting (length peg.now.nodes) (length (drop offset seen.now))
         (at.byte + offset)) }
-    ensures { IfOk result (λ why. (told : List Visit)
+    ensures { IfOk result (λ why. (reported : List Visit)
         × AreReportedOf (rules_of peg.now.rules) peg.now.start (shapes_of peg.now.nodes) peg.now.bodies
-        (failure_found (at.byte + offset) found.now) told
-        × ((front : List ℕ) → at ≡ place_behind front → why.items ≡ lines_of_failure (rules_of peg.now.rules)
+        (failure_found (at.byte + offset) found.now) reported
+        × ((front : List ℕ) → at ≡ place_after front → why.items ≡ lines_of_failure (rules_of peg.now.rules)
         (shapes_of peg.now.nodes) peg.now.bodies (front ++ seen.now) (failure_found (at.byte + offset) found.now)
-        told)) }
+        reported)) }
 {
     match found {
         Some(farthest) => {
             let unit = at.byte + offset;
-            let place = at.behind(&seen[..offset + farthest.place]);
+            let place = at.after(&seen[..offset + farthest.place]);
             lines_of_farthest(alloc, peg, &seen[offset..], place, unit, farthest)
         }
         None => Ok(Vec::new(alloc)),
@@ -208,8 +208,8 @@ impl FailureSearch {
         at: TextPlace,
     ) -> Result<Vec<u8>, Memory>
         requires last { last ≤ length seen.now }
-        requires stands { (front : List ℕ) × (at ≡ place_behind front) × (length front + length seen.now < 2 ^ 63) }
-        ensures lines { IfOk result (λ why. (front : List ℕ) → at ≡ place_behind front → IsNoMatchTold
+        requires stands { (front : List ℕ) × (at ≡ place_after front) × (length front + length seen.now < 2 ^ 63) }
+        ensures lines { IfOk result (λ why. (front : List ℕ) → at ≡ place_after front → IsNoMatchReported
             (rules_of peg.now.rules) peg.now.start (front ++ seen.now) (unit_before at.byte last) (at.byte + last)
             why.items) }
         ensures twice { evaluated_by self.new ≤ evaluated_by self.old + 2 }
@@ -220,7 +220,7 @@ impl FailureSearch {
         let latest = self.failure_in(alloc, peg, &seen[last..], at.byte + last)?;
         let stuck = is_stuck(latest.end);
         let failing = byte_of(&latest.farthest, at.byte + last);
-        match told_unit(byte_of(&before, at.byte), failing) {
+        match reported_unit(byte_of(&before, at.byte), failing) {
             LastUnit::Before => {
                 let lines = lines_of_found(alloc, peg, seen, at, 0, &before)?;
                 opened(alloc, peg, stuck, &lines)

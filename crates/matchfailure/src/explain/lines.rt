@@ -11,7 +11,7 @@ ghost use Rattle.matchfailure.specs.NoMatchLines.{begun_at, end_shown, expected_
 ghost use Rattle.matchfailure.specs.NoMatchLines.{failing_picture, failing_place, failure_lines, more_expected};
 
 use crate::explain::node_texts::{leaf_at, rule_name};
-use crate::explain::order::reported;
+use crate::explain::order::in_report_order;
 use crate::explain::place::TextPlace;
 use crate::farthest::{Farthest, Visit};
 use diagnostics::{line_around, push_cut, push_number, push_picture};
@@ -117,13 +117,13 @@ fn push_each(
     peg: &SoundPeg,
     unit: usize,
     place: usize,
-    told: &[Visit],
+    reported: &[Visit],
 ) -> Result<(), Memory>
-    requires { AreFitting (length peg.now.nodes) unit told.now }
+    requires { AreFitting (length peg.now.nodes) unit reported.now }
     ensures { OnOk result (out.new.items ≡ out.old.items ++ flat_map (expected_line (rules_of peg.now.rules)
-        (shapes_of peg.now.nodes) peg.now.bodies unit place) told.now) }
+        (shapes_of peg.now.nodes) peg.now.bodies unit place) reported.now) }
 {
-    for visit in told {
+    for visit in reported {
         push_expected_line(alloc, out, peg, unit, place, *visit)?;
     }
     Ok(())
@@ -148,15 +148,15 @@ fn push_expected(
     peg: &SoundPeg,
     unit: usize,
     place: usize,
-    told: &[Visit],
+    reported: &[Visit],
 ) -> Result<(), Memory>
-    requires { AreFitting (length peg.now.nodes) unit told.now }
+    requires { AreFitting (length peg.now.nodes) unit reported.now }
     ensures { OnOk result (out.new.items ≡ out.old.items ++ expected_lines (rules_of peg.now.rules)
-        (shapes_of peg.now.nodes) peg.now.bodies unit place told.now) }
+        (shapes_of peg.now.nodes) peg.now.bodies unit place reported.now) }
 {
-    let shown = told.len().min(MAX_EXPECTED);
-    push_each(alloc, out, peg, unit, place, &told[..shown])?;
-    push_more(out, told.len() - shown)?;
+    let shown = reported.len().min(MAX_EXPECTED);
+    push_each(alloc, out, peg, unit, place, &reported[..shown])?;
+    push_more(out, reported.len() - shown)?;
     Ok(())
 }
 
@@ -174,16 +174,16 @@ pub(crate) fn lines_of_farthest(
     farthest: &Farthest,
 ) -> Result<Vec<u8>, Memory>
     requires { IsFitting (length peg.now.nodes) (length seen.now) unit farthest.now }
-    ensures { IfOk result (λ why. (told : List Visit) × AreReported (rules_of peg.now.rules) peg.now.start
-        (shapes_of peg.now.nodes) peg.now.bodies unit farthest.now.place farthest.now.expected.items told
+    ensures { IfOk result (λ why. (reported : List Visit) × AreReported (rules_of peg.now.rules) peg.now.start
+        (shapes_of peg.now.nodes) peg.now.bodies unit farthest.now.place farthest.now.expected.items reported
         × (why.items ≡ failure_lines (rules_of peg.now.rules) (shapes_of peg.now.nodes) peg.now.bodies seen.now at unit
-        farthest.now.place told)) }
+        farthest.now.place reported)) }
 {
     let place = farthest.place;
-    let told = reported(alloc, peg, unit, farthest)?;
+    let reported = in_report_order(alloc, peg, unit, farthest)?;
     let mut out = Vec::new(alloc);
     push_failing_place(&mut out, at, place == seen.len(), unit)?;
     push_failing_picture(&mut out, seen, place)?;
-    push_expected(alloc, &mut out, peg, unit, place, &told)?;
+    push_expected(alloc, &mut out, peg, unit, place, &reported)?;
     Ok(out)
 }

@@ -96,12 +96,13 @@ fn each_once(
     keys: &[Key],
 ) -> Result<Vec<Visit>, Memory>
     requires { AreFitting (length peg.now.nodes) unit (map visit_of keys.now) }
-    ensures told { IfOk result (λ told. told.items ≡ once_each (text_of_entry (rules_of peg.now.rules) peg.now.start
+    ensures reported { IfOk result (λ reported. reported.items ≡ once_each
+        (text_of_entry (rules_of peg.now.rules) peg.now.start
         (shapes_of peg.now.nodes) peg.now.bodies unit place) [] (map visit_of keys.now)) }
-    ensures fitting { IfOk result (λ told. AreFitting (length peg.now.nodes) unit told.items) }
+    ensures fitting { IfOk result (λ reported. AreFitting (length peg.now.nodes) unit reported.items) }
 {
     let mut texts = RuleTable::new(alloc, NameCase::Exact);
-    let mut told = Vec::new(alloc);
+    let mut reported = Vec::new(alloc);
     for key in keys {
         let visit = Visit {
             node: key[3],
@@ -109,11 +110,11 @@ fn each_once(
         };
         let text = entry_text(alloc, peg, unit, place, visit)?;
         match texts.define(&text, (), NOWHERE)? {
-            Defined::Added(_) => told.push(visit)?,
+            Defined::Added(_) => reported.push(visit)?,
             Defined::Duplicate(_) => {}
         }
     }
-    Ok(told)
+    Ok(reported)
 }
 
 /// Returns the expressions that are reported of a unit's farthest failure, in order. The unit begins after `unit`
@@ -121,16 +122,17 @@ fn each_once(
 ///
 /// # Errors
 /// `Memory` if an allocation fails.
-pub(crate) fn reported(
+pub(crate) fn in_report_order(
     alloc: Global,
     peg: &SoundPeg,
     unit: usize,
     farthest: &Farthest,
 ) -> Result<Vec<Visit>, Memory>
     requires { AreFitting (length peg.now.nodes) unit farthest.now.expected.items }
-    ensures told { IfOk result (λ told. AreReported (rules_of peg.now.rules) peg.now.start (shapes_of peg.now.nodes)
-        peg.now.bodies unit farthest.now.place farthest.now.expected.items told.items) }
-    ensures fitting { IfOk result (λ told. AreFitting (length peg.now.nodes) unit told.items) }
+    ensures reported { IfOk result (λ reported. AreReported (rules_of peg.now.rules) peg.now.start
+        (shapes_of peg.now.nodes)
+        peg.now.bodies unit farthest.now.place farthest.now.expected.items reported.items) }
+    ensures fitting { IfOk result (λ reported. AreFitting (length peg.now.nodes) unit reported.items) }
 {
     let far = distances(alloc, peg)?;
     let mut keys = keys_of(alloc, peg, &far, &farthest.expected)?;

@@ -1,6 +1,6 @@
 //! Where a byte stands in an input.
 ghost use Rattle.std.specs.Prelude.{◌≡◌, ℕ, ◌+◌, ◌^◌, ◌<◌, ◌++◌, [], List, length};
-ghost use Rattle.matchfailure.specs.InputPlaces.{place_behind};
+ghost use Rattle.matchfailure.specs.InputPlaces.{place_after};
 
 use diagnostics::line_around;
 use ruletable::{LineRule, line_of};
@@ -19,7 +19,7 @@ pub struct TextPlace {
 impl TextPlace {
     /// Returns the position of an input's first byte.
     pub fn front() -> TextPlace
-        ensures { result ≡ place_behind [] }
+        ensures { result ≡ place_after [] }
     {
         TextPlace {
             byte: 0,
@@ -29,9 +29,9 @@ impl TextPlace {
     }
 
     /// Returns the position after these bytes, which begin at this one.
-    pub fn behind(self, bytes: &[u8]) -> TextPlace
-        requires { (front : List ℕ) × (self ≡ place_behind front) × (length front + length bytes.now < 2 ^ 63) }
-        ensures { (front : List ℕ) → self ≡ place_behind front → result ≡ place_behind (front ++ bytes.now) }
+    pub fn after(self, bytes: &[u8]) -> TextPlace
+        requires { (front : List ℕ) × (self ≡ place_after front) × (length front + length bytes.now < 2 ^ 63) }
+        ensures { (front : List ℕ) → self ≡ place_after front → result ≡ place_after (front ++ bytes.now) }
     {
         let lines = line_of(bytes, bytes.len(), LineRule::Lf);
         let before = line_around(bytes, bytes.len(), LineRule::Lf).before;

@@ -43,7 +43,7 @@ fn first_literal(e: &Expr) -> Option<&[u8]>
 }
 
 // The first of some literals with which another one begins.
-fn first_beginning<'a>(before: &[&'a [u8]], later: &[u8]) -> Option<&'a [u8]>
+fn first_prefix<'a>(before: &[&'a [u8]], later: &[u8]) -> Option<&'a [u8]>
     ensures { option_map (λ b. b.now) result
         ≡ find (λ b. starts_with (λ x y. x == y) later.now b) (map (λ b. b.now) before.now) }
 {
@@ -60,7 +60,7 @@ fn hidden_by<'a>(before: &[&'a [u8]], alternative: &Expr) -> Option<&'a [u8]>
     ensures { option_map (λ b. b.now) result ≡ hiding (map (λ b. b.now) before.now) (pattern_of alternative.now) }
 {
     match first_literal(alternative) {
-        Some(later) => first_beginning(before, later),
+        Some(later) => first_prefix(before, later),
         None => None,
     }
 }

@@ -1,14 +1,14 @@
 //! The pieces that report a set of symbols: names of core rules, and the terms of ABNF for the rest.
 ghost use Rattle.std.specs.Prelude.{◌≡◌, ◌+◌, ◌++◌, option_map, IfOk, OnOk};
 ghost use Rattle.std.specs.List.{list_all};
-ghost use Rattle.refusedlines.specs.ToldLetters.{told_letters as the_letters};
+ghost use Rattle.refusedlines.specs.ReportedLetters.{reported_letters as the_letters};
 ghost use Rattle.refusedlines.specs.SymbolPieces.{has_run, is_range, pieces, rest_without, run_after, run_before};
-ghost use Rattle.refusedlines.specs.SymbolPieces.{told_cost, without_run, without_runs};
+ghost use Rattle.refusedlines.specs.SymbolPieces.{reported_cost, without_run, without_runs};
 
 use crate::letterruns::core_rule::{CoreRule, core_runs};
 use crate::letterruns::joined::joined;
+use crate::letterruns::reported::{ReportedLetters, reported_letters};
 use crate::letterruns::run::LetterRun;
-use crate::letterruns::told::{ToldLetters, told_letters};
 use letters::Alphabet;
 use ruletable::Memory;
 use std::alloc::Global;
@@ -90,17 +90,17 @@ fn without_runs(
 }
 
 // Whether a term is a range.
-fn is_range(term: &ToldLetters) -> bool
+fn is_range(term: &ReportedLetters) -> bool
     ensures { result ≡ is_range term.now }
 {
-    matches!(term, ToldLetters::Through(_))
+    matches!(term, ReportedLetters::Through(_))
 }
 
 // Returns what the terms for the letters of runs cost: two a range, one each of the others.
 fn cost(alloc: Global, alphabet: Alphabet, runs: &[LetterRun]) -> Result<u128, Memory>
-    ensures { IfOk result (λ sum. sum ≡ told_cost (the_letters alphabet runs.now)) }
+    ensures { IfOk result (λ sum. sum ≡ reported_cost (the_letters alphabet runs.now)) }
 {
-    let terms = told_letters(alloc, alphabet, runs)?;
+    let terms = reported_letters(alloc, alphabet, runs)?;
     let ranges = terms.iter().filter(|term| is_range(term)).count();
     Ok(terms.len() as u128 + ranges as u128)
 }
@@ -132,18 +132,18 @@ pub fn symbol_pieces(
     alloc: Global,
     alphabet: Alphabet,
     runs: &[LetterRun],
-) -> Result<Vec<ToldLetters>, Memory>
+) -> Result<Vec<ReportedLetters>, Memory>
     ensures { IfOk result (λ all. all.items ≡ pieces alphabet runs.now) }
 {
     let mut all = Vec::new(alloc);
     let mut rest = joined(alloc, runs)?;
     for rule in &CORE_SETS {
         if let Some(less) = rest_without(alloc, alphabet, *rule, &rest)? {
-            all.push(ToldLetters::Named(*rule))?;
+            all.push(ReportedLetters::Named(*rule))?;
             rest = less;
         }
     }
-    let terms = told_letters(alloc, alphabet, &rest)?;
+    let terms = reported_letters(alloc, alphabet, &rest)?;
     all.extend_from_slice(&terms)?;
     Ok(all)
 }

@@ -2,7 +2,7 @@
 ghost use Rattle.std.specs.Prelude.{◌≡◌, ◌++◌, map, IfOk, OnOk, List, ℕ};
 ghost use Rattle.rfcforms.specs.XmlPieces.{MarksPieces, byte_marked, reads_references, piece_marked};
 
-use crate::parts::{items_before, items_behind};
+use crate::parts::{items_after, items_before};
 use crate::xml::piece::{is_markup, piece_size, region_after};
 use crate::xml::reference::referred_byte;
 use crate::xml::region::Region;
@@ -75,7 +75,7 @@ pub fn marked_text(alloc: Global, text: &[u8]) -> Result<Vec<u8>, Memory>
         let piece = items_before(rest, size);
         push_piece(&mut out, region, piece)?;
         region = region_after(region, piece);
-        rest = items_behind(rest, size);
+        rest = items_after(rest, size);
     }
     Ok(out)
 }

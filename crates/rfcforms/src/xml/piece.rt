@@ -3,10 +3,10 @@ ghost use Rattle.std.specs.Prelude.{◌≡◌, ◌+◌, ◌≤◌, ◌||◌, ◌
 ghost use Rattle.std.specs.List.{prefix_len};
 ghost use Rattle.rfcforms.specs.XmlPieces.{cdata_size as size_cdata, comment_left as left_of_comment};
 ghost use Rattle.rfcforms.specs.XmlPieces.{inside_size as size_inside, is_markup as markup_is};
-ghost use Rattle.rfcforms.specs.XmlPieces.{outside_size as size_outside, piece_size as size_of_piece, region_behind};
+ghost use Rattle.rfcforms.specs.XmlPieces.{outside_size as size_outside, piece_size as size_of_piece, next_region};
 ghost use Rattle.rfcforms.specs.XmlPieces.{run_size as size_of_run};
 
-use crate::parts::items_behind;
+use crate::parts::items_after;
 use crate::xml::reference::referred_byte;
 use crate::xml::region::{Holder, Region};
 use crate::xml::tag::{ends_holder, holder_at, opens_abnf, size_before, tag_size};
@@ -50,7 +50,7 @@ fn outside_size(text: &[u8]) -> usize
     ensures { result ≡ size_outside text.now }
 {
     if text.starts_with(b"<!--") {
-        return comment_left(items_behind(text, 4)) + 4;
+        return comment_left(items_after(text, 4)) + 4;
     }
     if holder_at(text).is_some() {
         return tag_size(text);
@@ -109,7 +109,7 @@ pub(crate) fn is_markup(region: Region, piece: &[u8]) -> bool
 
 // Returns the region after a piece outside of elements that hold ABNF.
 fn after_outside(piece: &[u8]) -> Region
-    ensures { result ≡ region_behind Region.Outside piece.now }
+    ensures { result ≡ next_region Region.Outside piece.now }
 {
     match holder_at(piece) {
         Some(holder) if opens_abnf(piece) => Region::Inside(holder),
@@ -119,7 +119,7 @@ fn after_outside(piece: &[u8]) -> Region
 
 /// Returns the region after a piece in that region.
 pub(crate) fn region_after(region: Region, piece: &[u8]) -> Region
-    ensures { result ≡ region_behind region piece.now }
+    ensures { result ≡ next_region region piece.now }
 {
     if !is_markup(region, piece) {
         return region;

@@ -4,7 +4,7 @@ ghost use Rattle.rfcforms.specs.XmlReferences.{digit_value as value_of_digit, is
 ghost use Rattle.rfcforms.specs.XmlReferences.{printed_byte as byte_printed, referred_byte as byte_referred};
 ghost use Rattle.rfcforms.specs.XmlReferences.{referred_number as number_referred};
 
-use crate::parts::items_behind;
+use crate::parts::items_after;
 
 // Whether the byte is a digit of numbers of that base.
 fn is_digit_of(base: usize, b: u8) -> bool
@@ -56,10 +56,10 @@ fn referred_number(text: &[u8]) -> usize
     ensures { result ≡ number_referred text.now }
 {
     if text.starts_with(b"&#x") {
-        return number_in(16, items_behind(text, 3));
+        return number_in(16, items_after(text, 3));
     }
     if text.starts_with(b"&#") {
-        return number_in(10, items_behind(text, 2));
+        return number_in(10, items_after(text, 2));
     }
     0
 }

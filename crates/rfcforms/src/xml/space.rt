@@ -1,7 +1,7 @@
 //! White space of XML, and beginnings of texts.
 ghost use Rattle.std.specs.Prelude.{◌≡◌, ◌≤◌, length};
 ghost use Rattle.std.specs.List.{prefix_len};
-ghost use Rattle.rfcforms.specs.XmlTags.{byte_leads, begins_xml, behind_white, is_white as white};
+ghost use Rattle.rfcforms.specs.XmlTags.{byte_leads, begins_xml, rest_after_white, is_white as white};
 
 // Whether the byte is white space.
 pub(crate) fn is_white(b: u8) -> bool
@@ -29,7 +29,7 @@ fn white_size(text: &[u8]) -> usize
 
 // Returns the text without the white space that begins it.
 pub(crate) fn after_white(text: &[u8]) -> &[u8]
-    ensures { result.now ≡ behind_white text.now }
+    ensures { result.now ≡ rest_after_white text.now }
 {
     &text[white_size(text)..]
 }

@@ -3,10 +3,10 @@ ghost use Rattle.std.specs.Prelude.{◌≡◌, ◌≤◌, ◌==◌, not, length}
 ghost use Rattle.std.specs.List.{prefix_len};
 ghost use Rattle.rfcforms.specs.XmlTags.{tag_leads, begins_type as type_begins, closing_front, ends_name as name_ends};
 ghost use Rattle.rfcforms.specs.XmlTags.{holder_at as holder_there, quoted_value, is_quote as quote_is};
-ghost use Rattle.rfcforms.specs.XmlTags.{opens_abnf as abnf_opens, quote_behind, tag_length};
+ghost use Rattle.rfcforms.specs.XmlTags.{opens_abnf as abnf_opens, rest_after_quote, tag_length};
 ghost use Rattle.rfcforms.specs.XmlTags.{type_of, type_value as value_of_type};
 
-use crate::parts::{items_before, items_behind};
+use crate::parts::{items_after, items_before};
 use crate::xml::region::Holder;
 use crate::xml::space::{after_white, begins_by, is_white};
 
@@ -24,7 +24,7 @@ fn ends_name(text: &[u8]) -> bool
 fn begins_tag(text: &[u8], front: &[u8]) -> bool
     ensures { result ≡ tag_leads front.now text.now }
 {
-    text.starts_with(front) && ends_name(items_behind(text, front.len()))
+    text.starts_with(front) && ends_name(items_after(text, front.len()))
 }
 
 // Returns the element that a tag begins with which the text begins.
@@ -59,7 +59,7 @@ fn is_quote(b: u8) -> bool
 
 // Returns the quote that is open after one more byte, or 0.
 fn quote_after(quote: u8, b: u8) -> u8
-    ensures { result ≡ quote_behind quote b }
+    ensures { result ≡ rest_after_quote quote b }
 {
     if quote == 0 {
         return if is_quote(b) { b } else { 0 };
@@ -90,7 +90,7 @@ pub(crate) fn tag_size(text: &[u8]) -> usize
 fn begins_type(text: &[u8]) -> bool
     ensures { result ≡ type_begins text.now }
 {
-    text.starts_with(b"type") && begins_by(after_white(items_behind(text, 4)), b'=')
+    text.starts_with(b"type") && begins_by(after_white(items_after(text, 4)), b'=')
 }
 
 // Returns how many bytes stand before that byte, or in all.
@@ -124,8 +124,8 @@ fn in_quotes(text: &[u8]) -> &[u8]
 fn type_value(text: &[u8]) -> &[u8]
     ensures { result.now ≡ value_of_type text.now }
 {
-    let sign = after_white(items_behind(text, 4));
-    in_quotes(after_white(items_behind(sign, 1)))
+    let sign = after_white(items_after(text, 4));
+    in_quotes(after_white(items_after(sign, 1)))
 }
 
 // Returns the value of `type` in a tag, or nothing.

@@ -4,7 +4,7 @@ use Rattle.lexer.proofs.TokenListLemmas.{leads-first, leads-snoc, leads-end}
 use Rattle.lexer.specs.TokenLists.{tok_of}
 use Rattle.abnfread.specs.AbnfKinds.{ends_list}
 use Rattle.abnfread.specs.AbnfSlices.{First, White}
-use Rattle.abnfblocks.specs.RuleEnds.{stand_behind}
+use Rattle.abnfblocks.specs.RuleEnds.{stand_after}
 use Rattle.abnfblocks.specs.declared.ends.LeftOpen.{LeftOpen}
 use Rattle.abnfblocks.proofs.RuleEndLemmas.{stands-snoc}
 use Rattle.abnfblocks.proofs.ends.after_text.Goals as goal
@@ -23,7 +23,7 @@ loop-token-preserved c = record {
       c.in-Some.token c.in-Some.ensures.steps);
   stand = rw (map-append tok_of c.loop-token.yielded (c.in-Some.token ∷ []))
       (c.after_token-stand.ensures
-      ∙ ap (λ (s : LeftOpen). stand_behind s c.in-Some.token.kind) c.loop-token.invariant.stand
+      ∙ ap (λ (s : LeftOpen). stand_after s c.in-Some.token.kind) c.loop-token.invariant.stand
       ∙ sym (stands-snoc (map tok_of c.loop-token.yielded) (tok_of c.in-Some.token) c.args.before));
 }
 

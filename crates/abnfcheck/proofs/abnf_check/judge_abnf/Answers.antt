@@ -31,9 +31,9 @@ returns-then-found-clause-notes c =
 
 pub returns-then-found-clause-judged : goal.returns-then-found-clause-judged
 returns-then-found-clause-judged c =
-    let tells = c.in_ok-found.ensures.refused (rules_of c.args.abnf.rules) (length-map c.args.abnf.rules.rules rule_of
+    let reports = c.in_ok-found.ensures.refused (rules_of c.args.abnf.rules) (length-map c.args.abnf.rules.rules rule_of
     ∙ sym c.len-count.ensures.len) in
-    rw c.deref.ensures.value at (tells.0 c.if-found.true)
+    rw c.deref.ensures.value at (reports.0 c.if-found.true)
 
 pub returns-clause-notes : goal.returns-clause-notes
 returns-clause-notes c =
@@ -45,12 +45,12 @@ returns-clause-notes c =
 
 pub returns-clause-judged : goal.returns-clause-judged
 returns-clause-judged c =
-    let tells = rw c.deref.ensures.value at
+    let reports = rw c.deref.ensures.value at
     (c.in_ok-found.ensures.refused (rules_of c.args.abnf.rules) (length-map c.args.abnf.rules.rules rule_of
     ∙ sym c.len-count.ensures.len)) in
     let passes : IsRefused (rules_of c.args.abnf.rules) (rules_of c.in_ok-rules.rules) c.args.abnf.redefined.items
     (judged_in (option_copied c.args.rule) (rules_of c.in_ok-rules.rules)) → ⊥ =
-    λ h. let yes = tells.1 h in let no = c.if-found.false in absurd (cc (yes, no)) in
+    λ h. let yes = reports.1 h in let no = c.if-found.false in absurd (cc (yes, no)) in
     let sound = sound_unless_refused (rules_of c.args.abnf.rules) (rules_of c.in_ok-rules.rules) _
     (option_copied c.args.rule) passes in
     let at = judged_where _ _ _ sound.judged_is_rule c.in_ok-found.ensures.judged in (

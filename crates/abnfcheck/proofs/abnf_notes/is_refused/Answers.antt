@@ -25,9 +25,9 @@ returns-then-ids-prose c = λ file rules given again graph prose marks. (
 )
 
 pub returns : goal.returns
-returns c = IfOk-weaker c.reaches_broken.result _ _ (λ _ told file rules given again graph prose marks.
-    let tells = rw (c.deref.ensures.value, prose) at told in (
-      (λ is. let b = tells.0 is in refused_broken rules given _ _ _ graph file again _ marks b.0 b.1),
-      (λ h. tells.1 (broken_refused rules given _ _ _ graph file again _ marks
+returns c = IfOk-weaker c.reaches_broken.result _ _ (λ _ reported file rules given again graph prose marks.
+    let reports = rw (c.deref.ensures.value, prose) at reported in (
+      (λ is. let b = reports.0 is in refused_broken rules given _ _ _ graph file again _ marks b.0 b.1),
+      (λ h. reports.1 (broken_refused rules given _ _ _ graph file again _ marks
           (λ id on. let yes = c.some_set.ensures.1 (id, on) in let no = c.if-some_set.false in cc (yes, no)) h)),
     )) c.reaches_broken.ensures

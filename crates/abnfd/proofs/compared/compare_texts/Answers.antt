@@ -4,7 +4,7 @@ use Rattle.abnfd.proofs.compared.compare_texts.Goals as goal
 pub returns : goal.returns
 returns c = IfOk-weaker c.compare_with.result _ _
     (λ r is. record {
-      old_told = c.in_ok-old.old.told.items;
+      old_reported = c.in_ok-old.old.reported.items;
       old_grammar = c.in_ok-old.old.grammar;
       is_old = c.in_ok-old.ensures;
       rest = is;

@@ -4,7 +4,7 @@ use Rattle.abnfd.proofs.CompareAnswersLemmas.{asked_compared}
 use Rattle.abnfd.specs.CompareAnswers.{CompareAnswers, FilesCompared, unread, missing_stop, missing_text}
 use Rattle.clap.specs.Words.{found_of, rows_of}
 use Rattle.toolrun.proofs.IsRightLemmas.{comes_as}
-use Rattle.toolrun.specs.Plan.{IsToldAnd}
+use Rattle.toolrun.specs.Plan.{IsReportedAnd}
 use Rattle.toolrun.specs.Status.{code_of}
 use Rattle.toolrun.specs.Stream.{no_input, passed}
 use Rattle.abnfd.proofs.run.compare_asked.Goals as goal
@@ -29,7 +29,7 @@ pub returns-in-Err : goal.returns-in-Err
 returns-in-Err g c = record {
   right =
       let why = c.in-Err.why in
-      comes_as (IsToldAnd (missing_text why) (missing_stop why))
+      comes_as (IsReportedAnd (missing_text why) (missing_stop why))
       (CompareAnswers (rows_of (found_of c.args.matches.now)))
       (λ input notes reply is. rw (is.0, is.1) (unread why)) no_input
       (passed g.O.Sink.contents g.O.Sink.failed c.args.out.now c.end_unread.new.out)

@@ -14,7 +14,7 @@ returns-in-Ok g c = record {
   right =
       let settings = c.args.settings.now in
       let report = c.in-Ok.report in
-      comes_as (IsWholeReport report.told.items report.answer.text.items report.answer.status)
+      comes_as (IsWholeReport report.reported.items report.answer.text.items report.answer.status)
       (FilesCompared settings.letters (option_copied settings.old_rule) (option_copied settings.new_rule))
       (λ input notes reply is. rw (is.0, is.1) (compares c.in-Ok.ensures)) no_input
       (passed g.O.Sink.contents g.O.Sink.failed c.args.out.now c.end_compared.new.out)
@@ -30,5 +30,5 @@ returns-in-Err g c = record {
       NoMemory (λ input. no_memory) (Some []) false false
       (passed g.O.Sink.contents g.O.Sink.failed c.args.out.now c.finish.new.out)
       (passed g.E.Sink.contents g.E.Sink.failed c.args.err.now c.finish.new.err) (code_of c.finish.result)
-      (c.finish.ensures.kept, c.finish.ensures.told);
+      (c.finish.ensures.kept, c.finish.ensures.reported);
 }

@@ -1,7 +1,7 @@
 -- Each way in which a text is not had.
 use Rattle.std.proofs.Common.{[], Some, false, refl}
 use Rattle.cli.proofs.JobStatesLemmas.{stop_comes}
-use Rattle.toolrun.specs.Plan.{IsToldAnd}
+use Rattle.toolrun.specs.Plan.{IsReportedAnd}
 use Rattle.toolrun.specs.Status.{code_of}
 use Rattle.toolrun.specs.Stream.{passed}
 use Rattle.toolrun.specs.declared.stop.Stop.TheVariants.{NoMemory}
@@ -15,8 +15,9 @@ returns-in-New g c = record { right = rw c.in-New.is c.end_missing-in-New.ensure
 
 pub returns-in-NoMemory : goal.returns-in-NoMemory
 returns-in-NoMemory g c = record {
-  right = rw c.in-NoMemory.is (stop_comes (IsToldAnd [] NoMemory) NoMemory (λ input. (refl, refl)) (Some []) false false
+  right = rw c.in-NoMemory.is (stop_comes (IsReportedAnd [] NoMemory) NoMemory (λ input. (refl, refl))
+      (Some []) false false
       (passed g.O.Sink.contents g.O.Sink.failed c.args.out.now c.finish.new.out)
       (passed g.E.Sink.contents g.E.Sink.failed c.args.err.now c.finish.new.err) (code_of c.finish.result)
-      (c.finish.ensures.kept, c.finish.ensures.told));
+      (c.finish.ensures.kept, c.finish.ensures.reported));
 }

@@ -5,7 +5,7 @@ use Rattle.abnfexplain.proofs.chain_lines.push_last.Goals as goal
 
 pub returns : goal.returns
 returns c = rw (
-  c.in_ok-push_behind.ensures,
+  c.in_ok-push_after.ensures,
   rest_is_whole c.args.ids.now c.saturating_sub-count.result,
   c.in_ok-push_left_out.ensures,
   last_by_ids (λ id. slice_index_or

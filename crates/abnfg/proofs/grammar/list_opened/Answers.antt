@@ -5,7 +5,7 @@ use Rattle.abnfg.proofs.ListAnswersLemmas.{judged_some}
 use Rattle.abnfg.specs.ListAnswers.{JudgedReply, OpenedStates}
 use Rattle.abnfread.specs.AbnfViews.{rules_of}
 use Rattle.toolrun.proofs.IsRightLemmas.{cut_short, run_is_right, wrote-all, wrote-part}
-use Rattle.toolrun.specs.Plan.{behind_notes}
+use Rattle.toolrun.specs.Plan.{after_notes}
 use Rattle.toolrun.specs.Status.{code_of}
 use Rattle.toolrun.specs.Stream.{no_input, passed}
 use Rattle.abnfg.proofs.grammar.list_opened.Goals as goal
@@ -37,12 +37,12 @@ returns g c = record {
       let bytes = rw c.deref.ensures.value at c.write_whole.ensures.bytes in
       run_is_right (OpenedStates settings opened.diagnostics.items rules opened.judged) opened.diagnostics.items
       (λ input reply. JudgedReply settings rules opened.judged reply)
-      (λ input reply is. behind_notes (refl, is)) no_input
+      (λ input reply is. after_notes (refl, is)) no_input
       (passed g.O.Sink.contents g.O.Sink.failed c.args.out.now c.write_judged-ending.new.out)
       (passed g.O.Sink.contents g.O.Sink.failed c.args.out.now c.conclude.new.out)
       (passed g.E.Sink.contents g.E.Sink.failed c.args.err.now c.conclude.new.err)
       _ c.write_judged-ending.result (code_of c.conclude.result) c.write_judged-ending.ensures
       c.requires.out_is_fresh refl
       (wrote-all _ _ _ c.write_whole.result fine bytes)
-      c.conclude.ensures.kept c.conclude.ensures.stays c.conclude.ensures.told;
+      c.conclude.ensures.kept c.conclude.ensures.stays c.conclude.ensures.reported;
 }

@@ -41,5 +41,5 @@ returns-in-Err g c = record {
       (unread_states text settings input c.in-Err.fault c.in-Err.ensures.fault)) (Some []) false false
       (passed g.O.Sink.contents g.O.Sink.failed c.args.out.now c.finish.new.out)
       (passed g.E.Sink.contents g.E.Sink.failed c.args.err.now c.finish.new.err) (code_of c.finish.result)
-      (c.finish.ensures.kept, c.finish.ensures.told);
+      (c.finish.ensures.kept, c.finish.ensures.reported);
 }

@@ -30,7 +30,7 @@ returns-in-Err g c = record {
       stop_comes (ListAnswers (rows_of (found_of c.args.matches.now))) NoMemory (λ input. unroomed) (Some []) false
       false (passed g.O.Sink.contents g.O.Sink.failed c.args.out.now c.finish.new.out)
       (passed g.E.Sink.contents g.E.Sink.failed c.args.err.now c.finish.new.err) (code_of c.finish.result)
-      (c.finish.ensures.kept, c.finish.ensures.told);
+      (c.finish.ensures.kept, c.finish.ensures.reported);
 }
 
 pub returns-in-Err-2 : goal.returns-in-Err-2
@@ -39,5 +39,5 @@ returns-in-Err-2 g c = record {
       stop_comes (ListAnswers (rows_of (found_of c.args.matches.now))) Unreadable (λ input. unreadable) (Some []) false
       false (passed g.O.Sink.contents g.O.Sink.failed c.args.out.now c.finish-in-Err-2.new.out)
       (passed g.E.Sink.contents g.E.Sink.failed c.args.err.now c.finish-in-Err-2.new.err)
-      (code_of c.finish-in-Err-2.result) (c.finish-in-Err-2.ensures.kept, c.finish-in-Err-2.ensures.told);
+      (code_of c.finish-in-Err-2.result) (c.finish-in-Err-2.ensures.kept, c.finish-in-Err-2.ensures.reported);
 }

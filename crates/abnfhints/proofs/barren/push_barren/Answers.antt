@@ -1,6 +1,6 @@
 -- The pieces.
 use Rattle.std.proofs.Common.{◌∙◌}
-use Rattle.abnfhints.proofs.ToldFirstLemmas.{four_pieces, piece_same}
+use Rattle.abnfhints.proofs.ReportedFirstLemmas.{four_pieces, piece_same}
 use Rattle.abnfhints.proofs.barren.push_barren.Goals as goal
 
 pub returns : goal.returns

@@ -4,7 +4,7 @@ use Rattle.abnfread.specs.AbnfViews.{rules_of}
 use Rattle.letters.specs.Letters.{has}
 use Rattle.diagnostics.specs.BodyMentions.{mentioned_at}
 use Rattle.abnfhints.proofs.AbnfHintsLemmas.{hints_by_places}
-use Rattle.abnfhints.proofs.ToldFirstLemmas.{three_from_nothing}
+use Rattle.abnfhints.proofs.ReportedFirstLemmas.{three_from_nothing}
 use Rattle.abnfhints.proofs.hints.abnf_hints.Goals as goal
 
 pub returns : goal.returns

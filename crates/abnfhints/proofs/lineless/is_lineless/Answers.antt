@@ -4,7 +4,7 @@ use Rattle.fixpoint.proofs.IsMarkedLemmas.{marked_lt}
 use Rattle.letters.specs.Letters.{has}
 use Rattle.abnfread.specs.AbnfViews.{rules_of}
 use Rattle.abnfhints.specs.LineEnds.{end_byte}
-use Rattle.abnfhints.proofs.DerivesOnlyWithLemmas.{end_low, only_told}
+use Rattle.abnfhints.proofs.DerivesOnlyWithLemmas.{end_low, only_reported}
 use Rattle.abnfhints.proofs.WithoutLemmas.{left_marks}
 use Rattle.abnfhints.proofs.lineless.is_lineless.Goals as goal
 
@@ -19,6 +19,6 @@ returns c =
     let left = left_marks c.args.hinted.now.letters (end_byte c.args.hinted.now.end) (end_low c.args.hinted.now.end)
     rules (rules_of c.in_ok-left.left) (rw c.byte.ensures at c.in_ok-left.ensures.left) c.in_ok-kept.kept.items
     c.in_ok-kept.ensures c.args.id lt in
-    only_told (has c.args.hinted.now.letters) (end_byte c.args.hinted.now.end) rules c.args.id c.is_marked-2.result
-    ((c.requires.sound.exact c.args.id lt).0 sound_on) ((c.requires.productive.tells c.args.id lt).0 some_on)
+    only_reported (has c.args.hinted.now.letters) (end_byte c.args.hinted.now.end) rules c.args.id c.is_marked-2.result
+    ((c.requires.sound.exact c.args.id lt).0 sound_on) ((c.requires.productive.reports c.args.id lt).0 some_on)
     ((λ on. left.0 (kept.0 on)), (λ s. kept.1 (left.1 s)))

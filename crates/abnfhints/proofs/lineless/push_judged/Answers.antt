@@ -3,8 +3,8 @@ use Rattle.std.proofs.Common.{[], arith, sym, subst, Some}
 use Rattle.std.proofs.lemmas.List.{append-nil, length-map}
 use Rattle.abnfread.specs.AbnfViews.{rule_of, rules_of}
 use Rattle.letters.specs.Letters.{has}
-use Rattle.abnfhints.specs.AbnfHints.{no_rule, no_line, some_line, IsToldOfJudged, lineless_told}
-use Rattle.abnfhints.proofs.DerivesOnlyWithLemmas.{name_told}
+use Rattle.abnfhints.specs.AbnfHints.{no_rule, no_line, some_line, IsReportedOfJudged, lineless_reported}
+use Rattle.abnfhints.proofs.DerivesOnlyWithLemmas.{name_reported}
 use Rattle.abnfhints.proofs.lineless.push_judged.Goals as goal
 use Rattle.abnfhints.proofs.lineless.push_judged.Goals.{else-id-len-via-then-id-len+in_ok-is_lineless+else-branch}
 use Rattle.abnfhints.proofs.lineless.push_judged.Goals.{else-id-len-via-else-id-len}
@@ -14,10 +14,10 @@ returns-in_default c = ([], rw c.in_default.is no_rule, sym (append-nil c.args.o
 
 pub returns-in_ok-push_lineless : goal.returns-in_ok-push_lineless
 returns-in_ok-push_lineless c = (
-  lineless_told c.args.hinted.now.end c.name.result.now,
-  rw c.in-Some.is (subst (λ v. IsToldOfJudged (has c.args.hinted.now.letters) (rules_of c.args.hinted.now.rules.now)
-      c.args.hinted.now.end (Some c.in-Some.id) (lineless_told c.args.hinted.now.end v))
-      (name_told c.args.hinted.now.rules.now.rules c.in-Some.id c.name.result.now c.name.ensures)
+  lineless_reported c.args.hinted.now.end c.name.result.now,
+  rw c.in-Some.is (subst (λ v. IsReportedOfJudged (has c.args.hinted.now.letters) (rules_of c.args.hinted.now.rules.now)
+      c.args.hinted.now.end (Some c.in-Some.id) (lineless_reported c.args.hinted.now.end v))
+      (name_reported c.args.hinted.now.rules.now.rules c.in-Some.id c.name.result.now c.name.ensures)
       (no_line (c.in_ok-is_lineless.ensures.0 c.if-branch.true))),
   c.in_ok-push_lineless.ensures,
 )

@@ -2,7 +2,7 @@
 use Rattle.std.proofs.Common.{refl}
 use Rattle.abnfread.proofs.ByteRunLemmas.{run-shorter}
 use Rattle.abnfhints.proofs.IsReversedLemmas.{first_cut, no_mark, not_digits}
-use Rattle.abnfhints.proofs.ToldFirstLemmas.{piece_same}
+use Rattle.abnfhints.proofs.ReportedFirstLemmas.{piece_same}
 use Rattle.abnfhints.proofs.numbers.ends_of.Goals as goal
 use Rattle.abnfhints.proofs.numbers.ends_of.Goals.{else-are_digits-via-then-are_digits+else-are_digits-2}
 use Rattle.abnfhints.proofs.numbers.ends_of.Goals.{else-are_digits-via-else-are_digits}

@@ -1,11 +1,12 @@
 -- The first digits that differ decide.
 use Rattle.std.proofs.Common.{◌≡◌, below_more, arith, sym, ◌∙◌}
 use Rattle.std.specs.Str.Parse.{digits_value}
-use Rattle.abnfhints.proofs.DigitsValueLemmas.{above-told, none-differ}
+use Rattle.abnfhints.proofs.DigitsValueLemmas.{above-reported, none-differ}
 use Rattle.abnfhints.proofs.numbers.is_above_by_digits.Goals as goal
 
 pub returns-then-low-high : goal.returns-then-low-high
-returns-then-low-high c = λ base d f. above-told base c.loop-i.i c.digit-low.result c.digit-high.result c.args.low.now
+returns-then-low-high c = λ base d f. above-reported base c.loop-i.i c.digit-low.result c.digit-high.result
+    c.args.low.now
     c.args.high.now c.requires c.loop-i-test.true c.loop-i.invariant d f c.digit-low.ensures c.digit-high.ensures
     c.if-low-high.true
 

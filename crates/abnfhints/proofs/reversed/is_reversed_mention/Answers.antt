@@ -15,13 +15,13 @@ of_repeat is (is_repeat k r) = r
 
 pub returns-in-Number : goal.returns-in-Number
 returns-in-Number c =
-    let told = rw c.deref.ensures.value at c.is_reversed.ensures in
-    ((λ on. is_range c.in-Number.is (told.0 on)), (λ r. told.1 (of_range c.in-Number.is r)))
+    let reported = rw c.deref.ensures.value at c.is_reversed.ensures in
+    ((λ on. is_range c.in-Number.is (reported.0 on)), (λ r. reported.1 (of_range c.in-Number.is r)))
 
 pub returns-in-Repeat : goal.returns-in-Repeat
 returns-in-Repeat c =
-    let told = rw c.deref-in-Repeat.ensures.value at c.is_reversed_repeat.ensures in
-    ((λ on. is_repeat c.in-Repeat.is (told.0 on)), (λ r. told.1 (of_repeat c.in-Repeat.is r)))
+    let reported = rw c.deref-in-Repeat.ensures.value at c.is_reversed_repeat.ensures in
+    ((λ on. is_repeat c.in-Repeat.is (reported.0 on)), (λ r. reported.1 (of_repeat c.in-Repeat.is r)))
 
 of_others : {m : MentionedAt} → (m.kind ≡ Number → ⊥) → (m.kind ≡ Repeat → ⊥) → IsReversedMention m → ⊥
 of_others f g (is_range k r) = f k

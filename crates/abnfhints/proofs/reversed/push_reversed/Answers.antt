@@ -1,7 +1,7 @@
 -- The pieces.
 use Rattle.std.proofs.Common.{ap}
 use Rattle.diagnostics.specs.ShownBytes.{cut}
-use Rattle.abnfhints.proofs.ToldFirstLemmas.{piece_same, seven_pieces}
+use Rattle.abnfhints.proofs.ReportedFirstLemmas.{piece_same, seven_pieces}
 use Rattle.abnfhints.proofs.reversed.push_reversed.Goals as goal
 
 pub returns : goal.returns

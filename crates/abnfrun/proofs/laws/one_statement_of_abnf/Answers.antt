@@ -1,6 +1,6 @@
 use Rattle.abnfrun.proofs.AbnfExplainedNotesLemmas.{explanation_is_one}
 use Rattle.abnfrun.proofs.AbnfTextHintsLemmas.{text_hints_are_one}
-use Rattle.abnfrun.proofs.AbnfStatesLemmas.{one_statement, long_is_told}
+use Rattle.abnfrun.proofs.AbnfStatesLemmas.{one_statement, long_is_reported}
 use Rattle.abnfrun.proofs.laws.one_statement_of_abnf.Goals as goal
 
 pub returns-clause-definitions : goal.returns-clause-definitions
@@ -20,4 +20,4 @@ returns-clause-whole c = one_statement c.one_explanation_of_abnf.ensures
     c.utf8_is_decided.ensures.one c.furthest_is_found.ensures.one
 
 pub returns-clause-long : goal.returns-clause-long
-returns-clause-long c = long_is_told
+returns-clause-long c = long_is_reported

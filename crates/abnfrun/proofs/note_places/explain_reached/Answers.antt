@@ -3,11 +3,11 @@ use Rattle.abnfrun.proofs.note_places.explain_reached.Goals as goal
 
 pub returns : goal.returns
 returns c = λ text are.
-    let w = c.in_ok-push_behind.ensures text (option_copied c.args.start) are.definitions are.reads are.chains in
+    let w = c.in_ok-push_after.ensures text (option_copied c.args.start) are.definitions are.reads are.chains in
     record {
       lines = c.in_ok-why.why.items;
       line = w.0;
       explains = c.in_ok-why.ensures text are.places;
-      behind = w.1;
+      after = w.1;
       is = w.2;
     }

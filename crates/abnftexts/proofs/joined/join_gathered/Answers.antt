@@ -14,9 +14,9 @@ returns c =
     let rules = rw c.deref-6.ensures.value at c.in_ok-standing_rules.ensures in
     let joins = rw (c.deref-7.ensures.value, c.deref-8.ensures.value) at c.join_standing.ensures in
     ok-more (λ j. IsStandingJoined (map lines_placed c.in_ok-standing_places.standing_places.items)
-    (map text_rule c.in_ok-standing_rules.standing_rules.items) c.args.gathered.told.items
+    (map text_rule c.in_ok-standing_rules.standing_rules.items) c.args.gathered.reported.items
     c.in_ok-listed.listed.items (grammar_joined j))
     (λ j. IsGatheredJoined (rules_gathered c.args.gathered) (grammar_joined j)) c.join_standing.result
     (λ j h. gathered-all c.args.gathered.places.items c.in_ok-standing_places.standing_places.items
-    c.args.gathered.rules.items c.in_ok-standing_rules.standing_rules.items c.args.gathered.told.items
+    c.args.gathered.rules.items c.in_ok-standing_rules.standing_rules.items c.args.gathered.reported.items
     c.in_ok-listed.listed.items c.in_ok-fates.fates.items (grammar_joined j) fates list places rules h) joins

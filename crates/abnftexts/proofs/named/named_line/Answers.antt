@@ -24,8 +24,8 @@ loop-token-preserved c =
           c.in-Some.ensures.steps);
       so_far = token-more (is_defined c.args.names.now) c.args.own.now c.args.line.now c.loop-token.at
           c.loop-token.yielded c.in-Some.token c.loop-token.new.items c.extend_from_slice.new.self.items
-          c.extend_from_slice-in-loop-token.new.self.items c.items_behind-gap.result.now c.in_ok-text.text.now
-          (c.items_behind-gap.ensures ∙ ap (λ (z : List ℕ). drop c.loop-token.at z) c.items_before.ensures)
+          c.extend_from_slice-in-loop-token.new.self.items c.items_after-gap.result.now c.in_ok-text.text.now
+          (c.items_after-gap.ensures ∙ ap (λ (z : List ℕ). drop c.loop-token.at z) c.items_before.ensures)
           c.in_ok-text.ensures
           c.in_ok-extend_from_slice.ensures.items c.in_ok-extend_from_slice-2.ensures.items h.so_far;
     }

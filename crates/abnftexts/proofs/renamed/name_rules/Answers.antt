@@ -16,5 +16,5 @@ returns c =
           (map lines_placed given.places.items) (map lines_placed c.in_ok-places.places.items))
           (names-known given.rules.items c.in_ok-names.names listed) places;
       rules = rules;
-      told = refl;
+      reported = refl;
     }

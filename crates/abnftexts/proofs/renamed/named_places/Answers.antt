@@ -14,7 +14,7 @@ loop-place-preserved c =
     let known = is_defined c.args.names.now in
     pair-more text_rule lines_placed lines_placed (ArePlacesNamed known)
     (ArePlacesNamed known (map text_rule c.args.rules.now) (map lines_placed c.args.places.items))
-    c.loop-place.left.now c.in-Some-split_first.behind.now c.in-Some-split_first.rule.now
+    c.loop-place.left.now c.in-Some-split_first.after.now c.in-Some-split_first.rule.now
     c.loop-place.place-iterator.rest.items c.next.new.self.rest.items c.in-Some.place c.loop-place.named.items
     c.push.new.self.items c.in_ok-it.it (let s = c.in-Some-split_first.ensures.cases in s.0)
     (let e = c.in-Some.ensures.steps in e.0)

@@ -7,7 +7,7 @@ use Rattle.abnftexts.specs.RulesGathered.{lines_placed}
 use Rattle.abnftexts.specs.declared.gathered.RulePlace.{RulePlace}
 use Rattle.abnftexts.specs.declared.join.given.GivenRule.{GivenRule}
 use Rattle.abnftexts.proofs.NamedRulesLemmas.{no-items, pair-more, pairs-done}
-use Rattle.abnftexts.proofs.RulesTakenLemmas.{one-behind}
+use Rattle.abnftexts.proofs.RulesTakenLemmas.{one-after}
 use Rattle.abnftexts.proofs.renamed.named_rules.Goals as goal
 use Rattle.abnftexts.proofs.renamed.named_rules.Goals.{in-None, in-Some+in_default}
 
@@ -19,7 +19,7 @@ loop-rule-preserved c =
     let at = c.in-Some-get.ensures.lookup in
     let low : n < length places = ltb-true n (length places) (sym at.0) in
     let front : drop n places ≡ place ∷ drop (n + 1) places =
-    one-behind places n place low ∙ ap (λ (p : RulePlace). p ∷ drop (n + 1) places) (sym at.1) in
+    one-after places n place low ∙ ap (λ (p : RulePlace). p ∷ drop (n + 1) places) (sym at.1) in
     record {
       within = omega (arith, low);
       so_far = pair-more lines_placed text_rule text_rule AreRulesNamed

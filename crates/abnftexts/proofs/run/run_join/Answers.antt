@@ -28,7 +28,7 @@ returns-in-Err g c = record {
       (stops_at_once NoMemory (Some []) (g.O.Sink.contents c.args.out.now) false false
       (g.O.Sink.failed c.args.out.now))
       c.requires.out_is_fresh refl (Appends-same (g.E.Sink.contents c.args.err.now)) c.finish.ensures.kept
-      c.finish.ensures.stays c.finish.ensures.told;
+      c.finish.ensures.stays c.finish.ensures.reported;
 }
 
 pub returns-then-is_err : goal.returns-then-is_err
@@ -38,7 +38,7 @@ returns-then-is_err g c = record {
       let texts = map named_text c.args.texts.now in
       let joined = grammar_joined c.in-Ok.joined in
       let bytes = rw c.deref.ensures.value at c.write_whole.ensures.bytes in
-      cut_short (JoinStates texts c.args.form) joined.told
+      cut_short (JoinStates texts c.args.form) joined.reported
       (notes_some (joined-planned texts c.args.form joined c.in-Ok.ensures)) no_input
       (passed g.O.Sink.contents g.O.Sink.failed c.args.out.now c.close.new.out)
       (passed g.E.Sink.contents g.E.Sink.failed c.args.err.now c.close.new.err)
@@ -53,7 +53,7 @@ returns g c = record {
       let texts = map named_text c.args.texts.now in
       let joined = grammar_joined c.in-Ok.joined in
       let bytes = rw c.deref.ensures.value at c.write_whole.ensures.bytes in
-      run_is_right (JoinStates texts c.args.form) joined.told (DoesJoin c.args.form joined)
+      run_is_right (JoinStates texts c.args.form) joined.reported (DoesJoin c.args.form joined)
       (notes_stated (joined-planned texts c.args.form joined c.in-Ok.ensures)) no_input
       (passed g.O.Sink.contents g.O.Sink.failed c.args.out.now c.write_joined-stop.new.out)
       (passed g.O.Sink.contents g.O.Sink.failed c.args.out.now c.finish-2.new.out)
@@ -61,5 +61,5 @@ returns g c = record {
       _ (plainly c.write_joined-stop.result) (code_of c.finish-2.result) c.write_joined-stop.ensures
       c.requires.out_is_fresh refl
       (wrote-all _ _ _ c.write_whole.result fine bytes)
-      c.finish-2.ensures.kept c.finish-2.ensures.stays c.finish-2.ensures.told;
+      c.finish-2.ensures.kept c.finish-2.ensures.stays c.finish-2.ensures.reported;
 }

@@ -15,16 +15,16 @@ loop-it-preserved c = λ text keeps are end more.
     elim c.match-it.branch [
       | in-Rule+in_ok-take_rule-in-Rule w ↦ c.loop-it.invariant text keeps are end
           (rule-more c.args.name.now kept c.args.found.now c.loop-it.it-index _ w.in-Rule.first w.in-Rule.count
-          (map numbered w.items_behind.result.now) (rules_gathered c.loop-it.gathered)
+          (map numbered w.items_after.result.now) (rules_gathered c.loop-it.gathered)
           (rules_gathered w.take_rule.new.gathered) end c.loop-it-test.true w.in-Rule.is
-          (lines-from c.args.kept.now w.items_behind.result.now w.in-Rule.first w.items_behind.ensures) alone
+          (lines-from c.args.kept.now w.items_after.result.now w.in-Rule.first w.items_after.ensures) alone
           w.in_ok-take_rule-in-Rule.ensures (rw w.gathered-is at more))
       | in-NotAbnf+in_ok-push_not_abnf-in-NotAbnf w ↦ c.loop-it.invariant text keeps are end
           (no_rule-more c.args.name.now kept c.args.found.now c.loop-it.it-index _ w.in-NotAbnf.first
           w.in-NotAbnf.count w.in-NotAbnf.fault (map numbered w.items_before-lines.result.now)
           (rules_gathered c.loop-it.gathered) w.push_not_abnf.new.out.items end c.loop-it-test.true w.in-NotAbnf.is
-          (lines-taken c.args.kept.now w.items_behind-in-NotAbnf.result.now w.items_before-lines.result.now
-          w.in-NotAbnf.first w.in-NotAbnf.count w.items_behind-in-NotAbnf.ensures w.items_before-lines.ensures)
+          (lines-taken c.args.kept.now w.items_after-in-NotAbnf.result.now w.items_before-lines.result.now
+          w.in-NotAbnf.first w.in-NotAbnf.count w.items_after-in-NotAbnf.ensures w.items_before-lines.ensures)
           w.in_ok-push_not_abnf-in-NotAbnf.ensures (rw w.gathered-is at more))
     ]
 

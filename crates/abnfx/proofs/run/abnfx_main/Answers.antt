@@ -1,7 +1,7 @@
 -- The error says what is wrong with the words; where nothing is, an allocation failed.
 use Rattle.std.proofs.Common.{[], map, string_bytes, Global, refl}
 use Rattle.clap.specs.Words.{fault_of, matches_of}
-use Rattle.toolrun.specs.Plan.{IsToldAnd}
+use Rattle.toolrun.specs.Plan.{IsReportedAnd}
 use Rattle.toolrun.specs.Status.{code_of}
 use Rattle.toolrun.specs.Stream.{no_input, passed}
 use Rattle.toolrun.specs.declared.stop.Stop.TheVariants.{NoMemory}
@@ -22,7 +22,7 @@ returns-in-Err-clause-right g c = λ none.
     let memory = no_room (fault_of abnfx_app words) c.in-Err.error none c.in-Err.ensures.parses in
     let out = passed g.O.Sink.contents g.O.Sink.failed c.args.out.now c.end_unready.new.out in
     let err = passed g.E.Sink.contents g.E.Sink.failed c.args.err.now c.end_unready.new.err in
-    comes_as (IsToldAnd [] NoMemory) (JoinAnswers (matches_of abnfx_app words))
+    comes_as (IsReportedAnd [] NoMemory) (JoinAnswers (matches_of abnfx_app words))
     (λ input notes reply is. rw (is.0, is.1) no_memory) no_input out err (code_of c.end_unready.result)
     (stop_comes NoMemory out err (code_of c.end_unready.result)
     (c.end_unready.ensures.stopped NoMemory (memory, refl)))

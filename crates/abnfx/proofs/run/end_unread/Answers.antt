@@ -7,12 +7,12 @@ use Rattle.abnfx.proofs.run.end_unread.Goals as goal
 
 pub returns-in-Unreadable : goal.returns-in-Unreadable
 returns-in-Unreadable g c = record {
-  right = rw c.in-Unreadable.is (rw c.as_bytes.ensures.value at c.end_told.ensures.right);
+  right = rw c.in-Unreadable.is (rw c.as_bytes.ensures.value at c.end_reported.ensures.right);
 }
 
 pub returns-in-TooLong : goal.returns-in-TooLong
 returns-in-TooLong g c = record {
-  right = rw c.in-TooLong.is (rw c.as_bytes-in-TooLong.ensures.value at c.end_told-in-TooLong.ensures.right);
+  right = rw c.in-TooLong.is (rw c.as_bytes-in-TooLong.ensures.value at c.end_reported-in-TooLong.ensures.right);
 }
 
 pub returns-in-NoMemory : goal.returns-in-NoMemory
@@ -20,5 +20,5 @@ returns-in-NoMemory g c = record {
   right = rw c.in-NoMemory.is (stop_comes NoMemory
       (passed g.O.Sink.contents g.O.Sink.failed c.args.out.now c.finish.new.out)
       (passed g.E.Sink.contents g.E.Sink.failed c.args.err.now c.finish.new.err) (code_of c.finish.result)
-      (c.finish.ensures.kept, c.finish.ensures.told));
+      (c.finish.ensures.kept, c.finish.ensures.reported));
 }

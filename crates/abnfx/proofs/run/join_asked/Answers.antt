@@ -1,6 +1,6 @@
 -- One form is asked for, or two, which is reported.
 use Rattle.std.proofs.Common.{sym}
-use Rattle.toolrun.specs.Plan.{IsToldAnd}
+use Rattle.toolrun.specs.Plan.{IsReportedAnd}
 use Rattle.toolrun.specs.Status.{code_of}
 use Rattle.toolrun.specs.Stream.{no_input, passed}
 use Rattle.toolrun.specs.declared.status.Status.TheVariants as status
@@ -26,7 +26,7 @@ pub returns-in-None : goal.returns-in-None
 returns-in-None g c =
     let rows = rows_of (found_of c.args.matches.now) in
     record {
-      right = comes_as (IsToldAnd both_forms (Quiet status.Refused)) (JoinAnswers rows)
+      right = comes_as (IsReportedAnd both_forms (Quiet status.Refused)) (JoinAnswers rows)
           (λ input notes reply is. rw (is.0, is.1) (both (sym c.in-None.ensures)))
           no_input (passed g.O.Sink.contents g.O.Sink.failed c.args.out.now c.end_clash.new.out)
           (passed g.E.Sink.contents g.E.Sink.failed c.args.err.now c.end_clash.new.err) (code_of c.end_clash.result)

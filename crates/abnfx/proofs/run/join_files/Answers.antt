@@ -1,5 +1,5 @@
 -- The texts are joined, or else one is not had, or an allocation failed.
-use Rattle.toolrun.specs.Plan.{IsToldAnd}
+use Rattle.toolrun.specs.Plan.{IsReportedAnd}
 use Rattle.toolrun.specs.Status.{code_of}
 use Rattle.toolrun.specs.Stream.{no_input, passed}
 use Rattle.toolrun.specs.declared.stop.Stop.TheVariants.{NoMemory}
@@ -13,7 +13,7 @@ use Rattle.abnfx.proofs.run.join_files.Goals as goal
 
 pub returns-in-Err : goal.returns-in-Err
 returns-in-Err g c = record {
-  right = comes_as (IsToldAnd (unread_text c.in-Err.why) (unread_stop c.in-Err.why))
+  right = comes_as (IsReportedAnd (unread_text c.in-Err.why) (unread_stop c.in-Err.why))
       (FilesJoined (map (λ p. p.now) c.args.paths.now) c.args.form)
       (λ input notes reply is. rw (is.0, is.1) (unread c.in-Err.why c.in-Err.ensures.unread))
       no_input (passed g.O.Sink.contents g.O.Sink.failed c.args.out.now c.end_unread.new.out)
@@ -34,11 +34,11 @@ returns-in-Ok-sources_of g c = record {
 
 pub returns : goal.returns
 returns g c = record {
-  right = comes_as (IsToldAnd [] NoMemory) (FilesJoined (map (λ p. p.now) c.args.paths.now) c.args.form)
+  right = comes_as (IsReportedAnd [] NoMemory) (FilesJoined (map (λ p. p.now) c.args.paths.now) c.args.form)
       (λ input notes reply is. rw (is.0, is.1) no_memory)
       no_input (passed g.O.Sink.contents g.O.Sink.failed c.args.out.now c.finish.new.out)
       (passed g.E.Sink.contents g.E.Sink.failed c.args.err.now c.finish.new.err) (code_of c.finish.result)
       (stop_comes NoMemory (passed g.O.Sink.contents g.O.Sink.failed c.args.out.now c.finish.new.out)
       (passed g.E.Sink.contents g.E.Sink.failed c.args.err.now c.finish.new.err) (code_of c.finish.result)
-      (c.finish.ensures.kept, c.finish.ensures.told));
+      (c.finish.ensures.kept, c.finish.ensures.reported));
 }

@@ -3,18 +3,18 @@ use Rattle.std.proofs.Common.{arith}
 use Rattle.capi.specs.JudgeCall.{answers, no_memory, overlong}
 use Rattle.capi.proofs.answer.judge_line.Goals as goal
 
-pub returns-then-line-limit-clause-told : goal.returns-then-line-limit-clause-told
-returns-then-line-limit-clause-told c =
+pub returns-then-line-limit-clause-reported : goal.returns-then-line-limit-clause-reported
+returns-then-line-limit-clause-reported c =
     let above = c.if-line-limit.true in
     let limit = c.limit.ensures in
     overlong c.args.judge.now (omega (arith, above, limit)) (rw c.code.ensures at c.without_answer.ensures)
 
-pub returns-in-Ok-clause-told : goal.returns-in-Ok-clause-told
-returns-in-Ok-clause-told c =
+pub returns-in-Ok-clause-reported : goal.returns-in-Ok-clause-reported
+returns-in-Ok-clause-reported c =
     let within = c.if-line-limit.false in
     let limit = c.limit.ensures in
     answers c.args.judge.now c.in-Ok.said (omega (arith, within, limit)) c.in-Ok.ensures.answer c.answer_of.ensures
 
-pub returns-in-Err-clause-told : goal.returns-in-Err-clause-told
-returns-in-Err-clause-told c =
+pub returns-in-Err-clause-reported : goal.returns-in-Err-clause-reported
+returns-in-Err-clause-reported c =
     no_memory c.args.judge.now (rw c.code-in-Err.ensures at c.without_answer-in-Err.ensures)

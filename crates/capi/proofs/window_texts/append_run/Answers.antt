@@ -24,7 +24,7 @@ returns-then-is_err-2 c = (
   text_is_appended c.args.texts.now.out.items c.as_slice-printed.result.now _ c.extend_from_slice.result
       c.extend_from_slice.ensures.items (sym c.if-is_err.ensures.value)
       ∙ ap (λ (x : List ℕ). c.args.texts.now.out.items ++ x) c.as_slice-printed.ensures.value,
-  text_is_kept c.args.texts.now.err.items c.as_slice-told.result.now _ c.extend_from_slice-2.result
+  text_is_kept c.args.texts.now.err.items c.as_slice-reported.result.now _ c.extend_from_slice-2.result
       c.extend_from_slice-2.ensures.items (sym c.if-is_err-2.ensures.value)
       ∙ sym (append-nil _),
   rw (c.code-then-is_err-2.ensures, c.as_slice-printed.ensures.value) refl,
@@ -37,8 +37,8 @@ returns c = (
   text_is_appended c.args.texts.now.out.items c.as_slice-printed.result.now _ c.extend_from_slice.result
       c.extend_from_slice.ensures.items (sym c.if-is_err.ensures.value)
       ∙ ap (λ (x : List ℕ). c.args.texts.now.out.items ++ x) c.as_slice-printed.ensures.value,
-  text_is_appended c.args.texts.now.err.items c.as_slice-told.result.now _ c.extend_from_slice-2.result
+  text_is_appended c.args.texts.now.err.items c.as_slice-reported.result.now _ c.extend_from_slice-2.result
       c.extend_from_slice-2.ensures.items (sym c.if-is_err-2.ensures.value)
-      ∙ ap (λ (x : List ℕ). c.args.texts.now.err.items ++ x) c.as_slice-told.ensures.value,
-  rw (c.code-2.ensures, c.as_slice-printed.ensures.value, c.as_slice-told.ensures.value) refl,
+      ∙ ap (λ (x : List ℕ). c.args.texts.now.err.items ++ x) c.as_slice-reported.ensures.value,
+  rw (c.code-2.ensures, c.as_slice-printed.ensures.value, c.as_slice-reported.ensures.value) refl,
 )

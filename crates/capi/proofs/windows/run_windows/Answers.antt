@@ -7,9 +7,10 @@ use Rattle.toolrun.specs.Plan.{does_of}
 use Rattle.toolrun.specs.Tasks.{task_does}
 use Rattle.capi.proofs.windows.run_windows.Goals as goal
 
-one_more_told : (first told more before after : List ℕ) → before ≡ first ++ told → after ≡ before ++ more
-    → after ≡ first ++ (told ++ more)
-one_more_told first told more before after b a = a ∙ ap (λ (x : List ℕ). x ++ more) b ∙ append_assoc first told more
+one_more_reported : (first reported more before after : List ℕ) → before ≡ first ++ reported → after ≡ before ++ more
+    → after ≡ first ++ (reported ++ more)
+one_more_reported first reported more before after b a = a ∙ ap (λ (x : List ℕ). x ++ more) b
+    ∙ append_assoc first reported more
 
 pub loop-n-init : goal.loop-n-init
 loop-n-init g c = record {
@@ -20,18 +21,19 @@ loop-n-init g c = record {
 pub loop-n-preserved : goal.loop-n-preserved
 loop-n-preserved g c =
     let before = c.loop-n.invariant.ran in
-    let told = before.0 in
+    let reported = before.0 in
     let run = c.run_window.ensures.0 in
     record {
       ran = (
-        told ++ run.err,
+        reported ++ run.err,
         one_more_at (KeptRun (planned (does_of (λ t. task_does g.L.Language.canonical g.L.Language.runs t
             c.args.settings.now) c.args.front.plan.task))) c.args.input.now
-            c.args.windows.now c.loop-n.n _ c.loop-n.texts.out.items told
-            c.run_window.new.texts.out.items (told ++ run.err) c.loop-n.results c.run_window.result
+            c.args.windows.now c.loop-n.n _ c.loop-n.texts.out.items reported
+            c.run_window.new.texts.out.items (reported ++ run.err) c.loop-n.results c.run_window.result
             run c.loop-n-test.true c.loop-n.invariant.count before.1
             c.run_window.ensures.1 c.run_window.ensures.2 refl c.run_window.ensures.4,
-        one_more_told c.args.front.told.items told run.err c.loop-n.texts.err.items c.run_window.new.texts.err.items
+        one_more_reported c.args.front.reported.items reported run.err c.loop-n.texts.err.items
+            c.run_window.new.texts.err.items
             before.2 c.run_window.ensures.3,
       );
       count = length-set c.loop-n.results c.loop-n.n c.run_window.result ∙ c.loop-n.invariant.count;

@@ -9,4 +9,4 @@ pub returns-in-Err : goal.returns-in-Err
 returns-in-Err g c = λ kind is.
     without_room (passed g.O.Sink.contents g.O.Sink.failed c.args.out.now c.finish.new.out)
     (passed g.E.Sink.contents g.E.Sink.failed c.args.err.now c.finish.new.err) (code_of c.finish.result)
-    (kind ∷ []) (c.finish.ensures.kept, c.finish.ensures.told)
+    (kind ∷ []) (c.finish.ensures.kept, c.finish.ensures.reported)

@@ -3,7 +3,7 @@ use Rattle.std.proofs.Common.{◌∙◌, Some, [], false}
 use Rattle.clap.specs.declared.error.kind.ErrorKind.TheVariants.{ArgumentConflict}
 use Rattle.cli.proofs.JobStatesLemmas.{stop_comes}
 use Rattle.cli.specs.Inputs.{UnopenedStates, has_no_memory, says_name}
-use Rattle.toolrun.specs.Plan.{IsToldAnd}
+use Rattle.toolrun.specs.Plan.{IsReportedAnd}
 use Rattle.toolrun.specs.Status.{code_of}
 use Rattle.toolrun.specs.Stream.{no_input, passed}
 use Rattle.toolrun.specs.declared.status.Status.TheVariants.{Fault}
@@ -19,18 +19,18 @@ pub returns-in-Some : goal.returns-in-Some
 returns-in-Some g c =
     let said = c.in-Some.ensures in
     let name = c.in-Unopened.name.now in
-    rw c.in-Unopened.is (comes_as (IsToldAnd c.as_str.result.now (Quiet Fault)) (UnopenedStates name)
+    rw c.in-Unopened.is (comes_as (IsReportedAnd c.as_str.result.now (Quiet Fault)) (UnopenedStates name)
     (λ input notes reply is. rw (is.0 ∙ (c.as_str.ensures.value ∙ said.1), is.1) (says_name said.0)) no_input
-    (passed g.O.Sink.contents g.O.Sink.failed c.args.out.now c.tell_fault.new.out)
-    (passed g.E.Sink.contents g.E.Sink.failed c.args.err.now c.tell_fault.new.err) (code_of c.tell_fault.result)
-    c.tell_fault.ensures.right)
+    (passed g.O.Sink.contents g.O.Sink.failed c.args.out.now c.report_fault.new.out)
+    (passed g.E.Sink.contents g.E.Sink.failed c.args.err.now c.report_fault.new.err) (code_of c.report_fault.result)
+    c.report_fault.ensures.right)
 
 pub returns-in-Unopened : goal.returns-in-Unopened
 returns-in-Unopened g c =
     rw c.in-Unopened.is (stop_comes (UnopenedStates c.in-Unopened.name.now) NoMemory (λ input. has_no_memory) (Some [])
     false false (passed g.O.Sink.contents g.O.Sink.failed c.args.out.now c.finish.new.out)
     (passed g.E.Sink.contents g.E.Sink.failed c.args.err.now c.finish.new.err) (code_of c.finish.result)
-    (c.finish.ensures.kept, c.finish.ensures.told))
+    (c.finish.ensures.kept, c.finish.ensures.reported))
 
 pub returns : goal.returns
 returns g c =
@@ -38,4 +38,4 @@ returns g c =
     false false (passed g.O.Sink.contents g.O.Sink.failed c.args.out.now c.finish-in-NoMemory.new.out)
     (passed g.E.Sink.contents g.E.Sink.failed c.args.err.now c.finish-in-NoMemory.new.err)
     (code_of c.finish-in-NoMemory.result)
-    (c.finish-in-NoMemory.ensures.kept, c.finish-in-NoMemory.ensures.told))
+    (c.finish-in-NoMemory.ensures.kept, c.finish-in-NoMemory.ensures.reported))

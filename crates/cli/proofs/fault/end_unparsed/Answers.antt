@@ -11,21 +11,21 @@ pub returns-then-eq-clause-right : goal.returns-then-eq-clause-right
 returns-then-eq-clause-right g c =
     without_room (passed g.O.Sink.contents g.O.Sink.failed c.args.out.now c.finish.new.out)
     (passed g.E.Sink.contents g.E.Sink.failed c.args.err.now c.finish.new.err) (code_of c.finish.result)
-    (kind_of c.args.error.now ∷ []) (c.finish.ensures.kept, c.finish.ensures.told)
+    (kind_of c.args.error.now ∷ []) (c.finish.ensures.kept, c.finish.ensures.reported)
 
 pub returns-in_default-clause-right : goal.returns-in_default-clause-right
 returns-in_default-clause-right g c =
     without_room (passed g.O.Sink.contents g.O.Sink.failed c.args.out.now c.finish-in_default.new.out)
     (passed g.E.Sink.contents g.E.Sink.failed c.args.err.now c.finish-in_default.new.err)
     (code_of c.finish-in_default.result)
-    (kind_of c.args.error.now ∷ []) (c.finish-in_default.ensures.kept, c.finish-in_default.ensures.told)
+    (kind_of c.args.error.now ∷ []) (c.finish-in_default.ensures.kept, c.finish-in_default.ensures.reported)
 
 pub returns-then-use_stderr-clause-right : goal.returns-then-use_stderr-clause-right
 returns-then-use_stderr-clause-right g c =
     let no_help : IsNoHelp (kind_of c.args.error.now) = search rules in
-    fault_said (passed g.O.Sink.contents g.O.Sink.failed c.args.out.now c.tell_fault.new.out)
-    (passed g.E.Sink.contents g.E.Sink.failed c.args.err.now c.tell_fault.new.err) (code_of c.tell_fault.result)
-    (kind_of c.args.error.now) c.as_str.result.now no_help c.tell_fault.ensures.right
+    fault_said (passed g.O.Sink.contents g.O.Sink.failed c.args.out.now c.report_fault.new.out)
+    (passed g.E.Sink.contents g.E.Sink.failed c.args.err.now c.report_fault.new.err) (code_of c.report_fault.result)
+    (kind_of c.args.error.now) c.as_str.result.now no_help c.report_fault.ensures.right
 
 pub returns-clause-right : goal.returns-clause-right
 returns-clause-right g c =

@@ -14,5 +14,5 @@ returns-in-Err-new-clause-ended g c = (
   stop_comes (UnopenedStates []) NoMemory (λ input. has_no_memory) (Some []) false false
       (passed g.O.Sink.contents g.O.Sink.failed c.args.out.now c.finish.new.out)
       (passed g.E.Sink.contents g.E.Sink.failed c.args.err.now c.finish.new.err) (code_of c.finish.result)
-      (c.finish.ensures.kept, c.finish.ensures.told),
+      (c.finish.ensures.kept, c.finish.ensures.reported),
 )

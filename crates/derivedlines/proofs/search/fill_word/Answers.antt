@@ -14,13 +14,14 @@ loop-done-preserved c = λ s is.
     let rest : ℕ = c.args.count - 1 - c.loop-done.done in
     let found = subst (λ v. IfSome v (λ found. (s : StateSet) → slice_get table.states.states c.loop-done.at ≡ Some s
     → IsFirstKeyIn table s 0 rest found)) c.in-Some-Some.is c.first_key.ensures in
-    let told = subst (λ v. (s : StateSet) → slice_get table.states.states c.loop-done.at ≡ Some s
+    let reported = subst (λ v. (s : StateSet) → slice_get table.states.states c.loop-done.at ≡ Some s
     → IsFirstKeyIn table s 0 rest v) c.in-Some-Some.field-0-is found in
     let step = subst (λ v. IfSome v (IsStep table c.loop-done.at c.symbol_at-symbol.result)) c.in-Some.is
     c.step.ensures in
     filling_more table s c.args.count c.loop-done.done c.loop-done.at c.in-Some-Some.key c.in-Some.next rest
     c.symbol_at-symbol.result c.args.word.now.items c.loop-done.word.items c.push.new.self.items
-    (let lt = c.loop-done-test.true in omega (arith, lt)) (c.loop-done.invariant s is) told c.symbol_at-symbol.ensures
+    (let lt = c.loop-done-test.true in omega (arith, lt)) (c.loop-done.invariant s is) reported
+    c.symbol_at-symbol.ensures
     step c.in_ok-push.ensures.items
 
 pub returns : goal.returns

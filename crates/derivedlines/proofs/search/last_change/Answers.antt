@@ -19,7 +19,7 @@ loop-at-preserved c = λ s is.
     let state = c.loop-at.state in
     let symbol : ℕ = get_or line at 0 in
     let change = c.in_ok-change.change in
-    let told = subst (λ v. (s : StateSet) → slice_get table.states.states state ≡ Some s
+    let reported = subst (λ v. (s : StateSet) → slice_get table.states.states state ≡ Some s
     → IsChange table state s (v + 1) (length line - 1 - at) at change) c.key_of.ensures c.in_ok-change.ensures in
     let here : is_some change ≡ true → c.if-is_some.best ≡ change = λ e. elim c.if-is_some.branch [
       | then-is_some w ↦ w.best-is
@@ -31,7 +31,7 @@ loop-at-preserved c = λ s is.
     ] in
     walk_more table s line at state symbol c.in_ok-next.next (length line - 1 - at) c.loop-at.best
     (slice_get-get_or line at 0 c.loop-at-test.true) c.loop-at-test.true refl (c.loop-at.invariant s is)
-    c.in_ok-next.ensures change c.if-is_some.best told here there
+    c.in_ok-next.ensures change c.if-is_some.best reported here there
 
 pub returns : goal.returns
 returns c = λ s is.

@@ -12,7 +12,7 @@ returns-in-Some-None-clause-is c =
     let now = c.add_levels.new.table in
     let none = subst (λ v. (s : StateSet) → slice_get now.states.states now.start ≡ Some s
     → IsLastChange now s c.args.line.now v) c.in-Some-None.field-0-is c.in-Some-None.ensures in
-    IfOk-weaker c.line_from.result _ _ (λ told h. IfSome_then told h (λ step f.
+    IfOk-weaker c.line_from.result _ _ (λ reported h. IfSome_then reported h (λ step f.
     after_none c.args.table.now now c.args.limit c.in_ok-add_levels.ensures c.args.line.now step none f))
     c.line_from.ensures.is
 

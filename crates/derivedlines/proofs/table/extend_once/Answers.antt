@@ -10,7 +10,7 @@ returns c =
     let table = c.args.table.now in
     let level = c.in-Some.level.now in
     let can = c.in-Some-entry_of.can in
-    let told = entry_can table c.requires.table c.len-state.result c.args.count can
+    let reported = entry_can table c.requires.table c.len-state.result c.args.count can
     (let lt = c.if-state-table.false in omega (arith, lt)) c.in-Some-entry_of.ensures in
     let size : c.len-state.result ≡ length level.items =
     (let a = c.len-state.ensures in let b = level.ok.0 in omega (arith, a, b)) in
@@ -21,4 +21,4 @@ returns c =
     (slice_get-get_or c.deref.result.now c.args.count level
     (let t = c.in-Some.ensures.lookup.0 in grind (arith, t)) ∙ ap (λ v. Some v) (sym c.in-Some.ensures.lookup.1)))
     c.requires.table.levels_are c.in_ok-add_entry.ensures
-    (subst (λ v. IsCan table v c.args.count can) size told))
+    (subst (λ v. IsCan table v c.args.count can) size reported))

@@ -3,7 +3,13 @@ use Rattle.std.proofs.lemmas.Option.{slice_get-get_or}
 use Rattle.std.specs.Prelude.{slice_get, Some}
 use Rattle.lazydfa.specs.StateSets.{StateSet}
 use Rattle.derivedlines.specs.StateTables.{TakesKeyIn}
-use Rattle.derivedlines.proofs.FirstKeyLemmas.{from_told, found_told, IsState, none_told, one_more_not_taken}
+use Rattle.derivedlines.proofs.FirstKeyLemmas.{
+  from_reported,
+  found_reported,
+  IsState,
+  none_reported,
+  one_more_not_taken,
+}
 use Rattle.derivedlines.proofs.table.first_key.Goals as goal
 use Rattle.derivedlines.proofs.table.first_key.Goals.{else-key-from-via-then-key-from+in_ok-takes_key-2+else-branch-2}
 use Rattle.derivedlines.proofs.table.first_key.Goals.{else-key-from-via-else-key-from}
@@ -26,7 +32,7 @@ loop-key-preserved c =
 pub returns : goal.returns
 returns c = λ s is.
     let table = c.args.table.now in
-    none_told table c.requires.table c.args.state c.args.from c.args.rest s is
+    none_reported table c.requires.table c.args.state c.args.from c.args.rest s is
     (λ taken. let h = (c.in_ok-takes_key.ensures s is).1 taken in let e = c.if-branch.false in cc (e, h))
     c.loop-key.key-index
     (subst (λ v. length v ≤ c.loop-key.key-index) c.deref-key-items.ensures.value c.loop-key-test.false)
@@ -34,14 +40,14 @@ returns c = λ s is.
 
 pub returns-then-branch : goal.returns-then-branch
 returns-then-branch c = λ s is.
-    from_told c.args.table.now c.args.from c.args.rest s ((c.in_ok-takes_key.ensures s is).0 c.if-branch.true)
+    from_reported c.args.table.now c.args.from c.args.rest s ((c.in_ok-takes_key.ensures s is).0 c.if-branch.true)
 
 pub returns-then-branch-2 : goal.returns-then-branch-2
 returns-then-branch-2 c = λ s is.
     let table = c.args.table.now in
     let i = c.loop-key.key-index in
     let b : ℕ = get_or c.deref-key-items.result.now i 0 in
-    found_told table c.requires.table c.args.state c.args.from c.args.rest s is
+    found_reported table c.requires.table c.args.state c.args.from c.args.rest s is
     (λ taken. let h = (c.in_ok-takes_key.ensures s is).1 taken in let e = c.if-branch.false in cc (e, h)) i b
     (subst (λ v. slice_get v i ≡ Some b) c.deref-key-items.ensures.value
     (slice_get-get_or c.deref-key-items.result.now i 0 c.loop-key-test.true)) c.if-key-from.true

@@ -2,13 +2,13 @@ use Rattle.std.proofs.Common.{◌≡◌, sym, ◌∙◌, ap, arith, subst}
 use Rattle.std.specs.Prelude.{slice_get, Some}
 use Rattle.std.proofs.lemmas.Option.{slice_get-get_or}
 use Rattle.derivedlines.specs.Starts.{IsLastUpTo}
-use Rattle.derivedlines.proofs.StateTableLemmas.{step_told}
+use Rattle.derivedlines.proofs.StateTableLemmas.{step_reported}
 use Rattle.derivedlines.proofs.table.step.Goals as goal
 
 pub returns : goal.returns
 returns c =
     let table = c.args.table.now in
-    step_told table c.requires.table c.args.symbol c.args.state c.in_ok-class.class c.in_ok-next.next.now
+    step_reported table c.requires.table c.args.symbol c.args.state c.in_ok-class.class c.in_ok-next.next.now
     c.in_ok-row.row.now (sym c.is_inner.ensures ∙ c.if-not-is_inner.false)
     (subst (λ v. IsLastUpTo table.starts.items v c.in_ok-class.class) c.key_of.ensures
     (subst (λ v. IsLastUpTo v c.key_of.result c.in_ok-class.class) c.deref.ensures.value c.in_ok-class.ensures))

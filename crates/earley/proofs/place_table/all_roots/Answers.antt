@@ -13,15 +13,15 @@ loop-root-preserved c = rw c.in_ok-push.ensures.items (record {
         c.in_ok-calls.calls;
   } ∷ []) in
       let was = c.loop-root.invariant.count in omega (arith, long, was));
-  each = roots_next c.args.flat.now c.args.numbers.now.spots.items c.args.steps.now c.loop-root.roots.items
+  each = roots_next c.args.flat.now c.args.numbers.now.dots.items c.args.steps.now c.loop-root.roots.items
       (record { reached = c.is_marked-reached.result; starts = c.in-Some.starts; calls = c.in_ok-calls.calls })
       c.loop-root.invariant.each
-      (subst (λ v. IsRootAt c.args.flat.now c.args.numbers.now.spots.items c.args.steps.now v
+      (subst (λ v. IsRootAt c.args.flat.now c.args.numbers.now.dots.items c.args.steps.now v
       (record { reached = c.is_marked-reached.result; starts = c.in-Some.starts; calls = c.in_ok-calls.calls }))
       (sym c.loop-root.invariant.count)
       (record {
         starts = subst (λ o. IfSome o (λ s. AreStartsIf c.is_marked-reached.result c.args.flat.now
-            c.args.numbers.now.spots.items c.loop-root.root
+            c.args.numbers.now.dots.items c.loop-root.root
             s.items))
             c.in-Some.is c.in_ok-starts.ensures;
         calls = c.in_ok-calls.ensures;

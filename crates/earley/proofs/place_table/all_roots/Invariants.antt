@@ -7,5 +7,5 @@ abbrev pub invariant-loop-root : goal.invariant-loop-root
 invariant-loop-root l = record {
   count : length l.roots.items ≡ l.root;
   each : (t : ℕ) (r : RootPlaces) → slice_get l.roots.items t ≡ Some r
-      → IsRootAt l.flat l.numbers.spots.items l.steps t r;
+      → IsRootAt l.flat l.numbers.dots.items l.steps t r;
 }

@@ -6,7 +6,7 @@ pub loop-at-preserved : goal.loop-at-preserved
 loop-at-preserved c = rw c.in_ok-push.ensures.items (record {
   count = (let long = length-append c.loop-at.steps.items (c.in-Some.step ∷ []) in
       let was = c.loop-at.invariant.count in omega (arith, long, was));
-  each = steps_next c.args.flat.now c.args.numbers.now.spots.items c.loop-at.steps.items c.in-Some.step _
+  each = steps_next c.args.flat.now c.args.numbers.now.dots.items c.loop-at.steps.items c.in-Some.step _
       c.loop-at.invariant.each
       (ap (λ v. slice_get v (length c.loop-at.steps.items)) (sym c.deref-at-items.ensures.value)
       ∙ (ap (λ v. slice_get c.deref-at-items.result.now v) c.loop-at.invariant.count

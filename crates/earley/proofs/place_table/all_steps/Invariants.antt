@@ -7,7 +7,7 @@ use Rattle.earley.proofs.place_table.all_steps.Given as goal
 abbrev pub invariant-loop-at : goal.invariant-loop-at
 invariant-loop-at l = record {
   count : length l.steps.items ≡ l.at-index;
-  each : (p : ℕ) (at : DottedRule) (s : DottedActions) → slice_get l.numbers.spots.items p ≡ Some at
+  each : (p : ℕ) (at : DottedRule) (s : DottedActions) → slice_get l.numbers.dots.items p ≡ Some at
       → slice_get l.steps.items p ≡ Some s
-      → IsStep l.flat l.numbers.spots.items at s;
+      → IsStep l.flat l.numbers.dots.items at s;
 }

@@ -5,10 +5,10 @@ use Rattle.earley.proofs.PlaceTableLemmas.{first_none, first_next}
 use Rattle.earley.proofs.place_table.starts_of.Goals as goal
 
 pub loop-step-init : goal.loop-step-init
-loop-step-init c = rw c.new-starts.ensures.items (first_none c.args.numbers.now.spots.items c.args.root)
+loop-step-init c = rw c.new-starts.ensures.items (first_none c.args.numbers.now.dots.items c.args.root)
 
 pub loop-step-preserved : goal.loop-step-preserved
-loop-step-preserved c = rw c.in_ok-push.ensures.items (first_next c.args.numbers.now.spots.items c.args.root
+loop-step-preserved c = rw c.in_ok-push.ensures.items (first_next c.args.numbers.now.dots.items c.args.root
     c.loop-step.step _ c.loop-step.starts.items c.loop-step.invariant c.in-Some.ensures)
 
 pub returns : goal.returns
@@ -17,5 +17,5 @@ returns c =
     let over = c.loop-step-test.false in
     let n = c.begin_steps-step-end.ensures in
     let same : c.loop-step.step ≡ begin_count c.args.flat.now c.args.root = omega (arith, le, over, n) in
-    subst (λ v. AreFirstPlaces c.args.numbers.now.spots.items c.args.root v c.loop-step.starts.items) same
+    subst (λ v. AreFirstPlaces c.args.numbers.now.dots.items c.args.root v c.loop-step.starts.items) same
     c.loop-step.invariant

@@ -6,10 +6,10 @@ use Rattle.earley.proofs.row_chart.row_sets.Given as goal
 
 abbrev pub invariant-loop-alloc : goal.invariant-loop-alloc
 invariant-loop-alloc g l = record {
-  indexed : AreIndexed (length l.table.spots.items) l.filled;
+  indexed : AreIndexed (length l.table.dots.items) l.filled;
   within : length l.filled.sets.items ≤ length l.line + 1;
-  sized : AreSizedRows l.table.spots.items l.filled.sets.items;
-  built : IsBuilt l.table.flat.value (map g.L.Letter.number l.line) (row_views l.table.spots.items l.filled.sets.items);
+  sized : AreSizedRows l.table.dots.items l.filled.sets.items;
+  built : IsBuilt l.table.flat.value (map g.L.Letter.number l.line) (row_views l.table.dots.items l.filled.sets.items);
 }
 
 abbrev pub decreases-loop-alloc : goal.decreases-loop-alloc

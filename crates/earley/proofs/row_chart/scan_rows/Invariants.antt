@@ -5,7 +5,7 @@ use Rattle.earley.proofs.row_chart.scan_rows.Given as goal
 
 abbrev pub invariant-loop-place : goal.invariant-loop-place
 invariant-loop-place l = record {
-  count : length l.set.all ≡ length l.table.spots.items;
-  gains : Gains l.table.spots.items (IsScannedBelow l.table.flat.value l.table.spots.items l.value l.rows l.place)
+  count : length l.set.all ≡ length l.table.dots.items;
+  gains : Gains l.table.dots.items (IsScannedBelow l.table.flat.value l.table.dots.items l.value l.rows l.place)
       l.initial.set l.set;
 }

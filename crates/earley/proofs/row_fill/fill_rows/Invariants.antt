@@ -8,10 +8,10 @@ use Rattle.earley.proofs.row_fill.fill_rows.Given as goal
 
 abbrev pub invariant-loop-turn : goal.invariant-loop-turn
 invariant-loop-turn l = record {
-  keeps : (a : Item) → IsRowItem l.table.spots.items l.initial.set.all a → IsRowItem l.table.spots.items l.set.all a;
+  keeps : (a : Item) → IsRowItem l.table.dots.items l.initial.set.all a → IsRowItem l.table.dots.items l.set.all a;
   worklist : (line : List ℕ) → HoldAll (flat_of l.table.flat.value) line
-      (row_views l.table.spots.items l.filled.sets.items) → IsRowWorklist l.table.flat.value l.table.spots.items line
-      (row_views l.table.spots.items l.filled.sets.items) l.initial.set
-      → IsRowWorklist l.table.flat.value l.table.spots.items line
-      (row_views l.table.spots.items l.filled.sets.items) l.set;
+      (row_views l.table.dots.items l.filled.sets.items) → IsRowWorklist l.table.flat.value l.table.dots.items line
+      (row_views l.table.dots.items l.filled.sets.items) l.initial.set
+      → IsRowWorklist l.table.flat.value l.table.dots.items line
+      (row_views l.table.dots.items l.filled.sets.items) l.set;
 }

@@ -22,11 +22,11 @@ loop-row-preserved c = record {
 }
 
 pub returns-clause-size : goal.returns-clause-size
-returns-clause-size c spots same = c.loop-row.invariant.size
+returns-clause-size c dots same = c.loop-row.invariant.size
     ∙ (ap (λ v. sum_by (λ row. length row) v)
     (take_past c.deref-row-items.result.now c.loop-row.row-index c.loop-row-test.false
     ∙ c.deref-row-items.ensures.value)
-    ∙ sym (length_row_items spots c.into_rows-rows.result.items
+    ∙ sym (length_row_items dots c.into_rows-rows.result.items
     (same ∙ ap (λ v. length v) (sym c.into_rows-rows.ensures))))
 
 pub returns-clause-ascend : goal.returns-clause-ascend

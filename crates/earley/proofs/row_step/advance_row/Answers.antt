@@ -5,37 +5,39 @@ use Rattle.earley.proofs.row_step.advance_row.Goals as goal
 
 pub returns-in_default : goal.returns-in_default
 returns-in_default c =
-    let h = step_here c.args.table.now.flat.value c.args.table.now.spots.items c.args.table.now.steps.items
+    let h = step_here c.args.table.now.flat.value c.args.table.now.dots.items c.args.table.now.steps.items
     c.requires.table.steps c.args.place c.index.result.now c.requires.place c.index.ensures in
-    not_free c.args.table.now.flat.value c.args.table.now.spots.items c.args.place c.args.row.now h.at h.is
+    not_free c.args.table.now.flat.value c.args.table.now.dots.items c.args.place c.args.row.now h.at h.is
     c.args.set.now c.args.set.now c.in-Some.called
-    (call_here c.args.table.now.flat.value c.args.table.now.spots.items h.at c.index.result.now c.in-Some.called h.tells
+    (call_here c.args.table.now.flat.value c.args.table.now.dots.items h.at c.index.result.now c.in-Some.called
+    h.reports
     c.in-Some.is) (λ yes. let no = c.if-called.false in absurd (cc (yes, no)))
 
 pub returns-in_default-2 : goal.returns-in_default-2
 returns-in_default-2 c =
-    let h = step_here c.args.table.now.flat.value c.args.table.now.spots.items c.args.table.now.steps.items
+    let h = step_here c.args.table.now.flat.value c.args.table.now.dots.items c.args.table.now.steps.items
     c.requires.table.steps c.args.place c.index.result.now c.requires.place c.index.ensures in
-    nothing_advanced c.args.table.now.flat.value c.args.table.now.spots.items c.args.place c.args.row.now h.at h.is
+    nothing_advanced c.args.table.now.flat.value c.args.table.now.dots.items c.args.place c.args.row.now h.at h.is
     c.args.set.now c.args.set.now
-    (no_call_here c.args.table.now.flat.value c.args.table.now.spots.items h.at c.index.result.now h.tells
+    (no_call_here c.args.table.now.flat.value c.args.table.now.dots.items h.at c.index.result.now h.reports
     c.in_default.is)
 
 pub add-requires : goal.add-requires
 add-requires c =
-    let h = step_here c.args.table.now.flat.value c.args.table.now.spots.items c.args.table.now.steps.items
+    let h = step_here c.args.table.now.flat.value c.args.table.now.dots.items c.args.table.now.steps.items
     c.requires.table.steps c.args.place c.index.result.now c.requires.place c.index.ensures in
-    let call = call_here c.args.table.now.flat.value c.args.table.now.spots.items h.at c.index.result.now
+    let call = call_here c.args.table.now.flat.value c.args.table.now.dots.items h.at c.index.result.now
     c.in-Some.called
-    h.tells c.in-Some.is in
+    h.reports c.in-Some.is in
     subst (λ (v : ℕ). c.in-Some.called.after < v) (sym c.requires.count)
-    (get_below c.args.table.now.spots.items c.in-Some.called.after call.after)
+    (get_below c.args.table.now.dots.items c.in-Some.called.after call.after)
 
 pub returns-in_ok-add-in-Some : goal.returns-in_ok-add-in-Some
 returns-in_ok-add-in-Some c =
-    let h = step_here c.args.table.now.flat.value c.args.table.now.spots.items c.args.table.now.steps.items
+    let h = step_here c.args.table.now.flat.value c.args.table.now.dots.items c.args.table.now.steps.items
     c.requires.table.steps c.args.place c.index.result.now c.requires.place c.index.ensures in
-    free_advances c.args.table.now.flat.value c.args.table.now.spots.items c.args.place c.args.row.now h.at h.is
+    free_advances c.args.table.now.flat.value c.args.table.now.dots.items c.args.place c.args.row.now h.at h.is
     c.args.set.now c.add.new.self c.in-Some.called
-    (call_here c.args.table.now.flat.value c.args.table.now.spots.items h.at c.index.result.now c.in-Some.called h.tells
+    (call_here c.args.table.now.flat.value c.args.table.now.dots.items h.at c.index.result.now c.in-Some.called
+    h.reports
     c.in-Some.is) c.if-called.true c.in_ok-add-in-Some.ensures

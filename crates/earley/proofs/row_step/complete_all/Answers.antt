@@ -9,15 +9,15 @@ use Rattle.earley.proofs.row_step.complete_all.Goals as goal
 pub loop-call-init : goal.loop-call-init
 loop-call-init c = record {
   count = c.requires.count;
-  gains = some_none c.args.table.now.spots.items c.deref-call-items.result.now c.args.filled.now.sets.items
+  gains = some_none c.args.table.now.dots.items c.deref-call-items.result.now c.args.filled.now.sets.items
       c.args.row.now (length c.args.filled.now.sets.items) c.args.set.now;
 }
 
 pub loop-call-preserved : goal.loop-call-preserved
 loop-call-preserved c =
-    let now = c.in_ok-complete_call.ensures c.args.table.now.spots.items in record {
+    let now = c.in_ok-complete_call.ensures c.args.table.now.dots.items in record {
       count = now.count ∙ c.loop-call.invariant.count;
-      gains = some_next c.args.table.now.spots.items c.deref-call-items.result.now c.args.filled.now.sets.items
+      gains = some_next c.args.table.now.dots.items c.deref-call-items.result.now c.args.filled.now.sets.items
           c.args.row.now (length c.args.filled.now.sets.items) c.args.set.now c.loop-call.call-index _ c.loop-call.set
           c.complete_call.new.set c.loop-call-test.true c.loop-call.invariant.gains now;
     }
@@ -26,7 +26,7 @@ pub complete_call-requires-clause-after : goal.complete_call-requires-clause-aft
 complete_call-requires-clause-after c =
     let look = rw c.deref.ensures.value at c.in-Some.ensures.lookup in
     let is = found_at c.args.table.now.roots.items c.args.root c.in-Some.places.now look.0 look.1 in
-    let lt = call_below c.args.table.now.flat.value c.args.table.now.spots.items c.args.table.now.steps.items
+    let lt = call_below c.args.table.now.flat.value c.args.table.now.dots.items c.args.table.now.steps.items
     c.args.root
     c.in-Some.places.now.calls.items c.deref-call-items.result.now c.loop-call.call-index _ c.requires.table.steps
     (c.requires.table.roots.each c.args.root c.in-Some.places.now is).calls c.deref-call-items.ensures.value
@@ -37,11 +37,11 @@ pub returns : goal.returns
 returns c =
     let look = rw c.deref.ensures.value at c.in-Some.ensures.lookup in
     let is = found_at c.args.table.now.roots.items c.args.root c.in-Some.places.now look.0 look.1 in
-    some_completed c.args.table.now.flat.value c.args.table.now.spots.items c.args.table.now.steps.items
+    some_completed c.args.table.now.flat.value c.args.table.now.dots.items c.args.table.now.steps.items
     c.requires.table.steps c.args.root c.args.filled.now.sets.items c.args.row.now
     (length c.args.filled.now.sets.items) c.args.set.now c.in-Some.places.now.calls.items
     (c.requires.table.roots.each c.args.root c.in-Some.places.now is).calls c.loop-call.set
-    (subst (λ v. Gains c.args.table.now.spots.items (IsAfterSome c.args.table.now.spots.items v
+    (subst (λ v. Gains c.args.table.now.dots.items (IsAfterSome c.args.table.now.dots.items v
     c.args.filled.now.sets.items c.args.row.now (length c.args.filled.now.sets.items)) c.args.set.now c.loop-call.set)
     (take_past c.deref-call-items.result.now c.loop-call.call-index c.loop-call-test.false
     ∙ c.deref-call-items.ensures.value) c.loop-call.invariant.gains)
@@ -50,7 +50,7 @@ pub returns-in_default : goal.returns-in_default
 returns-in_default c =
     let look = rw c.deref.ensures.value at c.in_default.ensures.lookup in
     let past = missing_past c.args.table.now.roots.items c.args.root look.0 in
-    none_completed c.args.table.now.flat.value c.args.table.now.spots.items c.args.table.now.steps.items
+    none_completed c.args.table.now.flat.value c.args.table.now.dots.items c.args.table.now.steps.items
     c.requires.table.steps c.args.root c.args.filled.now.sets.items c.args.row.now
     (length c.args.filled.now.sets.items) c.args.set.now
     (let count = c.requires.table.roots.count in omega (arith, past, count))

@@ -9,11 +9,11 @@ complete_rest-requires-clause-after c = subst (λ v. c.args.call.after < v)
     (sym (c.in_ok-complete_own.ensures []).count) c.requires.after
 
 pub complete_rest-requires-clause-own : goal.complete_rest-requires-clause-own
-complete_rest-requires-clause-own c spots = (subst (λ v. Gains spots (IsAfterOwn spots c.args.call v c.args.row.now)
-    c.args.set.now c.complete_own.new.set) c.deref.ensures.value (c.in_ok-complete_own.ensures spots)).all
+complete_rest-requires-clause-own c dots = (subst (λ v. Gains dots (IsAfterOwn dots c.args.call v c.args.row.now)
+    c.args.set.now c.complete_own.new.set) c.deref.ensures.value (c.in_ok-complete_own.ensures dots)).all
 
 pub returns : goal.returns
-returns c spots = own_and_rest spots c.args.places c.args.filled.now c.requires.indexed c.args.call c.args.row.now
+returns c dots = own_and_rest dots c.args.places c.args.filled.now c.requires.indexed c.args.call c.args.row.now
     c.args.set.now c.complete_own.new.set c.complete_rest.new.set
-    (subst (λ v. Gains spots (IsAfterOwn spots c.args.call v c.args.row.now) c.args.set.now c.complete_own.new.set)
-    c.deref.ensures.value (c.in_ok-complete_own.ensures spots)) (c.in_ok-complete_rest.ensures spots)
+    (subst (λ v. Gains dots (IsAfterOwn dots c.args.call v c.args.row.now) c.args.set.now c.complete_own.new.set)
+    c.deref.ensures.value (c.in_ok-complete_own.ensures dots)) (c.in_ok-complete_rest.ensures dots)

@@ -10,7 +10,7 @@ pub loop-from-init : goal.loop-from-init
 loop-from-init c = record {
   count = refl;
   within = omega arith;
-  gains = λ spots. each_none spots c.args.call c.args.sets.now c.args.row.now c.args.set.now;
+  gains = λ dots. each_none dots c.args.call c.args.sets.now c.args.row.now c.args.set.now;
 }
 
 pub advance_call-requires : goal.advance_call-requires
@@ -26,30 +26,30 @@ loop-from-preserved c =
     record {
       count = (c.in_ok-advance_call.ensures []).count ∙ c.loop-from.invariant.count;
       within = omega (arith, lt);
-      gains = λ spots. each_next spots c.args.call c.args.sets.now c.args.row.now c.args.set.now c.loop-from.from
+      gains = λ dots. each_next dots c.args.call c.args.sets.now c.args.row.now c.args.set.now c.loop-from.from
           c.in-Some.origin c.loop-from.set c.advance_call.new.set c.in-Some.ensures.found.0 c.in-Some.ensures.found.1
-          c.in-Some.ensures.first (c.loop-from.invariant.gains spots)
-          (subst (λ v. Gains spots (IsAfterCall spots c.args.call v) c.loop-from.set c.advance_call.new.set)
+          c.in-Some.ensures.first (c.loop-from.invariant.gains dots)
+          (subst (λ v. Gains dots (IsAfterCall dots c.args.call v) c.loop-from.set c.advance_call.new.set)
           (c.deref.ensures.value ∙ (ap (λ v. v.rows.items) (sym c.index-sets-origin.is) ∙ sym there))
-          (c.in_ok-advance_call.ensures spots));
+          (c.in_ok-advance_call.ensures dots));
     }
 
 pub returns : goal.returns
-returns c spots = each_more spots c.args.call c.args.sets.now c.args.row.now c.args.set.now c.loop-from.from
+returns c dots = each_more dots c.args.call c.args.sets.now c.args.row.now c.args.set.now c.loop-from.from
     (length c.args.sets.now) c.loop-from.set
     (λ k has lt. let over = c.loop-from-test.false in omega (arith, lt, over)) c.loop-from.invariant.within
-    (c.loop-from.invariant.gains spots)
+    (c.loop-from.invariant.gains dots)
 
 pub returns-in_default : goal.returns-in_default
-returns-in_default c spots = each_more spots c.args.call c.args.sets.now c.args.row.now c.args.set.now c.loop-from.from
+returns-in_default c dots = each_more dots c.args.call c.args.sets.now c.args.row.now c.args.set.now c.loop-from.from
     (length c.args.sets.now) c.loop-from.set (λ k has lt. c.in_default.ensures.none k has)
-    c.loop-from.invariant.within (c.loop-from.invariant.gains spots)
+    c.loop-from.invariant.within (c.loop-from.invariant.gains dots)
 
 pub returns-then-origin-sets : goal.returns-then-origin-sets
-returns-then-origin-sets c spots = each_more spots c.args.call c.args.sets.now c.args.row.now c.args.set.now
+returns-then-origin-sets c dots = each_more dots c.args.call c.args.sets.now c.args.row.now c.args.set.now
     c.loop-from.from (length c.args.sets.now) c.loop-from.set
     (λ k has lt. ⊎_elim (λ low. low)
     (λ past. let least = c.in-Some.ensures.first k has past in
     let over : length c.args.sets.now ≤ c.in-Some.origin = c.if-origin-sets.true in
     absurd (omega (arith, least, over, lt)))
-    (cases_lt k c.loop-from.from)) c.loop-from.invariant.within (c.loop-from.invariant.gains spots)
+    (cases_lt k c.loop-from.from)) c.loop-from.invariant.within (c.loop-from.invariant.gains dots)

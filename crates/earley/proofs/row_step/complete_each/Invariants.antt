@@ -8,7 +8,7 @@ abbrev pub invariant-loop-from : goal.invariant-loop-from
 invariant-loop-from l = record {
   count : length l.set.all ≡ length l.initial.set.all;
   within : l.from ≤ length l.sets;
-  gains : (spots : List DottedRule) → Gains spots (IsAfterIn spots l.call l.sets l.row l.from) l.initial.set l.set;
+  gains : (dots : List DottedRule) → Gains dots (IsAfterIn dots l.call l.sets l.row l.from) l.initial.set l.set;
 }
 
 abbrev pub decreases-loop-from : goal.decreases-loop-from

@@ -7,21 +7,21 @@ use Rattle.earley.proofs.IsAfterInLemmas.{last_none, last_past, last_added}
 use Rattle.earley.proofs.row_step.complete_last.Goals as goal
 
 pub returns-in_default : goal.returns-in_default
-returns-in_default c spots = last_none spots c.args.call c.args.sets.now c.args.row.now c.args.set.now c.args.set.now
+returns-in_default c dots = last_none dots c.args.call c.args.sets.now c.args.row.now c.args.set.now c.args.set.now
     c.in_default.ensures.none
 
 pub returns-then-origin-sets : goal.returns-then-origin-sets
-returns-then-origin-sets c spots = last_past spots c.args.call c.args.sets.now c.args.row.now c.args.set.now
+returns-then-origin-sets c dots = last_past dots c.args.call c.args.sets.now c.args.row.now c.args.set.now
     c.args.set.now c.in-Some.origin c.in-Some.ensures.found c.if-origin-sets.true
 
 pub returns : goal.returns
-returns c spots =
+returns c dots =
     let lt : c.in-Some.origin < length c.args.sets.now = (let t = c.if-origin-sets.false in omega (arith, t)) in
     let there : rows_at c.args.sets.now c.in-Some.origin ≡ c.index-sets-origin.result.rows.items =
     ap (λ v. rows_or v) (slice_get-get_or c.args.sets.now c.in-Some.origin c.index-sets-origin.result lt
     ∙ ap Some (sym c.index-sets-origin.is)) in
-    last_added spots c.args.call c.args.sets.now c.args.row.now c.args.set.now c.advance_call.new.set
+    last_added dots c.args.call c.args.sets.now c.args.row.now c.args.set.now c.advance_call.new.set
     c.in-Some.origin c.in-Some.ensures.found c.in-Some.ensures.last lt
-    (subst (λ v. Gains spots (IsAfterCall spots c.args.call v) c.args.set.now c.advance_call.new.set)
+    (subst (λ v. Gains dots (IsAfterCall dots c.args.call v) c.args.set.now c.advance_call.new.set)
     (c.deref.ensures.value ∙ (ap (λ v. v.rows.items) (sym c.index-sets-origin.is) ∙ sym there))
-    (c.in_ok-advance_call.ensures spots))
+    (c.in_ok-advance_call.ensures dots))

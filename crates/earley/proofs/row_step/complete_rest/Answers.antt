@@ -8,18 +8,18 @@ use Rattle.earley.proofs.RowStepLemmas.{found_at, missing_at}
 use Rattle.earley.proofs.row_step.complete_rest.Goals as goal
 
 pub returns-in_default : goal.returns-in_default
-returns-in_default c spots =
+returns-in_default c dots =
     let look = rw c.deref.ensures.value at c.in_default.ensures.lookup in
-    rest_none spots c.args.places c.args.filled.now c.requires.indexed c.args.call c.args.row.now c.args.set.now
-    (c.requires.own spots) (missing_at c.args.filled.now.rest.items c.args.call.from look.0)
+    rest_none dots c.args.places c.args.filled.now c.requires.indexed c.args.call c.args.row.now c.args.set.now
+    (c.requires.own dots) (missing_at c.args.filled.now.rest.items c.args.call.from look.0)
 
 pub returns-then-is_single : goal.returns-then-is_single
-returns-then-is_single c spots =
+returns-then-is_single c dots =
     let look = rw c.deref.ensures.value at c.in-Some.ensures.lookup in
-    let last = subst (λ v. Gains spots (IsAfterLast spots c.args.call v c.in_ok-both.both (length v)) c.args.set.now
-    c.complete_last.new.set) c.deref-2.ensures.value (c.in_ok-complete_last.ensures spots) in
-    rest_single spots c.args.places c.args.filled.now c.requires.indexed c.args.call c.args.row.now c.args.set.now
-    (c.requires.own spots) c.in-Some.rest.now c.in_ok-both.both
+    let last = subst (λ v. Gains dots (IsAfterLast dots c.args.call v c.in_ok-both.both (length v)) c.args.set.now
+    c.complete_last.new.set) c.deref-2.ensures.value (c.in_ok-complete_last.ensures dots) in
+    rest_single dots c.args.places c.args.filled.now c.requires.indexed c.args.call c.args.row.now c.args.set.now
+    (c.requires.own dots) c.in-Some.rest.now c.in_ok-both.both
     (found_at c.args.filled.now.rest.items c.args.call.from c.in-Some.rest.now look.0 look.1) c.in_ok-both.ensures
     c.complete_last.new.set (c.is_single.ensures c.if-is_single.true) last
 
@@ -28,14 +28,14 @@ has_union-requires c = subst (λ v. c.args.call.after < v) (sym (c.in_ok-complet
     c.requires.after
 
 pub returns-then-has_union : goal.returns-then-has_union
-returns-then-has_union c spots =
+returns-then-has_union c dots =
     let look = rw c.deref.ensures.value at c.in-Some.ensures.lookup in
-    let last = subst (λ v. Gains spots (IsAfterLast spots c.args.call v c.in_ok-both.both (length v)) c.args.set.now
-    c.complete_last.new.set) c.deref-2.ensures.value (c.in_ok-complete_last.ensures spots) in
+    let last = subst (λ v. Gains dots (IsAfterLast dots c.args.call v c.in_ok-both.both (length v)) c.args.set.now
+    c.complete_last.new.set) c.deref-2.ensures.value (c.in_ok-complete_last.ensures dots) in
     let all = subst (λ v. (k : ℕ) → HasAt v c.args.call.from k → HasAt c.complete_last.new.set.all c.args.call.after k)
     c.deref-3.ensures.value (c.has_union.ensures c.if-has_union.true) in
-    rest_covered spots c.args.places c.args.filled.now c.requires.indexed c.args.call c.args.row.now c.args.set.now
-    (c.requires.own spots) c.in-Some.rest.now c.in_ok-both.both
+    rest_covered dots c.args.places c.args.filled.now c.requires.indexed c.args.call c.args.row.now c.args.set.now
+    (c.requires.own dots) c.in-Some.rest.now c.in_ok-both.both
     (found_at c.args.filled.now.rest.items c.args.call.from c.in-Some.rest.now look.0 look.1) c.in_ok-both.ensures
     c.complete_last.new.set last all
 
@@ -44,13 +44,13 @@ complete_each-requires c = subst (λ v. c.args.call.after < v) (sym (c.in_ok-com
     c.requires.after
 
 pub returns : goal.returns
-returns c spots =
+returns c dots =
     let look = rw c.deref.ensures.value at c.in-Some.ensures.lookup in
-    let last = subst (λ v. Gains spots (IsAfterLast spots c.args.call v c.in_ok-both.both (length v)) c.args.set.now
-    c.complete_last.new.set) c.deref-2.ensures.value (c.in_ok-complete_last.ensures spots) in
-    let each = subst (λ v. Gains spots (IsAfterIn spots c.args.call v c.in_ok-both.both (length v))
-    c.complete_last.new.set c.complete_each.new.set) c.deref-4.ensures.value (c.in_ok-complete_each.ensures spots) in
-    rest_added spots c.args.places c.args.filled.now c.requires.indexed c.args.call c.args.row.now c.args.set.now
-    (c.requires.own spots) c.in-Some.rest.now c.in_ok-both.both
+    let last = subst (λ v. Gains dots (IsAfterLast dots c.args.call v c.in_ok-both.both (length v)) c.args.set.now
+    c.complete_last.new.set) c.deref-2.ensures.value (c.in_ok-complete_last.ensures dots) in
+    let each = subst (λ v. Gains dots (IsAfterIn dots c.args.call v c.in_ok-both.both (length v))
+    c.complete_last.new.set c.complete_each.new.set) c.deref-4.ensures.value (c.in_ok-complete_each.ensures dots) in
+    rest_added dots c.args.places c.args.filled.now c.requires.indexed c.args.call c.args.row.now c.args.set.now
+    (c.requires.own dots) c.in-Some.rest.now c.in_ok-both.both
     (found_at c.args.filled.now.rest.items c.args.call.from c.in-Some.rest.now look.0 look.1) c.in_ok-both.ensures
     c.complete_last.new.set c.complete_each.new.set last each

@@ -3,31 +3,31 @@ use Rattle.std.proofs.lemmas.List.{length-map}
 use Rattle.std.proofs.lemmas.Option.{slice_get-get_or}
 use Rattle.earley.specs.RowCharts.{row_views}
 use Rattle.earley.specs.RowItems.{row_items}
-use Rattle.earley.proofs.RowStepLemmas.{row_completed, not_completed, step_here, one_spot}
+use Rattle.earley.proofs.RowStepLemmas.{row_completed, not_completed, step_here, one_dot}
 use Rattle.earley.proofs.row_step.complete_row.Goals as goal
 
 pub returns-then-index : goal.returns-then-index
 returns-then-index c =
-    let h = step_here c.args.table.now.flat.value c.args.table.now.spots.items c.args.table.now.steps.items
+    let h = step_here c.args.table.now.flat.value c.args.table.now.dots.items c.args.table.now.steps.items
     c.requires.table.steps c.args.place c.index.result.now c.requires.place c.index.ensures in
     let at = c.index-then-index.result.now in
-    let there : slice_get c.args.table.now.spots.items c.args.place ≡ Some at =
-    slice_get-get_or c.args.table.now.spots.items c.args.place at c.requires.place
+    let there : slice_get c.args.table.now.dots.items c.args.place ≡ Some at =
+    slice_get-get_or c.args.table.now.dots.items c.args.place at c.requires.place
     ∙ ap Some (sym c.index-then-index.ensures) in
-    row_completed c.args.table.now.flat.value c.args.table.now.spots.items
-    (row_views c.args.table.now.spots.items c.args.filled.now.sets.items) at.node c.args.row.now c.args.set.now
+    row_completed c.args.table.now.flat.value c.args.table.now.dots.items
+    (row_views c.args.table.now.dots.items c.args.filled.now.sets.items) at.node c.args.row.now c.args.set.now
     c.args.place h.at
     h.is
-    (ap (λ v. v.node) (one_spot h.is there)) (length c.args.filled.now.sets.items) c.complete_all.new.set
-    (sym (length-map c.args.filled.now.sets.items (λ s. row_items c.args.table.now.spots.items s.rows.items)))
-    (sym h.tells.done ∙ c.if-index.true) c.in_ok-complete_all.ensures
+    (ap (λ v. v.node) (one_dot h.is there)) (length c.args.filled.now.sets.items) c.complete_all.new.set
+    (sym (length-map c.args.filled.now.sets.items (λ s. row_items c.args.table.now.dots.items s.rows.items)))
+    (sym h.reports.done ∙ c.if-index.true) c.in_ok-complete_all.ensures
 
 pub returns : goal.returns
 returns c =
-    let h = step_here c.args.table.now.flat.value c.args.table.now.spots.items c.args.table.now.steps.items
+    let h = step_here c.args.table.now.flat.value c.args.table.now.dots.items c.args.table.now.steps.items
     c.requires.table.steps c.args.place c.index.result.now c.requires.place c.index.ensures in
-    not_completed c.args.table.now.flat.value c.args.table.now.spots.items
-    (row_views c.args.table.now.spots.items c.args.filled.now.sets.items) h.at.node c.args.row.now c.args.set.now
+    not_completed c.args.table.now.flat.value c.args.table.now.dots.items
+    (row_views c.args.table.now.dots.items c.args.filled.now.sets.items) h.at.node c.args.row.now c.args.set.now
     c.args.place h.at
     h.is refl
-    (λ done. let is = h.tells.done in let no = c.if-index.false in absurd (cc (is, done, no)))
+    (λ done. let is = h.reports.done in let no = c.if-index.false in absurd (cc (is, done, no)))

@@ -5,7 +5,7 @@ use Rattle.earley.proofs.row_step.predict_root.Given as goal
 
 abbrev pub invariant-loop-place : goal.invariant-loop-place
 invariant-loop-place l = record {
-  count : length l.set.all ≡ length l.table.spots.items;
-  gains : Gains l.table.spots.items
-      (StartsIn l.table.spots.items (take l.place-index l.place-items) l.here) l.initial.set l.set;
+  count : length l.set.all ≡ length l.table.dots.items;
+  gains : Gains l.table.dots.items
+      (StartsIn l.table.dots.items (take l.place-index l.place-items) l.here) l.initial.set l.set;
 }

@@ -5,19 +5,21 @@ use Rattle.earley.proofs.row_step.predict_row.Goals as goal
 
 pub returns-in-None : goal.returns-in-None
 returns-in-None c j one =
-    let h = step_here c.args.table.now.flat.value c.args.table.now.spots.items c.args.table.now.steps.items
+    let h = step_here c.args.table.now.flat.value c.args.table.now.dots.items c.args.table.now.steps.items
     c.requires.table.steps c.args.place c.index.result.now c.requires.place c.index.ensures in
-    nothing_predicted c.args.table.now.flat.value c.args.table.now.spots.items c.args.place c.args.row.now h.at h.is
+    nothing_predicted c.args.table.now.flat.value c.args.table.now.dots.items c.args.place c.args.row.now h.at h.is
     c.args.set.now c.args.set.now j
-    (no_call_here c.args.table.now.flat.value c.args.table.now.spots.items h.at c.index.result.now h.tells c.in-None.is)
+    (no_call_here c.args.table.now.flat.value c.args.table.now.dots.items h.at c.index.result.now h.reports
+    c.in-None.is)
 
 pub returns-in_ok-predict_root-in-Some : goal.returns-in_ok-predict_root-in-Some
 returns-in_ok-predict_root-in-Some c j one =
-    let h = step_here c.args.table.now.flat.value c.args.table.now.spots.items c.args.table.now.steps.items
+    let h = step_here c.args.table.now.flat.value c.args.table.now.dots.items c.args.table.now.steps.items
     c.requires.table.steps c.args.place c.index.result.now c.requires.place c.index.ensures in
-    call_predicts c.args.table.now.flat.value c.args.table.now.spots.items c.args.place c.args.row.now h.at h.is
+    call_predicts c.args.table.now.flat.value c.args.table.now.dots.items c.args.place c.args.row.now h.at h.is
     c.args.set.now c.predict_root.new.set c.in-Some.called
-    (call_here c.args.table.now.flat.value c.args.table.now.spots.items h.at c.index.result.now c.in-Some.called h.tells
+    (call_here c.args.table.now.flat.value c.args.table.now.dots.items h.at c.index.result.now c.in-Some.called
+    h.reports
     c.in-Some.is) j c.requires.some.0 c.args.here.now c.requires.some.1 one c.in_ok-predict_root-in-Some.ensures
 
 pub predict_root-requires-clause-reached : goal.predict_root-requires-clause-reached

@@ -6,10 +6,10 @@ use Rattle.earley.proofs.RowStepLemmas.{work_all}
 use Rattle.earley.proofs.row_step.work_row.Goals as goal
 
 pub returns : goal.returns
-returns c = work_all c.args.table.now.flat.value c.args.table.now.spots.items c.args.place c.args.row.now
-    (row_views c.args.table.now.spots.items c.args.filled.now.sets.items) (length c.args.filled.now.sets.items)
+returns c = work_all c.args.table.now.flat.value c.args.table.now.dots.items c.args.place c.args.row.now
+    (row_views c.args.table.now.dots.items c.args.filled.now.sets.items) (length c.args.filled.now.sets.items)
     c.args.set.now
     c.predict_row.new.set c.advance_row.new.set c.complete_row.new.set
-    (sym (length-map c.args.filled.now.sets.items (λ s. row_items c.args.table.now.spots.items s.rows.items)))
+    (sym (length-map c.args.filled.now.sets.items (λ s. row_items c.args.table.now.dots.items s.rows.items)))
     (c.in_ok-predict_row.ensures (length c.args.filled.now.sets.items) c.requires.here) c.in_ok-advance_row.ensures
     c.in_ok-complete_row.ensures

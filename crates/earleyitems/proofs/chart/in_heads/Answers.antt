@@ -5,22 +5,22 @@ use Rattle.earleyitems.proofs.RecordsLemmas.{below_heads, head_at, heads_long}
 use Rattle.earleyitems.proofs.ViewsLemmas.{heads_none, heads_some, heads_all}
 use Rattle.earleyitems.proofs.chart.in_heads.Goals as goal
 
-pub returns-then-in_spots : goal.returns-then-in_spots
-returns-then-in_spots c = (
+pub returns-then-in_dots : goal.returns-then-in_dots
+returns-then-in_dots c = (
   (λ u. heads_some (block_of c.args.flat.now) c.args.number c.args.item (heads_of c.args.records.now)
       c.loop-record.record-index 0 _ (below_heads c.args.records.now c.loop-record.record-index c.loop-record-test.true)
-      (c.spots.ensures ∙ ap (λ n. (block_of c.args.flat.now n).spots)
+      (c.dots.ensures ∙ ap (λ n. (block_of c.args.flat.now n).dots)
       (head_at c.args.records.now c.loop-record.record-index _ 0 c.loop-record-test.true))
-      (c.in_spots.ensures.0 c.if-in_spots.true)),
+      (c.in_dots.ensures.0 c.if-in_dots.true)),
   (λ h. refl),
 )
 
 pub loop-record-preserved : goal.loop-record-preserved
 loop-record-preserved c = heads_none (block_of c.args.flat.now) c.args.number c.args.item (heads_of c.args.records.now)
     c.loop-record.record-index 0 _ (below_heads c.args.records.now c.loop-record.record-index c.loop-record-test.true)
-    (c.spots.ensures ∙ ap (λ n. (block_of c.args.flat.now n).spots)
+    (c.dots.ensures ∙ ap (λ n. (block_of c.args.flat.now n).dots)
     (head_at c.args.records.now c.loop-record.record-index _ 0 c.loop-record-test.true)) c.loop-record.invariant
-    (λ is. let t = c.in_spots.ensures.1 is in let f = c.if-in_spots.false in absurd cc)
+    (λ is. let t = c.in_dots.ensures.1 is in let f = c.if-in_dots.false in absurd cc)
 
 pub returns : goal.returns
 returns c =

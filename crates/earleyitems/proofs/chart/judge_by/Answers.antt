@@ -2,7 +2,7 @@ use Rattle.std.proofs.Common.{◌+◌, ◌<◌, length, map, ap, ◌∙◌, sym,
 use Rattle.std.specs.Prelude.{sum_by}
 use Rattle.std.proofs.lemmas.List.{length-map}
 use Rattle.flatgrammar.specs.NodeSteps.{flat_of}
-use Rattle.flatgrammar.specs.Blocks.{AreAlone, AreHomes, AreSpotLists}
+use Rattle.flatgrammar.specs.Blocks.{AreAlone, AreHomes, AreDotLists}
 use Rattle.earleyitems.specs.Charts.{IsExact}
 use Rattle.earleyitems.specs.ChartSets.{set_at, IsSet}
 use Rattle.earleyitems.specs.SetViews.{views}
@@ -35,7 +35,7 @@ pub fill_sets-requires-clause-alone : goal.fill_sets-requires-clause-alone
 fill_sets-requires-clause-alone g c = subst (λ v. AreAlone v) (sym c.deref.ensures) c.requires.exact.inners
 
 pub fill_sets-requires-clause-lists : goal.fill_sets-requires-clause-lists
-fill_sets-requires-clause-lists g c = subst (λ v. AreSpotLists v) (sym c.deref.ensures) c.requires.exact.lists
+fill_sets-requires-clause-lists g c = subst (λ v. AreDotLists v) (sym c.deref.ensures) c.requires.exact.lists
 
 pub fill_sets-requires-clause-homes : goal.fill_sets-requires-clause-homes
 fill_sets-requires-clause-homes g c = subst (λ v. AreHomes v) (sym c.deref.ensures) c.requires.exact.homes

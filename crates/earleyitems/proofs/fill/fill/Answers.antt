@@ -72,7 +72,7 @@ loop-item_index-preserved-then-item_index-len c =
                 (subst (λ v. AreChosen (Calls c.args.flat.now)
                 (take c.loop-item_index.item_index c.loop-item_index.items.items
                 ++ v ∷ []) (callers_of c.process_item.new.postdot.callers.items)) item_is called.chosen);
-            tell = called.tell;
+            report = called.report;
           });
       counted = λ j. c.loop-item_index.invariant.counted j ∙ ap (λ v. length (expand (block_of c.args.flat.now) j v))
           (sym (front_same c.loop-item_index.head_index c.loop-item_index.heads asked.added c.process_item.new.heads
@@ -148,12 +148,12 @@ loop-item_index-preserved c =
         chosen = chosen_still (Calls c.args.flat.now) c.loop-item_index.items.items c.process_head.new.items.items
             (callers_of c.loop-item_index.postdot.callers.items) c.loop-item_index.item_index passed
             going.within_items c.loop-item_index.invariant.callers.chosen;
-        tell = c.loop-item_index.invariant.callers.tell;
+        report = c.loop-item_index.invariant.callers.report;
       };
       counted = λ j.
           let more = size_more (block_of c.args.flat.now) j c.loop-item_index.heads c.loop-item_index.head_index
-          c.at-head.result c.spots.result.now below
-          (c.spots.ensures ∙ ap (λ v. (block_of c.args.flat.now v).spots) head_is) in
+          c.at-head.result c.dots.result.now below
+          (c.dots.ensures ∙ ap (λ v. (block_of c.args.flat.now v).dots) head_is) in
           let front = ap (λ v. length (expand (block_of c.args.flat.now) j v))
           (front_same (c.loop-item_index.head_index + 1) c.loop-item_index.heads called.added c.process_head.new.heads
           called.is
@@ -209,7 +209,7 @@ returns-else-head_index-len-clause-callers c = record {
       (callers_of c.loop-item_index.postdot.callers.items) c.loop-item_index.item_index
       (let test = c.if-item_index-len.false in let len = c.len.ensures in omega (arith, test, len))
       c.loop-item_index.invariant.callers.chosen;
-  tell = c.loop-item_index.invariant.callers.tell;
+  report = c.loop-item_index.invariant.callers.report;
 }
 
 pub returns-else-head_index-len-clause-readers : goal.returns-else-head_index-len-clause-readers

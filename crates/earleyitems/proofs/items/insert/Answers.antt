@@ -2,7 +2,7 @@ use Rattle.std.proofs.Common.{◌≡◌, length, sym, subst}
 use Rattle.flatgrammar.specs.Places.{In}
 use Rattle.earleyitems.specs.ItemBuckets.{item_bucket, IsLast}
 use Rattle.earleyitems.specs.ItemSets.{Adds}
-use Rattle.earleyitems.proofs.AreBucketsLemmas.{last_told}
+use Rattle.earleyitems.proofs.AreBucketsLemmas.{last_reported}
 use Rattle.earleyitems.proofs.AddsLemmas.{adds_one}
 use Rattle.earleyitems.proofs.items.insert.Goals as goal
 
@@ -17,7 +17,7 @@ pub stands-requires : goal.stands-requires
 stands-requires c =
     let buckets = c.args.buckets.now in
     let list = c.args.list.now.items in
-    let at_bucket = last_told (item_bucket (length buckets)) list c.args.links.now.items buckets c.args.base
+    let at_bucket = last_reported (item_bucket (length buckets)) list c.args.links.now.items buckets c.args.base
     c.item_bucket.result 0 c.requires.linked c.item_bucket.ensures.within in
     let at_last = subst (λ n. IsLast (item_bucket (length buckets)) list (length list) n c.saturating_sub-last.result)
     c.item_bucket.ensures.value (rw c.saturating_sub-last.ensures at_bucket) in

@@ -14,7 +14,7 @@ pub returns-in-None-clause-chosen : goal.returns-in-None-clause-chosen
 returns-in-None-clause-chosen c flat seen is are = record {
   chosen = chosen_past (Calls flat) seen (callers_of c.args.callers.now.items) c.args.at.item
       (λ r. let no = sym c.in-None.is ∙ (is ∙ r.2) in absurd cc) are.chosen;
-  tell = are.tell;
+  report = are.report;
 }
 
 pub returns-in_ok-push-in-Some-clause-homes : goal.returns-in_ok-push-in-Some-clause-homes

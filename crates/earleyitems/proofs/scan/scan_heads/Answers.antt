@@ -6,7 +6,7 @@ use Rattle.earleyitems.specs.EarleySets.{heads_of}
 use Rattle.earleyitems.specs.ScannedItems.{AreScannedItems}
 use Rattle.earleyitems.proofs.AreBucketsLemmas.{get_index}
 use Rattle.earleyitems.proofs.AreScannedItemsLemmas.{read_none, scan_heads_more, block_read}
-use Rattle.earleyitems.proofs.ItemHomesLemmas.{spot_home, reader_stands}
+use Rattle.earleyitems.proofs.ItemHomesLemmas.{dot_home, reader_stands}
 use Rattle.earleyitems.proofs.RecordsLemmas.{below_heads, head_at, heads_past}
 use Rattle.earleyitems.proofs.scan.scan_heads.Goals as goal
 
@@ -28,9 +28,9 @@ loop-home-preserved c =
           heads c.loop-home.home 0 _ _ _ below c.loop-home.invariant.added
           (block_read c.args.flat.now c.args.value _ _ c.requires.lists head c.args.origin
           (subst (λ v. AreScannedItems c.args.flat.now c.args.value (map (item_at c.args.origin) v)
-          c.loop-home.set.items c.scan_spots.new.set.items) tried c.in_ok-scan_spots.ensures.added));
-      homes = λ rows row are. c.in_ok-scan_spots.ensures.homes rows
-          (λ p stands. spot_home c.args.flat.now c.requires.homes rows heads head c.args.origin c.loop-home.home p row
+          c.loop-home.set.items c.scan_dots.new.set.items) tried c.in_ok-scan_dots.ensures.added));
+      homes = λ rows row are. c.in_ok-scan_dots.ensures.homes rows
+          (λ p stands. dot_home c.args.flat.now c.requires.homes rows heads head c.args.origin c.loop-home.home p row
           (get_index heads c.loop-home.home 0 below)
           (reader_stands c.args.flat.now c.requires.lists head c.args.value p (subst (λ v. In p v) tried stands)))
           (c.loop-home.invariant.homes rows row are);

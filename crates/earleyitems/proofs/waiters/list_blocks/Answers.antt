@@ -8,7 +8,7 @@ use Rattle.earleyitems.proofs.SetsLemmas.{goes_farther}
 use Rattle.earleyitems.proofs.ListAllLemmas.{waiting_then, waiting_callers}
 use Rattle.flatgrammar.specs.Places.{In}
 use Rattle.earleyitems.proofs.AreBucketsLemmas.{get_index}
-use Rattle.earleyitems.proofs.ItemHomesLemmas.{spot_home, site_stands}
+use Rattle.earleyitems.proofs.ItemHomesLemmas.{dot_home, site_stands}
 use Rattle.earleyitems.proofs.waiters.list_blocks.Goals as goal
 
 pub loop-home-preserved : goal.loop-home-preserved
@@ -30,8 +30,8 @@ loop-home-preserved c = record {
       c.asks.ensures)
       (c.requires.lists _).3) are)));
   homes = λ rows row are. c.in_ok-list_call_sites.ensures.homes c.args.flat.now rows
-      (λ site stands. spot_home c.args.flat.now c.requires.homes rows c.args.list.now
-      (slice_index_or c.args.list.now c.loop-home.home 0) c.args.number c.loop-home.home site.spot row
+      (λ site stands. dot_home c.args.flat.now c.requires.homes rows c.args.list.now
+      (slice_index_or c.args.list.now c.loop-home.home 0) c.args.number c.loop-home.home site.dot row
       (get_index c.args.list.now c.loop-home.home 0 c.loop-home-test.true)
       (site_stands c.args.flat.now c.requires.lists (slice_index_or c.args.list.now c.loop-home.home 0) site
       (subst (λ v. In site v) c.asks.ensures stands)))

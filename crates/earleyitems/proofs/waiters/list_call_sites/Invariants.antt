@@ -5,7 +5,7 @@ use Rattle.flatgrammar.specs.Blocks.{AreAsks}
 use Rattle.earleyitems.specs.EarleySets.{GoesOn, firsts_of, AreSameHeads}
 use Rattle.earleyitems.specs.Waiting.{call_site_at, AreWaiting}
 use Rattle.flatgrammar.specs.Places.{In}
-use Rattle.flatgrammar.specs.declared.spot_list.Ask.{Ask}
+use Rattle.flatgrammar.specs.declared.dot_list.Ask.{Ask}
 use Rattle.earleyitems.specs.ItemHomes.{IsHome, AreWaitersHomed}
 use Rattle.earleyitems.proofs.waiters.list_call_sites.Given as goal
 

@@ -3,7 +3,7 @@ use Rattle.flatgrammar.specs.Blocks.{block_of}
 use Rattle.earleyitems.specs.SetViews.{full}
 use Rattle.earleyitems.specs.EarleySets.{firsts_of}
 use Rattle.earleyitems.specs.Waiting.{AreWaiting}
-use Rattle.earleyitems.proofs.RecordsLemmas.{fresh, fresh_zeros, behind_is, are_behind}
+use Rattle.earleyitems.proofs.RecordsLemmas.{fresh, fresh_zeros, after_is, are_after}
 use Rattle.earleyitems.proofs.waiters.list_waiters.Goals as goal
 
 pub list_all-requires-clause-none : goal.list_all-requires-clause-none
@@ -14,7 +14,7 @@ list_all-requires-clause-none c h =
     let are : xs ≡ c.args.records.now.items ++ fresh c.args.heads.now =
     c.deref_mut.ensures.value ∙ (c.in_ok-add_records.ensures.are
     ∙ ap (λ v. c.args.records.now.items ++ fresh v) c.list.ensures) in
-    let slice = behind_is c.args.records.now.items xs (fresh c.args.heads.now) c.len-from.result are
+    let slice = after_is c.args.records.now.items xs (fresh c.args.heads.now) c.len-from.result are
     from in
     rw slice (fresh_zeros c.args.heads.now h)
 
@@ -30,10 +30,10 @@ returns-in_err-list_all-clause-records c =
     (let e = ap (λ v. length v) c.deref_mut.ensures.value in let o = c.add_records.new.records.ok.0 in
     omega (arith, e, o)) in
     let wait = c.list_all.ensures in
-    let behind = are_behind c.args.heads.now c.args.records.now.items xs c.list_all.new.records _
+    let after = are_after c.args.heads.now c.args.records.now.items xs c.list_all.new.records _
     c.len-from.result c.add_records.new.records.len _ are from wait.long wait.same size
     refl in
-    behind.goes
+    after.goes
 
 pub returns-clause-records : goal.returns-clause-records
 returns-clause-records c =
@@ -47,10 +47,10 @@ returns-clause-records c =
     (let e = ap (λ v. length v) c.deref_mut.ensures.value in let o = c.add_records.new.records.ok.0 in
     omega (arith, e, o)) in
     let wait = c.list_all.ensures in
-    let behind = are_behind c.args.heads.now c.args.records.now.items xs c.list_all.new.records _
+    let after = are_after c.args.heads.now c.args.records.now.items xs c.list_all.new.records _
     c.len-from.result c.add_records.new.records.len c.len.result are from wait.long wait.same
     size (let end = c.len.ensures in omega (arith, end)) in
-    behind.goes
+    after.goes
 
 pub returns-clause-heads : goal.returns-clause-heads
 returns-clause-heads c =
@@ -64,10 +64,10 @@ returns-clause-heads c =
     (let e = ap (λ v. length v) c.deref_mut.ensures.value in let o = c.add_records.new.records.ok.0 in
     omega (arith, e, o)) in
     let wait = c.list_all.ensures in
-    let behind = are_behind c.args.heads.now c.args.records.now.items xs c.list_all.new.records _
+    let after = are_after c.args.heads.now c.args.records.now.items xs c.list_all.new.records _
     c.len-from.result c.add_records.new.records.len c.len.result are from wait.long wait.same
     size (let end = c.len.ensures in omega (arith, end)) in
-    behind.heads_are
+    after.heads_are
 
 pub returns-clause-waiting : goal.returns-clause-waiting
 returns-clause-waiting c items are_chosen =
@@ -81,11 +81,11 @@ returns-clause-waiting c items are_chosen =
     (let e = ap (λ v. length v) c.deref_mut.ensures.value in let o = c.add_records.new.records.ok.0 in
     omega (arith, e, o)) in
     let wait = c.list_all.ensures in
-    let behind = are_behind c.args.heads.now c.args.records.now.items xs c.list_all.new.records _
+    let after = are_after c.args.heads.now c.args.records.now.items xs c.list_all.new.records _
     c.len-from.result c.add_records.new.records.len c.len.result are from wait.long wait.same
     size (let end = c.len.ensures in omega (arith, end)) in
     subst (λ v. AreWaiting c.args.flat.now (full (block_of c.args.flat.now) c.args.number c.args.heads.now items)
-    c.args.heads.now (firsts_of v) c.list_all.new.waiters.items) (sym behind.part_is)
+    c.args.heads.now (firsts_of v) c.list_all.new.waiters.items) (sym after.part_is)
     (c.in_ok-list_all.ensures.more items are_chosen)
 
 pub returns-clause-homes : goal.returns-clause-homes

@@ -6,7 +6,7 @@ pub returns-then-is_next : goal.returns-then-is_next
 returns-then-is_next c = b.sets_new _ _ _ _ c.requires.room c.in-None.is (c.is_next.ensures.0 c.if-is_next.true)
 
 pub returns-in_default : goal.returns-in_default
-returns-in_default c = b.sets_told _ _ _ _ c.requires.room c.in_default.not-None
+returns-in_default c = b.sets_reported _ _ _ _ c.requires.room c.in_default.not-None
 
 pub returns-else-is_next : goal.returns-else-is_next
 returns-else-is_next c = b.sets_far _ _ _ _

@@ -111,8 +111,8 @@ loop-head-preserved c =
           (rw (row, ← v) w.in_ok-meet_all.ensures))
           )
       | in_default w ↦ (
-          let told = f.head_told _ _ _ _ _ _ c.loop-head.invariant here in
-          let no : Some (Some told.0) ≡ Some None = sym told.1
+          let reported = f.head_reported _ _ _ _ _ _ c.loop-head.invariant here in
+          let no : Some (Some reported.0) ≡ Some None = sym reported.1
           ∙ (slice_get-get_or c.loop-head.far.items c.index-n.result.now c.index.result.now in_far
           ∙ ap Some (sym c.index.ensures ∙ w.in_default.is)) in
           absurd (cc no)

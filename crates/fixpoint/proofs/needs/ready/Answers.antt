@@ -1,4 +1,4 @@
-use Rattle.fixpoint.proofs.ToldLemmas as t
+use Rattle.fixpoint.proofs.ReportedLemmas as t
 use Rattle.fixpoint.proofs.needs.ready.Goals as goal
 use Rattle.fixpoint.proofs.needs.ready.Goals.{then-left-n-eq0+in_ok-push, else-left-n-eq0}
 

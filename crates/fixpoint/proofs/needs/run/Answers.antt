@@ -5,8 +5,8 @@ use Rattle.fixpoint.proofs.ContainsLemmas.{in_get}
 use Rattle.fixpoint.proofs.IsDerivedLemmas as d
 use Rattle.fixpoint.proofs.needs.run.Goals as goal
 
-pub tell-requires-clause-m : goal.tell-requires-clause-m
-tell-requires-clause-m c =
+pub report-requires-clause-m : goal.report-requires-clause-m
+report-requires-clause-m c =
     let e = c.len.ensures in
     let ok = c.loop-place.order.ok.0 in
     let size : c.len.result ≡ length c.loop-place.order.items = omega (arith, e, ok) in
@@ -16,8 +16,8 @@ tell-requires-clause-m c =
     let k = c.loop-place.invariant.count in
     omega (arith, low, l, k)
 
-pub tell-requires-clause-lists : goal.tell-requires-clause-lists
-tell-requires-clause-lists c =
+pub report-requires-clause-lists : goal.report-requires-clause-lists
+report-requires-clause-lists c =
     subst (λ v. AreListsWithin c.args.users.now v) (sym c.loop-place.invariant.count) c.requires.lists
 
 pub loop-place-smaller : goal.loop-place-smaller
@@ -26,13 +26,13 @@ loop-place-smaller c =
     let ok = c.loop-place.order.ok.0 in
     let short = d.queue_short _ _ c.loop-place.invariant.queue in
     let more = c.loop-place-test.true in
-    let told = c.in_ok-tell.ensures c.requires.lists.rows c.requires.lists.lists in
-    let k = told.count in
+    let reported = c.in_ok-report.ensures c.requires.lists.rows c.requires.lists.lists in
+    let k = reported.count in
     omega (arith, e, ok, short, more, k)
 
 pub loop-place-preserved : goal.loop-place-preserved
 loop-place-preserved c =
-    let first = c.in_ok-tell.ensures c.requires.lists.rows c.requires.lists.lists in record {
+    let first = c.in_ok-report.ensures c.requires.lists.rows c.requires.lists.lists in record {
       count = first.count ∙ c.loop-place.invariant.count;
       queue = first.queue;
       coming = λ needs rows a u g.
@@ -41,7 +41,7 @@ loop-place-preserved c =
           let size : c.len.result ≡ length c.loop-place.order.items = omega (arith, e, ok) in
           let at = slice_get_read _ _ _ _ size c.loop-place-test.true c.index.ensures in
           d.coming_next needs _ _ _ _ _ _ _ u (c.loop-place.invariant.coming needs rows a u g) at
-          (c.in_ok-tell.ensures rows a);
+          (c.in_ok-report.ensures rows a);
     }
 
 pub returns : goal.returns

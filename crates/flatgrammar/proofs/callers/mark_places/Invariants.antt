@@ -1,5 +1,5 @@
 use Rattle.std.proofs.Common.{◌≡◌, ◌<◌, ℕ, Some, length, slice_get}
-use Rattle.flatgrammar.specs.Blocks.{spot, call_at}
+use Rattle.flatgrammar.specs.Blocks.{dot, call_at}
 use Rattle.flatgrammar.specs.Inners.{allows_in, StillAllow}
 use Rattle.flatgrammar.proofs.callers.mark_places.Given as goal
 
@@ -7,6 +7,6 @@ abbrev pub invariant-loop-step : goal.invariant-loop-step
 invariant-loop-step l = record {
   count : length l.callers ≡ length l.initial.callers;
   still : StillAllow l.initial.callers l.callers;
-  here : (k t m : ℕ) → k < l.step → call_at l.flat (spot l.node k) ≡ Some (t, m)
+  here : (k t m : ℕ) → k < l.step → call_at l.flat (dot l.node k) ≡ Some (t, m)
       → allows_in (slice_get l.callers t) l.node k;
 }

@@ -7,7 +7,7 @@ loop-step-init c = node_none c.args.flat.now c.args.inners.now c.args.node _
 
 pub loop-step-preserved : goal.loop-step-preserved
 loop-step-preserved c = node_more c.args.flat.now c.args.inners.now c.args.node c.loop-step.step _ _ _
-    c.loop-step.invariant c.in_ok-add_spot.ensures
+    c.loop-step.invariant c.in_ok-add_dot.ensures
 
 pub returns : goal.returns
 returns c = node_done c.args.flat.now c.args.inners.now c.args.node c.loop-step.step _ _

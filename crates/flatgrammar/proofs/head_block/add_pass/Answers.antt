@@ -1,12 +1,12 @@
 use Rattle.std.proofs.Common.{[], sym, ◌∙◌}
-use Rattle.flatgrammar.specs.Blocks.{spot}
+use Rattle.flatgrammar.specs.Blocks.{dot}
 use Rattle.flatgrammar.specs.HeadBlocks.{IsPast}
 use Rattle.flatgrammar.proofs.HeadBlockLemmas.{one_more, passed_one}
 use Rattle.flatgrammar.proofs.head_block.add_pass.Goals as goal
 
 pub returns : goal.returns
-returns c = one_more c.args.passes.now.items c.push.new.self.items (spot c.args.spot.node c.in-Some.next)
-    (λ r. IsPast c.args.flat.now c.args.spot r) c.in_ok-push.ensures.items
-    (passed_one c.args.flat.now [] c.args.spot c.in-Some.root c.in-Some.next (sym c.call.ensures ∙ c.in-Some.is)
+returns c = one_more c.args.passes.now.items c.push.new.self.items (dot c.args.dot.node c.in-Some.next)
+    (λ r. IsPast c.args.flat.now c.args.dot r) c.in_ok-push.ensures.items
+    (passed_one c.args.flat.now [] c.args.dot c.in-Some.root c.in-Some.next (sym c.call.ensures ∙ c.in-Some.is)
     (sym c.null.ensures ∙ c.if-not-null.false) (sym c.takes_letter.ensures ∙ c.if-takes_letter.false)
-    c.if-next-spot.false)
+    c.if-next-dot.false)

@@ -8,9 +8,9 @@ use Rattle.gramcheck.proofs.check.judge_peg.Goals as goal
 
 pub returns-clause-sound : goal.returns-clause-sound
 returns-clause-sound c =
-    let told : false ≡ is_refused (map said_of c.deref-2.result.now) = c.if-refused.ensures in
+    let reported : false ≡ is_refused (map said_of c.deref-2.result.now) = c.if-refused.ensures in
     let passes : is_refused (map said_of c.in_ok-judged.judged.notes.items) ≡ false =
-    rw c.deref-2.ensures.value at (sym told) in (
+    rw c.deref-2.ensures.value at (sym reported) in (
       passes,
       rw c.new-ranked.ensures (record {
         ranked = c.in_ok-judged.ensures.ranked passes c.in_ok-first.first

@@ -17,17 +17,17 @@ returns-then-id-eq0-clause-ended c = (
       c.if-id-eq0.true) e),
 )
 
-pub returns-then-not-deed-clause-adds : goal.returns-then-not-deed-clause-adds
-returns-then-not-deed-clause-adds c =
+pub returns-then-not-operation-clause-adds : goal.returns-then-not-operation-clause-adds
+returns-then-not-operation-clause-adds c =
     goes_call c.args.tables.now c.cont_at-cont.result.node c.cont_at-cont.result.step _ _ c.cont_at-cont.ensures.is
     _ _ _
-    (inl (not_true _ _ c.if-not-deed.true c.deed_of-deed.ensures.done)) c.in_ok-call_on.ensures.adds
+    (inl (not_true _ _ c.if-not-operation.true c.operation_of-operation.ensures.done)) c.in_ok-call_on.ensures.adds
 
-pub returns-then-not-deed-clause-ended : goal.returns-then-not-deed-clause-ended
-returns-then-not-deed-clause-ended c = (
+pub returns-then-not-operation-clause-ended : goal.returns-then-not-operation-clause-ended
+returns-then-not-operation-clause-ended c = (
   λ t. absurd (cc t),
   λ e. absurd (ends_not c.args.tables.now c.cont_at-cont.result.node c.cont_at-cont.result.step _ _
-      c.cont_at-cont.ensures.is (inl (not_true _ _ c.if-not-deed.true c.deed_of-deed.ensures.done)) e),
+      c.cont_at-cont.ensures.is (inl (not_true _ _ c.if-not-operation.true c.operation_of-operation.ensures.done)) e),
 )
 
 pub returns-then-cont-eq0-clause-adds : goal.returns-then-cont-eq0-clause-adds
@@ -40,7 +40,7 @@ returns-then-cont-eq0-clause-adds c =
 pub returns-then-cont-eq0-clause-ended : goal.returns-then-cont-eq0-clause-ended
 returns-then-cont-eq0-clause-ended c = (
   λ t. ends_so c.args.tables.now c.cont_at-cont.result.node c.cont_at-cont.result.step _ _ c.cont_at-cont.ensures.is
-      (not_false _ _ c.if-not-deed.false c.deed_of-deed.ensures.done)
+      (not_false _ _ c.if-not-operation.false c.operation_of-operation.ensures.done)
       (stack_none c.args.conts.now.items.items c.cont_at-cont.result.next c.if-cont-eq0.true),
   λ e. refl,
 )
@@ -48,7 +48,7 @@ returns-then-cont-eq0-clause-ended c = (
 pub returns-clause-adds : goal.returns-clause-adds
 returns-clause-adds c =
     goes_end c.args.tables.now c.cont_at-cont.result.node c.cont_at-cont.result.step _ _ c.cont_at-cont.ensures.is
-    _ _ _ _ c.cont_at-cont.result.next (not_false _ _ c.if-not-deed.false c.deed_of-deed.ensures.done)
+    _ _ _ _ c.cont_at-cont.result.next (not_false _ _ c.if-not-operation.false c.operation_of-operation.ensures.done)
     (some_stack c.args.conts.now.items.items c.cont_at-cont.result.next c.requires.older
     (let some = c.if-cont-eq0.false in omega (arith, some)) c.cont_at-cont.ensures.next)
     (kept_within _ _ c.in_ok-call_on.ensures.kept c.cont_at-cont.result.next c.cont_at-cont.ensures.next)

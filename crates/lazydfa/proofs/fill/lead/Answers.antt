@@ -38,18 +38,18 @@ pub returns-in_default-clause-cached : goal.returns-in_default-clause-cached
 returns-in_default-clause-cached c =
     cached_conts c.args.tables.now c.args.samples.now c.args.cache.now.conts.items.items
     c.transition.new.conts.items.items c.args.cache.now.states.items c.args.cache.now.cells.items
-    c.in_ok-told.ensures.kept c.requires.cached
+    c.in_ok-reported.ensures.kept c.requires.cached
 
 pub split_off-requires-clause-within : goal.split_off-requires-clause-within
 split_off-requires-clause-within c =
-    let told = (subst (λ v. IfSome v (λ front. IsTransition c.args.tables.now
+    let reported = (subst (λ v. IfSome v (λ front. IsTransition c.args.tables.now
     (get_or c.args.samples.now c.args.class 0) c.args.cache.now.conts.items.items
     c.as_slice-tops.result.now c.transition.new.conts.items.items front.tops.items front.ended)) c.in-Some.is
-    c.in_ok-told.ensures.is) in
-    told.within
+    c.in_ok-reported.ensures.is) in
+    reported.within
 
 pub split_off-requires-clause-older : goal.split_off-requires-clause-older
-split_off-requires-clause-older c = c.in_ok-told.ensures.kept.older c.requires.cached.older
+split_off-requires-clause-older c = c.in_ok-reported.ensures.kept.older c.requires.cached.older
 
 pub returns-in-Some-2-clause-cached : goal.returns-in-Some-2-clause-cached
 returns-in-Some-2-clause-cached c =
@@ -60,7 +60,7 @@ returns-in-Some-2-clause-cached c =
     c.state_of.new.cache.states.items c.args.cache.now.cells.items c.state_of.new.cache.cells.items
     c.index.result.now c.in-Some-2.split.tops.items false c.args.state c.in_ok-t.t c.requires.cached
     (kept_both c.args.cache.now.conts.items.items c.transition.new.conts.items.items
-    c.split_off.new.conts.items.items c.in_ok-told.ensures.kept c.in_ok-split.ensures.kept)
+    c.split_off.new.conts.items.items c.in_ok-reported.ensures.kept c.in_ok-split.ensures.kept)
     (ap (λ v. v.items.items) c.in_ok-t.ensures.conts) c.in_ok-t.ensures.is c.in_ok-t.ensures.cells
     (slice_get-get_or c.args.cache.now.states.items c.args.state c.index.result.now
     (let l = c.len.ensures in let t = c.if-state-len.false in omega (arith, l, t))
@@ -71,7 +71,7 @@ returns-in-Some-2-clause-grows c = record {
   conts = subst (λ v. AreKept c.args.cache.now.conts.items.items v)
       (sym (ap (λ v. v.items.items) c.in_ok-t.ensures.conts))
       (kept_both c.args.cache.now.conts.items.items c.transition.new.conts.items.items
-      c.split_off.new.conts.items.items c.in_ok-told.ensures.kept c.in_ok-split.ensures.kept);
+      c.split_off.new.conts.items.items c.in_ok-reported.ensures.kept c.in_ok-split.ensures.kept);
   states = c.in_ok-t.ensures.is.grown;
 }
 
@@ -86,7 +86,7 @@ returns-in-Some-2-clause-is c = λ d sample.
     (slice_get-get_or c.args.cache.now.states.items c.args.state c.index.result.now
     (let l = c.len.ensures in let t = c.if-state-len.false in omega (arith, l, t))
     ∙ ap (λ v. Some v) (sym c.index.ensures)))
-    c.in_ok-told.ensures.kept c.in_ok-split.ensures.kept (ap (λ v. v.items.items) c.in_ok-t.ensures.conts)
+    c.in_ok-reported.ensures.kept c.in_ok-split.ensures.kept (ap (λ v. v.items.items) c.in_ok-t.ensures.conts)
     c.in_ok-t.ensures.is
     (slice_get-get_or c.args.cache.now.states.items c.args.state c.index.result.now
     (let l = c.len.ensures in let t = c.if-state-len.false in omega (arith, l, t))
@@ -96,7 +96,7 @@ returns-in-Some-2-clause-is c = λ d sample.
     (subst (λ v. IfSome v (λ front. IsTransition c.args.tables.now
     (get_or c.args.samples.now c.args.class 0) c.args.cache.now.conts.items.items
     c.as_slice-tops.result.now c.transition.new.conts.items.items front.tops.items front.ended)) c.in-Some.is
-    c.in_ok-told.ensures.is)
+    c.in_ok-reported.ensures.is)
     (subst (λ v. IfSome v (λ split. IsSplitOff c.args.tables.now c.split_off.new.conts.items.items
     c.in-Some.front.tops.items split.tops.items split.part)) c.in-Some-2.is c.in_ok-split.ensures.is)
     (c.any_reads.ensures.some c.if-not-any_reads.false) d
@@ -110,7 +110,7 @@ returns-clause-cached c =
     c.index.result.now c.as_slice-tops.result.now c.in-Some.front.tops.items c.in-Some.front.ended c.args.state
     c.in_ok-t-2.t (get_or c.args.samples.now c.args.class 0) c.requires.cached
     (kept_both c.args.cache.now.conts.items.items c.transition.new.conts.items.items
-    c.split_off.new.conts.items.items c.in_ok-told.ensures.kept c.in_ok-split.ensures.kept)
+    c.split_off.new.conts.items.items c.in_ok-reported.ensures.kept c.in_ok-split.ensures.kept)
     (ap (λ v. v.items.items) c.in_ok-t-2.ensures.conts) c.in_ok-t-2.ensures.is c.in_ok-t-2.ensures.cells
     (slice_get-get_or c.args.cache.now.states.items c.args.state c.index.result.now
     (let l = c.len.ensures in let t = c.if-state-len.false in omega (arith, l, t))
@@ -128,14 +128,14 @@ returns-clause-cached c =
     (subst (λ v. IfSome v (λ front. IsTransition c.args.tables.now
     (get_or c.args.samples.now c.args.class 0) c.args.cache.now.conts.items.items
     c.as_slice-tops.result.now c.transition.new.conts.items.items front.tops.items front.ended)) c.in-Some.is
-    c.in_ok-told.ensures.is))
+    c.in_ok-reported.ensures.is))
 
 pub returns-clause-grows : goal.returns-clause-grows
 returns-clause-grows c = record {
   conts = subst (λ v. AreKept c.args.cache.now.conts.items.items v)
       (sym (ap (λ v. v.items.items) c.in_ok-t-2.ensures.conts))
       (kept_both c.args.cache.now.conts.items.items c.transition.new.conts.items.items
-      c.split_off.new.conts.items.items c.in_ok-told.ensures.kept c.in_ok-split.ensures.kept);
+      c.split_off.new.conts.items.items c.in_ok-reported.ensures.kept c.in_ok-split.ensures.kept);
   states = c.in_ok-t-2.ensures.is.grown;
 }
 
@@ -147,7 +147,7 @@ returns-clause-is c = λ d sample.
     c.index.result.now c.as_slice-tops.result.now c.in-Some.front.tops.items c.in-Some.front.ended c.args.state
     c.in_ok-t-2.t (get_or c.args.samples.now c.args.class 0) c.requires.cached
     (kept_both c.args.cache.now.conts.items.items c.transition.new.conts.items.items
-    c.split_off.new.conts.items.items c.in_ok-told.ensures.kept c.in_ok-split.ensures.kept)
+    c.split_off.new.conts.items.items c.in_ok-reported.ensures.kept c.in_ok-split.ensures.kept)
     (ap (λ v. v.items.items) c.in_ok-t-2.ensures.conts) c.in_ok-t-2.ensures.is c.in_ok-t-2.ensures.cells
     (slice_get-get_or c.args.cache.now.states.items c.args.state c.index.result.now
     (let l = c.len.ensures in let t = c.if-state-len.false in omega (arith, l, t))
@@ -165,6 +165,6 @@ returns-clause-is c = λ d sample.
     (subst (λ v. IfSome v (λ front. IsTransition c.args.tables.now
     (get_or c.args.samples.now c.args.class 0) c.args.cache.now.conts.items.items
     c.as_slice-tops.result.now c.transition.new.conts.items.items front.tops.items front.ended)) c.in-Some.is
-    c.in_ok-told.ensures.is))
+    c.in_ok-reported.ensures.is))
     (c.any_reads.ensures.some c.if-not-any_reads.false) d
     (get_or_from_slice_get c.args.samples.now c.args.class d 0 sample)

@@ -2,9 +2,9 @@ use Rattle.std.proofs.Common.{nat_eq, eqb-true, subst, map, arith, ◌+◌, leng
 use Rattle.std.proofs.lemmas.List.{nil_from_length, length-map}
 use Rattle.std.specs.Prelude.{IfSome}
 use Rattle.flatgrammar.specs.NodeSteps.{flat_of}
-use Rattle.lazydfa.specs.Hops.{IsTaken, StaysOver}
+use Rattle.lazydfa.specs.Transitions.{IsTaken, StaysOver}
 use Rattle.lazydfa.proofs.IsRunVerdictLemmas.{number_at}
-use Rattle.lazydfa.proofs.IsTrackLemmas.{hop_taken, stays_taken}
+use Rattle.lazydfa.proofs.IsTrackLemmas.{transition_taken, stays_taken}
 use Rattle.lazydfa.proofs.glide.glide_long.Goals as goal
 
 pub loop-track-preserved : goal.loop-track-preserved
@@ -14,8 +14,8 @@ loop-track-preserved g c = record {
   glides = λ tables roots classes memo track.
       let x = map g.L.Letter.number c.args.line.now in
       let taken = subst (λ v. IsTaken v (length c.args.samples.now) (nat_eq c.len-is_bare.result 0)
-      (c.loop-track.track.row + c.class_of-class.result) c.in-Some.row) c.as_slice-hops.ensures.value
-      (subst (λ v. IfSome v (IsTaken c.as_slice-hops.result.now (length c.args.samples.now)
+      (c.loop-track.track.row + c.class_of-class.result) c.in-Some.row) c.as_slice-transitions.ensures.value
+      (subst (λ v. IfSome v (IsTaken c.as_slice-transitions.result.now (length c.args.samples.now)
       (nat_eq c.len-is_bare.result 0) (c.loop-track.track.row + c.class_of-class.result))) c.in-Some.is
       c.next_row.ensures) in
       stays_taken tables roots c.args.samples.now c.args.memo.now memo x c.args.low.now classes c.in-Some.row
@@ -23,8 +23,8 @@ loop-track-preserved g c = record {
       (let size = length-map c.args.line.now g.L.Letter.number in let w = c.stay_on.ensures.within in
       omega (arith, size, w))
       (subst (λ v. StaysOver c.args.low.now c.args.samples.now v x c.in-Some.row (c.loop-track.track.at + 1)
-      c.stay_on.result) c.as_slice-hops.ensures.value c.stay_on.ensures.stays)
-      (hop_taken tables roots c.args.samples.now c.args.memo.now memo x
+      c.stay_on.result) c.as_slice-transitions.ensures.value c.stay_on.ensures.stays)
+      (transition_taken tables roots c.args.samples.now c.args.memo.now memo x
       c.loop-track.track.row c.loop-track.track.at c.value.result c.class_of-class.result c.in-Some.row
       (nat_eq c.len-is_bare.result 0)
       (λ bare. nil_from_length c.args.memo.now.parts.items

@@ -1,9 +1,9 @@
 use Rattle.std.proofs.Common.{subst, map, arith, ◌+◌, length}
 use Rattle.std.specs.Prelude.{IfSome}
 use Rattle.flatgrammar.specs.NodeSteps.{flat_of}
-use Rattle.lazydfa.specs.Hops.{IsTaken}
+use Rattle.lazydfa.specs.Transitions.{IsTaken}
 use Rattle.lazydfa.proofs.IsRunVerdictLemmas.{number_at}
-use Rattle.lazydfa.proofs.IsTrackLemmas.{hop_taken}
+use Rattle.lazydfa.proofs.IsTrackLemmas.{transition_taken}
 use Rattle.lazydfa.proofs.glide.glide_short.Goals as goal
 
 pub loop-track-preserved : goal.loop-track-preserved
@@ -13,10 +13,11 @@ loop-track-preserved g c = record {
   glides = λ tables roots classes memo track.
       let x = map g.L.Letter.number c.args.line.now in
       let taken = subst (λ v. IsTaken v (length c.args.samples.now) c.args.is_bare
-      (c.loop-track.track.row + c.class_of-class.result) c.in-Some.row) c.as_slice-hops.ensures.value
-      (subst (λ v. IfSome v (IsTaken c.as_slice-hops.result.now (length c.args.samples.now) c.args.is_bare
+      (c.loop-track.track.row + c.class_of-class.result) c.in-Some.row) c.as_slice-transitions.ensures.value
+      (subst (λ v. IfSome v (IsTaken c.as_slice-transitions.result.now (length c.args.samples.now) c.args.is_bare
       (c.loop-track.track.row + c.class_of-class.result))) c.in-Some.is c.next_row.ensures) in
-      hop_taken tables roots c.args.samples.now c.args.memo.now memo x c.loop-track.track.row c.loop-track.track.at
+      transition_taken tables roots c.args.samples.now c.args.memo.now memo x c.loop-track.track.row
+      c.loop-track.track.at
       c.value.result c.class_of-class.result c.in-Some.row c.args.is_bare c.requires.bare
       (c.loop-track.invariant.glides tables roots classes memo track)
       (number_at g.L.Letter.number c.args.line.now c.loop-track.track.at c.index-line-track.result

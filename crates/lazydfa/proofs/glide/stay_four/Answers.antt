@@ -6,7 +6,7 @@ use Rattle.lazydfa.proofs.glide.stay_four.Goals as goal
 pub returns : goal.returns
 returns g c = λ yes.
     let w = c.requires.within in
-    four_stay c.args.low.now c.args.samples.now c.args.hops.now (map g.L.Letter.number c.args.line.now)
+    four_stay c.args.low.now c.args.samples.now c.args.transitions.now (map g.L.Letter.number c.args.line.now)
     c.args.from.row c.args.from.at (g.L.Letter.number c.index-line-from.result)
     (g.L.Letter.number c.index-line-from-2.result) (g.L.Letter.number c.index-line-from-3.result)
     (g.L.Letter.number c.index-line-from-4.result)

@@ -17,22 +17,22 @@ pub returns-in_default-clause-cached : goal.returns-in_default-clause-cached
 returns-in_default-clause-cached c =
     cached_conts c.args.tables.now c.args.samples.now c.args.cache.now.conts.items.items
     c.put_back.new.conts.items.items c.args.cache.now.states.items c.args.cache.now.cells.items
-    c.in_ok-told.ensures.kept c.requires.cached
+    c.in_ok-reported.ensures.kept c.requires.cached
 
 pub returns-clause-cached : goal.returns-clause-cached
 returns-clause-cached c =
-    let told = subst (λ v. IfSome v (λ front. PutsBack c.args.tables.now c.args.cache.now.conts.items.items
+    let reported = subst (λ v. IfSome v (λ front. PutsBack c.args.tables.now c.args.cache.now.conts.items.items
     c.as_slice-tops.result.now c.args.part c.put_back.new.conts.items.items front.tops.items front.ended)) c.in-Some.is
-    c.in_ok-told.ensures.is in
+    c.in_ok-reported.ensures.is in
     grown_cached c.args.tables.now c.args.samples.now c.args.cache.now.conts.items.items
     c.put_back.new.conts.items.items c.state_of.new.cache.conts.items.items c.args.cache.now.states.items
     c.state_of.new.cache.states.items c.args.cache.now.cells.items c.state_of.new.cache.cells.items
     c.index.result.now c.in-Some.front.tops.items c.in-Some.front.ended c.args.state c.in_ok-t.t c.requires.cached
-    c.in_ok-told.ensures.kept (ap (λ v. v.items.items) c.in_ok-t.ensures.conts) c.in_ok-t.ensures.is
+    c.in_ok-reported.ensures.kept (ap (λ v. v.items.items) c.in_ok-t.ensures.conts) c.in_ok-t.ensures.is
     c.in_ok-t.ensures.cells
     (slice_get-get_or c.args.cache.now.states.items c.args.state c.index.result.now
     (let l = c.len.ensures in let t = c.if-state-len.false in omega (arith, l, t))
-    ∙ ap (λ v. Some v) (sym c.index.ensures)) told.within
+    ∙ ap (λ v. Some v) (sym c.index.ensures)) reported.within
 
 pub returns-clause-is : goal.returns-clause-is
 returns-clause-is c =
@@ -40,12 +40,12 @@ returns-clause-is c =
     slice_get-get_or c.args.cache.now.states.items c.args.state c.index.result.now
     (let l = c.len.ensures in let t = c.if-state-len.false in omega (arith, l, t))
     ∙ ap (λ v. Some v) (sym c.index.ensures) in
-    let told = subst (λ v. IfSome v (λ front. PutsBack c.args.tables.now c.args.cache.now.conts.items.items
+    let reported = subst (λ v. IfSome v (λ front. PutsBack c.args.tables.now c.args.cache.now.conts.items.items
     c.as_slice-tops.result.now c.args.part c.put_back.new.conts.items.items front.tops.items front.ended)) c.in-Some.is
-    c.in_ok-told.ensures.is in
+    c.in_ok-reported.ensures.is in
     unfold_made c.args.tables.now c.args.cache.now.conts.items.items c.put_back.new.conts.items.items
     c.state_of.new.cache.conts.items.items c.args.cache.now.states.items c.state_of.new.cache.states.items
     c.index.result.now c.as_slice-tops.result.now c.in-Some.front.tops.items c.in-Some.front.ended c.args.state
     c.args.part c.in_ok-t.t (c.requires.cached.within c.args.state c.index.result.now at_s)
-    (let l = c.len-2.ensures in let t = c.if-part-len.false in omega (arith, l, t)) c.in_ok-told.ensures.kept
-    (ap (λ v. v.items.items) c.in_ok-t.ensures.conts) c.in_ok-t.ensures.is at_s c.as_slice-tops.ensures.value told
+    (let l = c.len-2.ensures in let t = c.if-part-len.false in omega (arith, l, t)) c.in_ok-reported.ensures.kept
+    (ap (λ v. v.items.items) c.in_ok-t.ensures.conts) c.in_ok-t.ensures.is at_s c.as_slice-tops.ensures.value reported

@@ -1,6 +1,6 @@
 use Rattle.std.proofs.Common.{◌≡◌, ◌+◌, length, refl, subst, sym}
 use Rattle.std.specs.Prelude.{IfSome, Some, slice_get}
-use Rattle.lazydfa.specs.Hops.{last_word}
+use Rattle.lazydfa.specs.Transitions.{last_word}
 use Rattle.lazydfa.proofs.IsTrackLemmas.{last_says, row_state}
 use Rattle.lazydfa.proofs.run.ends_at.Goals as goal
 

@@ -3,7 +3,7 @@ use Rattle.std.proofs.lemmas.List.{length-map}
 use Rattle.lazydfa.specs.Cached.{AreGrown}
 use Rattle.lazydfa.specs.Conts.{AreKept}
 use Rattle.lazydfa.specs.Memos.{IsMemo}
-use Rattle.lazydfa.proofs.AreHopsLemmas.{memo_kept}
+use Rattle.lazydfa.proofs.AreTransitionsLemmas.{memo_kept}
 use Rattle.lazydfa.proofs.IsOverLemmas.{settled_start}
 use Rattle.lazydfa.proofs.IsTrackLemmas.{track_of}
 use Rattle.lazydfa.proofs.run.follow.Goals as goal
@@ -18,7 +18,7 @@ returns-then-not-branch-clause-memo g c =
       states = subst (λ v. AreGrown v.items c.begin.new.cache.states.items) c.prepare.ensures.states
           c.in_ok-begin.ensures.grows.states;
     })
-    (ap (λ v. v.items) c.prepare.ensures.unfolds) (ap (λ v. v.items) c.prepare.ensures.hops)
+    (ap (λ v. v.items) c.prepare.ensures.unfolds) (ap (λ v. v.items) c.prepare.ensures.transitions)
 
 pub go_on-requires-clause-memo : goal.go_on-requires-clause-memo
 go_on-requires-clause-memo g c =
@@ -30,7 +30,7 @@ go_on-requires-clause-memo g c =
       states = subst (λ v. AreGrown v.items c.begin.new.cache.states.items) c.prepare.ensures.states
           c.in_ok-begin.ensures.grows.states;
     })
-    (ap (λ v. v.items) c.prepare.ensures.unfolds) (ap (λ v. v.items) c.prepare.ensures.hops)
+    (ap (λ v. v.items) c.prepare.ensures.unfolds) (ap (λ v. v.items) c.prepare.ensures.transitions)
 
 pub go_on-requires-clause-tracks : goal.go_on-requires-clause-tracks
 go_on-requires-clause-tracks g c =
@@ -44,7 +44,7 @@ go_on-requires-clause-tracks g c =
       states = subst (λ v. AreGrown v.items c.begin.new.cache.states.items) c.prepare.ensures.states
           c.in_ok-begin.ensures.grows.states;
     })
-    (ap (λ v. v.items) c.prepare.ensures.unfolds) (ap (λ v. v.items) c.prepare.ensures.hops) in
+    (ap (λ v. v.items) c.prepare.ensures.unfolds) (ap (λ v. v.items) c.prepare.ensures.transitions) in
     let started = c.glide-track.ensures.glides c.args.tables.now c.requires.roots c.requires.classes memo
     (track_of c.args.tables.now c.args.classes.samples.now
     (record c.prepare.new.memo { cache = c.begin.new.cache }) (map g.L.Letter.number c.args.line.now) 0 0
@@ -65,7 +65,7 @@ returns-clause-memo g c =
       states = subst (λ v. AreGrown v.items c.begin.new.cache.states.items) c.prepare.ensures.states
           c.in_ok-begin.ensures.grows.states;
     })
-    (ap (λ v. v.items) c.prepare.ensures.unfolds) (ap (λ v. v.items) c.prepare.ensures.hops)
+    (ap (λ v. v.items) c.prepare.ensures.unfolds) (ap (λ v. v.items) c.prepare.ensures.transitions)
 
 pub returns-clause-stops : goal.returns-clause-stops
 returns-clause-stops g c =
@@ -80,7 +80,7 @@ returns-clause-stops g c =
       states = subst (λ v. AreGrown v.items c.begin.new.cache.states.items) c.prepare.ensures.states
           c.in_ok-begin.ensures.grows.states;
     })
-    (ap (λ v. v.items) c.prepare.ensures.unfolds) (ap (λ v. v.items) c.prepare.ensures.hops) in
+    (ap (λ v. v.items) c.prepare.ensures.unfolds) (ap (λ v. v.items) c.prepare.ensures.transitions) in
     let started = c.glide-track.ensures.glides c.args.tables.now c.requires.roots c.requires.classes memo
     (track_of c.args.tables.now c.args.classes.samples.now
     (record c.prepare.new.memo { cache = c.begin.new.cache }) (map g.L.Letter.number c.args.line.now) 0 0

@@ -3,7 +3,7 @@ use Rattle.std.specs.Prelude.{IfSome, false}
 use Rattle.lazydfa.specs.StackParts.{below_of}
 use Rattle.lazydfa.specs.Cached.{IsCell}
 use Rattle.lazydfa.specs.Memos.{RunsOver, RunsAt}
-use Rattle.lazydfa.proofs.AreHopsLemmas.{memo_kept, hops_noted}
+use Rattle.lazydfa.proofs.AreTransitionsLemmas.{memo_kept, transitions_noted}
 use Rattle.lazydfa.proofs.IsAtLemmas.{step_to, step_push, step_reached, push_reached, push_runs, pushed_part, step_dead}
 use Rattle.lazydfa.proofs.IsOverLemmas.{over_kept, over_pushed, plain_below, settled_kept}
 use Rattle.lazydfa.proofs.IsOverLemmas.{settled_running}
@@ -17,17 +17,19 @@ settle-requires-clause-memo c =
     record {
       cached = memo.cached;
       unfolds = memo.unfolds;
-      hops = hops_noted c.args.tables.now c.args.samples.now c.cell_of.new.cache.conts.items.items
+      transitions = transitions_noted c.args.tables.now c.args.samples.now c.cell_of.new.cache.conts.items.items
           c.cell_of.new.cache.states.items c.args.state c.args.class c.in-To.t
           (λ d sample. subst (λ v. IsCell c.args.tables.now d c.cell_of.new.cache.conts.items.items
           c.cell_of.new.cache.states.items c.args.state v) c.in-To.is (c.in_ok-t.ensures.is d sample))
-          c.args.memo.now.hops.items c.note_hop.new.hops.items c.in_ok-note_hop-in-To.ensures memo.hops;
+          c.args.memo.now.transitions.items c.note_transition.new.transitions.items
+          c.in_ok-note_transition-in-To.ensures memo.transitions;
     }
 
 pub returns-in-Some-clause-taken : goal.returns-in-Some-clause-taken
 returns-in-Some-clause-taken c = λ x j letter is class at. (
   subst (λ v. IfSome v (λ t. (x : List ℕ) (j : ℕ) → RunsOver c.args.tables.now
-      (record c.args.memo.now { cache = c.cell_of.new.cache; hops = c.note_hop.new.hops }) c.in-To.t x j
+      (record c.args.memo.now { cache = c.cell_of.new.cache; transitions = c.note_transition.new.transitions })
+      c.in-To.t x j
       → RunsAt c.args.tables.now c.settle.new.memo t x j)) c.in-Some.is c.in_ok-settled-in-To.ensures.settled x (j + 1)
       (over_kept c.args.tables.now c.args.memo.now.cache.conts.items.items c.cell_of.new.cache.conts.items.items
       c.args.memo.now.cache.states.items c.cell_of.new.cache.states.items c.in_ok-t.ensures.grows.conts

@@ -16,7 +16,7 @@ transition-requires-clause-within c id h =
 pub returns-in_default-clause-cached : goal.returns-in_default-clause-cached
 returns-in_default-clause-cached c =
     cached_conts c.args.tables.now [] c.args.cache.now.conts.items.items c.transition.new.conts.items.items
-    c.args.cache.now.states.items c.args.cache.now.cells.items c.in_ok-told.ensures.kept c.requires.cached
+    c.args.cache.now.states.items c.args.cache.now.cells.items c.in_ok-reported.ensures.kept c.requires.cached
 
 pub returns-clause-cached : goal.returns-clause-cached
 returns-clause-cached c =
@@ -25,11 +25,11 @@ returns-clause-cached c =
     c.in_order.ensures.tops
     (subst (λ v. IfSome v (λ front. IsTransition c.args.tables.now c.args.value c.args.cache.now.conts.items.items
     c.as_slice-tops.result.now c.transition.new.conts.items.items front.tops.items front.ended)) c.in-Some.is
-    c.in_ok-told.ensures.is) in
+    c.in_ok-reported.ensures.is) in
     grown_cached c.args.tables.now [] c.args.cache.now.conts.items.items c.transition.new.conts.items.items
     c.state_of.new.cache.conts.items.items c.args.cache.now.states.items c.state_of.new.cache.states.items
     c.args.cache.now.cells.items c.state_of.new.cache.cells.items c.index.result.now c.in_order.result.tops.items
-    c.in_order.result.ended c.args.state c.in_ok-t.t c.requires.cached c.in_ok-told.ensures.kept
+    c.in_order.result.ended c.args.state c.in_ok-t.t c.requires.cached c.in_ok-reported.ensures.kept
     (ap (λ v. v.items.items) c.in_ok-t.ensures.conts) c.in_ok-t.ensures.is c.in_ok-t.ensures.cells
     (slice_get-get_or c.args.cache.now.states.items c.args.state c.index.result.now
     (let l = c.len.ensures in let t = c.if-state-len.false in omega (arith, l, t))
@@ -45,7 +45,7 @@ returns-clause-is c =
     c.state_of.new.cache.conts.items.items c.args.cache.now.states.items c.state_of.new.cache.states.items
     c.index.result.now c.as_slice-tops.result.now c.in_order.result.tops.items c.in_order.result.ended c.args.state
     c.in_ok-t.t c.args.value (c.requires.cached.within c.args.state c.index.result.now at_s)
-    c.in_ok-told.ensures.kept (ap (λ v. v.items.items) c.in_ok-t.ensures.conts) c.in_ok-t.ensures.is at_s
+    c.in_ok-reported.ensures.kept (ap (λ v. v.items.items) c.in_ok-t.ensures.conts) c.in_ok-t.ensures.is at_s
     c.as_slice-tops.ensures.value
     (subst (λ v. IsTransition c.args.tables.now c.args.value c.args.cache.now.conts.items.items
     c.as_slice-tops.result.now c.transition.new.conts.items.items c.in_order.result.tops.items v)
@@ -55,4 +55,4 @@ returns-clause-is c =
     c.in_order.ensures.tops
     (subst (λ v. IfSome v (λ front. IsTransition c.args.tables.now c.args.value c.args.cache.now.conts.items.items
     c.as_slice-tops.result.now c.transition.new.conts.items.items front.tops.items front.ended)) c.in-Some.is
-    c.in_ok-told.ensures.is)))
+    c.in_ok-reported.ensures.is)))

@@ -43,7 +43,7 @@ module _ {K : Type 0} (White : List ℕ → List ℕ → Type 0) (First Stands :
       let z = slice_of x in
       let whole : text ≡ before ++ (z ++ r) = e ∙ ap (λ (u : List ℕ). front ++ u)
       (w.whole ∙ ap (λ (u : List ℕ). w.front ++ u) n.cut) ∙ sym (append_assoc front w.front (z ++ r)) in
-      let behind : text ≡ (before ++ z) ++ r = whole ∙ sym (append_assoc before z r) in
+      let after : text ≡ (before ++ z) ++ r = whole ∙ sym (append_assoc before z r) in
       let sizes : length text ≡ length before + (length z + length r) = ap length whole
       ∙ length-append before (z ++ r) ∙ ap (λ (k : ℕ). length before + k) (length-append z r) in
       let token : length n.token ≡ length z + length r = ap length n.cut ∙ length-append z r in
@@ -53,7 +53,7 @@ module _ {K : Type 0} (White : List ℕ → List ℕ → Type 0) (First Stands :
       let end : length (before ++ z) ≡ end_of x = omega (arith, length-append before z) in
       let there : drop (start_of x) text ≡ z ++ r = ap (drop (start_of x)) whole
       ∙ drop_at before (z ++ r) (start_of x) (sym start) in
-      let rest : drop (end_of x) text ≡ r = ap (drop (end_of x)) behind ∙ drop_at (before ++ z) r (end_of x) end in
+      let rest : drop (end_of x) text ≡ r = ap (drop (end_of x)) after ∙ drop_at (before ++ z) r (end_of x) end in
       let token_there : n.token ≡ drop (start_of x) text = n.cut ∙ sym there in
       record {
         lies = record {
@@ -64,7 +64,7 @@ module _ {K : Type 0} (White : List ℕ → List ℕ → Type 0) (First Stands :
         };
         later = omega arith;
         front_after = before ++ z;
-        whole = behind;
+        whole = after;
         end = end;
         longest_there = subst (λ (s : List ℕ). Longest Stands (kind_of x) (drop (start_of x) text) s
             ⊎ NoToken Stands (drop (start_of x) text)) (sym rest)

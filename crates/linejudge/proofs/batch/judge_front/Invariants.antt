@@ -12,7 +12,7 @@ invariant-loop-len g l = record {
   counted : l.next.count ≤ l.next.place;
   refused : l.next.refused ≤ l.next.count;
   goes_on : (input : Input) (rest : List ℕ) → drop l.at.place input.bytes ≡ l.front ++ rest →
-      AddsLines (g.J.Judge.told l.judge) (g.J.Judge.explains l.judge) (g.J.Judge.refusal l.judge) l.form input l.at
+      AddsLines (g.J.Judge.reported l.judge) (g.J.Judge.explains l.judge) (g.J.Judge.refusal l.judge) l.form input l.at
       l.next l.text.items;
 }
 

@@ -10,7 +10,7 @@ pub loop-k-init : goal.loop-k-init
 loop-k-init g c = record {
   loan = refl;
   grows = grows_none c.args.feed.now;
-  told = c.requires;
+  reported = c.requires;
   still = λ some. same_feed c.args.feed.now;
   reads = no_read;
 }
@@ -25,7 +25,7 @@ loop-k-preserved g c =
     record {
       loan = on.loan ∙ so_far.loan;
       grows = grows_twice c.args.feed.now c.loop-k.feed c.read_more.new.self so_far.grows on.grows;
-      told = on.told;
+      reported = on.reported;
       still = λ some.
           let same = so_far.still some in
           absurd (some (rw same.bytes at none));

@@ -9,7 +9,7 @@ abbrev pub invariant-loop-k : goal.invariant-loop-k
 invariant-loop-k g l = record {
   loan : SameLoan l.fn.feed l.feed;
   grows : Grows g.R.Source.remaining l.fn.feed l.feed;
-  told : IsTrueOfReader g.R.Source.remaining g.R.Source.failed g.R.Source.ended l.feed;
+  reported : IsTrueOfReader g.R.Source.remaining g.R.Source.failed g.R.Source.ended l.feed;
   still : (HasNoEnd l.form.end (bytes_of l.fn.feed) → ⊥) → SameFeed l.fn.feed l.feed;
   reads : ReadsForLine l.form.end (bytes_of l.fn.feed) (bytes_of l.feed);
 }

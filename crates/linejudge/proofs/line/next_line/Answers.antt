@@ -9,7 +9,7 @@ pub returns-in-Some : goal.returns-in-Some
 returns-in-Some g c = record {
   loan = refl;
   grows = grows_none c.args.feed.now;
-  told = c.requires;
+  reported = c.requires;
   follows = λ before input room a.
       let len = c.len.ensures.len in
       let most = c.len.ensures.within in
@@ -34,7 +34,7 @@ pub returns-in-Some-find : goal.returns-in-Some-find
 returns-in-Some-find g c = record {
   loan = c.fill-held.ensures.loan;
   grows = c.fill-held.ensures.grows;
-  told = c.fill-held.ensures.told;
+  reported = c.fill-held.ensures.reported;
   follows = λ before input room a.
       let feed = c.fill-held.new.self in (
         line_found feed c.args.form before input room c.fill-held.ensures.within a c.in-Some-find.k
@@ -60,7 +60,7 @@ pub returns-in-None : goal.returns-in-None
 returns-in-None g c = record {
   loan = c.fill-held.ensures.loan;
   grows = c.fill-held.ensures.grows;
-  told = c.fill-held.ensures.told;
+  reported = c.fill-held.ensures.reported;
   follows = λ before input room a.
       let feed = c.fill-held.new.self in (
         rw (c.without_end.ensures, c.len-len.ensures.len)

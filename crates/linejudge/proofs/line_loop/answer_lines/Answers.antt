@@ -6,7 +6,7 @@ use Rattle.feed.specs.Feed.{bytes_of}
 use Rattle.feed.proofs.GrowsLemmas.{Consumes-same}
 use Rattle.toolrun.proofs.AgreesLemmas.{agrees_earlier, seen_more, slides-bytes, slides-len}
 use Rattle.linejudge.specs.InputLines.{none}
-use Rattle.linejudge.specs.LineRefusals.{none_told}
+use Rattle.linejudge.specs.LineRefusals.{none_reported}
 use Rattle.linejudge.proofs.JudgeFrontLemmas.{batch_goes}
 use Rattle.linejudge.proofs.LineRunLemmas.{fails_further, fails_there, more_lines, one_more_line, stops_there}
 use Rattle.linejudge.proofs.LinesLemmas.{refused_by-one}
@@ -19,7 +19,7 @@ loop-feed-init g c = record {
   counted = rw c.requires.front.0 (omega arith);
   refused = rw c.requires.front.0 (omega arith);
   within = let l = ap length c.requires.empty in rw c.requires.front.0 (omega (arith, l, c.requires.allowance));
-  told = c.requires.told;
+  reported = c.requires.reported;
   work = c.requires.work;
   room = c.requires.room;
   loan = refl;
@@ -31,7 +31,7 @@ loop-feed-init g c = record {
     λ input a. (
       [],
       rw c.requires.front.0 none,
-      rw (c.requires.front.0, c.requires.front.1, c.requires.front.2) none_told,
+      rw (c.requires.front.0, c.requires.front.1, c.requires.front.2) none_reported,
       Appends-same _,
     ),
   );
@@ -47,13 +47,13 @@ next_step-requires g c =
       capacity = so_far.capacity;
       counted = so_far.counted;
       within = omega (arith, so_far.within);
-      told = so_far.told;
+      reported = so_far.reported;
       room = so_far.room;
       out_is_fresh = so_far.flag ∙ c.requires.out_is_fresh;
     }
 
-pub behind-reached-requires-clause-place : goal.behind-reached-requires-clause-place
-behind-reached-requires-clause-place g c =
+pub position_after-reached-requires-clause-place : goal.position_after-reached-requires-clause-place
+position_after-reached-requires-clause-place g c =
     let fits = (rw c.in-Ok-Answers.field-0-is at c.in-Ok-Answers.ensures.fits) in
     let grew = c.in-Ok-Answers.ensures.grows in
     let more = ap length grew.bytes in
@@ -72,7 +72,7 @@ loop-feed-smaller g c =
     let fits = (rw c.in-Ok-Answers.field-0-is at c.in-Ok-Answers.ensures.fits) in
     let grew = c.in-Ok-Answers.ensures.grows in
     let more = ap length grew.bytes in
-    rw (c.behind-reached.ensures, c.in-Ok-Answers.ensures.at) (omega (
+    rw (c.position_after-reached.ensures, c.in-Ok-Answers.ensures.at) (omega (
       arith,
       fits.0,
       fits.1,
@@ -100,7 +100,8 @@ loop-feed-preserved-then-at-next g c =
       within = let kept = ap length c.skip.ensures.bytes in
           let all = c.loop-feed.invariant.within in
           omega (arith, kept, length-drop n items, c.skip.ensures.allowance, all, on.ahead, le);
-      told = rw (c.skip.ensures.reader, c.skip.ensures.allowance, c.skip.ensures.flow) c.loop-feed.invariant.told;
+      reported = rw (c.skip.ensures.reader, c.skip.ensures.allowance, c.skip.ensures.flow)
+          c.loop-feed.invariant.reported;
       work = on.work;
       room = c.loop-feed.invariant.room;
       loan = c.skip.ensures.loan ∙ c.loop-feed.invariant.loan;
@@ -112,10 +113,10 @@ loop-feed-preserved-then-at-next g c =
         λ input b.
             let a = rw (c.skip.ensures.bytes, slides-bytes so_far.0 items n, c.skip.ensures.flow) at b in
             let front = so_far.3 input a in
-            more_lines (g.J.Judge.told c.args.judge.now) (g.J.Judge.explains c.args.judge.now)
-            (g.J.Judge.refusal c.args.judge.now) c.args.form input at _ _ front.0 c.loop-feed.reached.told front.1
+            more_lines (g.J.Judge.reported c.args.judge.now) (g.J.Judge.explains c.args.judge.now)
+            (g.J.Judge.refusal c.args.judge.now) c.args.form input at _ _ front.0 c.loop-feed.reached.reported front.1
             front.2 front.3 next _ c.judge_front-next.new.text.items
-            (batch_goes (g.J.Judge.told c.args.judge.now) (g.J.Judge.explains c.args.judge.now)
+            (batch_goes (g.J.Judge.reported c.args.judge.now) (g.J.Judge.explains c.args.judge.now)
             (g.J.Judge.refusal c.args.judge.now) c.args.form input so_far.0 items c.front.result.now
             c.judge_front-next.new.text.items at next so_far.1 part a on.goes_on)
             (rw c.as_slice.ensures.value at c.in_default.ensures.bytes),
@@ -131,20 +132,20 @@ returns-in-Err g c =
     record {
       work = on.work;
       loan = c.loop-feed.invariant.loan;
-      told = c.loop-feed.invariant.told;
+      reported = c.loop-feed.invariant.reported;
       lines = (
         so_far.0 ++ items,
         so_far.2,
         omega (arith, length-append so_far.0 items, so_far.1, c.loop-feed.invariant.within),
         λ input a.
             let front = so_far.3 input a in
-            fails_further (g.J.Judge.told c.args.judge.now) (g.J.Judge.explains c.args.judge.now)
-            (g.J.Judge.refusal c.args.judge.now) c.args.form input at _ _ front.0 c.loop-feed.reached.told front.1
+            fails_further (g.J.Judge.reported c.args.judge.now) (g.J.Judge.explains c.args.judge.now)
+            (g.J.Judge.refusal c.args.judge.now) c.args.form input at _ _ front.0 c.loop-feed.reached.reported front.1
             front.2 front.3 c.decided.ensures _ (length (so_far.0 ++ items)) c.in-Err.fault
             (rw so_far.1 at (held_within c.loop-feed.feed c.args.form so_far.0 input
             c.loop-feed.invariant.capacity (let len = c.len.ensures in omega (arith, len.len, len.within)) a))
             c.judge_front-next.result c.judge_front-next.new.text.items on.ahead
-            (batch_goes (g.J.Judge.told c.args.judge.now) (g.J.Judge.explains c.args.judge.now)
+            (batch_goes (g.J.Judge.reported c.args.judge.now) (g.J.Judge.explains c.args.judge.now)
             (g.J.Judge.refusal c.args.judge.now) c.args.form input so_far.0 items c.front.result.now
             c.judge_front-next.new.text.items at c.judge_front-next.result so_far.1 c.front.ensures a on.goes_on)
             (rw c.as_slice.ensures.value at c.in-Err.ensures.bytes),
@@ -164,13 +165,13 @@ loop-feed-preserved g c =
     let le : n ≤ length items = fits.1 in
     record {
       capacity = slid.capacity ∙ grew.capacity ∙ c.loop-feed.invariant.capacity;
-      counted = rw (c.behind-reached.ensures, c.in-Ok-Answers.ensures.at)
+      counted = rw (c.position_after-reached.ensures, c.in-Ok-Answers.ensures.at)
           (omega (arith, c.loop-feed.invariant.counted, some));
-      refused = rw (c.behind-reached.ensures, c.in-Ok-Answers.ensures.at)
+      refused = rw (c.position_after-reached.ensures, c.in-Ok-Answers.ensures.at)
           (omega (arith, c.loop-feed.invariant.refused, refused_by-one c.in-Ok-Answers.said));
       within = let kept = ap length slid.bytes in
           let more = ap length grew.bytes in
-          rw (c.behind-reached.ensures, c.in-Ok-Answers.ensures.at) (omega (
+          rw (c.position_after-reached.ensures, c.in-Ok-Answers.ensures.at) (omega (
             arith,
             kept,
             length-drop n items,
@@ -181,14 +182,14 @@ loop-feed-preserved g c =
             c.loop-feed.invariant.within,
             le,
           ));
-      told = rw (slid.reader, slid.allowance, slid.flow) c.in-Ok-Answers.ensures.told;
+      reported = rw (slid.reader, slid.allowance, slid.flow) c.in-Ok-Answers.ensures.reported;
       work = c.in-Ok-Answers.ensures.work;
       room = c.in-Ok-Answers.ensures.room;
       loan = slid.loan ∙ c.in-Ok-Answers.ensures.loan ∙ c.loop-feed.invariant.loan;
       flag = c.in-Ok-Answers.ensures.flag ∙ c.loop-feed.invariant.flag;
       written = (
         so_far.0 ++ take n items,
-        rw (c.behind-reached.ensures, c.in-Ok-Answers.ensures.at)
+        rw (c.position_after-reached.ensures, c.in-Ok-Answers.ensures.at)
             (let e = slides-len so_far.0 items n c.loop-feed.reached.at.place so_far.1 le in omega (arith, e)),
         rw (slid.reader, slid.bytes, slides-bytes so_far.0 items n)
             (seen_more _ _ _ grew so_far.0 _ so_far.2),
@@ -196,10 +197,11 @@ loop-feed-preserved g c =
             let a = rw (slid.bytes, slides-bytes so_far.0 items n, slid.flow) at b in
             let front = so_far.3 input (agrees_earlier _ _ _ grew so_far.0 input a) in
             let step = c.in-Ok-Answers.ensures.follows so_far.0 input so_far.1 a in
-            rw (c.behind-reached.ensures, c.in-Ok-Answers.ensures.at) (one_more_line (g.J.Judge.told c.args.judge.now)
+            rw (c.position_after-reached.ensures, c.in-Ok-Answers.ensures.at)
+            (one_more_line (g.J.Judge.reported c.args.judge.now)
             (g.J.Judge.explains c.args.judge.now) (g.J.Judge.refusal c.args.judge.now) c.args.form input
-            c.loop-feed.reached.at _ _ front.0 c.loop-feed.reached.told front.1 front.2 front.3 _
-            c.next_step.new.reached.told c.in-Ok-Answers.said c.in-Ok-Answers.len
+            c.loop-feed.reached.at _ _ front.0 c.loop-feed.reached.reported front.1 front.2 front.3 _
+            c.next_step.new.reached.reported c.in-Ok-Answers.said c.in-Ok-Answers.len
             (rw c.in-Ok-Answers.field-0-is at step.0)),
       );
     }
@@ -208,7 +210,7 @@ pub returns-in-Ok-Stops : goal.returns-in-Ok-Stops
 returns-in-Ok-Stops g c = record {
   work = c.in-Ok-Stops.ensures.work;
   loan = c.fill.ensures.loan ∙ c.in-Ok-Stops.ensures.loan ∙ c.loop-feed.invariant.loan;
-  told = c.fill.ensures.told;
+  reported = c.fill.ensures.reported;
   lines =
       let so_far = c.loop-feed.invariant.written in
       let grew = c.in-Ok-Stops.ensures.grows in
@@ -234,12 +236,12 @@ returns-in-Ok-Stops g c = record {
             let then_ = agrees_earlier _ _ _ more so_far.0 input a in
             let front = so_far.3 input (agrees_earlier _ _ _ grew so_far.0 input then_) in
             let step = c.in-Ok-Stops.ensures.follows so_far.0 input so_far.1 then_ in
-            stops_there (g.J.Judge.told c.args.judge.now) (g.J.Judge.explains c.args.judge.now)
+            stops_there (g.J.Judge.reported c.args.judge.now) (g.J.Judge.explains c.args.judge.now)
             (g.J.Judge.refusal c.args.judge.now) c.args.form input c.loop-feed.reached.at _ _ front.0
-            c.loop-feed.reached.told front.1 front.2 front.3 _ c.next_step.new.reached.told
+            c.loop-feed.reached.reported front.1 front.2 front.3 _ c.next_step.new.reached.reported
             (length (so_far.0 ++ bytes_of feed)) c.in-Ok-Stops.stop c.ending_at.result
             (rw c.in-Ok-Stops.field-0-is at step.0) (rw c.is_explained.ensures at c.ending_at.ensures.plain)
-            (rw (c.is_explained.ensures, c.in-Ok-Stops.ensures.at) at c.ending_at.ensures.told)
+            (rw (c.is_explained.ensures, c.in-Ok-Stops.ensures.at) at c.ending_at.ensures.reported)
             (rw so_far.1 at (held_taken feed c.args.form so_far.0 input
             (more.capacity ∙ grew.capacity ∙ c.loop-feed.invariant.capacity) c.fill.ensures.within a c.fill.result
             c.fill.ensures.held)),
@@ -251,7 +253,7 @@ pub returns-in-Err-next_step : goal.returns-in-Err-next_step
 returns-in-Err-next_step g c = record {
   work = c.in-Err-next_step.ensures.work;
   loan = c.in-Err-next_step.ensures.loan ∙ c.loop-feed.invariant.loan;
-  told = c.in-Err-next_step.ensures.told;
+  reported = c.in-Err-next_step.ensures.reported;
   lines =
       let so_far = c.loop-feed.invariant.written in
       let grew = c.in-Err-next_step.ensures.grows in
@@ -271,10 +273,10 @@ returns-in-Err-next_step g c = record {
         λ input a.
             let front = so_far.3 input (agrees_earlier _ _ _ grew so_far.0 input a) in
             let step = c.in-Err-next_step.ensures.follows so_far.0 input so_far.1 a in
-            fails_there (g.J.Judge.told c.args.judge.now) (g.J.Judge.explains c.args.judge.now)
+            fails_there (g.J.Judge.reported c.args.judge.now) (g.J.Judge.explains c.args.judge.now)
             (g.J.Judge.refusal c.args.judge.now) c.args.form input c.loop-feed.reached.at _ _ front.0
-            c.loop-feed.reached.told front.1 front.2 front.3 c.decided.ensures _ (length (so_far.0 ++ items))
-            c.in-Err-next_step.fault step.1 c.next_step.new.reached.told step.0,
+            c.loop-feed.reached.reported front.1 front.2 front.3 c.decided.ensures _ (length (so_far.0 ++ items))
+            c.in-Err-next_step.fault step.1 c.next_step.new.reached.reported step.0,
       );
   flag = c.in-Err-next_step.ensures.flag;
 }

@@ -6,7 +6,7 @@ use Rattle.feed.specs.Feed.{reader_of}
 use Rattle.toolrun.specs.Agrees.{Agrees}
 use Rattle.toolrun.specs.Input.{Input}
 use Rattle.linejudge.specs.InputLines.{Lines}
-use Rattle.linejudge.specs.LineRefusals.{ToldUpTo}
+use Rattle.linejudge.specs.LineRefusals.{ReportedUpTo}
 use Rattle.linejudge.specs.LineSteps.{HasRoom}
 use Rattle.linejudge.proofs.line_loop.answer_lines.Given as goal
 
@@ -16,18 +16,18 @@ invariant-loop-feed g l = record {
   counted : l.reached.at.count ≤ l.reached.at.place;
   refused : l.reached.at.refused ≤ l.reached.at.count;
   within : l.reached.at.place + length (bytes_of l.feed) + allowance_of l.feed ≡ input_limit;
-  told : IsTrueOfReader g.R.Source.remaining g.R.Source.failed g.R.Source.ended l.feed;
+  reported : IsTrueOfReader g.R.Source.remaining g.R.Source.failed g.R.Source.ended l.feed;
   work : g.J.Judge.works_in l.judge l.work;
-  room : g.J.Judge.explains l.judge ≡ true → HasRoom l.reached.told;
+  room : g.J.Judge.explains l.judge ≡ true → HasRoom l.reached.reported;
   loan : SameLoan l.fn.feed l.feed;
   flag : g.O.Sink.failed l.out ≡ g.O.Sink.failed l.fn.out;
   written : (before : List ℕ) × (length before ≡ l.reached.at.place) ×
       Consumes (g.R.Source.remaining (reader_of l.fn.feed)) (g.R.Source.remaining (reader_of l.feed))
       (before ++ bytes_of l.feed) ×
       ((input : Input) → Agrees (before ++ bytes_of l.feed) (flow_of l.feed) input →
-      (text : List ℕ) × Lines (g.J.Judge.told l.judge) l.form input l.reached.at text
-      × ToldUpTo (g.J.Judge.told l.judge) (g.J.Judge.explains l.judge) (g.J.Judge.refusal l.judge) l.form input
-      l.reached.told.lacks l.reached.at l.reached.told.text.items
+      (text : List ℕ) × Lines (g.J.Judge.reported l.judge) l.form input l.reached.at text
+      × ReportedUpTo (g.J.Judge.reported l.judge) (g.J.Judge.explains l.judge) (g.J.Judge.refusal l.judge) l.form input
+      l.reached.reported.lacks l.reached.at l.reached.reported.text.items
       × Appends (g.O.Sink.contents l.fn.out) (g.O.Sink.contents l.out) text);
 }
 

@@ -6,7 +6,7 @@ use Rattle.ruletable.specs.declared.sink.WriteFault.{WriteFault}
 use Rattle.feed.specs.Feed.{Grows, SameFeed, bytes_of}
 use Rattle.feed.specs.declared.feed.Feed.{Feed}
 use Rattle.linejudge.specs.InputLines.{finished, kept_size, rejected}
-use Rattle.linejudge.specs.LineSteps.{FitsIn, StepsBehind}
+use Rattle.linejudge.specs.LineSteps.{FitsIn, StepsAfter}
 use Rattle.linejudge.specs.declared.answers.Answer.{Answer}
 use Rattle.linejudge.specs.declared.line_loop.LineStep.{LineStep}
 use Rattle.linejudge.specs.declared.line_loop.LineStep.TheVariants.{Stops}
@@ -30,7 +30,7 @@ grows-same g s = record {
 
 -- the step after an answer takes the bytes of the line
 fits-after : (n len : ℕ) (old new : Option (List ℕ)) (text : List ℕ) (answered : Result Answer Memory)
-    (r : Result LineStep WriteFault) → 0 < n → n ≤ len → StepsBehind n old new text answered r → FitsIn len r
+    (r : Result LineStep WriteFault) → 0 < n → n ≤ len → StepsAfter n old new text answered r → FitsIn len r
 fits-after n len old new text (Ok said) (Ok step) some most steps = let same = steps.1 in rw same (some, most)
 fits-after n len old new text (Ok said) (Err fault) some most steps = tt
 fits-after n len old new text (Err lack) r some most steps = let same = steps.1 in rw same tt
@@ -46,13 +46,13 @@ returns-then-is_over g c = record {
   room = c.requires.room;
   at = refl;
   loan = c.fill.ensures.loan;
-  told = c.fill.ensures.told;
+  reported = c.fill.ensures.reported;
   grows = c.fill.ensures.grows;
   follows = λ before input here a.
       let feed = c.fill.new.self in (
-        end_is (g.J.Judge.told c.args.judge.now) (g.J.Judge.explains c.args.judge.now)
+        end_is (g.J.Judge.reported c.args.judge.now) (g.J.Judge.explains c.args.judge.now)
             (g.J.Judge.refusal c.args.judge.now) c.args.form input c.args.reached.now.at
-            (g.O.Sink.contents c.args.out.now) (g.O.Sink.contents c.end_step.new.out) c.args.reached.now.told
+            (g.O.Sink.contents c.args.out.now) (g.O.Sink.contents c.end_step.new.out) c.args.reached.now.reported
             c.end_step.result (rejected (sym c.is_over.ensures ∙ c.if-is_over.true)) c.end_step.ensures.bytes
             c.end_step.ensures.step,
         rw here at (held_within feed c.args.form before input
@@ -72,7 +72,7 @@ returns-in-Whole g c =
       room = on.ensures.room;
       at = on.ensures.at;
       loan = same.loan ∙ c.next_line.ensures.loan;
-      told = rw (same.reader, same.allowance, same.flow) c.next_line.ensures.told;
+      reported = rw (same.reader, same.allowance, same.flow) c.next_line.ensures.reported;
       grows = grows-same c.next_line.ensures.grows same;
       follows = λ before input here a.
           let b = rw (same.bytes, same.flow) at a in
@@ -82,10 +82,10 @@ returns-in-Whole g c =
           let front = held_front before (bytes_of c.next_line.new.feed) b.more input.bytes size
           c.args.reached.now.at.place b.bytes here
           (let fits = c.in-Whole.ensures.fits in omega (arith, fits, kept_most c.args.form c.in-Whole.n)) in (
-            whole_is (g.J.Judge.told c.args.judge.now) (g.J.Judge.explains c.args.judge.now)
+            whole_is (g.J.Judge.reported c.args.judge.now) (g.J.Judge.explains c.args.judge.now)
                 (g.J.Judge.refusal c.args.judge.now) c.args.form input c.args.reached.now.at
                 (g.O.Sink.contents c.args.out.now) (g.O.Sink.contents c.step_of.new.out)
-                c.args.reached.now.told on.new.reached.told c.in-Whole.n _ on.new.reached.text.items
+                c.args.reached.now.reported on.new.reached.reported c.in-Whole.n _ on.new.reached.text.items
                 on.result c.step_of.result (sym c.is_over.ensures ∙ c.if-is_over.false) front next.0
                 (rw c.kept_size.ensures.size at on.ensures.answered) on.ensures.err
                 (rw c.as_slice.ensures.value at step),
@@ -107,7 +107,7 @@ returns-in-Last g c =
       room = on.ensures.room;
       at = on.ensures.at;
       loan = same.loan ∙ c.next_line.ensures.loan;
-      told = rw (same.reader, same.allowance, same.flow) c.next_line.ensures.told;
+      reported = rw (same.reader, same.allowance, same.flow) c.next_line.ensures.reported;
       grows = grows-same c.next_line.ensures.grows same;
       follows = λ before input here a.
           let b = rw (same.bytes, same.flow) at a in
@@ -115,10 +115,10 @@ returns-in-Last g c =
           (c.next_line.ensures.grows.capacity ∙ c.requires.capacity) b) in
           let front = held_front before (bytes_of c.next_line.new.feed) b.more input.bytes c.in-Last.n
           c.args.reached.now.at.place b.bytes here (let fits = c.in-Last.ensures.fits in omega (arith, fits.1)) in (
-            last_is (g.J.Judge.told c.args.judge.now) (g.J.Judge.explains c.args.judge.now)
+            last_is (g.J.Judge.reported c.args.judge.now) (g.J.Judge.explains c.args.judge.now)
                 (g.J.Judge.refusal c.args.judge.now) c.args.form input c.args.reached.now.at
                 (g.O.Sink.contents c.args.out.now) (g.O.Sink.contents c.step_of-in-Last.new.out)
-                c.args.reached.now.told on.new.reached.told c.in-Last.n _ on.new.reached.text.items
+                c.args.reached.now.reported on.new.reached.reported c.in-Last.n _ on.new.reached.text.items
                 on.result c.step_of-in-Last.result (sym c.is_over.ensures ∙ c.if-is_over.false) front next.0
                 on.ensures.answered on.ensures.err
                 (rw c.as_slice-in-Last.ensures.value at step),
@@ -136,14 +136,14 @@ returns-in-Overlong g c = record {
   room = c.requires.room;
   at = refl;
   loan = c.next_line.ensures.loan;
-  told = c.next_line.ensures.told;
+  reported = c.next_line.ensures.reported;
   grows = c.next_line.ensures.grows;
   follows = λ before input here a.
       let next = rw here at (c.in-Overlong.ensures.follows before input
       (c.next_line.ensures.grows.capacity ∙ c.requires.capacity) a) in (
-        long_is (g.J.Judge.told c.args.judge.now) (g.J.Judge.explains c.args.judge.now)
+        long_is (g.J.Judge.reported c.args.judge.now) (g.J.Judge.explains c.args.judge.now)
             (g.J.Judge.refusal c.args.judge.now) c.args.form input c.args.reached.now.at
-            (g.O.Sink.contents c.args.out.now) (g.O.Sink.contents c.args.out.now) c.args.reached.now.told
+            (g.O.Sink.contents c.args.out.now) (g.O.Sink.contents c.args.out.now) c.args.reached.now.reported
             (sym c.is_over.ensures ∙ c.if-is_over.false) next.0,
         next.1,
       );
@@ -157,15 +157,15 @@ returns-in-End g c = record {
   room = c.requires.room;
   at = refl;
   loan = c.next_line.ensures.loan;
-  told = c.next_line.ensures.told;
+  reported = c.next_line.ensures.reported;
   grows = c.next_line.ensures.grows;
   follows = λ before input here a.
       let next = rw here at (c.in-End.ensures.follows before input
       (c.next_line.ensures.grows.capacity ∙ c.requires.capacity) a) in (
-        end_is (g.J.Judge.told c.args.judge.now) (g.J.Judge.explains c.args.judge.now)
+        end_is (g.J.Judge.reported c.args.judge.now) (g.J.Judge.explains c.args.judge.now)
             (g.J.Judge.refusal c.args.judge.now) c.args.form input c.args.reached.now.at
             (g.O.Sink.contents c.args.out.now) (g.O.Sink.contents c.end_step-in-End.new.out)
-            c.args.reached.now.told
+            c.args.reached.now.reported
             c.end_step-in-End.result (finished (sym c.is_over.ensures ∙ c.if-is_over.false) next.0)
             c.end_step-in-End.ensures.bytes c.end_step-in-End.ensures.step,
         next.1,
@@ -180,14 +180,14 @@ returns-in-Broken g c = record {
   room = c.requires.room;
   at = refl;
   loan = c.next_line.ensures.loan;
-  told = c.next_line.ensures.told;
+  reported = c.next_line.ensures.reported;
   grows = c.next_line.ensures.grows;
   follows = λ before input here a.
       let next = rw here at (c.in-Broken.ensures.follows before input
       (c.next_line.ensures.grows.capacity ∙ c.requires.capacity) a) in (
-        broken_is (g.J.Judge.told c.args.judge.now) (g.J.Judge.explains c.args.judge.now)
+        broken_is (g.J.Judge.reported c.args.judge.now) (g.J.Judge.explains c.args.judge.now)
             (g.J.Judge.refusal c.args.judge.now) c.args.form input c.args.reached.now.at
-            (g.O.Sink.contents c.args.out.now) (g.O.Sink.contents c.args.out.now) c.args.reached.now.told
+            (g.O.Sink.contents c.args.out.now) (g.O.Sink.contents c.args.out.now) c.args.reached.now.reported
             (sym c.is_over.ensures ∙ c.if-is_over.false) next.0,
         next.1,
       );

@@ -1,7 +1,7 @@
 use Rattle.std.proofs.Common.{refl, ◌∙◌, ap, arith}
 use Rattle.abnfread.specs.AbnfViews.{rules_of}
 use Rattle.abnfread.specs.Element.{id_of}
-use Rattle.lowering.proofs.TellsLemmas as m
+use Rattle.lowering.proofs.SettlesLemmas as m
 use Rattle.lowering.specs.Lowered.{shows_text, shows_values, shows_range, shows_concat, shows_alt, shows_opt}
 use Rattle.lowering.specs.Lowered.{shows_name, shows_prose}
 use Rattle.abnfread.proofs.ElementLemmas.{element-Text, element-Values, element-Range, element-Concat, element-Alt}
@@ -38,32 +38,33 @@ number-returns t c = elim c.match-e.branch [
       (o.leaf_numbers _ _ (rw (w.numbered-is, w.node-is) at c.in_ok-n.ensures.nodes)
       (rw w.numbered-is at c.in_ok-n.ensures.number)
       (rw (w.numbered-is, w.node-is) at c.in_ok-n.ensures.nulls) (rw (w.in_ok-range_set-in-Range.ensures) refl)
-      (rw (w.in_ok-range_set-in-Range.ensures) shows_range) (m.range_tells _ _ _))
+      (rw (w.in_ok-range_set-in-Range.ensures) shows_range) (m.range_settles _ _ _))
   | number-in-Concat+in_ok-made-in-Concat w ↦ rw (w.in-Concat.is, w.node-is, element-Concat)
       (o.over_all _ _ (rw (w.numbered-is, w.node-is) at c.in_ok-n.ensures.nodes)
       (rw w.numbered-is at c.in_ok-n.ensures.number)
       (rw (w.numbered-is, w.node-is) at c.in_ok-n.ensures.nulls)
       (rw w.deref-in-Concat.ensures.value at w.in_ok-made-in-Concat.ensures) (λ many. omega (arith, many)) shows_concat
-      (λ all some. m.concat_tells _ _ _ all))
+      (λ all some. m.concat_settles _ _ _ all))
   | number-in-Alt+in_ok-made-in-Alt w ↦ rw (w.in-Alt.is, w.node-is, element-Alt)
       (o.over_all _ _ (rw (w.numbered-is, w.node-is) at c.in_ok-n.ensures.nodes)
       (rw w.numbered-is at c.in_ok-n.ensures.number)
       (rw (w.numbered-is, w.node-is) at c.in_ok-n.ensures.nulls)
       (rw w.deref-in-Alt.ensures.value at w.in_ok-made-in-Alt.ensures) (λ many. omega (arith, many)) shows_alt
-      (λ all some. m.alt_tells _ _ _ some))
+      (λ all some. m.alt_settles _ _ _ some))
   | number-in-Rep+in_ok-made-in-Rep w ↦ rw (w.in-Rep.is, w.node-is, element-Rep)
       (o.numbers_over _ _ (rw (w.numbered-is, w.node-is) at c.in_ok-n.ensures.nodes)
       (rw w.numbered-is at c.in_ok-n.ensures.number)
       (rw (w.numbered-is, w.node-is) at c.in_ok-n.ensures.nulls)
       (rw w.deref-in-Rep.ensures at w.in_ok-made-in-Rep.ensures)
-      (let wide = w.repeat.ensures.width in omega (arith, wide)) (λ told sp. w.repeat.ensures.shows _ _ _ told sp)
+      (let wide = w.repeat.ensures.width in omega (arith, wide)) (λ reported sp. w.repeat.ensures.shows _ _ _ reported
+      sp)
       (λ t. w.is_empty_repeat.ensures _ _ t))
   | number-in-Opt+in_ok-number-in-Opt w ↦ rw (w.in-Opt.is, w.node-is, element-Opt)
       (o.numbers_over _ _ (rw (w.numbered-is, w.node-is) at c.in_ok-n.ensures.nodes)
       (rw w.numbered-is at c.in_ok-n.ensures.number)
       (rw (w.numbered-is, w.node-is) at c.in_ok-n.ensures.nulls)
       (rw w.deref-in-Opt.ensures at w.in_ok-number-in-Opt.ensures)
-      (omega arith) (λ told sp. shows_opt sp) (λ t. m.opt_tells _ _))
+      (omega arith) (λ reported sp. shows_opt sp) (λ t. m.opt_settles _ _))
   | number-in-Name+in_ok-id-in-Name w ↦ let id = w.in_ok-id-in-Name.ensures
       ∙ ap (λ v. id_of (rules_of c.args.rules.now) v) w.deref-in-Name.ensures.value in
       rw (w.in-Name.is, w.node-is, element-Name) (o.leaf_numbers _ _
@@ -73,7 +74,7 @@ number-returns t c = elim c.match-e.branch [
   | number-in-Prose w ↦ rw (w.in-Prose.is, w.node-is, element-Prose)
       (o.leaf_numbers _ _ (rw (w.numbered-is, w.node-is) at c.in_ok-n.ensures.nodes)
       (rw w.numbered-is at c.in_ok-n.ensures.number)
-      (rw (w.numbered-is, w.node-is) at c.in_ok-n.ensures.nulls) refl shows_prose (m.prose_tells _ _))
+      (rw (w.numbered-is, w.node-is) at c.in_ok-n.ensures.nulls) refl shows_prose (m.prose_settles _ _))
 ]
 
 pub number_all-loop-member-init : goal.number_all-loop-member-init

@@ -10,6 +10,6 @@ returns-clause-derives c =
     MatchResult-weaker c.lower_rules.result
     (o.ok_both c.lower_rules.result _ _ c.lower_rules.ensures.limit c.lower_rules.ensures.lowered)
     (λ flat made has x line letters.
-    o.lowered_tells (rules_of c.args.grammar.now.rules) c.args.grammar.now.judged flat
+    o.lowered_settles (rules_of c.args.grammar.now.rules) c.args.grammar.now.judged flat
     (subst (λ v. IsLowered (rules_of v) c.args.grammar.now.judged flat) c.rules.ensures.rules made.1)
     has x (rw made.0 line) letters) (λ _ _. tt)

@@ -3,16 +3,16 @@ use Rattle.std.proofs.lemmas.List.{length-map}
 use Rattle.std.proofs.lemmas.Result.{IfOk-weaker, MatchResult-weaker}
 use Rattle.abnfread.specs.AbnfViews.{rule_of, rules_of}
 use Rattle.lowering.proofs.LoweredLemmas as o
-use Rattle.lowering.proofs.NamesTellLemmas.{names_tell, null_alike, null_at, null_rules, judged_there}
+use Rattle.lowering.proofs.NamesSettleLemmas.{names_settle, null_alike, null_at, null_rules, judged_there}
 use Rattle.lowering.proofs.lowered.lower_rules.Goals as goal
 
 pub number_bodies-requires-clause-marks : goal.number_bodies-requires-clause-marks
 number_bodies-requires-clause-marks c = rw c.deref.ensures.value
-    (names_tell _ _ _ (null_rules _ _ c.in_ok-marks.ensures.count c.in_ok-marks.ensures.marks) c.requires.alike)
+    (names_settle _ _ _ (null_rules _ _ c.in_ok-marks.ensures.count c.in_ok-marks.ensures.marks) c.requires.alike)
 
 pub new-requires-clause-nulls : goal.new-requires-clause-nulls
 new-requires-clause-nulls c =
-    o.nulls_told (rules_of c.args.rules.now) c.args.limit c.args.grammar.now.judged _ c.index.result.now _
+    o.nulls_reported (rules_of c.args.rules.now) c.args.limit c.args.grammar.now.judged _ c.index.result.now _
     c.in_ok-whole.whole _ _ _ _ _ _ _ c.in_ok-bodies.ensures (sym (length-map c.args.rules.now.rules rule_of))
     c.in_ok-whole.ensures.nodes c.in_ok-members.ensures c.in_ok-whole.ensures.nulls
     (rw c.judged-judged.ensures.id at c.index.ensures)

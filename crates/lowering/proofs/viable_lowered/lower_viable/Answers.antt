@@ -4,7 +4,7 @@ use Rattle.abnfread.specs.AbnfViews.{rules_of}
 use Rattle.letters.specs.Letters.{has}
 use Rattle.lowering.proofs.LoweredLemmas.{ok_both}
 use Rattle.lowering.specs.Pruned.{ArePruned}
-use Rattle.lowering.proofs.ArePrunedLemmas.{tells_beginnings, places_left, null_alike}
+use Rattle.lowering.proofs.ArePrunedLemmas.{gives_prefixes, places_left, null_alike}
 use Rattle.lowering.proofs.viable_lowered.lower_viable.Goals as goal
 
 pub lower_rules-requires-clause-alike : goal.lower_rules-requires-clause-alike
@@ -13,9 +13,9 @@ lower_rules-requires-clause-alike c = null_alike (has c.args.alphabet) (rules_of
     (subst (λ v. ArePruned (has c.args.alphabet) (rules_of v) (rules_of c.in_ok-pruned.pruned)) c.rules.ensures.rules
     c.in_ok-pruned.ensures.pruned)
 
-pub returns-clause-tells : goal.returns-clause-tells
-returns-clause-tells c = IfOk-weaker c.lower_rules.result _ _ (λ flat lowered.
-    tells_beginnings (has c.args.alphabet) (rules_of c.args.grammar.now.rules)
+pub returns-clause-settles : goal.returns-clause-settles
+returns-clause-settles c = IfOk-weaker c.lower_rules.result _ _ (λ flat lowered.
+    gives_prefixes (has c.args.alphabet) (rules_of c.args.grammar.now.rules)
     (rules_of c.in_ok-pruned.pruned)
     (subst (λ v. ArePruned (has c.args.alphabet) (rules_of v) (rules_of c.in_ok-pruned.pruned)) c.rules.ensures.rules
     c.in_ok-pruned.ensures.pruned)

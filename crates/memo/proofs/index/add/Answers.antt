@@ -1,5 +1,5 @@
 use Rattle.std.proofs.Common.{arith}
-use Rattle.memo.proofs.SpotLinksLemmas.{linked_added}
+use Rattle.memo.proofs.TaskLinksLemmas.{linked_added}
 use Rattle.memo.proofs.index.add.Goals as goal
 
 pub returns-clause-linked : goal.returns-clause-linked

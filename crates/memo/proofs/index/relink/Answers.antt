@@ -1,7 +1,7 @@
 use Rattle.std.proofs.Common.{◌∙◌, arith, length, refl, sym}
 use Rattle.std.proofs.Math.Seq.{map-set_same}
-use Rattle.memo.specs.SpotLinks.{place_of_cell}
-use Rattle.memo.proofs.SpotLinksLemmas.{linked_set}
+use Rattle.memo.specs.TaskLinks.{place_of_cell}
+use Rattle.memo.proofs.TaskLinksLemmas.{linked_set}
 use Rattle.memo.proofs.index.relink.Goals as goal
 
 pub loop-i-preserved : goal.loop-i-preserved

@@ -1,5 +1,5 @@
 use Rattle.std.proofs.Common.{◌≡◌, length, take}
-use Rattle.memo.specs.SpotLinks.{places_of, bucket_of_cell, AreLinkedCells}
+use Rattle.memo.specs.TaskLinks.{places_of, bucket_of_cell, AreLinkedCells}
 use Rattle.memo.proofs.index.relink.Given as goal
 
 abbrev pub invariant-loop-i : goal.invariant-loop-i

@@ -1,6 +1,6 @@
 use Rattle.std.proofs.Common.{arith, ap, ◌∙◌, length, slice_get}
-use Rattle.memo.specs.SpotLinks.{bucket_of}
-use Rattle.memo.proofs.SpotLinksLemmas.{sought_start, cell_of_place}
+use Rattle.memo.specs.TaskLinks.{bucket_of}
+use Rattle.memo.proofs.TaskLinksLemmas.{sought_start, cell_of_place}
 use Rattle.memo.proofs.index.walk.Goals as goal
 
 pub loop-at-init : goal.loop-at-init

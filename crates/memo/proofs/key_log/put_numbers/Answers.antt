@@ -1,7 +1,7 @@
 use Rattle.std.proofs.Common.{◌≡◌, ◌⊎◌, inl, inr, ℕ, ◌+◌, ◌<◌, ◌≤◌, List, [], ◌∷◌, ◌++◌}
 use Rattle.std.proofs.Common.{subst, arith}
 use Rattle.memo.specs.Parts.{IsIn, in_here}
-use Rattle.memo.specs.SpotLinks.{Place}
+use Rattle.memo.specs.TaskLinks.{Place}
 use Rattle.memo.proofs.PartsLemmas.{in_left, in_right}
 use Rattle.memo.proofs.key_log.put_numbers.Goals as goal
 

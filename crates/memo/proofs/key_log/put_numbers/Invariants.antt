@@ -1,6 +1,6 @@
 use Rattle.std.proofs.Common.{ℕ, ◌<◌, ◌≤◌}
 use Rattle.memo.specs.Parts.{IsIn}
-use Rattle.memo.specs.SpotLinks.{Place}
+use Rattle.memo.specs.TaskLinks.{Place}
 use Rattle.memo.proofs.key_log.put_numbers.Given as goal
 
 -- the numbers so far are in

@@ -23,4 +23,4 @@ returns-clause-runs c =
     (c.new-err.ensures.contents ∙ ap (λ (x : List ℕ). Some x) c.new-2.ensures.items)
     c.new-out.ensures.failed c.into_inner.ensures c.into_inner-2.ensures
     c.run-ending.ensures.runs c.conclude-status.ensures.kept c.conclude-status.ensures.stays
-    c.conclude-status.ensures.told
+    c.conclude-status.ensures.reported

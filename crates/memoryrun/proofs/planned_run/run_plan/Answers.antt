@@ -22,4 +22,5 @@ returns g c =
     (c.new-out.ensures.contents ∙ ap (λ (x : List ℕ). Some x) c.new.ensures.items)
     (c.new-err.ensures.contents ∙ ap (λ (x : List ℕ). Some x) c.new-2.ensures.items)
     c.new-out.ensures.failed c.into_inner.ensures c.into_inner-2.ensures
-    c.act-ending.ensures c.conclude-status.ensures.kept c.conclude-status.ensures.stays c.conclude-status.ensures.told
+    c.act-ending.ensures c.conclude-status.ensures.kept c.conclude-status.ensures.stays
+    c.conclude-status.ensures.reported

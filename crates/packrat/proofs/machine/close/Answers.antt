@@ -4,10 +4,10 @@ use Rattle.packrat.proofs.machine.close.Goals as goal
 
 pub returns-in_ok-put-clause-closed : goal.returns-in_ok-put-clause-closed
 returns-in_ok-put-clause-closed c = λ more marks links key.
-    L.closed_key c.args.peg.now c.args.window.now more marks links c.args.spot c.args.given
+    L.closed_key c.args.peg.now c.args.window.now more marks links c.args.task c.args.given
     c.args.log.now.stored c.put.new.self.stored (sym key ∙ c.if-key.true) c.in_ok-put.ensures.stored
 
 pub returns-else-key-clause-closed : goal.returns-else-key-clause-closed
 returns-else-key-clause-closed c = λ more marks links key.
-    L.closed_plain c.args.peg.now c.args.window.now more marks links c.args.spot c.args.given
+    L.closed_plain c.args.peg.now c.args.window.now more marks links c.args.task c.args.given
     c.args.log.now.stored (sym key ∙ c.if-key.false)

@@ -1,4 +1,4 @@
-use Rattle.memo.specs.declared.spot.Spot.TheVariants.{Pair}
+use Rattle.memo.specs.declared.task.MatchTask.TheVariants.{Pair}
 use Rattle.packrat.proofs.RunTurnsLemmas.{not_beyond}
 use Rattle.packrat.proofs.machine.stored_node.Goals as goal
 

@@ -1,4 +1,4 @@
-use Rattle.memo.specs.declared.spot.Spot.TheVariants.{Tail}
+use Rattle.memo.specs.declared.task.MatchTask.TheVariants.{Tail}
 use Rattle.packrat.proofs.RunTurnsLemmas.{not_beyond}
 use Rattle.packrat.proofs.machine.stored_tail.Goals as goal
 

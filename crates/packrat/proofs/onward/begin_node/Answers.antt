@@ -8,7 +8,7 @@ use Rattle.pegread.specs.PegViews.{rules_of}
 use Rattle.gramcheck.specs.Outcome.{Acted, Opened, Closed}
 use Rattle.pegmatch.specs.KeptEvents.{acted, opened, closed}
 use Rattle.pegmatch.proofs.NodeShapeLemmas.{shape_at}
-use Rattle.packrat.proofs.SpotGivesLemmas as L
+use Rattle.packrat.proofs.TaskGivesLemmas as L
 use Rattle.packrat.proofs.OnwardLemmas as M
 use Rattle.packrat.proofs.onward.begin_node.Goals as goal
 
@@ -154,7 +154,7 @@ returns-in-Act c =
       (
         Acted _,
         acted here,
-        L.act_spot c.args.peg.now c.args.window.now c.args.more c.requires.some c.requires.sound c.args.node
+        L.act_task c.args.peg.now c.args.window.now c.args.more c.requires.some c.requires.sound c.args.node
             c.args.place _ here,
       ),
     )
@@ -166,7 +166,7 @@ returns-in-Open c =
       (
         Opened c.args.place,
         opened,
-        L.open_spot c.args.peg.now c.args.window.now c.args.more c.requires.some c.requires.sound c.args.node
+        L.open_task c.args.peg.now c.args.window.now c.args.more c.requires.some c.requires.sound c.args.node
             c.args.place here,
       ),
     )
@@ -178,7 +178,7 @@ returns-in-Close c =
       (
         Closed c.args.place,
         closed,
-        L.close_spot c.args.peg.now c.args.window.now c.args.more c.requires.some c.requires.sound c.args.node
+        L.close_task c.args.peg.now c.args.window.now c.args.more c.requires.some c.requires.sound c.args.node
             c.args.place here,
       ),
     )

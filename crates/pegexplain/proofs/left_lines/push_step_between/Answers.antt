@@ -9,7 +9,7 @@ pub returns : goal.returns
 returns c =
     let step = (let k = c.in_ok-push_step.ensures in rw (
       c.as_slice.ensures.value,
-      c.in_ok-behind.ensures,
+      c.in_ok-after.ensures,
       c.in_ok-skipped.ensures,
       c.in_ok-line.ensures,
       c.deref.ensures.value,

@@ -4,25 +4,26 @@ use Rattle.diagnostics.specs.MentionLines.{mention_lines_by}
 use Rattle.diagnostics.specs.NoteLines.{defined_line}
 use Rattle.diagnostics.specs.declared.noteplaces.mentions.MentionKind.TheVariants as kinds
 use Rattle.pegread.specs.PegViews.{rules_of}
-use Rattle.pegexplain.specs.LeftLines.{way_told}
+use Rattle.pegexplain.specs.LeftLines.{way_reported}
 use Rattle.pegexplain.specs.NullTests.{null_mark_of, nullable_by}
-use Rattle.pegexplain.proofs.LeftNotesLemmas.{early-by, late-by, left-told, told-defined, told-way}
+use Rattle.pegexplain.proofs.LeftNotesLemmas.{early-by, late-by, left-reported, reported-defined, reported-way}
 use Rattle.pegexplain.proofs.left_notes.push_left.Goals as goal
 
 pub returns-in_default : goal.returns-in_default
 returns-in_default c = λ text are. (
   [],
-  left-told text c.args.places.now are c.args.name.now [] None (sym c.in_ok-id.ensures.found ∙ c.in_default.is) refl,
+  left-reported text c.args.places.now are c.args.name.now [] None (sym c.in_ok-id.ensures.found ∙ c.in_default.is)
+      refl,
   sym (append-nil c.args.out.now.items),
 )
 
 pub returns-in_ok-push_way : goal.returns-in_ok-push_way
 returns-in_ok-push_way c = λ text are.
     let w = c.in_ok-push_way.ensures in (
-      way_told (rules_of c.args.places.now.rules)
+      way_reported (rules_of c.args.places.now.rules)
           (nullable_by (null_mark_of c.args.places.now.rules c.args.places.now.nulls.items))
           (mention_lines_by c.args.places.now.places kinds.Use) c.in-Some.id w.0,
-      told-way text c.args.places.now are c.args.name.now _ c.in-Some.id w.0
+      reported-way text c.args.places.now are c.args.name.now _ c.in-Some.id w.0
           (sym c.in_ok-id.ensures.found ∙ c.in-Some.is)
           (early-by text c.args.places.now are c.args.name.now c.in-Some.id
           (sym c.in_ok-id.ensures.found ∙ c.in-Some.is) c.if-id-places.true) w.1 refl,
@@ -32,7 +33,7 @@ returns-in_ok-push_way c = λ text are.
 pub returns-in_ok-push_definition : goal.returns-in_ok-push_definition
 returns-in_ok-push_definition c = λ text are. (
   defined_line c.args.places.now.places.names (map defined_at c.args.places.now.places.heads.items) c.args.name.now,
-  told-defined text c.args.places.now are c.args.name.now _ c.in-Some.id
+  reported-defined text c.args.places.now are c.args.name.now _ c.in-Some.id
       (sym c.in_ok-id.ensures.found ∙ c.in-Some.is)
       (late-by text c.args.places.now are c.args.name.now c.in-Some.id
       (sym c.in_ok-id.ensures.found ∙ c.in-Some.is) c.if-id-places.false) refl,

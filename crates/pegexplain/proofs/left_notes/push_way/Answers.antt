@@ -9,7 +9,7 @@ use Rattle.pegexplain.proofs.left_notes.push_way.Goals as goal
 
 pub left_way-requires-clause-within : goal.left_way-requires-clause-within
 left_way-requires-clause-within c =
-    let rows = (let told = c.in_ok-rows.ensures.rows in rw c.deref.ensures.value at told) in
+    let rows = (let reported = c.in_ok-rows.ensures.rows in rw c.deref.ensures.value at reported) in
     subst AreStepsWithin (sym (ap rows_of c.deref-2.ensures.value ∙ rows))
     (rows-within (find_in c.args.places.now.rules) _ (found-below c.args.places.now.rules)
     (nullable_by (null_mark_of c.args.places.now.rules c.args.places.now.nulls.items)) c.args.places.now.rules.rules
@@ -17,11 +17,11 @@ left_way-requires-clause-within c =
 
 pub returns-in-Some : goal.returns-in-Some
 returns-in-Some c =
-    let rows = (let told = c.in_ok-rows.ensures.rows in rw c.deref.ensures.value at told) in (
+    let rows = (let reported = c.in_ok-rows.ensures.rows in rw c.deref.ensures.value at reported) in (
       Some c.in-Some.chain.items,
       subst (λ (steps : List (List ℕ)). IsRoundIfAny steps c.args.id (Some c.in-Some.chain.items))
           (ap rows_of c.deref-2.ensures.value ∙ rows)
           (subst (λ (o : Option (Vec ℕ Global)). IsRoundIfAny (rows_of c.deref-2.result.now) c.args.id
           (option_map (λ v. v.items) o)) c.in-Some.is c.in_ok-chain.ensures),
-      (let told = c.in_ok-push_steps-in-Some.ensures in rw c.deref-in-Some.ensures.value at told),
+      (let reported = c.in_ok-push_steps-in-Some.ensures in rw c.deref-in-Some.ensures.value at reported),
     )

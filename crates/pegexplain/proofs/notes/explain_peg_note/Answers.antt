@@ -10,12 +10,12 @@ use Rattle.pegexplain.proofs.notes.explain_peg_note.Goals as goal
 
 pub returns : goal.returns
 returns c = λ text are.
-    let w = c.in_ok-push_behind.ensures text are in
+    let w = c.in_ok-push_after.ensures text are in
     record {
       lines = c.in_ok-why.why.items;
       line = w.0;
       explains = places-explain White First is_end sign_of Any Exact text c.args.places.now.places
           (option_copied c.args.start) (said_of c.args.note.now) c.in_ok-why.why.items are.places c.in_ok-why.ensures;
-      behind = w.1;
+      after = w.1;
       is = w.2;
     }

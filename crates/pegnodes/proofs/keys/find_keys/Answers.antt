@@ -32,12 +32,12 @@ module _ (c : goal.After-drop-namers-2) where
   free = c.in_ok-keys.ensures c.args.start c.args.bodies.now (known_as c.deref-2.result.now c.deref-2.ensures.value)
       (subst (AreSingles c.args.start nodes c.args.bodies.now) (sym c.deref-3.ensures.value) single)
 
-  passed : (m : ℕ) → get_or c.in_ok-behind.behind.items m true ≡ false
+  passed : (m : ℕ) → get_or c.in_ok-after.after.items m true ≡ false
       → IsPassed c.in_ok-namers.namers.items c.in_ok-singles.singles.items c.in_ok-widths.widths.items m
   passed m is = rw (c.deref-4.ensures.value, c.deref-5.ensures.value, c.deref-6.ensures.value) at
-      (c.in_ok-behind.ensures m is)
+      (c.in_ok-after.ensures m is)
 
 pub returns : goal.returns
 returns c = o.marks_are c.args.start (nodes c) c.args.bodies.now (root c) c.in_ok-namers.namers.items (known c)
-    c.in_ok-keys.keys.items c.in_ok-behind.behind.items c.in_ok-singles.singles.items c.in_ok-widths.widths.items
+    c.in_ok-keys.keys.items c.in_ok-after.after.items c.in_ok-singles.singles.items c.in_ok-widths.widths.items
     (single c) c.in_ok-widths.ensures (free c) (passed c)

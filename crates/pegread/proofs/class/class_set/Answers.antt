@@ -1,5 +1,5 @@
 use Rattle.std.proofs.Common.{sym, arith}
-use Rattle.pegread.proofs.SpellsBytesLemmas.{paired-behind_plain}
+use Rattle.pegread.proofs.SpellsBytesLemmas.{paired-after_plain}
 use Rattle.pegread.proofs.SpellsSetLemmas.{class-bracketed, class-positive, class-negative}
 use Rattle.pegread.proofs.class.class_set.Goals as goal
 
@@ -8,7 +8,7 @@ items_set-requires c =
     let q = class-bracketed c.requires in
     let e = c.inside-text.ensures 91 93 q.inside q.cut in
     let text = rw (sym e) at q.paired in
-    paired-behind_plain (omega arith) (rw (c.in-Some.ensures) at text)
+    paired-after_plain (omega arith) (rw (c.in-Some.ensures) at text)
 
 pub items_set-requires-in-None : goal.items_set-requires-in-None
 items_set-requires-in-None c = let q = class-bracketed c.requires in rw (c.inside-text.ensures 91 93 q.inside q.cut)

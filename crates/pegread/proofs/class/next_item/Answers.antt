@@ -4,7 +4,7 @@ use Rattle.std.proofs.lemmas.Bool.Decides.{nat_tests}
 use Rattle.std.proofs.lemmas.List.{nil_from_length}
 use Rattle.lexer.specs.SliceEnds.{Lacks}
 use Rattle.pegread.specs.Classes.{GoesOn, item_char, item_range}
-use Rattle.pegread.proofs.SpellsBytesLemmas.{char-paired, none-paired, paired-behind_plain}
+use Rattle.pegread.proofs.SpellsBytesLemmas.{char-paired, none-paired, paired-after_plain}
 use Rattle.pegread.proofs.class.next_item.Goals as goal
 use Rattle.pegread.proofs.class.next_item.Goals.{in_default-via-in-Some+else-not-is_empty, in_default-via-in_default}
 
@@ -20,7 +20,7 @@ goes-some (c ∷ cs) none goes = absurd (cc)
 pub returns-in_err-last-in-Some : goal.returns-in_err-last-in-Some
 returns-in_err-last-in-Some c =
     let rest = char-paired c.in_ok-first.ensures c.requires in
-    let end = paired-behind_plain (omega arith) (rw (c.in-Some.ensures) at rest) in
+    let end = paired-after_plain (omega arith) (rw (c.in-Some.ensures) at rest) in
     let none = ap length (none-paired _ c.in_err-last-in-Some.ensures end) in
     absurd (grind (arith, nat_tests, c.if-not-is_empty.ensures, none))
 

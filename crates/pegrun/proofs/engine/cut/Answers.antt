@@ -22,7 +22,7 @@ pub loop-n-init : goal.loop-n-init
 loop-n-init g c = record {
   capacity = c.requires.capacity;
   within = let l = ap length c.requires.empty in omega (arith, l, c.requires.allowance);
-  told = c.requires.told;
+  reported = c.requires.reported;
   loan = refl;
   flag = refl;
   units = c.clear.ensures c.args.peg.now c.args.settings.now.options.raw;
@@ -101,7 +101,7 @@ loop-n-preserved g c =
     record {
       capacity = p.capacity ∙ c.skip.ensures.capacity ∙ same.capacity ∙ grew.capacity ∙ c.loop-n.invariant.capacity;
       within = room_passed _ _ _ _ _ _ _ _ p input_limit (c.loop-n.start + n) room m p_count;
-      told = c.in-Ok-Units.ensures.told;
+      reported = c.in-Ok-Units.ensures.reported;
       loan = c.in-Ok-Units.ensures.loan ∙ c.skip.ensures.loan ∙ same.loan ∙ c.in-Ok-Takes.ensures.loan
           ∙ c.loop-n.invariant.loan;
       flag = search rules;
@@ -272,7 +272,7 @@ returns-in-Ok-Stops-clause-units g c =
             stops_at_place _ _ _ input _ _ _ c.loop-n.start front.0 (length (so_far.0 ++ items)) front.1 front.2
                 c.loop-n.past so_far.0 items a.more so_far.1 a.bytes step.1 front.3
                 c.in-Ok-Stops.stop c.ending_at.result (rw c.in-Ok-Stops.field-0-is at step.0) c.ending_at.ensures.plain
-                (λ asked. c.ending_at.ensures.told asked so_far.0 (so_far.2 asked)) step.1,
+                (λ asked. c.ending_at.ensures.reported asked so_far.0 (so_far.2 asked)) step.1,
             record {
               place = c.loop-n.start;
               within = omega (arith, length-append so_far.0 items, so_far.1);

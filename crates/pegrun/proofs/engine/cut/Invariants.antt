@@ -20,7 +20,7 @@ abbrev pub invariant-loop-n : goal.invariant-loop-n
 invariant-loop-n g l = record {
   capacity : capacity_of l.feed ≡ l.settings.limit + 1;
   within : l.start + length (bytes_of l.feed) + allowance_of l.feed ≡ input_limit;
-  told : IsTrueOfReader g.R.Source.remaining g.R.Source.failed g.R.Source.ended l.feed;
+  reported : IsTrueOfReader g.R.Source.remaining g.R.Source.failed g.R.Source.ended l.feed;
   loan : SameLoan l.fn.feed l.feed;
   flag : g.O.Sink.failed l.out ≡ g.O.Sink.failed l.fn.out;
   units : AreByteUnits l.peg l.settings.options.raw l.counted.matcher.units;

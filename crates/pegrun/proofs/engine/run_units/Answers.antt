@@ -20,7 +20,8 @@ returns-clause-runs g c =
     units_were_run c.args.peg.now c.start.ensures.sound c.args.settings.now g.R.Source.remaining g.R.Source.failed
     g.R.Source.ended c.args.reader.now c.cut-ending.new.feed.reader.now _
     (passed g.O.Sink.contents g.O.Sink.failed c.args.out.now c.cut-ending.new.out)
-    c.cut-ending.new.feed.left c.cut-ending.new.feed.flow c.cut-ending.result (search rules) c.cut-ending.ensures.told
+    c.cut-ending.new.feed.left c.cut-ending.new.feed.flow c.cut-ending.result
+    (search rules) c.cut-ending.ensures.reported
     (run.0, run.1, run.2, λ input agrees. (run.3 input agrees).0)
     c.cut-ending.ensures.flag
 
@@ -29,5 +30,5 @@ returns-clause-calls g c =
     let run = (rw c.new-feed.ensures.loan at c.cut-ending.ensures.units) in
     few_calls_given (rules_of c.args.peg.now.rules) c.args.peg.now.start c.args.settings.now _ _
     g.R.Source.remaining g.R.Source.failed g.R.Source.ended c.args.reader.now c.cut-ending.new.feed.reader.now _
-    c.cut-ending.new.feed.left c.cut-ending.new.feed.flow (search rules) c.cut-ending.ensures.told
+    c.cut-ending.new.feed.left c.cut-ending.new.feed.flow (search rules) c.cut-ending.ensures.reported
     (run.0, run.1, run.2, λ input agrees. (run.3 input agrees).1)

@@ -1,4 +1,4 @@
-use Rattle.pegrun.proofs.StatesLemmas.{statement_is_one, long_is_told}
+use Rattle.pegrun.proofs.StatesLemmas.{statement_is_one, long_is_reported}
 use Rattle.pegrun.proofs.laws.one_statement.Goals as goal
 
 pub returns-clause-definitions : goal.returns-clause-definitions
@@ -16,4 +16,4 @@ returns-clause-whole c =
     c.one_text_of_hints.ensures
 
 pub returns-clause-long : goal.returns-clause-long
-returns-clause-long c = long_is_told
+returns-clause-long c = long_is_reported

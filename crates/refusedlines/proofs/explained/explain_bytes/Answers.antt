@@ -1,16 +1,16 @@
 use Rattle.std.proofs.lemmas.List.{map-id}
 use Rattle.abnfread.specs.AbnfViews.{rules_of}
-use Rattle.refusedlines.proofs.RefusalLemmas.{told_bytes}
+use Rattle.refusedlines.proofs.RefusalLemmas.{reported_bytes}
 use Rattle.refusedlines.proofs.explained.explain_bytes.Goals as goal
 
-pub returns-clause-told : goal.returns-clause-told
-returns-clause-told c =
+pub returns-clause-reported : goal.returns-clause-reported
+returns-clause-reported c =
     let grammar = c.args.explainer.now.grammar.now in
     let rules = rules_of grammar.rules in
     let f = c.in_ok-following.following in
-    told_bytes rules grammar.judged c.args.line.bytes.now c.args.line.number
+    reported_bytes rules grammar.judged c.args.line.bytes.now c.args.line.number
     f.runs.items f.ends c.judged_name.result.now
     c.refused_at-at.result f.after c.args.out.now.items c.push_refusal.new.out.items c.judged_name.ensures
     c.in_ok-push_refusal.ensures
-    (rw map-id at (c.in_ok-following.ensures.furthest rules grammar.judged c.requires.tells))
-    (rw map-id at (c.in_ok-following.ensures.following rules grammar.judged c.requires.tells)) c.refused_at-at.ensures
+    (rw map-id at (c.in_ok-following.ensures.furthest rules grammar.judged c.requires.reports))
+    (rw map-id at (c.in_ok-following.ensures.following rules grammar.judged c.requires.reports)) c.refused_at-at.ensures

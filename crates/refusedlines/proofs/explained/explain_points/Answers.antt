@@ -5,7 +5,7 @@ use Rattle.letters.specs.Utf8Text.{Spells, number, numbers}
 use Rattle.letters.specs.declared.alphabet.Alphabet.TheVariants.{Utf8}
 use Rattle.refusedlines.specs.RefusedText.{refused_at}
 use Rattle.refusedlines.specs.Refusals.{octet_count}
-use Rattle.refusedlines.proofs.RefusalLemmas.{points_bound, told_points}
+use Rattle.refusedlines.proofs.RefusalLemmas.{points_bound, reported_points}
 use Rattle.refusedlines.proofs.explained.explain_points.Goals as goal
 
 pub find_following-requires-clause-within : goal.find_following-requires-clause-within
@@ -31,22 +31,22 @@ push_refusal-requires c =
     let place = c.octets_of-place.ensures in
     omega (arith, bound.0, place)
 
-pub returns-clause-told : goal.returns-clause-told
-returns-clause-told c =
+pub returns-clause-reported : goal.returns-clause-reported
+returns-clause-reported c =
     let e = c.in_ok-first.ensures in
     let grammar = c.args.explainer.now.grammar.now in
     let rules = rules_of grammar.rules in
     let f = c.in_ok-following.following in
     let points = c.as_slice-points.result.now in
     let line = c.args.line.bytes.now in
-    told_points rules grammar.judged line c.args.line.number f.runs.items f.ends c.judged_name.result.now
+    reported_points rules grammar.judged line c.args.line.number f.runs.items f.ends c.judged_name.result.now
     c.refused_at-at.result c.octets_of-place.result c.args.out.now.items c.push_refusal.new.out.items
     c.judged_name.ensures c.in_ok-push_refusal.ensures
     (numbers points) c.in_ok-first.first.size f.after e.longest
     (subst (λ v. Spells (numbers v) (take c.in_ok-first.first.size line)) (sym c.as_slice-points.ensures.value)
     e.spelled)
-    (c.in_ok-following.ensures.furthest rules grammar.judged c.requires.tells)
-    (c.in_ok-following.ensures.following rules grammar.judged c.requires.tells)
+    (c.in_ok-following.ensures.furthest rules grammar.judged c.requires.reports)
+    (c.in_ok-following.ensures.following rules grammar.judged c.requires.reports)
     (c.refused_at-at.ensures
     ∙ ap (λ v. refused_at f.after v (nat_lt c.in_ok-first.first.size (length line))) (sym (length-map points number)))
     (c.octets_of-place.ensures ∙ ap (λ v. octet_count Utf8 v) (sym (take-map number f.after points)))

@@ -1,7 +1,7 @@
 use Rattle.std.proofs.Common.{◌∙◌, map, sym, subst, arith}
 use Rattle.std.proofs.lemmas.List.{length-map, length-take-le, take-map}
 use Rattle.std.proofs.lemmas.Result.{IfOk-weaker, MatchResult-weaker}
-use Rattle.abnfcheck.specs.Beginnings.{IsFurthest}
+use Rattle.abnfcheck.specs.Prefixes.{IsFurthest}
 use Rattle.letters.specs.Letters.{has}
 use Rattle.lowering.proofs.LoweredLemmas.{ok_both}
 use Rattle.refusedlines.specs.Following.{AreFollowing}
@@ -16,23 +16,23 @@ returns-clause-following g c =
     let size = length-map c.args.line.now number in
     let within = c.in_ok-after.ensures.within in
     let long = length-take-le n c.args.line.now within in
-    let made = c.find_behind.ensures in
-    let facts = ok_both c.find_behind.result _ _ made.after made.following in
-    MatchResult-weaker c.find_behind.result facts (λ f is rules judged tells.
+    let made = c.find_after.ensures in
+    let facts = ok_both c.find_after.result _ _ made.after made.following in
+    MatchResult-weaker c.find_after.result facts (λ f is rules judged reports.
     subst (λ v. AreFollowing (has g.L.Letter.ALPHABET) rules judged x v f.runs.items f.ends) (sym (is.0 ∙ long))
     (take_following (has g.L.Letter.ALPHABET) rules judged x _ n _ _ _ (sym (take-map number n c.args.line.now))
-    (omega (arith, within, size)) (sym (length-map _ number)) (is.1 rules judged tells)))
+    (omega (arith, within, size)) (sym (length-map _ number)) (is.1 rules judged reports)))
     (λ _ _. tt)
 
 pub returns-clause-within : goal.returns-clause-within
 returns-clause-within g c =
     let within = c.in_ok-after.ensures.within in
     let long = length-take-le c.in_ok-after.after c.args.line.now within in
-    IfOk-weaker c.find_behind.result _ _ (λ f at. omega (arith, at, long, within)) c.find_behind.ensures.after
+    IfOk-weaker c.find_after.result _ _ (λ f at. omega (arith, at, long, within)) c.find_after.ensures.after
 
 pub returns-clause-furthest : goal.returns-clause-furthest
 returns-clause-furthest g c =
     let long = length-take-le c.in_ok-after.after c.args.line.now c.in_ok-after.ensures.within in
-    IfOk-weaker c.find_behind.result _ _ (λ f at rules judged tells.
+    IfOk-weaker c.find_after.result _ _ (λ f at rules judged reports.
     subst (λ v. IsFurthest (has g.L.Letter.ALPHABET) rules judged (map g.L.Letter.number c.args.line.now) v)
-    (sym (at ∙ long)) (c.in_ok-after.ensures.furthest rules judged tells)) c.find_behind.ensures.after
+    (sym (at ∙ long)) (c.in_ok-after.ensures.furthest rules judged reports)) c.find_after.ensures.after

@@ -1,11 +1,11 @@
 -- A block's lines follow those before it.
 use Rattle.std.proofs.Common.{rules}
-use Rattle.toolrun.proofs.NotesTextLemmas.{wrote_block, wrote_beginning}
+use Rattle.toolrun.proofs.NotesTextLemmas.{wrote_block, wrote_prefix}
 use Rattle.toolrun.proofs.notes.write_notes.Goals as goal
 
 pub returns-in-Err-clause-bytes : goal.returns-in-Err-clause-bytes
 returns-in-Err-clause-bytes g c =
-    wrote_beginning _ _ _ c.args.notes.now c.loop-rest.rest.now c.min.result c.loop-rest.invariant.wrote
+    wrote_prefix _ _ _ c.args.notes.now c.loop-rest.rest.now c.min.result c.loop-rest.invariant.wrote
     (rw c.split_at.ensures.front at c.in-Err.ensures.bytes)
 
 pub loop-rest-preserved : goal.loop-rest-preserved

@@ -1,7 +1,7 @@
 -- The lines of the notes alone, or with what explains them and hints.
 use Rattle.std.proofs.Common.{◌≡◌, true, false, map, rules}
 use Rattle.ruletable.specs.Notes.{said_of}
-use Rattle.toolrun.proofs.ToldNotesLemmas.{hinted-asked, hinted-plain}
+use Rattle.toolrun.proofs.ReportedNotesLemmas.{hinted-asked, hinted-plain}
 use Rattle.toolrun.proofs.opening.diagnostics_of.Goals as goal
 
 pub returns-then-not-settings-clause-diagnostics : goal.returns-then-not-settings-clause-diagnostics
@@ -14,6 +14,7 @@ returns-then-not-settings-clause-diagnostics g c =
 pub returns-in-Whole-clause-diagnostics : goal.returns-in-Whole-clause-diagnostics
 returns-in-Whole-clause-diagnostics g c =
     let asked : c.args.settings.now.explain ≡ true = search rules in
-    let told = (let t = c.told_hints.ensures in rw c.in-Whole.is at t) in
+    let reported = (let t = c.reported_hints.ensures in rw c.in-Whole.is at t) in
     hinted-asked c.args.settings.now (g.L.Language.explains_note c.args.text.now)
-    (g.L.Language.are_hints c.args.text.now c.args.settings.now) asked told.0.0 told.0.1 _ told.0.2 told.0.3 told.0.4
+    (g.L.Language.are_hints c.args.text.now c.args.settings.now) asked reported.0.0 reported.0.1 _ reported.0.2
+    reported.0.3 reported.0.4

@@ -43,5 +43,5 @@ returns g c = record {
       (passed g.E.Sink.contents g.E.Sink.failed c.args.err.now c.conclude.new.err)
       _ c.act-ending.result (code_of c.conclude.result) c.act-ending.ensures c.requires.out_is_fresh refl
       (wrote-all _ _ _ c.write_first.result fine c.write_first.ensures.bytes)
-      c.conclude.ensures.kept c.conclude.ensures.stays c.conclude.ensures.told;
+      c.conclude.ensures.kept c.conclude.ensures.stays c.conclude.ensures.reported;
 }

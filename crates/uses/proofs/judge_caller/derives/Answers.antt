@@ -4,16 +4,16 @@ use Rattle.letters.specs.Letters.{has}
 use Rattle.letters.specs.declared.alphabet.Alphabet.TheVariants.{Bytes}
 use Rattle.uses.proofs.judge_caller.derives.Goals as goal
 
-told_as : {E : Type 0} (r : Result Bool E) (P Q : Bool → Type 0) → ((b : Bool) → P b → Q b) → IfOk r P → IfOk r Q
-told_as (Ok b) P Q f h = f b h
-told_as (Err e) P Q f h = tt
+reported_as : {E : Type 0} (r : Result Bool E) (P Q : Bool → Type 0) → ((b : Bool) → P b → Q b) → IfOk r P → IfOk r Q
+reported_as (Ok b) P Q f h = f b h
+reported_as (Err e) P Q f h = tt
 
 pub returns : goal.returns
 returns c =
     let line = c.args.line.now in
     let letters = rw (map-id line) at c.values_are_letters.ensures in
     let rule = c.in_ok-flat.ensures.derives (has Bytes) line (omega arith) letters in
-    told_as c.judge.result _ _ (λ yes answer.
+    reported_as c.judge.result _ _ (λ yes answer.
     let flat = rw (map-id line) at answer in
     (λ is. rule.0 (flat.0 is), λ derives. flat.1 (rule.1 derives)))
     c.judge.ensures.answer

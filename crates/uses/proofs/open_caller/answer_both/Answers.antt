@@ -10,7 +10,7 @@ use Rattle.abnfrun.specs.OpenJudge.{OpenJudge}
 use Rattle.uses.specs.AnswersAlone.{AnswersAlone}
 use Rattle.linejudge.specs.declared.answers.Answer.{Answer}
 use Rattle.ruletable.specs.Notes.{Said}
-use Rattle.toolrun.proofs.ToldNotesLemmas.{hinted-plain}
+use Rattle.toolrun.proofs.ReportedNotesLemmas.{hinted-plain}
 use Rattle.toolrun.specs.NotesText.{notes_text}
 use Rattle.abnfrun.specs.AbnfSettings.{AbnfSettings}
 use Rattle.uses.proofs.open_caller.answer_both.Goals as goal

@@ -12,7 +12,7 @@ use Rattle.pegrun.specs.OpenPeg.{IsPegOpened}
 use Rattle.pegrun.specs.PegReply.{RunStates}
 use Rattle.ruletable.specs.Notes.{Said}
 use Rattle.toolrun.proofs.DeliversLemmas.{delivers_after}
-use Rattle.toolrun.proofs.ToldNotesLemmas.{hinted-plain}
+use Rattle.toolrun.proofs.ReportedNotesLemmas.{hinted-plain}
 use Rattle.toolrun.specs.NotesText.{notes_text}
 use Rattle.toolrun.specs.Status.{code_of}
 use Rattle.pegrun.specs.PegSettings.{PegSettings}

@@ -1,7 +1,7 @@
 use Rattle.std.proofs.Common.{◌≡◌, ◌+◌, ◌≤◌, length, map}
 use Rattle.abnfblocks.specs.TextLines.{numbered, lines_from, text_lines, line_parts}
 use Rattle.abnfblocks.specs.declared.rfctext.before.Before.TheVariants.{Text}
-use Rattle.abnfblocks.proofs.KeptLemmas.{IsClean, all_kept, kept_behind}
+use Rattle.abnfblocks.proofs.KeptLemmas.{IsClean, all_kept, kept_after}
 use Rattle.abnfblocks.proofs.rfctext.kept.kept_lines.Given as goal
 
 -- what the lines so far left and what stays of those to come is what stays of all
@@ -10,7 +10,7 @@ invariant-loop-rest l = record {
   number : l.number + length l.rest ≤ length l.text + 1;
   clean : IsClean l.before (map numbered l.kept.items);
   same : all_kept l.before (map numbered l.kept.items) (lines_from l.number (line_parts l.rest))
-      ≡ kept_behind Text (text_lines l.text);
+      ≡ kept_after Text (text_lines l.text);
 }
 
 abbrev pub decreases-loop-rest : goal.decreases-loop-rest

@@ -1,17 +1,17 @@
 use Rattle.std.proofs.Common.{◌∙◌, ◌&&◌, Bool, List, ap, arith, map, nat_lt}
 use Rattle.abnfblocks.specs.Fences.{fenced_size, hides_block}
 use Rattle.abnfblocks.specs.TextLines.{NumberedLine, numbered}
-use Rattle.abnfblocks.proofs.MaskedLinesLemmas.{block-more, blocks-all, longest-behind, rest-length}
+use Rattle.abnfblocks.proofs.MaskedLinesLemmas.{block-more, blocks-all, longest-after, rest-length}
 use Rattle.abnfblocks.proofs.RuleCutLemmas.{rest-rows}
 use Rattle.abnfblocks.proofs.rfctext.masked.push_fenced.Goals as goal
 
 pub fenced_size-size-requires-clause-ticks : goal.fenced_size-size-requires-clause-ticks
-fenced_size-size-requires-clause-ticks c = longest-behind 96 c.args.lines.now c.loop-first.first
+fenced_size-size-requires-clause-ticks c = longest-after 96 c.args.lines.now c.loop-first.first
     c.number_or_zero.result c.deref.result.now c.loop-first-test.true (c.deref.ensures.value ∙ c.in_ok-ticks.ensures)
     c.number_or_zero.ensures
 
 pub fenced_size-size-requires-clause-tildes : goal.fenced_size-size-requires-clause-tildes
-fenced_size-size-requires-clause-tildes c = longest-behind 126 c.args.lines.now c.loop-first.first
+fenced_size-size-requires-clause-tildes c = longest-after 126 c.args.lines.now c.loop-first.first
     c.number_or_zero-in-loop-first.result c.deref-in-loop-first.result.now c.loop-first-test.true
     (c.deref-in-loop-first.ensures.value ∙ c.in_ok-tildes.ensures) c.number_or_zero-in-loop-first.ensures
 

@@ -4,7 +4,7 @@ use Rattle.std.proofs.lemmas.Result.{on_ok_weaker}
 use Rattle.std.specs.Prelude.{option_copied}
 use Rattle.diagnostics.specs.BodyMentions.{mentioned_at}
 use Rattle.diagnostics.specs.DefinitionHeads.{defined_at}
-use Rattle.diagnostics.specs.ExplainedNotes.{AreToldBy}
+use Rattle.diagnostics.specs.ExplainedNotes.{AreReportedBy}
 use Rattle.diagnostics.specs.FirstMentions.{RuleMention, uses_of}
 use Rattle.diagnostics.specs.NoteLines.{lines_of, named}
 use Rattle.diagnostics.specs.UseLines.{lines_by, prose_lines}
@@ -16,19 +16,19 @@ use Rattle.ruletable.specs.declared.note.NoteKind.TheVariants.{Undefined, Prose}
 use Rattle.diagnostics.proofs.noteplaces.explained.push_lines.Goals as goal
 
 module _ (places : Places) (start : Option (List ℕ)) (kind : NoteKind) (name : List ℕ) where
-  abbrev told : Option RuleMention → NoteKind → List ℕ
-  told first k = lines_by places.names (map defined_at places.heads.items) (map mentioned_at places.mentions.items)
+  abbrev reported : Option RuleMention → NoteKind → List ℕ
+  reported first k = lines_by places.names (map defined_at places.heads.items) (map mentioned_at places.mentions.items)
       start first k name
 
-  told-behind : (why : List ℕ) → ((first : Option RuleMention) → why ≡ told first kind)
-      → AreToldBy places start (said kind name) why
-  told-behind why e =
+  reported-after : (why : List ℕ) → ((first : Option RuleMention) → why ≡ reported first kind)
+      → AreReportedBy places start (said kind name) why
+  reported-after why e =
       let first = first-some places.names (map defined_at places.heads.items)
       (uses_of places.names name (map mentioned_at places.mentions.items)) in
       record { first = first.0; is_first = first.1; is = e first.0 }
 
   other-lines : (k : NoteKind) → (k ≡ Undefined → ⊥) → (k ≡ Prose → ⊥) → (first : Option RuleMention)
-      → lines_of k (named places.names name (map defined_at places.heads.items)) ≡ told first k
+      → lines_of k (named places.names name (map defined_at places.heads.items)) ≡ reported first k
   other-lines Undefined n p first = absurd (n refl)
   other-lines Prose n p first = absurd (p refl)
   other-lines k n p first = refl
@@ -41,8 +41,8 @@ returns-in-Prose c =
     (λ e. (
       prose_lines places.names (map defined_at places.heads.items) (map mentioned_at places.mentions.items)
           (option_copied c.args.start) name,
-      told-behind places (option_copied c.args.start) c.args.kind name _ (λ first.
-          ap (told places (option_copied c.args.start) c.args.kind name first) (sym c.in-Prose.is)),
+      reported-after places (option_copied c.args.start) c.args.kind name _ (λ first.
+          ap (reported places (option_copied c.args.start) c.args.kind name first) (sym c.in-Prose.is)),
       e,
     ))
     c.push_first_prose.ensures
@@ -55,7 +55,7 @@ returns-in_ok-heads-in_default c =
     on_ok_weaker c.push_by_heads.result
     (λ e. (
       lines_of c.args.kind (named places.names name (map defined_at places.heads.items)),
-      told-behind places (option_copied c.args.start) c.args.kind name _
+      reported-after places (option_copied c.args.start) c.args.kind name _
           (other-lines places (option_copied c.args.start) c.args.kind name c.args.kind c.in_default.not-Undefined
           c.in_default.not-Prose),
       e ∙ ap (λ l. c.args.out.now.items ++ lines_of c.args.kind l) heads,

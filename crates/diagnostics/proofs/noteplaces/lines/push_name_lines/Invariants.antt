@@ -6,4 +6,4 @@ use Rattle.diagnostics.proofs.noteplaces.lines.push_name_lines.Given as goal
 
 abbrev pub invariant-loop-head : goal.invariant-loop-head
 invariant-loop-head l = l.out.items ≡ l.fn.out.items
-    ++ flat_map (λ h. name_line l.told (defined_at h.now)) (take l.head-index l.heads)
+    ++ flat_map (λ h. name_line l.reported (defined_at h.now)) (take l.head-index l.heads)

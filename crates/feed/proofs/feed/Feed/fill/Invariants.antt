@@ -8,7 +8,7 @@ abbrev pub invariant-loop-held : goal.invariant-loop-held
 invariant-loop-held g l = record {
   loan : SameLoan l.fn.self l.self;
   grows : Grows g.R.Source.remaining l.fn.self l.self;
-  told : IsTrueOfReader g.R.Source.remaining g.R.Source.failed g.R.Source.ended l.self;
+  reported : IsTrueOfReader g.R.Source.remaining g.R.Source.failed g.R.Source.ended l.self;
 }
 
 abbrev pub decreases-loop-held : goal.decreases-loop-held

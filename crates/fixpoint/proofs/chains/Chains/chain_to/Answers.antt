@@ -18,14 +18,14 @@ loop-step-init c = λ rows s are.
     let e : c.in-Some.count ≡ c.in-Some.count - 0 = omega arith in
     (subst (λ z. Distance rows s c.args.n z) e far, rw c.new-chain.ensures.items top)
 
-pub returns-in_default-told : goal.returns-in_default-told
-returns-in_default-told c = λ rows s are m chain.
+pub returns-in_default-reported : goal.returns-in_default-reported
+returns-in_default-reported c = λ rows s are m chain.
     let i = c.loop-step.invariant rows s are in
     let lt = c.loop-step-test.true in
     let e : c.in-Some.count - c.loop-step._step ≡ suc (c.in-Some.count - (c.loop-step._step + 1)) = omega (arith, lt) in
-    let w = t.back_told rows s _ c.loop-step.at (c.in-Some.count - (c.loop-step._step + 1)) are.backs
+    let w = t.back_reported rows s _ c.loop-step.at (c.in-Some.count - (c.loop-step._step + 1)) are.backs
     (subst (λ z. Distance rows s c.loop-step.at z) e i.0) in
-    let no = (c.in_default-told.ensures w.0).0 (rw c.deref-in-loop-step.ensures.value w.1) in
+    let no = (c.in_default-reported.ensures w.0).0 (rw c.deref-in-loop-step.ensures.value w.1) in
     cc no
 
 pub loop-step-preserved : goal.loop-step-preserved
@@ -33,9 +33,10 @@ loop-step-preserved c = λ rows s are.
     let i = c.loop-step.invariant rows s are in
     let lt = c.loop-step-test.true in
     let e : c.in-Some.count - c.loop-step._step ≡ suc (c.in-Some.count - (c.loop-step._step + 1)) = omega (arith, lt) in
-    let at = (c.in-Some-told.ensures c.in-Some-told.before).1 refl in
-    let back = are.backs.sound c.loop-step.at c.in-Some-told.before (rw c.deref-in-loop-step.ensures.value at at) in (
-      t.back_is_nearer rows s c.loop-step.at c.in-Some-told.before (c.in-Some.count - (c.loop-step._step + 1)) back
+    let at = (c.in-Some-reported.ensures c.in-Some-reported.before).1 refl in
+    let met = rw c.deref-in-loop-step.ensures.value at at in
+    let back = are.backs.sound c.loop-step.at c.in-Some-reported.before met in (
+      t.back_is_nearer rows s c.loop-step.at c.in-Some-reported.before (c.in-Some.count - (c.loop-step._step + 1)) back
           (subst (λ z. Distance rows s c.loop-step.at z) e i.0),
       rw c.in_ok-push.ensures.items (below i.1 back),
     )

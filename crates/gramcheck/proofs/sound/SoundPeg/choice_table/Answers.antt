@@ -27,6 +27,6 @@ returns-in-Some c =
     → IsChoiceTableOf (shapes_of g.nodes) g.bodies g.keys c.args.choice ms t.now)) c.self.view_is
     (some_read _ _ _ c.get-in-Some.result (λ t is ms at. table_read (IsChoiceTableOf
     (shapes_of c.self.inside.nodes.items) c.self.inside.bodies.items (marks_of (shapes_of c.self.inside.nodes.items)
-    c.self.inside.keys.nodes.items c.self.inside.keys.behind.items) c.args.choice ms)
+    c.self.inside.keys.nodes.items c.self.inside.keys.after.items) c.args.choice ms)
     c.self.inside.by_byte.choices.items c.from.result t.now
     ((c.self.invariant.4 c.args.choice c.from.result (place_is c)).choice ms at) is) read.1)

@@ -15,6 +15,6 @@ returns-in-Some c =
     let at = node_at c.self.inside.nodes.items c.args.n c.in-Some.node.now low found.1 in
     c.is_key_from.ensures ∙ ap (λ v. get_or (tails_of v (shape_of c.in-Some.node.now)) c.args.i false)
     c.deref-in-Some.ensures.value
-    ∙ tails_at (shapes_of c.self.inside.nodes.items) c.self.inside.keys.nodes.items c.self.inside.keys.behind.items
+    ∙ tails_at (shapes_of c.self.inside.nodes.items) c.self.inside.keys.nodes.items c.self.inside.keys.after.items
     c.args.n c.args.i (shape_of c.in-Some.node.now) at
     ∙ ap (λ (g : Grammar). tail_marks g.keys c.args.n c.args.i) c.self.view_is

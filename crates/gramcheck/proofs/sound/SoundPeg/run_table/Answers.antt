@@ -27,5 +27,5 @@ returns-in-Some c =
     → IsRunTableOf (shapes_of g.nodes) g.bodies g.keys k t.now)) c.self.view_is
     (some_read _ _ _ c.get-in-Some.result (λ t is s k at tabled. table_read (IsRunTableOf
     (shapes_of c.self.inside.nodes.items) c.self.inside.bodies.items (marks_of (shapes_of c.self.inside.nodes.items)
-    c.self.inside.keys.nodes.items c.self.inside.keys.behind.items) k) c.self.inside.by_byte.runs.items c.from.result
+    c.self.inside.keys.nodes.items c.self.inside.keys.after.items) k) c.self.inside.by_byte.runs.items c.from.result
     t.now ((c.self.invariant.4 c.args.n c.from.result (place_is c)).run s k at tabled) is) read.1)

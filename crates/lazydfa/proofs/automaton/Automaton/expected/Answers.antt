@@ -18,8 +18,8 @@ invariant_of-self-in_default-get g c = (
       (subst (λ v. IsMemo v c.deref.result.now c.run.new.memo) c.deref-2.ensures c.run.ensures.memo),
 )
 
-pub spots_of-requires-clause-within : goal.spots_of-requires-clause-within
-spots_of-requires-clause-within g c id h =
+pub dots_of-requires-clause-within : goal.dots_of-requires-clause-within
+dots_of-requires-clause-within g c id h =
     let look = c.in-Some-get.ensures.lookup in
     let inside = look.0 in
     let got = c.in-Some-get.state.now in
@@ -29,8 +29,8 @@ spots_of-requires-clause-within g c id h =
     (slice_get-get_or c.deref-3.result.now k got (grind (arith, inside)) ∙ ap (λ v. Some v) (sym look.1)))
     id (subst (λ v. Contains v id) c.deref-4.ensures.value h)
 
-pub invariant_of-self-in_err-spots : goal.invariant_of-self-in_err-spots
-invariant_of-self-in_err-spots g c = (
+pub invariant_of-self-in_err-dots : goal.invariant_of-self-in_err-dots
+invariant_of-self-in_err-dots g c = (
   c.self.invariant.0,
   c.self.invariant.1,
   c.self.invariant.2,
@@ -49,8 +49,8 @@ invariant_of-self-2 g c = (
       (subst (λ v. IsMemo v c.deref.result.now c.run.new.memo) c.deref-2.ensures c.run.ensures.memo),
 )
 
-pub returns-clause-told : goal.returns-clause-told
-returns-clause-told g c =
+pub returns-clause-reported : goal.returns-clause-reported
+returns-clause-reported g c =
     let x = map g.L.Letter.number c.args.line.now in
     let tables = c.self.inside.tables.value in
     let look = c.in-Some-get.ensures.lookup in
@@ -60,13 +60,13 @@ returns-clause-told g c =
     let stops = subst (λ v. IfSome v (IsRunStop c.deref-2.result.now c.deref.result.now c.run.new.memo x)) c.in-Some.is
     c.in_ok-stop.ensures.stops in
     let stop = subst (λ v. IsRunStop v c.deref.result.now c.run.new.memo x c.in-Some.stop) c.deref-2.ensures stops in
-    let told : Expected =
-    record { after = c.in-Some.stop.at; spots = c.in_ok-spots.spots; ends = got.ended } in
-    subst (λ v. IsExpected v x told) c.self.view_is
+    let reported : Expected =
+    record { after = c.in-Some.stop.at; dots = c.in_ok-dots.dots; ends = got.ended } in
+    subst (λ v. IsExpected v x reported) c.self.view_is
     (expected_there tables c.self.invariant.0 c.self.invariant.1 c.self.invariant.2 c.deref.result.now
     c.run.new.memo x c.in-Some.stop stop k got refl
     (subst (λ v. slice_get v k ≡ Some got) c.deref-3.ensures.value
     (slice_get-get_or c.deref-3.result.now k got (grind (arith, inside)) ∙ ap (λ v. Some v) (sym look.1)))
-    told refl refl
-    (subst (λ v. AreTopsOf c.run.new.memo.cache.conts.items.items v c.in_ok-spots.spots.items)
-    c.deref-4.ensures.value c.in_ok-spots.ensures))
+    reported refl refl
+    (subst (λ v. AreTopsOf c.run.new.memo.cache.conts.items.items v c.in_ok-dots.dots.items)
+    c.deref-4.ensures.value c.in_ok-dots.ensures))

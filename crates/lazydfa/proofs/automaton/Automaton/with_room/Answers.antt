@@ -3,7 +3,7 @@ use Rattle.flatgrammar.specs.NodeSteps.{flat_of}
 use Rattle.letterclasses.specs.Stacks.{AreUncounted}
 use Rattle.lazydfa.specs.RunVerdicts.{IsOne}
 use Rattle.letterclasses.specs.ClassBounds.{AreClasses}
-use Rattle.lazydfa.proofs.AreHopsLemmas.{memo_none}
+use Rattle.lazydfa.proofs.AreTransitionsLemmas.{memo_none}
 use Rattle.lazydfa.proofs.automaton.Automaton.with_room.Goals as goal
 
 pub invariant_of-result : goal.invariant_of-result
@@ -15,5 +15,5 @@ invariant_of-result c = (
       c.deref-3.ensures c.in_ok-classes.ensures,
   memo_none c.in_ok-tables.tables.value c.in_ok-classes.classes.samples.items c.empty_memo-memo.result
       c.empty_memo-memo.ensures.conts c.empty_memo-memo.ensures.states c.empty_memo-memo.ensures.cells
-      c.empty_memo-memo.ensures.hops c.empty_memo-memo.ensures.unfolds,
+      c.empty_memo-memo.ensures.transitions c.empty_memo-memo.ensures.unfolds,
 )

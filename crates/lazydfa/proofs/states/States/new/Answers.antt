@@ -1,10 +1,10 @@
 use Rattle.std.proofs.Common.{subst, map, ap}
 use Rattle.flatgrammar.specs.NodeSteps.{flat_of}
-use Rattle.letterclasses.specs.Stacks.{AreUncounted, TellsLast}
+use Rattle.letterclasses.specs.Stacks.{AreUncounted, MarksLast}
 use Rattle.lazydfa.specs.Conts.{last_of}
 use Rattle.lazydfa.specs.RunVerdicts.{IsOne}
 use Rattle.lazydfa.specs.StateSets.{state_set_of}
-use Rattle.lazydfa.proofs.MoveLemmas.{tells_last}
+use Rattle.lazydfa.proofs.MoveLemmas.{marks_last}
 use Rattle.lazydfa.proofs.states.States.new.Goals as goal
 
 pub returns : goal.returns
@@ -17,6 +17,6 @@ returns c =
           c.empty_memo-memo.ensures.states;
       one = subst (λ v. IsOne v) view (subst (λ v. IsOne (flat_of v)) c.deref.ensures served.1);
       uncounted = subst (λ v. AreUncounted v) view (subst (λ v. AreUncounted (flat_of v)) c.deref.ensures served.0);
-      tail_places = subst (λ v. TellsLast v (last_of c.in_ok-tables.tables.value)) view
-          (tells_last c.in_ok-tables.tables.value c.in_ok-tables.ensures.exact.roots);
+      tail_places = subst (λ v. MarksLast v (last_of c.in_ok-tables.tables.value)) view
+          (marks_last c.in_ok-tables.tables.value c.in_ok-tables.ensures.exact.roots);
     }

@@ -17,7 +17,7 @@ returns-in-Ok-clause-more c =
 
 pub returns-in-Ok-clause-is : goal.returns-in-Ok-clause-is
 returns-in-Ok-clause-is c =
-    IfSome_then c.in-Ok.told c.in-Ok.ensures.is (λ t h. led_next c.self.inside.tables.value c.self.invariant.0
+    IfSome_then c.in-Ok.reported c.in-Ok.ensures.is (λ t h. led_next c.self.inside.tables.value c.self.invariant.0
     c.lead_whole.new.cache.conts.items.items c.lead_whole.new.cache.states.items c.args.value c.args.state t
     (subst (λ v. IsLed v c.args.value c.lead_whole.new.cache.conts.items.items c.lead_whole.new.cache.states.items
     c.args.state t) c.deref.ensures h))

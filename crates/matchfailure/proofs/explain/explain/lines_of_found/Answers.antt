@@ -4,7 +4,7 @@ use Rattle.pegnodes.specs.Nodes.{shapes_of}
 use Rattle.pegread.specs.PegViews.{rules_of}
 use Rattle.matchfailure.specs.NoMatchLines.{failure_lines}
 use Rattle.matchfailure.specs.declared.explain.place.TextPlace.{TextPlace}
-use Rattle.matchfailure.proofs.FoundLinesLemmas.{slice-from, told-of-input}
+use Rattle.matchfailure.proofs.FoundLinesLemmas.{slice-from, reported-of-input}
 use Rattle.matchfailure.proofs.explain.explain.lines_of_found.Goals as goal
 
 pub returns-in-Some : goal.returns-in-Some
@@ -16,8 +16,8 @@ returns-in-Some c =
       found.0,
       rw c.in-Some.is found.1,
       λ front is. rw c.in-Some.is (found.2
-          ∙ ap (λ (w : List ℕ). lines w c.behind-place.result) (slice-from c.args.seen.now c.args.offset)
-          ∙ told-of-input lines front c.args.seen.now c.args.at c.behind-place.result c.args.offset
+          ∙ ap (λ (w : List ℕ). lines w c.after-place.result) (slice-from c.args.seen.now c.args.offset)
+          ∙ reported-of-input lines front c.args.seen.now c.args.at c.after-place.result c.args.offset
           c.in-Some.farthest.place is
-          (c.behind-place.ensures front is)),
+          (c.after-place.ensures front is)),
     )) c.lines_of_farthest.ensures

@@ -6,4 +6,4 @@ use Rattle.matchfailure.proofs.explain.lines.lines_of_farthest.Goals as goal
 pub push_expected-requires : goal.push_expected-requires
 push_expected-requires c =
     subst (λ (vs : List Visit). AreFitting (length c.args.peg.now.nodes) c.args.unit vs) (sym c.deref.ensures.value)
-    c.in_ok-told.ensures.fitting
+    c.in_ok-reported.ensures.fitting

@@ -5,12 +5,12 @@ use Rattle.matchfailure.proofs.ExpectedLinesLemmas.{expected-join, first-fit}
 use Rattle.matchfailure.proofs.explain.lines.push_expected.Goals as goal
 
 pub push_each-requires : goal.push_each-requires
-push_each-requires c = first-fit _ c.args.unit c.args.told.now c.min-shown.result c.requires
+push_each-requires c = first-fit _ c.args.unit c.args.reported.now c.min-shown.result c.requires
 
 pub returns : goal.returns
 returns c =
     expected-join
     (expected_line (rules_of c.args.peg.now.rules) (shapes_of c.args.peg.now.nodes) c.args.peg.now.bodies c.args.unit
     c.args.place)
-    c.args.told.now c.min-shown.result _ _ _ c.min-shown.ensures c.in_ok-push_each.ensures
+    c.args.reported.now c.min-shown.result _ _ _ c.min-shown.ensures c.in_ok-push_each.ensures
     c.in_ok-push_more.ensures

@@ -31,15 +31,15 @@ loop-key-preserved c =
     elim c.match-branch-3.branch [
       | in-Added+in_ok-push-in-Added w ↦ let both = once-added text c.args.keys.now c.loop-key.texts
           c.define.new.self rule
-          c.loop-key.invariant.exact c.loop-key.told.items c.loop-key.key-index c.loop-key-test.true
-          c.loop-key.invariant.told named _ (rw w.in-Added.is at c.in_ok-define.ensures.defines) _
+          c.loop-key.invariant.exact c.loop-key.reported.items c.loop-key.key-index c.loop-key-test.true
+          c.loop-key.invariant.reported named _ (rw w.in-Added.is at c.in_ok-define.ensures.defines) _
           w.in_ok-push-in-Added.ensures.items in
           record {
             exact = both.0;
-            told = rw w.told-is both.1;
-            fit = rw (w.told-is, w.in_ok-push-in-Added.ensures.items)
+            reported = rw w.reported-is both.1;
+            fit = rw (w.reported-is, w.in_ok-push-in-Added.ensures.items)
                 (fits-more (length c.args.peg.now.nodes) c.args.unit
-                c.loop-key.told.items _ c.loop-key.invariant.fit
+                c.loop-key.reported.items _ c.loop-key.invariant.fit
                 (c.requires _ (
                   c.loop-key.key-index,
                   key-at c.args.keys.now c.loop-key.key-index
@@ -47,19 +47,19 @@ loop-key-preserved c =
                 )));
           }
       | in-Duplicate w ↦ let both = once-duplicate text c.args.keys.now c.loop-key.texts c.define.new.self rule
-          c.loop-key.invariant.exact c.loop-key.told.items c.loop-key.key-index c.loop-key-test.true
-          c.loop-key.invariant.told named _ (rw w.in-Duplicate.is at c.in_ok-define.ensures.defines) in
+          c.loop-key.invariant.exact c.loop-key.reported.items c.loop-key.key-index c.loop-key-test.true
+          c.loop-key.invariant.reported named _ (rw w.in-Duplicate.is at c.in_ok-define.ensures.defines) in
           record {
             exact = both.0;
-            told = rw w.told-is both.1;
-            fit = rw w.told-is c.loop-key.invariant.fit;
+            reported = rw w.reported-is both.1;
+            fit = rw w.reported-is c.loop-key.invariant.fit;
           }
     ]
 
-pub returns-clause-told : goal.returns-clause-told
-returns-clause-told c =
+pub returns-clause-reported : goal.returns-clause-reported
+returns-clause-reported c =
     let text = entry_text (rules_of c.args.peg.now.rules) c.args.peg.now.start (shapes_of c.args.peg.now.nodes)
     c.args.peg.now.bodies c.args.unit c.args.place in
     let over = c.loop-key-test.false in
-    once-done text c.args.keys.now _ c.loop-key.told.items c.loop-key.key-index (omega (arith, over))
-    c.loop-key.invariant.told
+    once-done text c.args.keys.now _ c.loop-key.reported.items c.loop-key.key-index (omega (arith, over))
+    c.loop-key.invariant.reported

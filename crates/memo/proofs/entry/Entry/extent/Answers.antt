@@ -21,27 +21,27 @@ spread_extent : (entry : Entry) (node : ℕ) (given : ℕ → Given) (from n hig
 spread_extent entry node given from n highest first one many own small low within is =
     record {
       node = sym own;
-      row = λ s i. ap (λ v. row_of v.spot) (one s i).is;
+      row = λ s i. ap (λ v. row_of v.task) (one s i).is;
       place = λ s i.
           let h = one s i in
           let below = h.high in
           let above = h.low in
           let most = within (omega arith) in
-          subst (λ v. place_of v.spot ≤ highest) (sym h.is) (omega arith);
+          subst (λ v. place_of v.task ≤ highest) (sym h.is) (omega arith);
       narrow = λ s i.
           let h = one s i in
           let below = h.high in
           let above = h.low in
           let most = within (omega arith) in
-          subst (λ v. IsNarrow v.spot) (sym h.is) (small, omega arith);
+          subst (λ v. IsNarrow v.task) (sym h.is) (small, omega arith);
       first = λ s i.
           let h = one s i in
           let above = h.low in
-          subst (λ v. first ≤ number_of v.spot) (sym h.is) (omega arith);
+          subst (λ v. first ≤ number_of v.task) (sym h.is) (omega arith);
       last = λ s i.
           let h = one s i in
           let below = h.high in
-          subst (λ v. number_of v.spot < first + n) (sym h.is) (omega arith);
+          subst (λ v. number_of v.task < first + n) (sym h.is) (omega arith);
       count = sym many;
     }
 

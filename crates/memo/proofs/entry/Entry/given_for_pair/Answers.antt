@@ -1,11 +1,11 @@
 use Rattle.std.proofs.Common.{◌≡◌, ℕ, ◌+◌, ◌-◌, ◌<◌, ◌≤◌, List}
 use Rattle.std.proofs.Common.{refl, sym, ◌∙◌, subst, ap, arith}
 use Rattle.memo.specs.Parts.{IsIn}
-use Rattle.memo.specs.KeyLog.{spots_of, spread, rising}
+use Rattle.memo.specs.KeyLog.{tasks_of, spread, rising}
 use Rattle.memo.specs.declared.key_log.Given.{Given}
 use Rattle.memo.specs.declared.key_log.Stored.{Stored}
-use Rattle.memo.specs.declared.spot.Spot.TheVariants.{Pair}
-use Rattle.memo.proofs.KeyLogLemmas.{stored_of_spot}
+use Rattle.memo.specs.declared.task.MatchTask.TheVariants.{Pair}
+use Rattle.memo.proofs.KeyLogLemmas.{stored_of_task}
 use Rattle.memo.proofs.KeyLogLemmas.{IsSpread, of_spread, in_spread, of_rising, in_rising}
 use Rattle.memo.specs.LogEntries.{given_of}
 use Rattle.memo.proofs.LogEntriesLemmas.{at_pair, step_at}
@@ -13,12 +13,12 @@ use Rattle.memo.proofs.entry.Entry.given_for_pair.Goals as goal
 
 -- a pair among pairs of a node at places in a row
 pair_of_spread : (own : ℕ) (given : ℕ → Given) (from n node place : ℕ) (pairs : List Stored)
-    → ((s : Stored) → IsIn s pairs → IsSpread (at_pair own given) from n s) → IsIn (Pair node place) (spots_of pairs)
+    → ((s : Stored) → IsIn s pairs → IsSpread (at_pair own given) from n s) → IsIn (Pair node place) (tasks_of pairs)
     → (node ≡ own) × (from ≤ place) × (place < from + n)
 pair_of_spread own given from n node place pairs are i =
-    let h = stored_of_spot pairs (Pair node place) i in
+    let h = stored_of_task pairs (Pair node place) i in
     let one = are h.entry h.there in
-    let same : Pair own one.place ≡ Pair node place = sym (ap (λ v. v.spot) one.is) ∙ h.is in
+    let same : Pair own one.place ≡ Pair node place = sym (ap (λ v. v.task) one.is) ∙ h.is in
     let node_is : node ≡ own = cc same in
     let place_is : place ≡ one.place = cc same in
     let low = one.low in
@@ -27,9 +27,9 @@ pair_of_spread own given from n node place pairs are i =
 
 pair_in_spread : (own : ℕ) (given : ℕ → Given) (node place : ℕ) (g : Given) (pairs : List Stored) → node ≡ own
     → given place ≡ g → IsIn (at_pair own given place) pairs
-    → IsIn (record { spot = Pair node place; given = g }) pairs
+    → IsIn (record { task = Pair node place; given = g }) pairs
 pair_in_spread own given node place g pairs is same i =
-    rw is (subst (λ v. IsIn (record { spot = Pair own place; given = v }) pairs) same i)
+    rw is (subst (λ v. IsIn (record { task = Pair own place; given = v }) pairs) same i)
 
 pub returns-then-is_within-clause-some : goal.returns-then-is_within-clause-some
 returns-then-is_within-clause-some c =

@@ -1,11 +1,11 @@
 use Rattle.std.proofs.Common.{◌≡◌, ℕ, ◌+◌, ◌-◌, List}
 use Rattle.std.proofs.Common.{sym, ◌∙◌, ap}
 use Rattle.memo.specs.Parts.{IsIn, in_here}
-use Rattle.memo.specs.KeyLog.{spots_of, spread, rising}
+use Rattle.memo.specs.KeyLog.{tasks_of, spread, rising}
 use Rattle.memo.specs.declared.key_log.Given.{Given}
 use Rattle.memo.specs.declared.key_log.Stored.{Stored}
-use Rattle.memo.specs.declared.spot.Spot.TheVariants.{Pair, Tail}
-use Rattle.memo.proofs.KeyLogLemmas.{stored_of_spot}
+use Rattle.memo.specs.declared.task.MatchTask.TheVariants.{Pair, Tail}
+use Rattle.memo.proofs.KeyLogLemmas.{stored_of_task}
 use Rattle.memo.proofs.KeyLogLemmas.{IsSpread, of_spread, of_rising}
 use Rattle.memo.specs.LogEntries.{given_of}
 use Rattle.memo.proofs.LogEntriesLemmas.{at_pair, step_at}
@@ -14,11 +14,11 @@ use Rattle.memo.proofs.entry.Entry.given_for_tail.Goals as goal
 -- a tail is not among them
 no_tail_of_spread : (own : ℕ) (given : ℕ → Given) (from n node index place : ℕ) (pairs : List Stored)
     → ((s : Stored) → IsIn s pairs → IsSpread (at_pair own given) from n s)
-    → IsIn (Tail node index place) (spots_of pairs) → ⊥
+    → IsIn (Tail node index place) (tasks_of pairs) → ⊥
 no_tail_of_spread own given from n node index place pairs are i =
-    let h = stored_of_spot pairs (Tail node index place) i in
+    let h = stored_of_task pairs (Tail node index place) i in
     let one = are h.entry h.there in
-    let same : Pair own one.place ≡ Tail node index place = sym (ap (λ v. v.spot) one.is) ∙ h.is in
+    let same : Pair own one.place ≡ Tail node index place = sym (ap (λ v. v.task) one.is) ∙ h.is in
     absurd (cc same)
 
 pub returns-then-place-there-clause-some : goal.returns-then-place-there-clause-some

@@ -5,14 +5,14 @@ use Rattle.std.proofs.lemmas.Option.{slice_get_within, slice_get-get_or}
 use Rattle.memo.specs.Parts.{IsIn}
 use Rattle.memo.specs.KeyLog.{row_of, place_of, AreBelow}
 use Rattle.memo.specs.LogEntries.{pairs_of, stored_of, IsExtent, AreCovered, IsLog}
-use Rattle.memo.specs.SpotLinks.{Place}
+use Rattle.memo.specs.TaskLinks.{Place}
 use Rattle.memo.specs.declared.entry.Entry.{Entry}
 use Rattle.memo.specs.declared.entry.Extent.{Extent}
 use Rattle.memo.specs.declared.key_log.Mark.{Mark}
 use Rattle.memo.specs.declared.key_log.Stored.{Stored}
 use Rattle.memo.proofs.PartsLemmas.{in_either}
 use Rattle.memo.proofs.LogEntriesLemmas.{stored_push}
-use Rattle.memo.proofs.SpotLinksLemmas.{push_cases}
+use Rattle.memo.proofs.TaskLinksLemmas.{push_cases}
 use Rattle.memo.proofs.key_log.KeyLog.store.Goals as goal
 
 -- a mark may be raised
@@ -40,7 +40,7 @@ module _ (unit : ℕ) where
 
   -- keys more of a row, whose mark is raised
   below_more : (high : List Mark) (more stored : List Stored) (r highest : ℕ) (now v : Mark) → AreBelow unit high stored
-      → ((s : Stored) → IsIn s more → row_of s.spot ≡ r) → ((s : Stored) → IsIn s more → place_of s.spot ≤ highest)
+      → ((s : Stored) → IsIn s more → row_of s.task ≡ r) → ((s : Stored) → IsIn s more → place_of s.task ≤ highest)
       → slice_get high r ≡ Some now → v.unit ≡ unit → highest ≤ v.highest
       → (now.unit ≡ unit → now.highest ≤ v.highest) → AreBelow unit (slice_set high r v) (more ++ stored)
   below_more high more stored r highest now v below row place at w up kept s i =
@@ -55,7 +55,7 @@ module _ (unit : ℕ) where
             )
         | inr k ↦
             let b = below s k in
-            let raised = mark_raised high r v (row_of s.spot) b.0 b.1 b.2 w (λ same.
+            let raised = mark_raised high r v (row_of s.task) b.0 b.1 b.2 w (λ same.
             let there : slice_get high r ≡ Some b.0 = subst (λ n. slice_get high n ≡ Some b.0) same b.1 in
             let one : b.0 ≡ now = cc (at, there) in
             subst (λ m. m.highest ≤ v.highest) (sym one) (kept (subst (λ m. m.unit ≡ unit) one b.2))) in

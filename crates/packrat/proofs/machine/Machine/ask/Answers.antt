@@ -5,7 +5,7 @@ use Rattle.std.proofs.lemmas.Option.{slice_get_within}
 use Rattle.packrat.specs.Onward.{IsWell}
 use Rattle.packrat.proofs.StandsLemmas as L
 use Rattle.packrat.proofs.LeftLemmas as M
-use Rattle.memo.specs.declared.spot.Spot.TheVariants.{Pair}
+use Rattle.memo.specs.declared.task.MatchTask.TheVariants.{Pair}
 use Rattle.packrat.proofs.machine.Machine.ask.Goals as goal
 
 pub returns-in-Some-clause-stands : goal.returns-in-Some-clause-stands
@@ -22,25 +22,25 @@ returns-in-Some-clause-less c = λ le.
     M.less_stored c.args.peg.now c.args.window.now (Pair c.args.node c.args.place) c.in-Some.given
     c.args.self.now.frames c.args.self.now.begun c.requires.well
 
-pub returns-in_ok-start_spot-in-Gives-clause-less : goal.returns-in_ok-start_spot-in-Gives-clause-less
-returns-in_ok-start_spot-in-Gives-clause-less c = λ le.
-    c.in_ok-start_spot-in-Gives.ensures.less c.args.more c.in-Starts.ensures le
+pub returns-in_ok-start_task-in-Gives-clause-less : goal.returns-in_ok-start_task-in-Gives-clause-less
+returns-in_ok-start_task-in-Gives-clause-less c = λ le.
+    c.in_ok-start_task-in-Gives.ensures.less c.args.more c.in-Starts.ensures le
 
-pub returns-in_ok-start_spot-in-Marks-clause-less : goal.returns-in_ok-start_spot-in-Marks-clause-less
-returns-in_ok-start_spot-in-Marks-clause-less c = λ le.
-    c.in_ok-start_spot-in-Marks.ensures.less c.args.more c.in-Starts.ensures le
+pub returns-in_ok-start_task-in-Marks-clause-less : goal.returns-in_ok-start_task-in-Marks-clause-less
+returns-in_ok-start_task-in-Marks-clause-less c = λ le.
+    c.in_ok-start_task-in-Marks.ensures.less c.args.more c.in-Starts.ensures le
 
-pub returns-in_ok-start_spot-in-Leads-clause-less : goal.returns-in_ok-start_spot-in-Leads-clause-less
-returns-in_ok-start_spot-in-Leads-clause-less c = λ le.
-    c.in_ok-start_spot-in-Leads.ensures.less c.args.more c.in-Starts.ensures le
+pub returns-in_ok-start_task-in-Leads-clause-less : goal.returns-in_ok-start_task-in-Leads-clause-less
+returns-in_ok-start_task-in-Leads-clause-less c = λ le.
+    c.in_ok-start_task-in-Leads.ensures.less c.args.more c.in-Starts.ensures le
 
-pub returns-in_ok-start_spot-in-Passes-clause-less : goal.returns-in_ok-start_spot-in-Passes-clause-less
-returns-in_ok-start_spot-in-Passes-clause-less c = λ le.
-    c.in_ok-start_spot-in-Passes.ensures.less c.args.more c.in-Starts.ensures le
+pub returns-in_ok-start_task-in-Passes-clause-less : goal.returns-in_ok-start_task-in-Passes-clause-less
+returns-in_ok-start_task-in-Passes-clause-less c = λ le.
+    c.in_ok-start_task-in-Passes.ensures.less c.args.more c.in-Starts.ensures le
 
-pub returns-in_ok-start_spot-in-Enters-clause-less : goal.returns-in_ok-start_spot-in-Enters-clause-less
-returns-in_ok-start_spot-in-Enters-clause-less c = λ le.
-    c.in_ok-start_spot-in-Enters.ensures.less c.args.more c.in-Starts.ensures le
+pub returns-in_ok-start_task-in-Enters-clause-less : goal.returns-in_ok-start_task-in-Enters-clause-less
+returns-in_ok-start_task-in-Enters-clause-less c = λ le.
+    c.in_ok-start_task-in-Enters.ensures.less c.args.more c.in-Starts.ensures le
 
 pub returns-in-Need-clause-stands : goal.returns-in-Need-clause-stands
 returns-in-Need-clause-stands c = λ root s.

@@ -1,6 +1,6 @@
 use Rattle.std.proofs.Common.{◌<◌, ◌+◌, ap, refl, sym, subst, ◌∙◌, arith}
-use Rattle.memo.specs.declared.spot.Spot.TheVariants.{Pair}
-use Rattle.memo.specs.KeyLog.{spots_of}
+use Rattle.memo.specs.declared.task.MatchTask.TheVariants.{Pair}
+use Rattle.memo.specs.KeyLog.{tasks_of}
 use Rattle.memo.specs.Parts.{IsIn}
 use Rattle.packrat.specs.Known.{taken_of}
 use Rattle.packrat.specs.LoopTurns.{Ask}
@@ -38,7 +38,7 @@ returns-clause-stands c = λ more some h root key fresh s.
     c.requires.keyed.1.0 c.requires.keyed.1.1 c.requires.keyed.0 root t h c.args.self.now.frames c.wait_last.new.frames
     c.args.self.now.log.stored c.close.new.log.stored c.args.self.now.events c.args.self.now.begun s c.args.key key
     fresh (λ k i. c.if-not-is_fresh.ensures refl 1 0 (omega arith) k
-    (subst (λ v. IsIn (Pair t.operand v) (spots_of c.args.self.now.log.stored)) (omega arith) i))
+    (subst (λ v. IsIn (Pair t.operand v) (tasks_of c.args.self.now.log.stored)) (omega arith) i))
     (c.in_ok-close.ensures.closed more c.args.peg.now.keys c.args.self.now.events c.is_key_node-stores.ensures)
     c.in_ok-wait_last.ensures)
 

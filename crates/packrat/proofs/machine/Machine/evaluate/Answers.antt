@@ -1,5 +1,5 @@
 use Rattle.std.proofs.Common.{◌≡◌, ◌<◌, ◌≤◌, [], Some, refl, sym, subst, ap, arith}
-use Rattle.memo.specs.declared.spot.Spot.TheVariants.{Pair}
+use Rattle.memo.specs.declared.task.MatchTask.TheVariants.{Pair}
 use Rattle.packrat.specs.LoopTurns.{Ask, Answer, turn_of}
 use Rattle.packrat.specs.Stands.{Stands, AreOn, LowersLeft, IsUnawaited}
 use Rattle.packrat.specs.TurnsLeft.{left}

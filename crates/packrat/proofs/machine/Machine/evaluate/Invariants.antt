@@ -1,5 +1,5 @@
 use Rattle.std.proofs.Common.{◌≡◌, length}
-use Rattle.memo.specs.declared.spot.Spot.TheVariants.{Pair}
+use Rattle.memo.specs.declared.task.MatchTask.TheVariants.{Pair}
 use Rattle.packrat.specs.Stands.{Stands}
 use Rattle.packrat.specs.LoopTurns.{Ask}
 use Rattle.packrat.specs.TurnsLeft.{left}

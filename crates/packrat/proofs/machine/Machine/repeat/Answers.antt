@@ -2,7 +2,7 @@ use Rattle.std.proofs.Common.{◌<◌, IfOk, refl, sym, subst, ◌∙◌}
 use Rattle.packrat.specs.Begins.{repeated_of}
 use Rattle.packrat.specs.TurnsLeft.{left}
 use Rattle.packrat.specs.LoopTurns.{Ask, turn_of}
-use Rattle.memo.specs.declared.spot.Spot.TheVariants.{Pair}
+use Rattle.memo.specs.declared.task.MatchTask.TheVariants.{Pair}
 use Rattle.packrat.proofs.StandsLemmas as L
 use Rattle.packrat.proofs.LeftLemmas as M
 use Rattle.packrat.proofs.machine.Machine.repeat.Goals as goal
@@ -10,12 +10,12 @@ use Rattle.packrat.proofs.machine.Machine.repeat.Goals as goal
 pub run_turns-requires-clause-free : goal.run_turns-requires-clause-free
 run_turns-requires-clause-free c =
     let f = c.in-Some.ensures.free in
-    record { decided = f.decided; spot = refl; star = f.star; operand = f.operand }
+    record { decided = f.decided; task = refl; star = f.star; operand = f.operand }
 
 pub returns-in-Some-clause-stands : goal.returns-in-Some-clause-stands
 returns-in-Some-clause-stands c = λ root key fresh s.
     c.run_turns.ensures.stands root
-    (L.stands_as c.args.peg.now c.args.window.now c.args.more c.args.peg.now.keys (cc c.in-Some.ensures.free.spot) refl
+    (L.stands_as c.args.peg.now c.args.window.now c.args.more c.args.peg.now.keys (cc c.in-Some.ensures.free.task) refl
     refl refl refl s)
 
 pub returns-in-Some-clause-less : goal.returns-in-Some-clause-less
@@ -23,7 +23,7 @@ returns-in-Some-clause-less c = λ le.
     subst (λ v. IfOk c.run_turns.result (λ turn. left c.args.peg.now c.args.window.now (turn_of turn)
     c.run_turns.new.self.frames c.run_turns.new.self.begun
     < left c.args.peg.now c.args.window.now (Ask v) c.args.self.now.frames c.args.self.now.begun))
-    (sym c.in-Some.ensures.free.spot) (c.run_turns.ensures.less le)
+    (sym c.in-Some.ensures.free.task) (c.run_turns.ensures.less le)
 
 pub returns-in_ok-push-in-None-clause-stands : goal.returns-in_ok-push-in-None-clause-stands
 returns-in_ok-push-in-None-clause-stands c = λ root key fresh s.

@@ -10,20 +10,20 @@ use Rattle.packrat.proofs.machine.Machine.resume.Goals as goal
 pub returns-in-First-clause-less : goal.returns-in-First-clause-less
 returns-in-First-clause-less c = λ more some root.
     subst (λ v. Stands c.args.peg.now c.args.window.now more c.args.peg.now.keys root (Answer c.args.given)
-    (record { spot = c.args.frame.spot; key = c.args.frame.key; wait = v } ∷ c.args.self.now.frames)
+    (record { task = c.args.frame.task; key = c.args.frame.key; wait = v } ∷ c.args.self.now.frames)
     c.args.self.now.log.stored c.args.self.now.events c.args.self.now.begun → IfOk c.after_first.result (λ turn.
     left c.args.peg.now c.args.window.now (turn_of turn) c.after_first.new.self.frames c.after_first.new.self.begun
     < left c.args.peg.now c.args.window.now (Answer c.args.given)
-    (record { spot = c.args.frame.spot; key = c.args.frame.key; wait = v } ∷ c.args.self.now.frames)
+    (record { task = c.args.frame.task; key = c.args.frame.key; wait = v } ∷ c.args.self.now.frames)
     c.args.self.now.begun)) (sym c.in-First.is) (c.after_first.ensures.less more some root)
 
 pub returns-in_ok-close-in-Last-clause-stands : goal.returns-in_ok-close-in-Last-clause-stands
 returns-in_ok-close-in-Last-clause-stands c = λ more some root s.
-    L.stands_last c.args.peg.now c.args.window.now more c.args.peg.now.keys root c.args.frame.spot c.args.given
+    L.stands_last c.args.peg.now c.args.window.now more c.args.peg.now.keys root c.args.frame.task c.args.given
     c.args.self.now.frames c.args.self.now.log.stored c.args.self.now.events c.args.self.now.begun c.args.frame.key
     c.in-Last.first
     (subst (λ v. Stands c.args.peg.now c.args.window.now more c.args.peg.now.keys root (Answer c.args.given)
-    (record { spot = c.args.frame.spot; key = c.args.frame.key; wait = v } ∷ c.args.self.now.frames)
+    (record { task = c.args.frame.task; key = c.args.frame.key; wait = v } ∷ c.args.self.now.frames)
     c.args.self.now.log.stored c.args.self.now.events c.args.self.now.begun) c.in-Last.is s)
     c.joined.new.events c.in_ok-all-in-Last.all c.close.new.log.stored c.in_ok-all-in-Last.ensures.grown
     c.in_ok-all-in-Last.ensures.joined
@@ -37,11 +37,11 @@ returns-in_ok-close-in-Last-clause-less c = λ more some root s.
 pub returns-in_ok-put_turned-in-Turned-clause-stands : goal.returns-in_ok-put_turned-in-Turned-clause-stands
 returns-in_ok-put_turned-in-Turned-clause-stands c = λ more some root s.
     stands_back c.args.peg.now c.args.window.now more c.args.peg.now.keys c.requires.sound c.requires.keyed.1.0
-    c.requires.keyed.1.1 c.requires.keyed.0 root c.args.frame.spot c.args.given c.args.self.now.frames
+    c.requires.keyed.1.1 c.requires.keyed.0 root c.args.frame.task c.args.given c.args.self.now.frames
     c.args.self.now.log.stored c.put_turned.new.log.stored c.args.self.now.events c.args.self.now.begun c.in-Turned.last
     c.args.frame.key
     (subst (λ v. Stands c.args.peg.now c.args.window.now more c.args.peg.now.keys root (Answer c.args.given)
-    (record { spot = c.args.frame.spot; key = c.args.frame.key; wait = v } ∷ c.args.self.now.frames)
+    (record { task = c.args.frame.task; key = c.args.frame.key; wait = v } ∷ c.args.self.now.frames)
     c.args.self.now.log.stored c.args.self.now.events c.args.self.now.begun) c.in-Turned.is s)
     c.in_ok-put_turned-in-Turned.ensures.stored
 

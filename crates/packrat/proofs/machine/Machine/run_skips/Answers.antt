@@ -10,14 +10,14 @@ returns-in_ok-enter-in-Some-clause-stands c = λ more some h root key fresh s.
     L.stands_as c.args.peg.now c.args.window.now more c.args.peg.now.keys refl refl (cc (sym same)) refl
     (sym c.counted_skips-self.ensures)
     (K.stands_skipped c.args.peg.now c.args.window.now more c.args.peg.now.keys some c.requires.sound
-    c.requires.keyed.1.0 c.requires.keyed.1.1 c.requires.keyed.0 root c.args.spot c.args.skips h c.args.self.now.frames
+    c.requires.keyed.1.0 c.requires.keyed.1.1 c.requires.keyed.0 root c.args.task c.args.skips h c.args.self.now.frames
     c.args.self.now.log.stored c.args.self.now.events c.args.self.now.begun s c.args.key key fresh c.in-Some.entering
     c.in-Some.is c.wait_last.new.frames c.enter.new.frames (turn_of c.in_ok-enter-in-Some.field-0)
     c.in_ok-wait_last-in-Some.ensures c.in_ok-enter-in-Some.ensures.entered)
 
 pub returns-in_ok-enter-in-Some-clause-less : goal.returns-in_ok-enter-in-Some-clause-less
 returns-in_ok-enter-in-Some-clause-less c = λ more h le.
-    K.less_skipped c.args.peg.now c.args.window.now more c.args.peg.now.keys c.args.spot c.args.skips h
+    K.less_skipped c.args.peg.now c.args.window.now more c.args.peg.now.keys c.args.task c.args.skips h
     c.requires.well c.args.self.now.frames c.args.self.now.begun c.counted_skips-self.result
     c.counted_skips-self.ensures le c.in-Some.entering c.in-Some.is c.args.key c.args.self.now.log.stored
     c.wait_last.new.frames c.enter.new.frames (turn_of c.in_ok-enter-in-Some.field-0) c.in_ok-wait_last-in-Some.ensures
@@ -28,13 +28,13 @@ returns-in_ok-close-in-None-clause-stands c = λ more some h root key fresh s.
     L.stands_as c.args.peg.now c.args.window.now more c.args.peg.now.keys refl refl refl refl
     (sym c.counted_skips-self.ensures)
     (K.stands_none_left c.args.peg.now c.args.window.now more c.args.peg.now.keys some c.requires.sound
-    c.requires.keyed.1.0 c.requires.keyed.1.1 c.requires.keyed.0 root c.args.spot c.args.skips h c.args.self.now.frames
+    c.requires.keyed.1.0 c.requires.keyed.1.1 c.requires.keyed.0 root c.args.task c.args.skips h c.args.self.now.frames
     c.args.self.now.log.stored c.args.self.now.events c.args.self.now.begun s c.args.key key fresh
     c.in-None.is c.close.new.log.stored
     (c.in_ok-close-in-None.ensures.closed more c.args.peg.now.keys c.args.self.now.events key))
 
 pub returns-in_ok-close-in-None-clause-less : goal.returns-in_ok-close-in-None-clause-less
 returns-in_ok-close-in-None-clause-less c = λ more h le.
-    K.less_failed c.args.peg.now c.args.window.now more c.args.peg.now.keys c.args.spot c.args.skips h
+    K.less_failed c.args.peg.now c.args.window.now more c.args.peg.now.keys c.args.task c.args.skips h
     c.requires.well c.args.self.now.frames c.args.self.now.begun c.counted_skips-self.result
     c.counted_skips-self.ensures le

@@ -1,7 +1,7 @@
 use Rattle.std.proofs.Common.{◌≡◌, ◌+◌, ◌-◌, refl, sym, subst, arith}
 use Rattle.pegnodes.specs.Nodes.{Star}
 use Rattle.pegnodes.specs.KeyLists.{node_marks}
-use Rattle.memo.specs.KeyLog.{spots_of}
+use Rattle.memo.specs.KeyLog.{tasks_of}
 use Rattle.pegmatch.proofs.NodeShapeLemmas.{node_within}
 use Rattle.memo.specs.declared.found.Found.TheVariants.{Took}
 use Rattle.packrat.specs.ByteGives.{turns_closed}
@@ -9,8 +9,8 @@ use Rattle.packrat.specs.MachineSteps.{store}
 use Rattle.packrat.specs.Stands.{Stands}
 use Rattle.packrat.specs.Turned.{AreEnded}
 use Rattle.packrat.specs.LoopTurns.{Ask, Answer}
-use Rattle.memo.specs.declared.spot.Spot.{Spot}
-use Rattle.memo.specs.declared.spot.Spot.TheVariants.{Pair}
+use Rattle.memo.specs.declared.task.MatchTask.{MatchTask}
+use Rattle.memo.specs.declared.task.MatchTask.TheVariants.{Pair}
 use Rattle.packrat.proofs.TurnedLemmas as L
 use Rattle.packrat.proofs.LeftLemmas as M
 use Rattle.packrat.proofs.machine.Machine.run_turns.Goals as goal
@@ -57,11 +57,11 @@ returns-in_ok-put_turns-clause-stands c = λ root s.
     (closed.keeps (L.stop_given c.args.peg.now c.args.window.now c.args.more c.args.peg.now.keys c.requires.sound
     t.star t.operand t.from t.end d.0 d.1 c.args.self.now.events e.0 e.1)
     (c.in_ok-put_operands.ensures.keeps c.args.more c.args.self.now.events d h))) e.0 e.1
-    (subst (λ v. spots_of c.put_turns.new.log.stored ≡ turns_closed (node_marks c.args.peg.now.keys t.star) t.star
-    t.from (t.end + 1 - t.from) (store Spot (node_marks c.args.peg.now.keys t.operand) (Pair t.operand t.end) v))
-    c.in_ok-put_operands.ensures.spots
-    (subst (λ v. spots_of c.put_turns.new.log.stored ≡ turns_closed (node_marks c.args.peg.now.keys t.star) t.star
-    t.from (t.end + 1 - t.from) v) closed.spots c.in_ok-put_turns.ensures.spots)))
+    (subst (λ v. tasks_of c.put_turns.new.log.stored ≡ turns_closed (node_marks c.args.peg.now.keys t.star) t.star
+    t.from (t.end + 1 - t.from) (store MatchTask (node_marks c.args.peg.now.keys t.operand) (Pair t.operand t.end) v))
+    c.in_ok-put_operands.ensures.tasks
+    (subst (λ v. tasks_of c.put_turns.new.log.stored ≡ turns_closed (node_marks c.args.peg.now.keys t.star) t.star
+    t.from (t.end + 1 - t.from) v) closed.tasks c.in_ok-put_turns.ensures.tasks)))
 
 pub returns-in_ok-put_turns-clause-less : goal.returns-in_ok-put_turns-clause-less
 returns-in_ok-put_turns-clause-less c = λ le.
@@ -90,7 +90,7 @@ returns-in_ok-wait_turned-clause-stands c = λ root s.
     c.args.self.now.log.stored c.put_operands.new.log.stored c.args.self.now.events c.args.self.now.begun s
     c.requires.free.star c.requires.free.operand
     (c.in_ok-put_operands.ensures.keeps c.args.more c.args.self.now.events d) c.wait_turned.new.frames
-    c.in_ok-wait_turned.ensures e.0 c.in_ok-put_operands.ensures.spots)
+    c.in_ok-wait_turned.ensures e.0 c.in_ok-put_operands.ensures.tasks)
 
 pub returns-in_ok-wait_turned-clause-less : goal.returns-in_ok-wait_turned-clause-less
 returns-in_ok-wait_turned-clause-less c = λ le.

@@ -1,5 +1,5 @@
 use Rattle.std.proofs.Common.{◌≡◌, ◌≤◌, Bool, length}
-use Rattle.memo.specs.declared.spot.Spot.{Spot}
+use Rattle.memo.specs.declared.task.MatchTask.{MatchTask}
 use Rattle.pegmatch.specs.Answers.{WasEnough}
 use Rattle.packrat.specs.LoopTurns.{Answer}
 use Rattle.packrat.specs.Stands.{Stands}
@@ -9,7 +9,7 @@ use Rattle.packrat.proofs.machine.Machine.settle.Given as goal
 abbrev pub invariant-frames : goal.invariant-frames
 invariant-frames l = record {
   rows : l.self.log.rows ≡ length l.peg.nodes;
-  stands : (more : Bool) → WasEnough l.window more 0 → (root : Spot)
+  stands : (more : Bool) → WasEnough l.window more 0 → (root : MatchTask)
       → Stands l.peg l.window more l.peg.keys root (Answer l.fn.first) l.fn.self.frames l.fn.self.log.stored
       l.fn.self.events l.fn.self.begun
       → Stands l.peg l.window more l.peg.keys root (Answer l.given) l.self.frames l.self.log.stored l.self.events

@@ -1,6 +1,6 @@
 use Rattle.std.proofs.Common.{ℕ, refl, sym, subst}
 use Rattle.pegnodes.specs.KeyLists.{node_marks}
-use Rattle.memo.specs.KeyLog.{spots_of}
+use Rattle.memo.specs.KeyLog.{tasks_of}
 use Rattle.packrat.specs.ByteGives.{AreFresh}
 use Rattle.packrat.proofs.machine.Machine.turns_at.Goals as goal
 
@@ -12,11 +12,11 @@ returns-clause-free c =
     let r = c.args.repeated in
     let t = c.in_ok-turns.turns in
     let e = c.in_ok-turns.ensures in
-    let stored = spots_of c.args.self.now.log.stored in
+    let stored = tasks_of c.args.self.now.log.stored in
     let marks = node_marks c.args.peg.now.keys in
     record {
       decided = e.0;
-      spot = cc (e.1, e.3);
+      task = cc (e.1, e.3);
       star = subst (λ v. (n : ℕ) → AreFresh (marks v) v t.from n stored) (sym e.1)
           (subst (λ v. (n : ℕ) → AreFresh (marks r.star) r.star v n stored) (sym e.3) (c.if-not-is_fresh.ensures refl));
       operand = subst (λ v. (n : ℕ) → AreFresh (marks v) v t.from n stored) (sym e.2)

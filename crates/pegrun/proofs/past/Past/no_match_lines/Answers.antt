@@ -2,13 +2,13 @@
 use Rattle.std.proofs.Common.{◌≡◌, ◌++◌, false, length, rules}
 use Rattle.feed.specs.Feed.{bytes_of}
 use Rattle.pegread.specs.PegViews.{rules_of}
-use Rattle.pegrun.proofs.FollowsLemmas.{told_behind_kept}
+use Rattle.pegrun.proofs.FollowsLemmas.{reported_after_kept}
 use Rattle.pegrun.proofs.past.Past.no_match_lines.Goals as goal
 
-pub returns-clause-told : goal.returns-clause-told
-returns-clause-told g c =
+pub returns-clause-reported : goal.returns-clause-reported
+returns-clause-reported g c =
     let kept : c.args.self.now.lost ≡ false = search rules in
     let seen : c.as_slice.result.now ≡ c.args.self.now.bytes.items ++ bytes_of c.args.feed.now = search rules in
     let last : c.len-last.result ≡ length c.args.self.now.bytes.items = search rules in
-    told_behind_kept (rules_of c.args.peg.now.rules) c.args.peg.now.start c.args.self.now (bytes_of c.args.feed.now)
+    reported_after_kept (rules_of c.args.peg.now.rules) c.args.peg.now.start c.args.self.now (bytes_of c.args.feed.now)
     c.as_slice.result.now c.len-last.result c.explain_no_match.result kept seen last c.explain_no_match.ensures.lines

@@ -11,8 +11,8 @@ loop-rest-preserved c = λ more h.
     let some : 0 < length c.loop-rest.rest.now = grind (arith, nat_tests) in
     let marks = piece_marked c.loop-rest.region c.items_before-piece.result.now in
     let all = c.loop-rest.invariant (marks ++ more) (piece-more c.loop-rest.region c.region_after-region.result
-    c.loop-rest.rest.now c.piece_size-size.result c.items_before-piece.result.now c.items_behind-rest.result.now more
-    some c.piece_size-size.ensures c.items_before-piece.ensures c.items_behind-rest.ensures
+    c.loop-rest.rest.now c.piece_size-size.result c.items_before-piece.result.now c.items_after-rest.result.now more
+    some c.piece_size-size.ensures c.items_before-piece.ensures c.items_after-rest.ensures
     c.region_after-region.ensures h) in
     subst (λ (xs : List ℕ). MarksPieces Outside c.args.text.now xs)
     (sym (ap (λ (xs : List ℕ). xs ++ more) c.in_ok-push_piece.ensures
@@ -21,8 +21,8 @@ loop-rest-preserved c = λ more h.
 pub loop-rest-smaller : goal.loop-rest-smaller
 loop-rest-smaller c =
     let some : 0 < length c.loop-rest.rest.now = grind (arith, nat_tests) in
-    piece-less c.loop-rest.region c.loop-rest.rest.now c.piece_size-size.result c.items_behind-rest.result.now some
-    c.piece_size-size.ensures c.items_behind-rest.ensures
+    piece-less c.loop-rest.region c.loop-rest.rest.now c.piece_size-size.result c.items_after-rest.result.now some
+    c.piece_size-size.ensures c.items_after-rest.ensures
 
 pub returns : goal.returns
 returns c =

@@ -1,0 +1,94 @@
+//! Reports of positions in texts.
+ghost use Rattle.std.specs.Prelude.{◌≡◌, ◌++◌, ◌-◌, codes, decimal, map, OnOk};
+ghost use Rattle.abnfblocks.specs.TextLines.{numbered};
+ghost use Rattle.ruletable.specs.Faults.{at_line, fault_text};
+ghost use Rattle.abnftexts.specs.TextPlaces.{number_at as number_there, fault_in as fault_there, place_shown};
+ghost use Rattle.abnftexts.specs.TextPlaces.{not_abnf_reported};
+
+use abnfblocks::TextLine;
+use diagnostics::{push_number, push_shown};
+use ruletable::{Memory, ReadFault};
+
+/// Returns the number in its text of the n-th of these lines, from 1, or of the last one if there are fewer.
+pub(crate) fn number_at(lines: &[TextLine<'_>], n: usize) -> usize
+    ensures { result ≡ number_there (map numbered lines.now) n }
+{
+    let place = n.saturating_sub(1).min(lines.len().saturating_sub(1));
+    match lines.get(place) {
+        Some(line) => line.number,
+        None => 0,
+    }
+}
+
+// The fault of these lines, with the number that the line has in the text.
+fn fault_in(lines: &[TextLine<'_>], fault: ReadFault) -> ReadFault
+    ensures { result ≡ fault_there (map numbered lines.now) fault }
+{
+    match fault {
+        ReadFault::Syntax { line } => ReadFault::Syntax {
+            line: number_at(lines, line),
+        },
+        ReadFault::Depth { line } => ReadFault::Depth {
+            line: number_at(lines, line),
+        },
+        ReadFault::CodePredicate { line } => ReadFault::CodePredicate {
+            line: number_at(lines, line),
+        },
+        ReadFault::NumberTooLarge { line } => ReadFault::NumberTooLarge {
+            line: number_at(lines, line),
+        },
+        ReadFault::TooLong => ReadFault::TooLong,
+        ReadFault::Memory => ReadFault::Memory,
+    }
+}
+
+/// Adds a text's name and a line of it.
+pub(crate) fn push_place(out: &mut Vec<u8>, name: &[u8], line: usize) -> Result<(), Memory>
+    ensures { OnOk result (out.new.items ≡ out.old.items ++ place_shown name.now line) }
+{
+    push_shown(out, name)?;
+    out.extend_from_slice(b":")?;
+    push_number(out, line)?;
+    Ok(())
+}
+
+// Adds what is wrong on a line.
+fn push_at_line(out: &mut Vec<u8>, line: usize, what: &[u8]) -> Result<(), Memory>
+    ensures { OnOk result (out.new.items ≡ out.old.items ++ at_line line what.now) }
+{
+    out.extend_from_slice(b"line ")?;
+    push_number(out, line)?;
+    out.extend_from_slice(b": ")?;
+    out.extend_from_slice(what)?;
+    out.extend_from_slice(b"\n")?;
+    Ok(())
+}
+
+// Adds the line of a fault.
+fn push_fault(out: &mut Vec<u8>, fault: ReadFault) -> Result<(), Memory>
+    ensures { OnOk result (out.new.items ≡ out.old.items ++ fault_text fault) }
+{
+    match fault {
+        ReadFault::Syntax { line } => push_at_line(out, line, b"syntax error"),
+        ReadFault::Depth { line } => push_at_line(out, line, b"nested too deeply"),
+        ReadFault::CodePredicate { line } => push_at_line(out, line, b"code predicate"),
+        ReadFault::NumberTooLarge { line } => push_at_line(out, line, b"number too large"),
+        ReadFault::TooLong => Ok(out.extend_from_slice(b"grammar too long\n")?),
+        ReadFault::Memory => Ok(out.extend_from_slice(b"out of memory\n")?),
+    }
+}
+
+/// Adds the report of a rule that is no ABNF, where it has these lines and they have that fault.
+pub(crate) fn push_not_abnf(
+    out: &mut Vec<u8>,
+    name: &[u8],
+    lines: &[TextLine<'_>],
+    fault: ReadFault,
+) -> Result<(), Memory>
+    ensures { OnOk result (out.new.items ≡ out.old.items ++ not_abnf_reported name.now (map numbered lines.now) fault) }
+{
+    push_place(out, name, number_at(lines, 1))?;
+    out.extend_from_slice(b": not ABNF: ")?;
+    push_fault(out, fault_in(lines, fault))?;
+    Ok(())
+}

@@ -1,0 +1,108 @@
+-- The dotted rules of the items of rows.
+-- Serves: Chart::dots
+use Rattle.std.proofs.Common.{◌≡◌, ◌⊎◌, inl, inr, ⊎_elim, ℕ, ◌+◌, ◌<◌, ◌≤◌, List, [], ◌∷◌, ◌++◌, length, map, Some}
+use Rattle.std.proofs.Common.{slice_get, slice_index_or, sym, ◌∙◌, ap, subst, arith}
+use Rattle.std.proofs.lemmas.Bool.{cases_lt}
+use Rattle.std.proofs.lemmas.List.{length-map}
+use Rattle.std.proofs.lemmas.Option.{slice_get-get_or}
+use Rattle.earley.specs.RowSets.{HasSome}
+use Rattle.flatgrammar.proofs.CallOfLemmas.{get_below, get_map, some_same}
+use Rattle.flatgrammar.proofs.InLemmas.{at_end, before_end, in_left}
+use Rattle.flatgrammar.specs.Blocks.{item_at}
+use Rattle.flatgrammar.specs.Flat.{Place, at}
+use Rattle.flatgrammar.specs.Places.{In}
+use Rattle.flatgrammar.specs.declared.block.DottedRule.{DottedRule}
+use Rattle.flatgrammar.specs.declared.flat_item.Item.{Item}
+use Rattle.earleyitems.proofs.ChartSetsLemmas.{index_map, index_past}
+use Rattle.earleyitems.proofs.SetDotsLemmas.{in_pairs, pair_in}
+use Rattle.earleyitems.specs.ChartSets.{pair, set_at, AreDotsOf, HasDot}
+use Rattle.earley.proofs.RowItemsLemmas.{in_row_item, row_item_in}
+use Rattle.earley.specs.RowCharts.{row_views, rows_chart}
+use Rattle.earley.specs.RowItems.{AreDotsBelow, HasDotBelow, row_items}
+use Rattle.earley.specs.declared.row_sets.KeptRows.{KeptRows}
+use Rattle.earley.specs.declared.row_sets.RowChart.{RowChart}
+
+module _ (dots : List DottedRule) (rows : List (List ℕ)) (i : ℕ) where
+  wider_below : (s : DottedRule) → HasDotBelow dots rows i s → HasDotBelow dots rows (i + 1) s
+  wider_below s h = let lt = h.under in record { place = h.place; under = omega (arith, lt); is = h.is; some = h.some }
+
+  -- below the place, or there
+  there_or_below : (s : DottedRule) (h : HasDotBelow dots rows (i + 1) s) → HasDotBelow dots rows i s
+      ⊎ ((slice_get dots i ≡ Some s) × HasSome rows i)
+  there_or_below s h = by (cases_lt h.place i)
+    where
+      by : (h.place < i) ⊎ (i ≤ h.place) → HasDotBelow dots rows i s
+          ⊎ ((slice_get dots i ≡ Some s) × HasSome rows i)
+      by (inl less) = inl (record { place = h.place; under = less; is = h.is; some = h.some })
+      by (inr le) =
+          let same : h.place ≡ i = let lt = h.under in omega (arith, lt, le) in
+          inr (subst (λ v. slice_get dots v ≡ Some s) same h.is, subst (λ v. HasSome rows v) same h.some)
+
+  pub dots_more : (d : DottedRule) (old new : List DottedRule) → i < length dots → AreDotsBelow dots rows i old
+      → new ≡ old ++ slice_index_or dots i d ∷ [] → HasSome rows i → AreDotsBelow dots rows (i + 1) new
+  dots_more d old new lt before is some s = (
+    λ h. ⊎_elim (λ g. wider_below s ((before s).0 g)) (λ same. record {
+      place = i;
+      under = omega arith;
+      is = slice_get-get_or dots i d lt ∙ ap Some (sym same);
+      some = some;
+    }) (before_end s (slice_index_or dots i d) old (subst (λ v. In s v) is h)),
+    λ h. subst (λ v. In s v) (sym is) (⊎_elim (λ g. in_left (slice_index_or dots i d ∷ []) ((before s).1 g))
+        (λ g. let same : slice_index_or dots i d ≡ s = some_same (sym (slice_get-get_or dots i d lt) ∙ g.0) in
+        subst (λ v. In v (old ++ slice_index_or dots i d ∷ [])) same (at_end (slice_index_or dots i d) old))
+        (there_or_below s h)),
+  )
+
+  pub dots_same : (old new : List DottedRule) → AreDotsBelow dots rows i old → new ≡ old → (HasSome rows i → ⊥)
+      → AreDotsBelow dots rows (i + 1) new
+  dots_same old new before is none s = (
+    λ h. wider_below s ((before s).0 (subst (λ v. In s v) is h)),
+    λ h. subst (λ v. In s v) (sym is) (⊎_elim (λ g. (before s).1 g) (λ g. absurd (none g.1)) (there_or_below s h)),
+  )
+
+-- the dotted rules of a set that is kept as rows
+rows_decide : (dots : List DottedRule) (rows : List (List ℕ)) (found : List DottedRule)
+    → AreDotsBelow dots rows (length dots) found → AreDotsOf (map pair (row_items dots rows)) found
+rows_decide dots rows found are s = (
+  λ h. let f = (are s).0 h in
+      let a : Item = item_at f.some.0 s in
+      record {
+        origin = f.some.0;
+        stands = pair_in (row_items dots rows) a
+            (row_item_in dots rows a (record { place = f.place; is = f.is; has = f.some.1 }));
+      },
+  λ h. let f = in_pairs (row_items dots rows) s h.origin h.stands in
+      let r = in_row_item dots rows f.item f.stands in
+      (are s).1 (record {
+        place = r.place;
+        under = get_below dots r.place r.is;
+        is = r.is ∙ ap Some f.is;
+        some = (f.item.origin, r.has);
+      }),
+)
+
+pub row_chart_dots : (r : RowChart) (j : ℕ) (kept : KeptRows) (found : List DottedRule)
+    → slice_get r.sets.items j ≡ Some kept
+    → AreDotsBelow r.table.dots.items kept.rows.items (length r.table.dots.items) found
+    → AreDotsOf (set_at (rows_chart r) j) found
+row_chart_dots r j kept found is are =
+    subst (λ v. AreDotsOf v found)
+    (sym (index_map (λ set. map pair set) (row_views r.table.dots.items r.sets.items) j
+    (row_items r.table.dots.items kept.rows.items) []
+    (get_map (λ s. row_items r.table.dots.items s.rows.items) r.sets.items j is)))
+    (rows_decide r.table.dots.items kept.rows.items found are)
+
+pub row_past_dots : (r : RowChart) (j : ℕ) (found : List DottedRule) → length r.sets.items ≤ j → found ≡ []
+    → AreDotsOf (set_at (rows_chart r) j) found
+row_past_dots r j found le none =
+    let count = length-map r.sets.items (λ s. row_items r.table.dots.items s.rows.items) in
+    subst (λ v. AreDotsOf v found)
+    (sym (index_past (λ set. map pair set) (row_views r.table.dots.items r.sets.items) j []
+    (omega (arith, le, count))))
+    (λ s. ((λ h. nobody s (subst (λ v. In s v) none h)), λ h. no_pair s h.origin h.stands))
+  where
+    nobody : (s : DottedRule) → In s [] → HasDot [] s
+    nobody s h = elim h [ ]
+
+    no_pair : (s : DottedRule) (i : ℕ) → In {A = Place × ℕ} (at s.node s.step, i) [] → In s found
+    no_pair s i h = elim h [ ]

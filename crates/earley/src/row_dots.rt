@@ -1,0 +1,47 @@
+//! The dotted rules of the items of a set that is kept as rows.
+ghost use Rattle.std.specs.Prelude.{◌↔◌, ℕ, length, Contains, IsTrue, IfOk};
+ghost use Rattle.earley.specs.RowSets.{HasSome};
+ghost use Rattle.earley.specs.RowItems.{AreDotsBelow};
+
+use crate::BitRow;
+use flatgrammar::DottedRule;
+use ruletable::Memory;
+use std::alloc::Global;
+
+// Returns whether a row has a number.
+fn is_used(row: &BitRow) -> bool
+    ensures { IsTrue result ↔ ((k : ℕ) × Contains row.now k) }
+{
+    match row.next(0) {
+        Some(_) => true,
+        None => false,
+    }
+}
+
+// Returns whether the row of a place has a number.
+fn has_some(rows: &[BitRow], place: usize) -> bool
+    ensures { IsTrue result ↔ HasSome rows.now place }
+{
+    match rows.get(place) {
+        Some(row) => is_used(row),
+        None => false,
+    }
+}
+
+/// Returns the dotted rules that have a number, each once where the dotted rules are different. `Memory`
+/// if an allocation fails.
+pub(crate) fn row_dots(
+    alloc: Global,
+    dots: &[DottedRule],
+    rows: &[BitRow],
+) -> Result<Vec<DottedRule>, Memory>
+    ensures { IfOk result (λ found. AreDotsBelow dots.now rows.now (length dots.now) found.items) }
+{
+    let mut found = Vec::new(alloc);
+    for place in 0..dots.len() {
+        if has_some(rows, place) {
+            found.push(dots[place])?;
+        }
+    }
+    Ok(found)
+}

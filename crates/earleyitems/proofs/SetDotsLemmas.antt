@@ -1,0 +1,124 @@
+-- The dotted rules of a set's items.
+-- Serves: Chart::dots
+use Rattle.std.proofs.Common.{◌≡◌, ℕ, Option, Some, None, List, [], ◌∷◌, ◌++◌, map, length, refl}
+use Rattle.std.proofs.Common.{Global, slice_get, sym, ◌∙◌, ap, subst, ◌≤◌, arith, ◌+◌}
+use Rattle.std.proofs.lemmas.List.{map-append}
+use Rattle.std.specs.List.{flat_map}
+use Rattle.std.specs.declared.rc.Rc.{Rc}
+use Rattle.flatgrammar.specs.Blocks.{block_of, item_at, dot}
+use Rattle.flatgrammar.specs.Flat.{Place, at}
+use Rattle.flatgrammar.specs.Places.{In, now, on}
+use Rattle.flatgrammar.specs.declared.block.DottedRule.{DottedRule}
+use Rattle.flatgrammar.specs.declared.flat_item.Item.{Item}
+use Rattle.flatgrammar.specs.declared.tables.Tables as code_flat
+use Rattle.earleyitems.specs.ChartSets.{chart_of, pair, set_at, AreDotsOf}
+use Rattle.earleyitems.specs.EarleySets.{EarleySet, heads_of}
+use Rattle.earleyitems.specs.SetViews.{expand, view, views}
+use Rattle.earleyitems.specs.declared.sets.Record.{Record}
+use Rattle.earleyitems.proofs.ChartSetsLemmas.{index_map, index_past}
+use Rattle.earleyitems.proofs.ExpandLemmas.{get_views, length_views}
+
+abbrev pub dot_of : Item → DottedRule
+dot_of a = dot a.node a.step
+
+abbrev node_at : Place → ℕ
+node_at (at s k) = s
+
+abbrev step_at : Place → ℕ
+step_at (at s k) = k
+
+-- a dotted rule with an item of the list
+pub record IsDotOf (items : List Item) (s : DottedRule) : Type 0 where
+  pub item : Item
+  pub stands : In item items
+  pub is : dot_of item ≡ s
+
+-- the items of a set, and its pairs
+pub pair_in : (items : List Item) (a : Item) → In a items → In (pair a) (map pair items)
+pair_in [] a h = elim h [ ]
+pair_in (b ∷ items) a (now same) = now (ap pair same)
+pair_in (b ∷ items) a (on h) = on (pair_in items a h)
+
+pub in_pairs : (items : List Item) (s : DottedRule) (i : ℕ) → In {A = Place × ℕ} (at s.node s.step, i) (map pair items)
+    → IsDotOf items s
+in_pairs [] s i h = elim h [ ]
+in_pairs (b ∷ items) s i (now same) =
+    let place : at s.node s.step ≡ at b.node b.step = ap (λ v. v.0) same in
+    let node : b.node ≡ s.node = sym (ap node_at place) in
+    let step : b.step ≡ s.step = sym (ap step_at place) in
+    record { item = b; stands = now refl; is = λ k. record { node = node k; step = step k } }
+in_pairs (b ∷ items) s i (on h) = let f = in_pairs items s i h in
+    record { item = f.item; stands = on f.stands; is = f.is }
+
+-- by lists
+dots_in : (items : List Item) (s : DottedRule) → In s (map dot_of items) → IsDotOf items s
+dots_in [] s h = elim h [ ]
+dots_in (b ∷ items) s (now same) = record { item = b; stands = now refl; is = sym same }
+dots_in (b ∷ items) s (on h) = let f = dots_in items s h in record { item = f.item; stands = on f.stands; is = f.is }
+
+in_dots_of : (items : List Item) (a : Item) → In a items → In (dot_of a) (map dot_of items)
+in_dots_of [] a h = elim h [ ]
+in_dots_of (b ∷ items) a (now same) = now (ap dot_of same)
+in_dots_of (b ∷ items) a (on h) = on (in_dots_of items a h)
+
+-- the dotted rules of a set
+back_map : (j : ℕ) (dots : List DottedRule) → map dot_of (map (item_at j) dots) ≡ dots
+back_map j [] = refl
+back_map j (s ∷ dots) = ap (λ v. s ∷ v) (back_map j dots)
+
+heads_dots : (tables : code_flat.Tables) (j : ℕ) (records : List Record)
+    → flat_map (λ (r : Record). (block_of tables r.head).dots) records
+    ≡ map dot_of (expand (block_of tables) j (heads_of records))
+heads_dots tables j [] = refl
+heads_dots tables j (r ∷ records) =
+    let here = (block_of tables r.head).dots in
+    let rest = expand (block_of tables) j (heads_of records) in
+    ap (λ v. here ++ v) (heads_dots tables j records)
+    ∙ sym (map-append dot_of (map (item_at j) here) rest ∙ ap (λ v. v ++ map dot_of rest) (back_map j here))
+
+pub dots_of_view : (tables : code_flat.Tables) (j : ℕ) (kept_set : EarleySet) (records : List Record)
+    (items : List Item) (mid new : List DottedRule) → heads_of records ≡ kept_set.heads → items ≡ kept_set.items
+    → mid ≡ flat_map (λ (r : Record). (block_of tables r.head).dots) records
+    → new ≡ mid ++ map dot_of items → new ≡ map dot_of (view tables j kept_set)
+dots_of_view tables j kept_set records items mid new heads same first next =
+    let front = expand (block_of tables) j kept_set.heads in
+    next
+    ∙ ap (λ v. v ++ map dot_of items) (first ∙ heads_dots tables j records
+    ∙ ap (λ v. map dot_of (expand (block_of tables) j v)) heads)
+    ∙ ap (λ v. map dot_of front ++ map dot_of v) same ∙ sym (map-append dot_of front kept_set.items)
+
+dots_decide : (set : List Item) (dots : List DottedRule) → dots ≡ map dot_of set → AreDotsOf (map pair set) dots
+dots_decide set dots are s = (
+  λ h. let f = dots_in set s (subst (λ v. In s v) are h) in
+      record {
+        origin = f.item.origin;
+        stands = subst (λ v. In {A = Place × ℕ} (at v.node v.step, f.item.origin) (map pair set)) f.is
+            (pair_in set f.item f.stands);
+      },
+  λ h. let f = in_pairs set s h.origin h.stands in
+      subst (λ v. In s v) (sym are) (subst (λ v. In v (map dot_of set)) f.is (in_dots_of set f.item f.stands)),
+)
+
+module _ (o : Option (Rc code_flat.Tables Global)) (tables : Rc code_flat.Tables Global) (some : o ≡ Some tables)
+    (kept_sets : List EarleySet) (j : ℕ) where
+  pub view_dots : (f : EarleySet) (dots : List DottedRule) → slice_get kept_sets j ≡ Some f
+      → dots ≡ map dot_of (view tables.value j f) → AreDotsOf (set_at (chart_of o kept_sets) j) dots
+  view_dots f dots is are =
+      let zero_is : 0 + j ≡ j = omega arith in
+      let there = get_views tables.value 0 kept_sets j f is ∙ ap (λ v. Some (view tables.value v f)) zero_is in
+      let same = index_map (λ set. map pair set) (views tables.value 0 kept_sets) j (view tables.value j f) [] there in
+      subst (λ v. AreDotsOf (set_at (chart_of v kept_sets) j) dots) (sym some)
+      (subst (λ v. AreDotsOf v dots) (sym same) (dots_decide (view tables.value j f) dots are))
+
+  pub past_dots : (dots : List DottedRule) → dots ≡ [] → length kept_sets ≤ j
+      → AreDotsOf (set_at (chart_of o kept_sets) j) dots
+  past_dots dots none past =
+      let long = length_views tables.value 0 kept_sets in
+      let same = index_past (λ set. map pair set) (views tables.value 0 kept_sets) j [] (omega (arith, long, past)) in
+      subst (λ v. AreDotsOf (set_at (chart_of v kept_sets) j) dots) (sym some)
+      (subst (λ v. AreDotsOf v dots) (sym same) (dots_decide [] dots none))
+
+pub no_tables_dots : (o : Option (Rc code_flat.Tables Global)) (kept_sets : List EarleySet) (j : ℕ)
+    (dots : List DottedRule) → o ≡ None → dots ≡ [] → AreDotsOf (set_at (chart_of o kept_sets) j) dots
+no_tables_dots o kept_sets j dots none is =
+    subst (λ v. AreDotsOf (set_at (chart_of v kept_sets) j) dots) (sym none) (dots_decide [] dots is)

@@ -1,6 +1,0 @@
-use Rattle.std.proofs.Common.{take}
-use Rattle.flatgrammar.specs.Blocks.{ReadsAny, Picks}
-use Rattle.flatgrammar.proofs.spot_list.readers_of.Given as goal
-
-abbrev pub invariant-loop-spot : goal.invariant-loop-spot
-invariant-loop-spot l = Picks (ReadsAny l.flat) (take l.spot-index l.from) l.list.items

@@ -1,5 +1,0 @@
-use Rattle.lazydfa.proofs.TopSpotLemmas.{AreFirstTops}
-use Rattle.lazydfa.proofs.expected.spots_of.Given as goal
-
-abbrev pub invariant-loop-top : goal.invariant-loop-top
-invariant-loop-top l = AreFirstTops l.conts.items.items l.tops l.top-index l.spots.items

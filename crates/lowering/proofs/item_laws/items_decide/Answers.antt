@@ -1,0 +1,32 @@
+use Rattle.std.proofs.Common.{ℕ, ◌≤◌, Bool, List, length, arith}
+use Rattle.abnfread.specs.Element.{Rule}
+use Rattle.abnfcheck.specs.Derivable.{AreLetters}
+use Rattle.flatgrammar.specs.Flat.{Flat}
+use Rattle.flatgrammar.specs.FlatVerdicts.{IsFlatVerdict}
+use Rattle.flatgrammar.specs.declared.verdict.Verdict.{Verdict}
+use Rattle.flatgrammar.specs.declared.verdict.Verdict.TheVariants.{Yes, No}
+use Rattle.lowering.specs.GivenPrefixes.{GivesPrefixes}
+use Rattle.lowering.specs.Verdicts.{IsVerdict}
+use Rattle.lowering.proofs.RuleDerivesLemmas.{derives_exactly}
+use Rattle.lowering.proofs.item_laws.items_decide.Goals as goal
+
+verdict_of : (has : ℕ → Bool) (rules : List Rule) (judged : ℕ) (flat : Flat) (x : List ℕ) (verdict : Verdict)
+    → GivesPrefixes has rules judged flat → length x ≤ flat.limit → AreLetters has x → IsFlatVerdict flat x verdict
+    → IsVerdict has rules judged x verdict
+verdict_of has rules judged flat x Yes settles short letters derives = (settles.settles x short letters).0 derives
+verdict_of has rules judged flat x (No n) settles short letters is = (
+  λ derived. is.0 ((settles.settles x short letters).1 derived),
+  record {
+    within = is.1.within;
+    begins = λ some. (settles.viable x n short letters some is.1.within).0 (is.1.item some);
+    last = λ m past most begins.
+        is.1.last m past most ((settles.viable x m short letters (omega (arith, past)) most).1 begins);
+  },
+)
+
+pub returns-clause-derives : goal.returns-clause-derives
+returns-clause-derives c = λ has rules judged flat x lowered line letters.
+    derives_exactly has rules judged flat lowered x line letters
+
+pub returns-clause-verdict : goal.returns-clause-verdict
+returns-clause-verdict c = verdict_of

@@ -1,6 +1,0 @@
-use Rattle.pegexplain.proofs.PegHintsLemmas.{places-hint}
-use Rattle.pegexplain.proofs.hints.told.peg_hints.Goals as goal
-
-pub returns : goal.returns
-returns c = λ text are. places-hint text c.args.places.now c.push_first_hints.new.out.items are
-    (rw (c.new-told.ensures.items, c.deref.ensures.value, c.in_ok-hints.ensures) at c.in_ok-push_first_hints.ensures)

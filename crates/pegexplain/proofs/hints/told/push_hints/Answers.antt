@@ -1,9 +1,0 @@
-use Rattle.diagnostics.specs.MentionLines.{mention_lines_by}
-use Rattle.diagnostics.specs.declared.noteplaces.mentions.MentionKind.TheVariants.{Literal}
-use Rattle.pegexplain.specs.PegHints.{hint_told}
-use Rattle.pegexplain.proofs.PegHintsLemmas.{told-more}
-use Rattle.pegexplain.proofs.hints.told.push_hints.Goals as goal
-
-pub loop-hint-preserved : goal.loop-hint-preserved
-loop-hint-preserved c = told-more (hint_told (mention_lines_by c.args.places.now.places Literal)) c.args.hints.now
-    c.loop-hint.hint-index _ _ _ _ c.loop-hint-test.true c.in_ok-push_hint.ensures c.loop-hint.invariant

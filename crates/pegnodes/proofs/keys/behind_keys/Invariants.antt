@@ -1,9 +1,0 @@
-use Rattle.std.proofs.Common.{◌≡◌, ℕ, true, false, length, get_or}
-use Rattle.pegnodes.specs.KeyNeeds.{IsPassed}
-use Rattle.pegnodes.proofs.keys.behind_keys.Given as goal
-
-abbrev pub invariant-loop-m : goal.invariant-loop-m
-invariant-loop-m l = record {
-  count : length l.behind.items ≡ l.m;
-  passed : (m : ℕ) → get_or l.behind.items m true ≡ false → IsPassed l.namers l.singles l.widths m;
-}

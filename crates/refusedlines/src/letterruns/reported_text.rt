@@ -1,0 +1,171 @@
+//! The text of terms for symbols.
+ghost use Rattle.std.specs.Prelude.{◌≡◌, ◌-◌, ◌<◌, ◌==◌, ◌++◌, [], true, if◌then◌else◌, codes, length, map, OnOk};
+ghost use Rattle.std.specs.Char.{encode_utf8};
+ghost use Rattle.std.specs.Fmt.{digit_glyph};
+ghost use Rattle.abnfprint.specs.CanonicalAbnf.{hexadecimal, upper_digits};
+ghost use Rattle.refusedlines.specs.RefusedText.{end_text, expected_text, more_text, pieces_text, slashed};
+ghost use Rattle.refusedlines.specs.ReportedLetters.{reported_text};
+
+use crate::letterruns::core_rule::core_name;
+use crate::letterruns::pieces::symbol_pieces;
+use crate::letterruns::reported::ReportedLetters;
+use crate::letterruns::run::LetterRun;
+use diagnostics::push_number;
+use letters::Alphabet;
+use ruletable::Memory;
+use std::alloc::Global;
+
+// How many pieces are reported in full.
+const SHOWN_PIECES: usize = 16;
+
+// Returns the digit of a number below 16.
+fn hex_digit(digit: u32) -> u8
+    requires { digit < 16 }
+    ensures { result ≡ digit_glyph true digit }
+{
+    if digit < 10 {
+        b'0' + digit as u8
+    } else {
+        b'A' + (digit as u8 - 10)
+    }
+}
+
+// Adds hexadecimal digits without leading zeros.
+#[cycle(digits)]
+fn push_digits(value: u32, out: &mut Vec<u8>) -> Result<(), Memory>
+    requires { 0 < value }
+    ensures { OnOk result (out.new.items ≡ out.old.items ++ upper_digits value) }
+{
+    if value >= 16 {
+        push_digits(value / 16, out)?;
+    }
+    out.push(hex_digit(value % 16))?;
+    Ok(())
+}
+
+// Adds a number in hexadecimal digits, at least two.
+fn push_hexadecimal(value: u32, out: &mut Vec<u8>) -> Result<(), Memory>
+    ensures { OnOk result (out.new.items ≡ out.old.items ++ hexadecimal value) }
+{
+    if value < 16 {
+        out.extend_from_slice(&[b'0', hex_digit(value)])?;
+        return Ok(());
+    }
+    push_digits(value, out)
+}
+
+// Adds a character in quotes, and its number.
+fn push_printed(shown: char, out: &mut Vec<u8>) -> Result<(), Memory>
+    ensures { OnOk result (out.new.items ≡ out.old.items ++ (codes "\"" ++ (encode_utf8 shown ++ (codes "\" (%x"
+        ++ (hexadecimal shown ++ codes ")"))))) }
+{
+    out.extend_from_slice(b"\"")?;
+    let mut bytes = [0; 4];
+    out.extend_from_slice(shown.encode_utf8(&mut bytes).as_bytes())?;
+    out.extend_from_slice(b"\" (%x")?;
+    push_hexadecimal(shown as u32, out)?;
+    out.extend_from_slice(b")")?;
+    Ok(())
+}
+
+// Adds the text of letters.
+fn push_reported(reported: ReportedLetters, out: &mut Vec<u8>) -> Result<(), Memory>
+    ensures { OnOk result (out.new.items ≡ out.old.items ++ reported_text reported) }
+{
+    match reported {
+        ReportedLetters::Quoted(letter) => out.extend_from_slice(&[b'"', letter, b'"'])?,
+        ReportedLetters::Exactly(letter) => out.extend_from_slice(&[
+            b'%', b's', b'"', letter, b'"',
+        ])?,
+        ReportedLetters::Numbered(letter) => {
+            out.extend_from_slice(b"%x")?;
+            push_hexadecimal(letter, out)?;
+        }
+        ReportedLetters::Through(run) => {
+            out.extend_from_slice(b"%x")?;
+            push_hexadecimal(run.first, out)?;
+            out.extend_from_slice(b"-")?;
+            push_hexadecimal(run.last, out)?;
+        }
+        ReportedLetters::Named(rule) => out.extend_from_slice(core_name(rule))?,
+        ReportedLetters::Printed(shown) => push_printed(shown, out)?,
+    }
+    Ok(())
+}
+
+// Adds the mark before all texts but the first.
+fn push_slash(i: usize, out: &mut Vec<u8>) -> Result<(), Memory>
+    ensures { OnOk result (out.new.items ≡ out.old.items ++ (if i == 0 then [] else codes " / ")) }
+{
+    if i > 0 {
+        out.extend_from_slice(b" / ")?;
+    }
+    Ok(())
+}
+
+// Adds the texts of letters, with slashes between.
+fn push_all(reported: &[ReportedLetters], out: &mut Vec<u8>) -> Result<(), Memory>
+    ensures { OnOk result (out.new.items ≡ out.old.items ++ slashed (map reported_text reported.now)) }
+{
+    for (i, one) in reported.iter().enumerate() {
+        push_slash(i, out)?;
+        push_reported(*one, out)?;
+    }
+    Ok(())
+}
+
+// Adds how many pieces are left out, if there are any.
+fn push_more(count: usize, out: &mut Vec<u8>) -> Result<(), Memory>
+    ensures { OnOk result (out.new.items ≡ out.old.items ++ more_text count) }
+{
+    if count == 0 {
+        return Ok(());
+    }
+    out.extend_from_slice(b" and ")?;
+    push_number(out, count)?;
+    out.extend_from_slice(b" more")?;
+    Ok(())
+}
+
+// Adds the first pieces, and how many more there are.
+fn push_pieces(all: &[ReportedLetters], out: &mut Vec<u8>) -> Result<(), Memory>
+    ensures { OnOk result (out.new.items ≡ out.old.items ++ pieces_text all.now) }
+{
+    let shown = all.len().min(SHOWN_PIECES);
+    push_all(&all[..shown], out)?;
+    push_more(all.len().saturating_sub(SHOWN_PIECES), out)
+}
+
+// Returns the words for the end of a line, after the letters of runs.
+fn end_words(runs: &[LetterRun], ends: bool) -> &'static [u8]
+    ensures { result.now ≡ end_text runs.now ends }
+{
+    if !ends {
+        return b"";
+    }
+    if runs.is_empty() {
+        return b"the end of the line";
+    }
+    b" or the end of the line"
+}
+
+/// Adds what can follow at a position of a line: the symbols of some runs, by the names of core rules (RFC 5234,
+/// appendix B.1) and as ABNF writes them (section 2.3; RFC 7405, section 2.1), with slashes between, and the end, if
+/// the line can end there.
+///
+/// # Errors
+/// `Memory` if an allocation fails.
+pub fn push_expected(
+    alloc: Global,
+    alphabet: Alphabet,
+    runs: &[LetterRun],
+    ends: bool,
+    out: &mut Vec<u8>,
+) -> Result<(), Memory>
+    ensures { OnOk result (out.new.items ≡ out.old.items ++ expected_text alphabet runs.now ends) }
+{
+    let all = symbol_pieces(alloc, alphabet, runs)?;
+    push_pieces(&all, out)?;
+    out.extend_from_slice(end_words(runs, ends))?;
+    Ok(())
+}

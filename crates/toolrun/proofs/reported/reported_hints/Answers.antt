@@ -1,0 +1,14 @@
+-- Nothing is told, or all notes are, with hints or without.
+use Rattle.std.proofs.Common.{map}
+use Rattle.ruletable.specs.Notes.{said_of}
+use Rattle.toolrun.specs.ReportedNotes.{begun_notes, no_note}
+use Rattle.toolrun.proofs.ReportedNotesLemmas.{begun-whole}
+use Rattle.toolrun.proofs.reported.reported_hints.Goals as goal
+
+pub returns-in_default : goal.returns-in_default
+returns-in_default g c = rw c.new.ensures.items (begun_notes (map said_of c.args.notes.now) no_note)
+
+pub returns-in-Err : goal.returns-in-Err
+returns-in-Err g c =
+    let reported = (let t = c.reported_by.ensures c.args.text.now c.in-Ok.ensures.places in rw c.in-Whole.is at t) in
+    rw c.in-Err.ensures.err (begun-whole reported)

@@ -1,0 +1,14 @@
+-- No note is told, or each with what explains it.
+use Rattle.std.proofs.Common.{map}
+use Rattle.ruletable.specs.Notes.{said_of}
+use Rattle.toolrun.specs.ReportedNotes.{begun_notes, no_note}
+use Rattle.toolrun.proofs.reported.reported_notes.Goals as goal
+
+pub returns-in_default : goal.returns-in_default
+returns-in_default g c = rw c.new.ensures.items (begun_notes (map said_of c.args.notes.now) no_note)
+
+pub returns-in-Ok-places : goal.returns-in-Ok-places
+returns-in-Ok-places g c = c.reported_by.ensures c.args.text.now c.in-Ok-places.ensures.places
+
+pub returns : goal.returns
+returns g c = rw c.new-in-Err.ensures.items (begun_notes (map said_of c.args.notes.now) no_note)
