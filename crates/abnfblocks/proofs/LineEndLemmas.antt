@@ -4,7 +4,7 @@ use Rattle.std.proofs.Common.{◌≡◌, ℕ, ◌==◌, ◌||◌, inl, inr, Bool
 use Rattle.std.proofs.Common.{ap, ◌∙◌}
 use Rattle.std.proofs.Common.{arith, length-append, append-nil}
 use Rattle.lexer.specs.SliceEnds.{Longest, no_more, piece}
-use Rattle.std.proofs.lemmas.Bool.Decides.{eqb_decides}
+use Rattle.std.proofs.lemmas.Bool.Decides.{eqb_tells}
 use Rattle.std.specs.Char.{is_ascii_alphabetic}
 use Rattle.abnfread.specs.declared.kind.AbnfKind.{AbnfKind}
 use Rattle.abnfread.specs.declared.kind.AbnfKind.TheVariants.{Name, Adds, Repeat, Text, Num, Prose}
@@ -45,7 +45,7 @@ at-tail : (P : List ℕ → List ℕ → Type 0) {t u r : List ℕ} → t ≡ u 
 at-tail P e h = rw e at h
 
 not-lf : (f : ℕ → Bool) {c : ℕ} → f 10 ≡ false → f c ≡ true → (c == 10) ≡ false
-not-lf f {c} p q = elim (eqb_decides c 10) [
+not-lf f {c} p q = elim (eqb_tells c 10) [
   | inl h ↦ absurd (let e = h.1 in let k = rw e at q in cc)
   | inr h ↦ h.0
 ]

@@ -3,7 +3,7 @@
 use Rattle.std.proofs.Common.{◌≡◌, ℕ, ◌+◌, ◌≤◌, ◌==◌, ◌||◌, not, cond, Bool, true, false, Option, Some, None, List, []}
 use Rattle.std.proofs.Common.{◌∷◌, ◌++◌, length, take, refl, sym, ap, ◌∙◌, subst, arith, inl, inr, append_assoc}
 use Rattle.std.proofs.Common.{append-nil, length-append}
-use Rattle.std.proofs.lemmas.Bool.Decides.{eqb_decides, nat_tests}
+use Rattle.std.proofs.lemmas.Bool.Decides.{eqb_tells, nat_tests}
 use Rattle.std.proofs.lemmas.Bool.{eqb-true}
 use Rattle.std.proofs.lemmas.List.{take_at}
 use Rattle.ruletable.specs.declared.span.Span.{Span}
@@ -181,7 +181,7 @@ said-text {text} {ws} l c =
 
 -- bytes of a class without LF
 pub inside-of : (f : ℕ → Bool) → f 10 ≡ false → (b : ℕ) → f b ≡ true → is_inside b ≡ true
-inside-of f e b h = elim (eqb_decides b 10) [
+inside-of f e b h = elim (eqb_tells b 10) [
   | inl k ↦ absurd (let g = rw (k.1) at h in let z : true ≡ false = sym g ∙ e in
       cc)
   | inr k ↦ (let g = k.0 in rw g refl)

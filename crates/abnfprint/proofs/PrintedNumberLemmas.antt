@@ -3,7 +3,7 @@
 use Rattle.std.proofs.Common.{◌≡◌, ◌≢◌, ℕ, suc, ◌/◌, ◌%◌, ◌^◌, ◌<◌, ◌≤◌, nat_lt, cond, Bool, true, false, Some, None}
 use Rattle.std.proofs.Common.{List, [], ◌∷◌, ◌++◌, length, map, refl, sym, ap, ◌∙◌, arith, inl, inr, decimal}
 use Rattle.std.proofs.Common.{append_assoc}
-use Rattle.std.proofs.lemmas.Bool.Decides.{nat_tests, eqb_decides}
+use Rattle.std.proofs.lemmas.Bool.Decides.{nat_tests, eqb_tells}
 use Rattle.std.proofs.lemmas.Bool.{lt-ltb, ltb-true, ltb-false, le-ltb}
 use Rattle.std.proofs.lemmas.List.{map-append}
 use Rattle.std.proofs.lemmas.Fmt.{decimal_is_IsNumeral}
@@ -96,7 +96,7 @@ hexadecimal-more v h = let e = le-ltb v 16 h in rw e refl
 
 -- the numbers on both sides of the star
 pub repeat-bounds : (a b : ℕ) → a ≢ b → repeat_text a (Some b) ≡ repeat_text a None ++ decimal b
-repeat-bounds a b n = elim (eqb_decides a b) [
+repeat-bounds a b n = elim (eqb_tells a b) [
   | inl h ↦ absurd (n h.1)
   | inr h ↦ (let e = h.0 in rw e (sym (append_assoc (least_text a) (42 ∷ []) (decimal b))))
 ]

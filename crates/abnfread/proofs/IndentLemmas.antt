@@ -2,7 +2,7 @@
 -- Serves: AbnfTokenIter::next, abnf_tokens
 use Rattle.std.proofs.Common.{◌≡◌, ◌≢◌, ℕ, ◌+◌, ◌-◌, ◌==◌, ◌||◌, true, false, Option, Some, None, List, [], ◌∷◌, ◌++◌}
 use Rattle.std.proofs.Common.{length, refl, ap, arith, ◌∙◌}
-use Rattle.std.proofs.lemmas.Bool.Decides.{eqb_decides}
+use Rattle.std.proofs.lemmas.Bool.Decides.{eqb_tells}
 use Rattle.std.proofs.Common.{inl, inr}
 use Rattle.lexer.specs.SliceEnds.{NoPiece}
 use Rattle.lexer.specs.TokenLists.{Tok, start_of, Next, last_one, one_more}
@@ -32,10 +32,10 @@ indented-lf : (n : Option ℕ) (b : ℕ) → b ≡ 10 → indented n b ≡ Some 
 indented-lf n b p = rw p refl
 
 indented-other : (n : Option ℕ) (b : ℕ) → b ≢ 10 → ((b == 32) || (b == 9)) ≡ false → indented n b ≡ None
-indented-other n b p q = elim (eqb_decides b 10) [ inl h ↦ absurd (p h.1) | inr h ↦ (let e = h.0 in rw (e, q) refl) ]
+indented-other n b p q = elim (eqb_tells b 10) [ inl h ↦ absurd (p h.1) | inr h ↦ (let e = h.0 in rw (e, q) refl) ]
 
 indented-space : (n : Option ℕ) (b : ℕ) → b ≢ 10 → ((b == 32) || (b == 9)) ≡ true → indented n b ≡ plus 1 n
-indented-space n b p q = elim (eqb_decides b 10) [ inl h ↦ absurd (p h.1) | inr h ↦ (let e = h.0 in rw (e, q) refl) ]
+indented-space n b p q = elim (eqb_tells b 10) [ inl h ↦ absurd (p h.1) | inr h ↦ (let e = h.0 in rw (e, q) refl) ]
 
 module _ (whole t front : List ℕ) (b m : ℕ) (e : t ≡ front ++ b ∷ [])
     (h : indent_from (Some 0) whole ≡ plus m (indent_from (Some 0) t)) where

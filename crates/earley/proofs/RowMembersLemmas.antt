@@ -8,7 +8,7 @@ use Rattle.std.specs.List.{filter, range_with_len}
 use Rattle.std.specs.List.Sorted.{IsStrictlyIncreasing}
 use Rattle.std.specs.Vec.{vec_len}
 use Rattle.std.proofs.lemmas.List.Kept.{IsStrictlyIncreasing-filter}
-use Rattle.std.proofs.lemmas.Bool.Decides.{Decides-eqb, eqb_decides, nat_tests}
+use Rattle.std.proofs.lemmas.Bool.Decides.{Decides-eqb, eqb_tells, nat_tests}
 use Rattle.std.proofs.lemmas.List.FromFn.{length-range_with_len, get_or-range_with_len}
 use Rattle.std.proofs.lemmas.Nat.Bits.{bit_at-zero, bit_at-lt, bit_at_or, bit_at_and, bit_at_not, bit_at_set_same}
 use Rattle.std.proofs.lemmas.Nat.Bits.{bit_at_set_other}
@@ -80,7 +80,7 @@ members_same f g ws vs same k h =
 
 -- a set bit of two words, and one that the second lacks
 or_cases : (u v r : ℕ) → bit_at (bit_or u v) r ≡ 1 → (bit_at u r ≡ 1) ⊎ (bit_at v r ≡ 1)
-or_cases u v r h = by (eqb_decides (bit_at u r) 1)
+or_cases u v r h = by (eqb_tells (bit_at u r) 1)
   where
     by : (((bit_at u r == 1) ≡ true) × (bit_at u r ≡ 1)) ⊎ (((bit_at u r == 1) ≡ false) × (bit_at u r ≢ 1))
         → (bit_at u r ≡ 1) ⊎ (bit_at v r ≡ 1)
@@ -201,7 +201,7 @@ module _ (f a : ℕ) (words more : List ℕ) (s u v : ℕ) (more_is : u ≡ word
 
   pub word_covered : ((i : ℕ) → bit_at (bit_and u (bit_not w64 v)) i ≡ 0) → (x : ℕ) → x / 64 ≡ s
       → Contains (members a more) x → Contains (members f words) x
-  word_covered none x word h = by (eqb_decides (bit_at v (x % 64)) 1)
+  word_covered none x word h = by (eqb_tells (bit_at v (x % 64)) 1)
     where
       found : bit_at u (x % 64) ≡ 1
       found = ap (λ w. bit_at w (x % 64)) more_is
@@ -298,7 +298,7 @@ module _ (f : ℕ) (words : List ℕ) (k : ℕ) (from : f ≤ k / 64) (short : k
   -- every number but k keeps its bit
   bit_kept : (x : ℕ) → x ≢ k
       → bit_at (word_in f new (x / 64)) (x % 64) ≡ bit_at (word_in f words (x / 64)) (x % 64)
-  bit_kept x other = by (eqb_decides (x / 64) (k / 64))
+  bit_kept x other = by (eqb_tells (x / 64) (k / 64))
     where
       by : (((x / 64 == k / 64) ≡ true) × (x / 64 ≡ k / 64)) ⊎ (((x / 64 == k / 64) ≡ false) × (x / 64 ≢ k / 64))
           → bit_at (word_in f new (x / 64)) (x % 64) ≡ bit_at (word_in f words (x / 64)) (x % 64)
@@ -307,7 +307,7 @@ module _ (f : ℕ) (words : List ℕ) (k : ℕ) (from : f ≤ k / 64) (short : k
           (word_set_other f words (k / 64) (bit_or w (1 * 2 ^ (k % 64) % 2 ^ 64)) from (x / 64) is_not.1)
 
   pub members_set : (x : ℕ) → Contains (members f new) x ↔ (Contains (members f words) x ⊎ (x ≡ k))
-  members_set x = by (eqb_decides x k)
+  members_set x = by (eqb_tells x k)
     where
       by : (((x == k) ≡ true) × (x ≡ k)) ⊎ (((x == k) ≡ false) × (x ≢ k))
           → Contains (members f new) x ↔ (Contains (members f words) x ⊎ (x ≡ k))

@@ -2,7 +2,7 @@
 -- Serves: RowSet::add, RowSet::new, RowSet::take
 use Rattle.std.proofs.Common.{◌≡◌, ◌≢◌, ◌↔◌, ◌⊎◌, inl, inr, ⊎_elim, ℕ, ◌<◌, List, [], ◌∷◌, ◌++◌, length, ◌==◌}
 use Rattle.std.proofs.Common.{zero, suc, slice_index_or, set, Contains, refl, sym, ap, subst, ◌∙◌, arith, true, false}
-use Rattle.std.proofs.lemmas.Bool.Decides.{eqb_decides}
+use Rattle.std.proofs.lemmas.Bool.Decides.{eqb_tells}
 use Rattle.std.proofs.lemmas.List.{get_or-set_same, get_or-set_other, length-set}
 use Rattle.std.proofs.lemmas.List.Elements.{Contains-append_left, Contains-push, Contains-push_cases}
 use Rattle.std.specs.Prelude.{replicate}
@@ -59,7 +59,7 @@ module _ (all pending : List (List ℕ)) (queue : List ℕ) (are : AreQueued all
       → AreQueued (set all p row) (set pending p wait) queue'
   queued_set queue' row wait kept only there = record {
     count = length-set pending p wait ∙ are.count ∙ sym (length-set all p row);
-    queued = λ q k h. by q k (eqb_decides q p) h;
+    queued = λ q k h. by q k (eqb_tells q p) h;
     below = λ q h. ⊎_elim (λ old. less q (are.below q old))
         (λ is. subst (λ v. v < length (set all p row)) (sym is) (less p lt)) (only q h);
   }
@@ -82,8 +82,8 @@ module _ (all pending : List (List ℕ)) (queue : List ℕ) (are : AreQueued all
       (record { all = set all p row; pending = set pending p wait })
   adds_at found row wait rows waits = record {
     count = length-set all p row;
-    all = λ q k. of_all q k (eqb_decides q p);
-    pending = λ q k. of_pending q k (eqb_decides q p);
+    all = λ q k. of_all q k (eqb_tells q p);
+    pending = λ q k. of_pending q k (eqb_tells q p);
   }
     where
       short : p < length pending
@@ -134,7 +134,7 @@ module _ (all pending : List (List ℕ)) (queue rest : List ℕ) (p : ℕ) (are 
   pub queued_rest : (none : List ℕ) → none ≡ [] → AreQueued all (set pending p none) rest
   queued_rest none empty = record {
     count = length-set pending p none ∙ are.count;
-    queued = λ q k h. by q k (eqb_decides q p) h;
+    queued = λ q k h. by q k (eqb_tells q p) h;
     below = λ q h. are.below q (subst (λ v. Contains v q) (sym is) (Contains-append_left rest (p ∷ []) q h));
   }
     where
@@ -154,7 +154,7 @@ module _ (all pending : List (List ℕ)) (queue rest : List ℕ) (p : ℕ) (are 
     below = taken_below;
     all = refl;
     taken = λ k. ((λ h. subst (λ v. Contains v k) is_row h), (λ h. subst (λ v. Contains v k) (sym is_row) h));
-    rest = λ q k. by q k (eqb_decides q p);
+    rest = λ q k. by q k (eqb_tells q p);
   }
     where
       short : p < length pending

@@ -7,7 +7,7 @@ use Rattle.std.specs.Str.{bytes_eq}
 use Rattle.std.specs.List.{list_any}
 use Rattle.std.proofs.Math.Bool.{or-false}
 use Rattle.std.proofs.lemmas.Bool.{both_ways, cases_Bool, or_right, or_cases}
-use Rattle.std.proofs.lemmas.Bool.Decides.{eqb_decides}
+use Rattle.std.proofs.lemmas.Bool.Decides.{eqb_tells}
 use Rattle.std.proofs.lemmas.List.{length-map}
 use Rattle.std.proofs.lemmas.Option.{slice_get-map, slice_get_within}
 use Rattle.std.proofs.lemmas.Simd.{map-map}
@@ -86,11 +86,11 @@ module _ (rules : List Rule) (id : ℕ) (n : List ℕ) (at : slice_get (rule_nam
     (unique : (i : ℕ) → slice_get (rule_names rules) i ≡ Some n → i ≡ id) where
   at-one : (i : ℕ) (r : Option (List ℕ)) → slice_get (rule_names rules) i ≡ r → is_among Exact (option_to_list r) n
       ≡ (i == id)
-  at-one i None h = elim (eqb_decides i id) [
+  at-one i None h = elim (eqb_tells i id) [
     | inl e ↦ absurd (let here = subst (λ (k : ℕ). slice_get (rule_names rules) k ≡ None) e.1 h in cc (at, here))
     | inr e ↦ sym (e.0)
   ]
-  at-one i (Some m) h = or-false (bytes_eq n m) ∙ elim (eqb_decides i id) [
+  at-one i (Some m) h = or-false (bytes_eq n m) ∙ elim (eqb_tells i id) [
     | inl e ↦
         let here = subst (λ (k : ℕ). slice_get (rule_names rules) k ≡ Some m) e.1 h in
         let is : n ≡ m = cc (at, here) in

@@ -5,7 +5,7 @@ use Rattle.std.proofs.Common.{◌++◌, map, cond, refl, ap, sym, ◌∙◌, sub
 use Rattle.std.specs.List.{flat_map, range_with_len}
 use Rattle.std.proofs.Math.Bool.{or_assoc, not-not}
 use Rattle.std.proofs.lemmas.Bool.{cases_Bool, ltb-true, ltb-false, or_parts}
-use Rattle.std.proofs.lemmas.Bool.Decides.{eqb_decides, nat_tests}
+use Rattle.std.proofs.lemmas.Bool.Decides.{eqb_tells, nat_tests}
 use Rattle.std.proofs.lemmas.List.FromFn.{get_or-map-range_with_len}
 use Rattle.ruletable.specs.Runs.{runs_of, test_of, in_runs, AreApart}
 use Rattle.ruletable.proofs.RunsLemmas.{are_runs, after-same, one-alone, one-more}
@@ -64,9 +64,9 @@ items_of x = cond (x.0 == x.1) ((x.0, x.0) ∷ []) (cond (x.0 + 1 == x.1) ((x.0,
 
 in-items : (x : ℕ × ℕ) (xs : List (ℕ × ℕ)) (b : ℕ) → x.0 ≤ x.1 → in_ranges (items_of x ++ xs) b
     ≡ (in_range x b || in_ranges xs b)
-in-items x xs b h = elim (eqb_decides x.0 x.1) [
+in-items x xs b h = elim (eqb_tells x.0 x.1) [
   | inl e ↦ rw (e.0) (ap (λ (v : ℕ). (nat_le x.0 b && nat_le b v) || in_ranges xs b) e.1)
-  | inr e ↦ rw (e.0) (elim (eqb_decides (x.0 + 1) x.1) [
+  | inr e ↦ rw (e.0) (elim (eqb_tells (x.0 + 1) x.1) [
     | inl k ↦ rw (k.0) (ap (λ (v : Bool). v || (in_range (x.1, x.1) b || in_ranges xs b)) (one-alone x.0 b)
         ∙ sym (or_assoc (b == x.0) (in_range (x.1, x.1) b) (in_ranges xs b))
         ∙ ap (λ (v : Bool). v || in_ranges xs b) (sym (one-more x.0 x.1 x.1 b k.1 (omega arith))))
@@ -133,9 +133,9 @@ read-range {s = s} {t = t} u v k w = record {
 
 read-run : (x : ℕ × ℕ) (xs : List (ℕ × ℕ)) (u : List ℕ) → x.0 ≤ x.1 → x.1 < 256 → IsRead xs u
     → IsRead (items_of x ++ xs) (run_text x ++ u)
-read-run x xs u h k w = elim (eqb_decides x.0 x.1) [
+read-run x xs u h k w = elim (eqb_tells x.0 x.1) [
   | inl e ↦ rw (e.0) (read-one u (shown-shape x.0 (omega arith)) w)
-  | inr e ↦ rw (e.0) (elim (eqb_decides (x.0 + 1) x.1) [
+  | inr e ↦ rw (e.0) (elim (eqb_tells (x.0 + 1) x.1) [
     | inl l ↦ rw (l.0) (subst (λ (z : List ℕ). IsRead ((x.0, x.0) ∷ (x.1, x.1) ∷ xs) z)
         (sym (append_assoc (shown x.0) (shown x.1) u))
         (read-one (shown x.1 ++ u) (shown-shape x.0 (omega arith)) (read-one u (shown-shape x.1 k) w)))

@@ -5,21 +5,21 @@ use Rattle.std.proofs.Common.{◌∷◌, length, map, get_or, refl, sym, ◌∙�
 use Rattle.std.specs.Prelude.{Contains}
 use Rattle.std.specs.List.{list_any}
 use Rattle.std.proofs.lemmas.Bool.{both_ways, cases_Bool}
-use Rattle.std.proofs.lemmas.Bool.Decides.{eqb_decides}
+use Rattle.std.proofs.lemmas.Bool.Decides.{eqb_tells}
 use Rattle.fixpoint.proofs.ContainsLemmas.{none_of, in_first, in_later, cons_cases}
 use Rattle.rulenames.specs.IdMarks.{AreMarks}
 
 -- ids in a list
 any_in : (ids : List ℕ) (id : ℕ) → list_any (λ other. other == id) ids ≡ true → Contains ids id
 any_in [] id h = absurd (both_ways false refl h)
-any_in (x ∷ ids) id h = elim (eqb_decides x id) [
+any_in (x ∷ ids) id h = elim (eqb_tells x id) [
   | inl e ↦ subst (λ v. Contains (x ∷ ids) v) e.1 (in_first x ids)
   | inr e ↦ in_later x id ids (any_in ids id (sym (ap (λ b. b || list_any (λ other. other == id) ids) e.0) ∙ h))
 ]
 
 in_any : (ids : List ℕ) (id : ℕ) → Contains ids id → list_any (λ other. other == id) ids ≡ true
 in_any [] id h = absurd (none_of id h)
-in_any (x ∷ ids) id h = elim (eqb_decides x id) [
+in_any (x ∷ ids) id h = elim (eqb_tells x id) [
   | inl e ↦ ap (λ b. b || list_any (λ other. other == id) ids) e.0
   | inr e ↦ ap (λ b. b || list_any (λ other. other == id) ids) e.0
       ∙ in_any ids id (⊎_elim (λ same. absurd (e.1 same)) (λ later. later) (cons_cases x id ids h))

@@ -4,7 +4,7 @@ use Rattle.std.proofs.Common.{◌≡◌, ℕ, zero, suc, ◌<◌, ◌==◌, inl,
 use Rattle.std.proofs.Common.{[], ◌∷◌, ◌++◌, length, get_or, position, Some, None, refl, sym, ◌∙◌, ap, arith}
 use Rattle.std.specs.List.{list_any, prefix_len}
 use Rattle.std.proofs.lemmas.Bool.{cases_Bool}
-use Rattle.std.proofs.lemmas.Bool.Decides.{eqb_decides, nat_tests}
+use Rattle.std.proofs.lemmas.Bool.Decides.{eqb_tells, nat_tests}
 use Rattle.std.proofs.lemmas.List.Quantifiers.{position-Some}
 use Rattle.std.proofs.lemmas.Slice.Eq.{bytes_eq-Decides}
 use Rattle.std.specs.Str.{bytes_eq}
@@ -38,11 +38,11 @@ or_else true c is = refl
 or_else false c is = is
 
 unequal-false : (i j : ℕ) → (i ≡ j → ⊥) → (i == j) ≡ false
-unequal-false i j differ = elim (eqb_decides i j) [ inl e ↦ absurd (differ e.1) | inr e ↦ e.0 ]
+unequal-false i j differ = elim (eqb_tells i j) [ inl e ↦ absurd (differ e.1) | inr e ↦ e.0 ]
 
 one_less : (i j : ℕ) → (suc i == suc j) ≡ (i == j)
-one_less i j = elim (eqb_decides i j) [
-  | inl e ↦ (elim (eqb_decides (suc i) (suc j)) [ inl more ↦ more.0 | inr other ↦ absurd (other.1 (ap suc e.1)) ])
+one_less i j = elim (eqb_tells i j) [
+  | inl e ↦ (elim (eqb_tells (suc i) (suc j)) [ inl more ↦ more.0 | inr other ↦ absurd (other.1 (ap suc e.1)) ])
       ∙ sym e.0
   | inr e ↦ unequal-false (suc i) (suc j) (λ is. e.1 (omega (arith, is))) ∙ sym e.0
 ]

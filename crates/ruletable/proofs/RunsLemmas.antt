@@ -4,7 +4,7 @@ use Rattle.std.proofs.Common.{◌≡◌, ◌≢◌, ℕ, zero, suc, ◌+◌, ◌
 use Rattle.std.proofs.Common.{false, List, [], ◌∷◌, Option, Some, None, refl, ap, sym, ◌∙◌, subst, arith, inl, inr}
 use Rattle.std.proofs.Math.Bool.{or_assoc}
 use Rattle.std.proofs.lemmas.Bool.{cases_Bool, both_ways}
-use Rattle.std.proofs.lemmas.Bool.Decides.{eqb_decides, nat_tests}
+use Rattle.std.proofs.lemmas.Bool.Decides.{eqb_tells, nat_tests}
 use Rattle.ruletable.specs.Runs.{push, push_if, runs_from, runs_after, runs_of, test_of, in_runs, AreApart, AreRuns}
 use Rattle.ruletable.specs.Runs.{IsFirst, place_of}
 
@@ -15,7 +15,7 @@ apart-less m n (run ∷ runs) h a = (omega arith, a.1, a.2)
 
 apart-push : (n : ℕ) (runs : List (ℕ × ℕ)) → AreApart (n + 1) runs → AreApart n (push n runs)
 apart-push n [] a = (omega arith, omega arith, tt)
-apart-push n (run ∷ runs) a = elim (eqb_decides (n + 1) run.0) [
+apart-push n (run ∷ runs) a = elim (eqb_tells (n + 1) run.0) [
   | inl e ↦ rw (e.0) (omega arith, omega arith, a.2)
   | inr e ↦ rw (e.0) (omega arith, omega arith, ((let ne = e.1 in omega arith), a.1, a.2))
 ]
@@ -38,7 +38,7 @@ one-alone n b = grind (arith, nat_tests)
 in_runs-push : (n b : ℕ) (runs : List (ℕ × ℕ)) → AreApart (n + 1) runs → in_runs (push n runs) b
     ≡ ((b == n) || in_runs runs b)
 in_runs-push n b [] a = ap (λ t. t || false) (one-alone n b)
-in_runs-push n b (run ∷ runs) a = elim (eqb_decides (n + 1) run.0) [
+in_runs-push n b (run ∷ runs) a = elim (eqb_tells (n + 1) run.0) [
   | inl e ↦ rw (e.0) (ap (λ t. t || in_runs runs b) (one-more n run.0 run.1 b e.1 a.1)
       ∙ or_assoc (b == n) (nat_le run.0 b && nat_le b run.1) (in_runs runs b))
   | inr e ↦ rw (e.0) (ap (λ t. t || in_runs (run ∷ runs) b) (one-alone n b))
@@ -74,13 +74,13 @@ in_runs-from f (suc k) n b = elim (cases_Bool (f n)) [
 -- the first run begins at n or behind it, or there is none
 push-apart : (n : ℕ) (runs : List (ℕ × ℕ)) → AreApart (n + 2) runs → push n runs ≡ (n, n) ∷ runs
 push-apart n [] h = refl
-push-apart n (run ∷ runs) h = elim (eqb_decides (n + 1) run.0) [
+push-apart n (run ∷ runs) h = elim (eqb_tells (n + 1) run.0) [
   | inl e ↦ absurd (let y = e.1 in omega arith)
   | inr e ↦ rw (e.0) refl
 ]
 
 push-joins : (n : ℕ) (run : ℕ × ℕ) (runs : List (ℕ × ℕ)) → n + 1 ≡ run.0 → push n (run ∷ runs) ≡ (n, run.1) ∷ runs
-push-joins n run runs h = elim (eqb_decides (n + 1) run.0) [ inl e ↦ rw (e.0) refl | inr e ↦ absurd (e.1 h) ]
+push-joins n run runs h = elim (eqb_tells (n + 1) run.0) [ inl e ↦ rw (e.0) refl | inr e ↦ absurd (e.1 h) ]
 
 -- numbers that do not pass begin no run
 from-skip : (f : ℕ → Bool) (k j n m : ℕ) → m ≡ n + j → ((b : ℕ) → n ≤ b → b < m → f b ≡ false)

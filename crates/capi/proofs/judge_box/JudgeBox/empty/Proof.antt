@@ -18,7 +18,7 @@ use denote.Signature.{types_at, plain}
 use denote.Steps.{nothing}
 use denote.Triple.Entry.{alive}
 use denote.Triple.Walked.{Stays, stay_dropped, walk_of, Goes-dropped}
-use Rattle.core.proofs.alloc.Calls.{handle_reports}
+use Rattle.core.proofs.alloc.Calls.{handle_tells}
 use Rattle.std.proofs.raw_atomic.Walks.{proved_at, leaves}
 use Rattle.capi.proofs.LooseLemmas.{both}
 use Rattle.capi.proofs.JudgeBoxLemmas.{Z, al, null_good, none_in}
@@ -38,7 +38,7 @@ empty_spec 𝓤 𝓛 𝓜 𝓡 wired =
     ws. WpFn 𝓤 H 𝓣.C 𝓣.Λ fn ws Post in
     qed 𝓛 ((raw (alive 𝓛 ended.signature z.0.0 z.0.1) ⊛ ‵ (owns (types_at ended.signature.params z.0.0) z.0.3 z.0.4))
     ∷ ‵ ftrue ∷ []) ∵ move ! (1 ∷ []) $ drop ! $ split ! $ move ! (1 ∷ []) $ fsplit ! $
-    handle_reports al ! a z.0.4.0 (λ h ws fits.
+    handle_tells al ! a z.0.4.0 (λ h ws fits.
     -- [the handle; nothing; the tokens]
     suffices ! (Run (h ∷ [])) (subst (λ (us : List Val). ent 𝓤 (Run (h ∷ [])) (Run us)) (sym (λ i. ws i ++ [])) (id⊢ 𝓤
     (Run (h ∷ [])))) $

@@ -8,4 +8,4 @@ returns-clause-count c = rw (← c.self.view_is) (length-members_of _ ∙ sym (l
 
 pub returns-clause-members : goal.returns-clause-members
 returns-clause-members c = rw (← c.self.view_is, c.from-place.ensures)
-    (members-put c.self.inside.words c.args.b c.self.reported (omega arith))
+    (members-put c.self.inside.words c.args.b c.self.told (omega arith))
