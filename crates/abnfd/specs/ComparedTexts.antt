@@ -6,9 +6,9 @@ use Rattle.abnfd.specs.ComparisonText.{comparison_text, verdict_between, verdict
 use Rattle.abnfread.specs.AbnfViews.{rules_of}
 use Rattle.letters.specs.Letters.{has}
 use Rattle.letters.specs.declared.alphabet.Alphabet.{Alphabet}
-use Rattle.rulepairs.specs.Alone.{IsKnownOf}
-use Rattle.rulepairs.specs.FirstLines.{IsOfOldAlone}
-use Rattle.rulepairs.specs.declared.comparison.Comparison.{Comparison}
+use Rattle.rulelines.specs.Alone.{IsKnownOf}
+use Rattle.rulelines.specs.FirstLines.{IsOfOldAlone}
+use Rattle.rulelines.specs.declared.comparison.Comparison.{Comparison}
 use Rattle.toolrun.specs.declared.status.Status.{Status}
 use Rattle.toolrun.specs.declared.status.Status.TheVariants.{Refused}
 

@@ -4,9 +4,9 @@ use Rattle.abnfd.specs.QuotedLines.{quoted_line}
 use Rattle.abnfd.specs.declared.answer.LinesVerdict.{LinesVerdict}
 use Rattle.abnfd.specs.declared.answer.LinesVerdict.TheVariants.{Same, Differ, NotKnown}
 use Rattle.letters.specs.declared.alphabet.Alphabet.{Alphabet}
-use Rattle.rulepairs.specs.declared.alone.Alone.{Alone}
-use Rattle.rulepairs.specs.declared.alone.Alone.TheVariants.{First, Never, NeverUpTo, Unknown}
-use Rattle.rulepairs.specs.declared.comparison.Comparison.{Comparison}
+use Rattle.rulelines.specs.declared.alone.Alone.{Alone}
+use Rattle.rulelines.specs.declared.alone.Alone.TheVariants.{First, Never, NeverUpTo, Unknown}
+use Rattle.rulelines.specs.declared.comparison.Comparison.{Comparison}
 use Rattle.toolrun.specs.declared.status.Status.{Status}
 use Rattle.toolrun.specs.declared.status.Status.TheVariants.{Done, NoMatch, Overlong}
 

@@ -6,7 +6,7 @@ ghost use Rattle.abnfd.specs.ComparisonText.{verdict_status as the_status};
 use crate::quoted::push_quoted;
 use diagnostics::push_number;
 use letters::Alphabet;
-use rulepairs::{Alone, Comparison};
+use rulelines::{Alone, Comparison};
 use ruletable::Memory;
 use std::alloc::Global;
 use toolrun::Status;

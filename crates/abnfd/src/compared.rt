@@ -6,7 +6,7 @@ use crate::answer::{comparison_status, comparison_text};
 use crate::side::{Side, open_side};
 use abnfcheck::SoundAbnf;
 use letters::Alphabet;
-use rulepairs::compare;
+use rulelines::compare;
 use ruletable::Memory;
 use std::alloc::Global;
 use toolrun::Status;

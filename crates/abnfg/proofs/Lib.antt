@@ -1,4 +1,3 @@
-mod OrderLemmas
 pub mod ListedLinesLemmas
 pub mod ListedReplyLemmas
 pub mod ListAnswersLemmas

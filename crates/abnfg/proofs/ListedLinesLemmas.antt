@@ -14,15 +14,15 @@ use Rattle.abnfg.specs.ListedLines.{IsRecordWritten, IsStepOf, IsWrittenNext}
 use Rattle.abnfg.specs.declared.lines.Halt.{Halt}
 use Rattle.abnfg.specs.declared.lines.Halt.TheVariants.{NoMemory as HaltsUnroomed, Nothing, TooMany}
 use Rattle.abnfg.specs.declared.lines.Halt.TheVariants.{All as Finished}
-use Rattle.derivedlines.specs.LineSets.{HasNoneAfter, IsFirstAfter, IsFirstStep, IsLineAfter, IsLineIn, LineSet}
-use Rattle.derivedlines.specs.declared.lines.NextLine.{NextLine}
-use Rattle.derivedlines.specs.declared.lines.NextLine.TheVariants.{Line, Done}
+use Rattle.rulelines.specs.LineSets.{HasNoneAfter, IsFirstAfter, IsFirstStep, IsLineAfter, IsLineIn, LineSet}
+use Rattle.rulelines.specs.declared.listed.lines.NextLine.{NextLine}
+use Rattle.rulelines.specs.declared.listed.lines.NextLine.TheVariants.{Line, Done}
 use Rattle.ruletable.proofs.AppendsLemmas.{Appends-join, Appends-same, AppendsPart-join}
 use Rattle.ruletable.specs.Writing.{AppendsPart}
 use Rattle.ruletable.specs.declared.memory.Memory.{Memory}
 use Rattle.ruletable.specs.declared.sink.WriteFault.{WriteFault}
-use Rattle.abnfg.proofs.OrderLemmas.{before_trans}
-use Rattle.rulepairs.specs.FirstLines.{ComesFirst, HasNoLine, IsFirstLine, IsShortlexBefore}
+use Rattle.rulelines.proofs.ComesFirstLemmas.{before_trans}
+use Rattle.rulelines.specs.FirstLines.{ComesFirst, HasNoLine, IsFirstLine, IsShortlexBefore}
 
 -- a line up to the last one is before each after that
 before_next : (u last w : List ℕ) → ComesFirst u last → IsShortlexBefore last w → IsShortlexBefore u w

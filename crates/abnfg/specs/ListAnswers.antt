@@ -7,7 +7,7 @@ use Rattle.abnfread.specs.AbnfReading.{IsFaultOf, Reads}
 use Rattle.abnfread.specs.Element.{Definition, Rule}
 use Rattle.abnfrun.specs.AbnfNoted.{AreNotesOn, IsRefusedFor, all_rules, judged_of}
 use Rattle.clap.specs.Words.{Row}
-use Rattle.derivedlines.specs.LineSets.{IsRuleLine}
+use Rattle.rulelines.specs.LineSets.{IsRuleLine}
 use Rattle.ruletable.specs.Notes.{Said}
 use Rattle.ruletable.specs.declared.fault.ReadFault.{ReadFault}
 use Rattle.ruletable.specs.declared.fault.ReadFault.TheVariants.{Memory}

@@ -7,12 +7,12 @@ use Rattle.std.proofs.Common.{Vec, Global}
 use Rattle.abnfg.specs.declared.lines.Halt.{Halt}
 use Rattle.abnfg.specs.declared.lines.Halt.TheVariants.{NoMemory as HaltsUnroomed, Nothing, TooMany}
 use Rattle.abnfg.specs.declared.lines.Halt.TheVariants.{All as Finished}
-use Rattle.derivedlines.specs.declared.lines.NextLine.{NextLine}
-use Rattle.derivedlines.specs.declared.lines.NextLine.TheVariants.{Line, Done as End}
+use Rattle.rulelines.specs.declared.listed.lines.NextLine.{NextLine}
+use Rattle.rulelines.specs.declared.listed.lines.NextLine.TheVariants.{Line, Done as End}
 use Rattle.letters.specs.declared.alphabet.Alphabet.{Alphabet}
 use Rattle.ruletable.specs.Writing.{AppendsPart}
 use Rattle.ruletable.specs.declared.sink.WriteFault.{WriteFault}
-use Rattle.rulepairs.specs.FirstLines.{ComesFirst, HasNoLine, IsShortlexBefore}
+use Rattle.rulelines.specs.FirstLines.{ComesFirst, HasNoLine, IsShortlexBefore}
 use Rattle.abnfg.specs.LineBytes.{line_bytes}
 use Rattle.toolrun.specs.Plan.{stopped}
 use Rattle.toolrun.specs.Reply.{Reply, without_memory}

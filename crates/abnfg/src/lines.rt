@@ -3,15 +3,15 @@ ghost use Rattle.std.specs.Prelude.{◌≡◌, ◌++◌, ℕ, List, [], IfOk, If
 ghost use Rattle.abnfg.specs.ListedLines.{AreListed, IsHaltAt, IsLineNext, IsRecordWritten, IsStepOf, IsWrittenNext};
 ghost use Rattle.abnfg.specs.ListedLines.{AreWritten, HaltEnds, LinesReply, end_of, record_text};
 ghost use Rattle.abnfread.specs.AbnfViews.{rules_of};
-ghost use Rattle.derivedlines.specs.LineSets.{IsLineIn, IsRuleLine};
+ghost use Rattle.rulelines.specs.LineSets.{IsLineIn, IsRuleLine};
 ghost use Rattle.ruletable.specs.Writing.{Flags};
 ghost use Rattle.toolrun.specs.Stopped.{Fulfils};
 ghost use Rattle.toolrun.specs.Stream.{no_input, passed};
 
 use crate::symbols::push_line;
 use abnfcheck::SoundAbnf;
-use derivedlines::{Lines, NextLine};
 use letters::Alphabet;
+use rulelines::{Lines, NextLine};
 use ruletable::{Memory, Sink, WriteFault, write_whole};
 use std::alloc::Global;
 use toolrun::{Ending, ReportedRefusals, Status, Stop};

@@ -2,7 +2,7 @@
 
 use crate::sound_grammars::sound;
 use letters::Alphabet;
-use rulepairs::{Alone, compare};
+use rulelines::{Alone, compare};
 use std::alloc::Global;
 use testio::{Fields, Text};
 

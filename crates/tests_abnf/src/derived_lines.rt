@@ -1,7 +1,7 @@
 //! Calls on the lines that a rule derives.
 
 use crate::sound_grammars::sound;
-use derivedlines::{Lines, NextLine};
+use rulelines::{Lines, NextLine};
 use letters::Alphabet;
 use std::alloc::Global;
 use testio::{Fields, Text};

@@ -1,6 +1,6 @@
 -- The first line, or the one after the last.
 use Rattle.std.proofs.Common.{arith}
-use Rattle.derivedlines.specs.LineSets.{IsLineIn}
+use Rattle.rulelines.specs.LineSets.{IsLineIn}
 use Rattle.abnfg.proofs.ListedLinesLemmas.{reported_first, reported_next}
 use Rattle.abnfg.proofs.lines.next_step.Goals as goal
 

@@ -2,7 +2,7 @@
 use Rattle.std.proofs.Common.{Option, subst, ℕ}
 use Rattle.std.specs.Prelude.{IfSome}
 use Rattle.abnfread.specs.AbnfViews.{rules_of}
-use Rattle.derivedlines.specs.LineSets.{AreRuleLines, IsLineIn, IsRuleLine, LineSet}
+use Rattle.rulelines.specs.LineSets.{AreRuleLines, IsLineIn, IsRuleLine, LineSet}
 use Rattle.abnfg.proofs.ListedLinesLemmas.{written_as}
 use Rattle.abnfg.specs.ListedLines.{end_of, record_text}
 use Rattle.abnfg.proofs.lines.write_derived.Goals as goal

@@ -1,7 +1,7 @@
 -- Each line is the next one; then none is, or all are written.
 use Rattle.std.proofs.Common.{◌∙◌, Option, arith, refl, subst}
 use Rattle.std.specs.Prelude.{Ok, Err}
-use Rattle.derivedlines.specs.LineSets.{IsLineIn}
+use Rattle.rulelines.specs.LineSets.{IsLineIn}
 use Rattle.abnfg.proofs.ListedLinesLemmas.{cut_off, halt_written, none_yet, one_more, written_of}
 use Rattle.abnfg.specs.ListedLines.{IsWrittenNext, end_of, record_text}
 use Rattle.abnfg.specs.declared.lines.Halt.{Halt}

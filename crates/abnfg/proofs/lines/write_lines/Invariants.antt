@@ -1,7 +1,7 @@
 use Rattle.std.proofs.Common.{◌≡◌, false}
 use Rattle.abnfg.proofs.ListedLinesLemmas.{IsUpTo}
 use Rattle.abnfg.specs.ListedLines.{end_of, record_text}
-use Rattle.derivedlines.specs.LineSets.{IsLineIn}
+use Rattle.rulelines.specs.LineSets.{IsLineIn}
 use Rattle.abnfg.proofs.lines.write_lines.Given as goal
 
 abbrev pub invariant-loop-done : goal.invariant-loop-done

@@ -1,5 +1,5 @@
 use Rattle.std.proofs.Common.{ℕ, List, subst, sym}
-use Rattle.derivedlines.specs.LineSets.{IsLineIn}
+use Rattle.rulelines.specs.LineSets.{IsLineIn}
 use Rattle.abnfg.proofs.ListedLinesLemmas.{record_next}
 use Rattle.abnfg.specs.ListedLines.{AreListed, end_of, record_text}
 use Rattle.abnfg.proofs.lines.write_next.Goals as goal

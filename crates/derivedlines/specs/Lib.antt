@@ -1,4 +1,0 @@
-pub mod LineSets
-pub mod Rests
-pub mod Starts
-pub mod StateTables

@@ -1,0 +1,17 @@
+pub mod ComesFirstLemmas
+mod StatePairsLemmas
+mod StackSetsLemmas
+mod FoundPairsLemmas
+mod SwappedLemmas
+mod CountsWithinLemmas
+mod SamplesLemmas
+mod SearchLemmas
+mod OldAloneLemmas
+mod TakesLemmas
+mod RestLemmas
+mod StartsLemmas
+mod StateTableLemmas
+mod FirstKeyLemmas
+mod WordLemmas
+mod LineOrderLemmas
+mod LineSetLemmas

@@ -1,0 +1,107 @@
+-- The lines of a rule, by a table.
+-- Serves: new, first, after.
+use Rattle.std.proofs.Common.{◌≡◌, ◌↔◌, ℕ, ◌+◌, ◌≤◌, List, [], length, refl, sym, ◌∙◌}
+use Rattle.std.proofs.Common.{ap, subst, arith}
+use Rattle.std.proofs.lemmas.Option.{slice_get_within}
+use Rattle.std.specs.List.Sorted.{IsStrictlyIncreasing}
+use Rattle.std.specs.Prelude.{Bool, Some, slice_get}
+use Rattle.abnfread.specs.Element.{Rule}
+use Rattle.abnfcheck.specs.Derivable.{AreLetters, RuleDerives}
+use Rattle.flatgrammar.specs.Flat.{Flat}
+use Rattle.flatgrammar.specs.FlatVerdicts.{DerivesLine}
+use Rattle.flatgrammar.specs.NodeSteps.{flat_of}
+use Rattle.letters.specs.Letters.{has as has_letter}
+use Rattle.letters.specs.declared.alphabet.Alphabet.{Alphabet}
+use Rattle.letterclasses.specs.Stacks.{AreUncounted, MarksLast}
+use Rattle.lazydfa.specs.Conts.{last_of}
+use Rattle.lazydfa.specs.RunVerdicts.{IsOne}
+use Rattle.lazydfa.specs.StateSets.{AreMoreStates, AreStatesOf, grammar_of, IsStartState, last_in, StateSets}
+use Rattle.rulelines.specs.declared.listed.keys.LineSymbols.{LineSymbols}
+use Rattle.rulelines.specs.declared.listed.lines.NextLine.{NextLine}
+use Rattle.rulelines.specs.declared.listed.lines.NextLine.TheVariants.{Line, Done}
+use Rattle.rulelines.specs.declared.listed.table.Table.{Table}
+use Rattle.rulelines.specs.LineSets.{AreRuleLines, IsFirstStep, LineSet}
+use Rattle.rulelines.specs.Starts.{AreClassStarts}
+use Rattle.rulelines.specs.StateTables.{line_symbols, IsFirstFrom, IsTableGrown, IsTableFor}
+use Rattle.rulelines.specs.StateTables.{table_lines}
+use Rattle.rulelines.proofs.LineOrderLemmas.{inner_letters}
+
+-- the first table
+pub table_begun : (flat : Flat) (none : StateSets) (table : Table) (inner : LineSymbols) → AreStatesOf flat none
+    → AreMoreStates none table.states → IsStartState table.states table.start → table.seen ≤ table.start + 1
+    → AreClassStarts flat (line_symbols inner) table.starts.items → IsStrictlyIncreasing table.starts.items
+    → table.rows.items ≡ [] → table.levels.items ≡ [] → table.inner ≡ inner → IsTableFor flat inner table
+table_begun flat none table inner s more begins seen starts rise rows levels symbols = record {
+  is = record {
+    grammar = record {
+      is = refl;
+      one = subst (λ v. IsOne v) (sym same) s.one;
+      uncounted = subst (λ v. AreUncounted v) (sym same) s.uncounted;
+      tail_places = subst (λ v. MarksLast (flat_of v) (last_of v)) (sym more.same)
+          (subst (λ v. MarksLast v (last_in none)) (sym s.is) s.tail_places);
+    };
+    begins = begins;
+    seen = (let lt = slice_get_within table.states.states table.start begins.state begins.is in
+        omega (arith, lt, seen));
+    starts_are = subst (λ v. AreClassStarts v (line_symbols table.inner) table.starts.items) (sym same)
+        (subst (λ v. AreClassStarts flat (line_symbols v) table.starts.items) (sym symbols) starts);
+    rise = rise;
+    rows_are = λ n row at_n. absurd (let e = subst (λ v. slice_get v n ≡ Some row) rows at_n in cc e);
+    levels_are = λ count n level can at_count at_n.
+        absurd (let e = subst (λ v. slice_get v count ≡ Some level) levels at_count in cc e);
+  };
+  grammar = same;
+  symbols = symbols;
+}
+  where
+    same : grammar_of table.states ≡ flat
+    same = ap (λ v. flat_of v) more.same ∙ s.is
+
+pub table_still : (flat : Flat) (inner : LineSymbols) (old new : Table) → IsTableFor flat inner old
+    → IsTableGrown old new
+    → IsTableFor flat inner new
+table_still flat inner old new t k = record {
+  is = k.is;
+  grammar = ap (λ v. flat_of v) k.more.same ∙ t.grammar;
+  symbols = k.inner ∙ t.symbols;
+}
+
+abbrev pub lines_in : Flat → LineSymbols → ℕ → LineSet
+lines_in flat inner limit = record {
+  flat = flat;
+  alphabet = inner.alphabet;
+  terminator = inner.terminator;
+  limit = limit;
+}
+
+pub set_is : (flat : Flat) (inner : LineSymbols) (table : Table) (limit : ℕ) → IsTableFor flat inner table
+    → table_lines table limit ≡ lines_in flat inner limit
+set_is flat inner table limit t =
+    ap (λ v. lines_in v table.inner limit) t.grammar ∙ ap (λ v. lines_in flat v limit) t.symbols
+
+pub prefix_of : (lines : List ℕ → Type 0) (step : NextLine) → IsFirstFrom lines 0 step → IsFirstStep lines step
+prefix_of lines (Line w) f = (f.0, λ v l. f.2 v l (omega arith))
+prefix_of lines Done f = λ v l. f v l (omega arith)
+
+-- the lines of a rule
+pub rule_lines : (flat : Flat) (alphabet : Alphabet) (terminator limit : ℕ) (rules : List Rule) (id : ℕ)
+    → ((has : ℕ → Bool) (x : List ℕ) → length x ≤ limit → AreLetters has x
+    → DerivesLine flat x ↔ RuleDerives has rules id x)
+    → AreRuleLines alphabet terminator limit rules id (record {
+      flat = flat;
+      alphabet = alphabet;
+      terminator = terminator;
+      limit = limit;
+    })
+rule_lines flat alphabet terminator limit rules id derives w = (
+  λ l. record {
+    symbols = l.symbols;
+    within = l.within;
+    derives = (derives (has_letter alphabet) w l.within (inner_letters alphabet terminator w l.symbols)).0 l.derives;
+  },
+  λ l. record {
+    symbols = l.symbols;
+    within = l.within;
+    derives = (derives (has_letter alphabet) w l.within (inner_letters alphabet terminator w l.symbols)).1 l.derives;
+  },
+)

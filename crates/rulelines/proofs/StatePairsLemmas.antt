@@ -1,0 +1,100 @@
+-- Pairs of states from symbol to symbol.
+-- Serves: closed_pairs_include, included_lines, first_line, no_line_up_to, no_line, parts_include.
+use Rattle.std.proofs.Common.{◌≡◌, ℕ, zero, suc, ◌+◌, ◌<◌, ◌≤◌, List, [], ◌∷◌, length, refl, subst, arith, inl}
+use Rattle.std.specs.Prelude.{Bool, true, slice_get, Some, Contains}
+use Rattle.abnfread.specs.Element.{Rule}
+use Rattle.abnfcheck.specs.Derivable.{AreLetters, RuleDerives}
+use Rattle.flatgrammar.specs.Flat.{Flat, Place}
+use Rattle.letterclasses.specs.Stacks.{Accepts, AreAlike, IsFront, IsNext}
+use Rattle.letterclasses.proofs.FrontLemmas.{next_front, nothing_below}
+use Rattle.letterclasses.proofs.StacksLemmas.{accepted_holds, holds_accepted}
+use Rattle.rulelines.specs.StatePairs.{AcceptsRule, AreClosed, AreSamples, IsStartPair, PairLeads}
+use Rattle.rulelines.specs.StatePairs.{StatePair}
+
+-- each number below the length has an element
+pub element_at : {A : Type 0} (xs : List A) (k : ℕ) → k < length xs → (a : A) × (slice_get xs k ≡ Some a)
+element_at [] k lt = absurd (omega (arith, lt))
+element_at (x ∷ xs) zero lt = (x, refl)
+element_at (x ∷ xs) (suc k) lt = element_at xs k (omega (arith, lt))
+
+pub symbol_at : (has : ℕ → Bool) (x : List ℕ) (i c : ℕ) → AreLetters has x → slice_get x i ≡ Some c → has c ≡ true
+symbol_at has [] i c all is = cc is
+symbol_at has (b ∷ x) zero c all is = subst (λ v. has v ≡ true) (cc is) all.0
+symbol_at has (b ∷ x) (suc i) c all is = symbol_at has x i c all.1 is
+
+front_on : (flat : Flat) (last : Place → Bool) (x : List ℕ) (j c d : ℕ) → slice_get x j ≡ Some c → AreAlike flat c d
+    → (tops next : List (List Place)) (ended now : Bool) → IsFront flat last x j (Contains tops) ended []
+    → IsNext flat last (Contains tops) d (Contains next) now → IsFront flat last x (j + 1) (Contains next) now []
+front_on flat last x j c d is alike tops next ended now front is_next =
+    next_front flat last x j c d is alike (Contains tops) []
+    (nothing_below flat last x j (Contains tops) ended front) (Contains next) now is_next
+
+module _ (old : Flat) (old_last : Place → Bool) (new : Flat) (new_last : Place → Bool) (x : List ℕ) where
+  -- a pair holds the fronts of both after j symbols
+  pub record ArePairFronts (j : ℕ) (pair : StatePair) : Type 0 where
+    pub old_front : IsFront old old_last x j (Contains pair.old) pair.old_ended []
+    pub new_front : IsFront new new_last x j (Contains pair.new) pair.new_ended []
+
+  pub start_fronts : (p : StatePair) → IsStartPair old old_last new new_last p → ArePairFronts 0 p
+  start_fronts p starts = record { old_front = starts.old_starts x; new_front = starts.new_starts x }
+
+  -- a symbol leads on where a sample does that is in the same sets
+  pub next_fronts : (j c d : ℕ) → slice_get x j ≡ Some c → AreAlike old c d → AreAlike new c d → (p q : StatePair)
+      → PairLeads old old_last new new_last d p q → ArePairFronts j p → ArePairFronts (j + 1) q
+  next_fronts j c d is old_alike new_alike p q l here = record {
+    old_front = front_on old old_last x j c d is old_alike p.old q.old p.old_ended q.old_ended here.old_front
+        l.old_next;
+    new_front = front_on new new_last x j c d is new_alike p.new q.new p.new_ended q.new_ended here.new_front
+        l.new_next;
+  }
+
+module _ (has : ℕ → Bool) (old : Flat) (old_last : Place → Bool) (new : Flat) (new_last : Place → Bool)
+    (samples : List ℕ) (each : AreSamples old new has samples) (pairs : List StatePair) (first : StatePair)
+    (closed : AreClosed old old_last new new_last samples pairs) (is_one : Contains pairs first)
+    (starts : IsStartPair old old_last new new_last first) (x : List ℕ)
+    (symbols : AreLetters has x) where
+  -- one of the pairs does so
+  record AtPair (j : ℕ) : Type 0 where
+    pub pair : StatePair
+    pub among : Contains pairs pair
+    pub fronts : ArePairFronts old old_last new new_last x j pair
+
+  at_next : (j c : ℕ) → slice_get x j ≡ Some c → AtPair j → AtPair (j + 1)
+  at_next j c is here =
+      let s = each c (symbol_at has x j c symbols is) in
+      let on = closed.leads here.pair here.among s.sample s.is in
+      record {
+        pair = on.next;
+        among = on.is;
+        fronts = next_fronts old old_last new new_last x j c s.sample is s.old_alike s.new_alike here.pair on.next
+            on.leads here.fronts;
+      }
+
+  at_each : (j : ℕ) → j ≤ length x → AtPair j
+  at_each zero le = record {
+    pair = first;
+    among = is_one;
+    fronts = start_fronts old old_last new new_last x first starts;
+  }
+  at_each (suc j) le =
+      let g = element_at x j (omega (arith, le)) in
+      let same : j + 1 ≡ suc j = omega arith in
+      subst AtPair same (at_next j g.0 g.1 (at_each j (omega (arith, le))))
+
+  pub accepted_too : Accepts old old_last x (length x) → Accepts new new_last x (length x)
+  accepted_too a =
+      let here = at_each (length x) (omega arith) in
+      here.fronts.new_front.accepts.1
+      (closed.ends here.pair here.among (here.fronts.old_front.accepts.0 a).0, inl refl)
+
+-- what the rule derives, stacks accept
+module _ (has : ℕ → Bool) (rules : List Rule) (id : ℕ) (flat : Flat) (last : Place → Bool) (most : ℕ)
+    (reports : AcceptsRule has rules id flat last most) (x : List ℕ) (le : length x ≤ most) (symbols : AreLetters has x)
+  where
+    pub derived_accepted : RuleDerives has rules id x → Accepts flat last x (length x)
+    derived_accepted d = holds_accepted flat reports.uncounted x last reports.tail_places reports.body reports.whole
+        ((reports.derives x le symbols).1 d)
+
+    pub accepted_derived : Accepts flat last x (length x) → RuleDerives has rules id x
+    accepted_derived a = (reports.derives x le symbols).0
+        (accepted_holds flat reports.uncounted x last reports.tail_places reports.body reports.whole a)

@@ -1,0 +1,12 @@
+pub mod StatePairs
+pub mod StackSets
+pub mod FirstLines
+pub mod FoundPairs
+pub mod CountsWithin
+pub mod Samples
+pub mod Search
+pub mod Alone
+pub mod LineSets
+pub mod Rests
+pub mod Starts
+pub mod StateTables

@@ -1,0 +1,37 @@
+-- Keys at which classes of symbols start, in the order of lines.
+use Rattle.std.specs.Prelude.{◌≡◌, ◌⊎◌, ℕ, ◌+◌, ◌≤◌, Bool, true, List, [], ◌∷◌, slice_get, Some, Contains}
+use Rattle.flatgrammar.specs.Flat.{Flat}
+use Rattle.letterclasses.specs.ClassBounds.{AreNodesSplit}
+use Rattle.letterclasses.specs.Stacks.{AreAlike}
+use Rattle.rulelines.specs.FirstLines.{sort_key}
+
+-- the symbol before it is in the same sets
+pub record IsJoinedOn (flat : Flat) (has : ℕ → Bool) (c : ℕ) : Type 0 where
+  pub before : ℕ
+  pub symbol : has before ≡ true
+  pub next : sort_key c ≡ sort_key before + 1
+  pub alike : AreAlike flat c before
+
+-- the key of each symbol is a start, or the symbol before it is in the same sets
+abbrev pub AreClassStarts : Flat → (ℕ → Bool) → List ℕ → Type 0
+AreClassStarts flat has starts = (c : ℕ) → has c ≡ true → Contains starts (sort_key c) ⊎ IsJoinedOn flat has c
+
+-- where the order of symbols, the alphabets or the symbols of a line change
+abbrev pub edges : ℕ → List ℕ
+edges terminator = 0 ∷ 32 ∷ 33 ∷ 127 ∷ 57344 ∷ terminator ∷ (terminator + 1) ∷ []
+
+-- the sets, the order of symbols, the alphabets and the symbols of a line change at these numbers alone
+pub record AreLineBounds (flat : Flat) (terminator : ℕ) (bounds : List ℕ) : Type 0 where
+  pub split : AreNodesSplit bounds flat.nodes
+  pub edges_are : (c : ℕ) → Contains (edges terminator) c → Contains bounds c
+
+-- the keys of those bounds that are symbols
+abbrev pub HaveKeys : (ℕ → Bool) → List ℕ → List ℕ → Type 0
+HaveKeys has bounds keys = (b : ℕ) → Contains bounds b → has b ≡ true → Contains keys (sort_key b)
+
+-- the index of the last start up to a key
+pub record IsLastUpTo (starts : List ℕ) (key j : ℕ) : Type 0 where
+  pub start : ℕ
+  pub is : slice_get starts j ≡ Some start
+  pub within : start ≤ key
+  pub last : (s : ℕ) → Contains starts s → s ≤ key → s ≤ start

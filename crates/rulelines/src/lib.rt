@@ -1,0 +1,19 @@
+//! The lines of rules: those that one of two rules derives alone, and those of one rule in order.
+#![tactic(auto)]
+
+mod alone;
+mod comparison;
+mod counts;
+mod laws;
+mod listed;
+mod pairs;
+mod samples;
+mod search;
+
+pub use alone::Alone;
+pub use comparison::{Comparison, compare};
+pub use laws::{
+    any_length, closed_pairs_include, first_line, included_lines, no_line, no_line_up_to,
+    parts_include, swapped_pairs,
+};
+pub use listed::{Lines, NextLine};

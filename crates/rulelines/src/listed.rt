@@ -1,0 +1,9 @@
+//! The lines that a rule derives, in order.
+
+mod keys;
+mod lines;
+mod search;
+mod starts;
+mod table;
+
+pub use lines::{Lines, NextLine};

@@ -1,9 +1,0 @@
-mod ComesFirstLemmas
-mod StatePairsLemmas
-mod StackSetsLemmas
-mod FoundPairsLemmas
-mod SwappedLemmas
-mod CountsWithinLemmas
-mod SamplesLemmas
-mod SearchLemmas
-mod OldAloneLemmas

@@ -1,6 +1,0 @@
-use Rattle.std.proofs.Common.{◌≡◌, map, take}
-use Rattle.rulepairs.specs.Samples.{symbol_of}
-use Rattle.rulepairs.proofs.samples.symbols_of.Given as goal
-
-abbrev pub invariant-loop-key : goal.invariant-loop-key
-invariant-loop-key l = l.symbols.items ≡ map symbol_of (take l.key-index l.keys)
