@@ -38,7 +38,7 @@ EXEMPT = (
     # It lends a field of a type of which no other value is at hand.
     "flatgrammar: Flat.share",
     # Its equation stands behind a premise, and `requires` says that something meets the premise.
-    "pegmatch: writing.write_event", "matchfailure: TextPlace.behind",
+    "pegmatch: writing.write_event", "matchfailure: TextPlace.after",
     # It passes on what the reader inside gives.
     "cli: Input.read",
     # It passes on what `KeyLog::get` finds.
@@ -49,7 +49,7 @@ EXEMPT = (
     # clause equates.
     "pegexplain: notes.explain_peg_note",
     # It passes on what its helpers return, whose clauses equate.
-    "pegexplain: told.peg_hints",
+    "pegexplain: reported.peg_hints",
     # It tells what its helpers find, of which `is_barren` has an edit.
     "abnfhints: hints.abnf_hints",
     # It passes on what `nullable` marks, and `need` has an edit.
@@ -71,7 +71,7 @@ EXEMPT = (
     "capi: calls.abnf", "capi: runner_calls.peg_open",
     # A crate above has such an edit.
     "abnfrun: AbnfJudge.judge", "memoryrun: whole_run.abnf_in_memory", "memoryrun: whole_run.peg_in_memory",
-    "earleyitems: ItemChart.spots", "toolrun: plan.plan_of", "toolrun: tool.act", "diagnostics: explained.places_of",
+    "earleyitems: ItemChart.dots", "toolrun: plan.plan_of", "toolrun: tool.act", "diagnostics: explained.places_of",
     "abnfcheck: table_marks.sound_rules",
 )
 

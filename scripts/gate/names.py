@@ -32,23 +32,23 @@ TYPE = re.compile(r"^(?:pub(?:\([a-z]+\))? )?(?:struct|enum|trait|type) (\w+)", 
 # stand and whose words they speak.
 LANGUAGES = (
     {"abnfread", "abnfprint", "abnfexplain", "abnfcheck", "abnfrun", "flatgrammar", "lowering"},
-    {"pegread", "pegprint", "pegfaults", "pegexplain", "pegnodes", "gramcheck", "pegrun", "pegmatch"},
+    {"pegread", "pegprint", "pegexplain", "pegnodes", "gramcheck", "pegrun", "pegmatch"},
     {"diagnostics", "lexer", "rulenames", "ruletable", "toolrun"},
 )
 # Names that stand in crates of one language, or in crates that speak of something else each; agreed, and not to grow.
 TWINS = set(
     """
-    Adds allows AreBelow AreCallers AreDifferent AreGrown AreOrdered AreReaders AreWaiting AreWithin behind
+    Adds allows AreBelow AreCallers AreDifferent AreGrown AreOrdered AreReaders AreWaiting AreWithin after
     Begins
     Chain Closes Drops ended Finishes GoesOn Grammar Grows IsAdded IsBegun IsBuilt IsClosing IsCut IsFirst IsHead IsIn
     IsLast IsNext IsOver IsPart IsPrinted IsRanked IsStart IsStep IsTable IsTaken Names Piece
     Place Reads Says Way Writes empty head_of is_blank key_of members_of node_of pair place_of places_of row_of
-    run_text spots_of steps_of taken_at unit_of unmarked way_of
+    run_text dots_of steps_of taken_at unit_of unmarked way_of
     """.split()
 )
 # The most crates of the workspace, and the most that a chain of uses has which ends in a program. A program is a crate
-# of its own, as `abnfd` and `abnfg`. `rfcforms` reads XML, for which `abnfblocks` has no room.
-MOST_CRATES = 54
+# of its own, as `abnfd` and `abnfg`. `rfcforms` reads XML, since `abnfblocks` and `abnftexts` are full.
+MOST_CRATES = 52
 LONGEST_CHAIN = 10
 # The programs, each with the parts of crates.txt of which it uses nothing, and the most crates below it.
 PROGRAMS = {

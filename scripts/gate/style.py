@@ -24,8 +24,8 @@ TOP = pathlib.Path(__file__).resolve().parents[2]
 SOURCES = """
     abnfblocks abnfcheck abnfd abnfexplain abnfg abnfhints abnfi abnfprint abnfread abnfrun abnftexts abnfx capi cli
     diagnostics earley earleyitems fanquber fanquber_c feed fixpoint flatgrammar gramcheck lazydfa letterclasses
-    letters lexer linejudge lowering matchfailure memo memoryrun packrat pegexplain pegfaults pegi pegmatch pegnodes
-    pegprint pegread pegrun refusedlines rfcforms rulenames ruletable testio tests_abnf tests_answers tests_peg
+    letters lexer linejudge lowering matchfailure memo memoryrun packrat pegexplain pegi pegmatch pegnodes pegprint
+    pegread pegrun refusedlines rfcforms rulelines rulenames ruletable testio tests_abnf tests_answers tests_peg
     tests_runs toolrun uses
     """.split()
 # The files whose words are clean. A file that is rewritten joins them.
@@ -55,7 +55,7 @@ WORDS = (
 AGREED = {
     ("docs/GLOSSARY.md", "told"), ("docs/GLOSSARY.md", "refuse"), ("docs/GLOSSARY.md", "comes back to itself"),
     # names of types and methods, in the comments by which pages.py writes contracts
-    ("docs/crates/flatgrammar.md", "spots"),
+    
 }
 LONGEST_SENTENCE = 35
 # A number that documents name: the file of its constant, how that stands there, and how documents say it.
@@ -86,7 +86,7 @@ LIMITS = (
         rf"[Tt]exts?\s+(?:has|have|is)\s+(?:at\s+most|longer\s+than)\s+{NUMBER}\s+bytes",
         rf"IB TEXT \" longer than {NUMBER} bytes", rf"(?:each\s+)?of\s+at\s+most\s+{NUMBER}\s+bytes",
     )),
-    Limit("MAX_TOLD", "crates/linejudge/src/reached.rt", r"MAX_TOLD: usize = ([\d_]+)", (
+    Limit("MAX_REPORTED", "crates/linejudge/src/reached.rt", r"MAX_REPORTED: usize = ([\d_]+)", (
         rf"first\s+{NUMBER}\s+(?:(?:refused|rejected)\s+)?lines",
     )),
 )

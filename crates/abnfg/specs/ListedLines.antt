@@ -7,8 +7,8 @@ use Rattle.std.proofs.Common.{Vec, Global}
 use Rattle.abnfg.specs.declared.lines.Halt.{Halt}
 use Rattle.abnfg.specs.declared.lines.Halt.TheVariants.{NoMemory as HaltsUnroomed, Nothing, TooMany}
 use Rattle.abnfg.specs.declared.lines.Halt.TheVariants.{All as Finished}
-use Rattle.rulelines.specs.declared.listed.lines.NextLine.{NextLine}
-use Rattle.rulelines.specs.declared.listed.lines.NextLine.TheVariants.{Line, Done as End}
+use Rattle.rulelines.specs.declared.list.lines.NextLine.{NextLine}
+use Rattle.rulelines.specs.declared.list.lines.NextLine.TheVariants.{Line, Done as End}
 use Rattle.letters.specs.declared.alphabet.Alphabet.{Alphabet}
 use Rattle.ruletable.specs.Writing.{AppendsPart}
 use Rattle.ruletable.specs.declared.sink.WriteFault.{WriteFault}

@@ -7,3 +7,9 @@ mod ListedRulesLemmas
 pub mod ReadBackLemmas
 pub mod ReadsFormedLemmas
 pub mod SameWordsLemmas
+pub mod StandLemmas
+pub mod CanStandLemmas
+pub mod TakenTokensLemmas
+pub mod PegExplainedLemmas
+pub mod PegWhyLemmas
+mod ReportsKindsLemmas

@@ -2,3 +2,9 @@ pub mod Brackets
 pub mod Canon
 pub mod CanonMembers
 pub mod ReadBack
+pub mod PegDecisions
+pub mod PegExpected
+pub mod PegExplained
+pub mod PegMistakes
+pub mod PegStands
+pub mod PhraseRows

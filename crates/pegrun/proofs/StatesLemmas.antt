@@ -14,7 +14,7 @@ use Rattle.pegread.proofs.IsFaultOfLemmas.{one-reading, one-fault, no-fault}
 use Rattle.gramcheck.specs.Checked.{is_refused, IsStart}
 use Rattle.gramcheck.specs.GrammarNotes.{names_at}
 use Rattle.gramcheck.proofs.AreNotesLemmas.{notes-one, those-one}
-use Rattle.pegfaults.specs.PegExplained.{Explains}
+use Rattle.pegprint.specs.PegExplained.{Explains}
 use Rattle.pegexplain.specs.PegNotes.{ExplainsNote}
 use Rattle.pegexplain.specs.PegHints.{ArePegHints}
 use Rattle.pegrun.specs.Answers.{States, refused, unexplained, noted, checked, runs, cut_notes, again}

@@ -6,7 +6,7 @@ use Rattle.ruletable.specs.declared.fault.ReadFault.TheVariants.{Memory}
 use Rattle.pegread.specs.Definitions.{firsts}
 use Rattle.pegread.specs.Pattern.{Rule}
 use Rattle.pegread.specs.Reading.{Reads, IsFaultOf}
-use Rattle.pegfaults.specs.PegExplained.{Explains}
+use Rattle.pegprint.specs.PegExplained.{Explains}
 use Rattle.pegexplain.specs.PegNotes.{ExplainsNote}
 use Rattle.pegexplain.specs.PegHints.{ArePegHints}
 use Rattle.gramcheck.specs.Checked.{is_refused, IsStart}

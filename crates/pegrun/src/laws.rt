@@ -1,7 +1,7 @@
 //! Laws of what is stated for a grammar and an input: there is at most one reply.
 ghost use Rattle.std.specs.Prelude.{◌≡◌, ◌≢◌, ℕ, List, []};
 ghost use Rattle.ruletable.specs.declared.fault.ReadFault.{ReadFault};
-ghost use Rattle.pegfaults.specs.PegExplained.{Explains};
+ghost use Rattle.pegprint.specs.PegExplained.{Explains};
 ghost use Rattle.pegread.specs.Pattern.{Rule};
 ghost use Rattle.pegread.specs.Reading.{IsFaultOf, Reads};
 ghost use Rattle.toolrun.specs.Input.{Input};
@@ -13,7 +13,7 @@ ghost use Rattle.pegrun.specs.PegSettings.{PegSettings};
 
 use matchfailure::one_no_match;
 use pegexplain::{one_note_explanation, one_text_of_hints};
-use pegfaults::one_explanation;
+use pegprint::one_explanation;
 use pegread::one_reading;
 
 /// Says that a list of rules, a start rule and settings have at most one reply to an input.

@@ -1,6 +1,6 @@
 //! The language of peg(1), whose grammars are run on units of an input.
 ghost use Rattle.gramcheck.specs.Grammar.{IsRankedFor};
-ghost use Rattle.pegfaults.specs.PegExplained.{Explains};
+ghost use Rattle.pegprint.specs.PegExplained.{Explains};
 ghost use Rattle.pegexplain.specs.PegNotes.{ArePegPlaces, ExplainsNote, IsPegRead};
 ghost use Rattle.pegexplain.specs.PegHints.{ArePegHints};
 ghost use Rattle.pegprint.specs.Canon.{grammar_text};
@@ -16,8 +16,7 @@ use feed::Source;
 use gramcheck::{RankedNodes, SoundPeg, judge_peg, redefinitions};
 use packrat::Packrat;
 use pegexplain::{PegPlaces, explain_peg_note, peg_hints, peg_places};
-use pegfaults::explain_fault;
-use pegprint::print_peg;
+use pegprint::{explain_fault, print_peg};
 use pegread::{Expr, Peg, read_peg};
 use ruletable::{Memory, Note, ReadFault, RuleTable, Sink, WriteFault};
 use std::alloc::Global;

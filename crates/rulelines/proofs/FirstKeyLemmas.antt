@@ -14,7 +14,7 @@ use Rattle.lazydfa.specs.StateSets.{grammar_of, last_in, StateSet}
 use Rattle.lazydfa.proofs.StateSetsLemmas.{got_at}
 use Rattle.rulelines.specs.FirstLines.{sort_key}
 use Rattle.rulelines.specs.Samples.{symbol_of}
-use Rattle.rulelines.specs.declared.listed.table.Table.{Table}
+use Rattle.rulelines.specs.declared.list.table.Table.{Table}
 use Rattle.rulelines.specs.StateTables.{HasRestIn, line_symbols, IsCan, IsFirstKeyIn, IsStateTable, IsStep}
 use Rattle.rulelines.specs.StateTables.{TakesKeyIn}
 use Rattle.rulelines.proofs.RestLemmas.{ended_rest, first_from, key_taken, no_key, none_from, rest_ended, some_key}

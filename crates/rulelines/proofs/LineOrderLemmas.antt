@@ -12,10 +12,10 @@ use Rattle.letters.specs.declared.alphabet.Alphabet.{Alphabet}
 use Rattle.letterclasses.proofs.StacksLemmas.{accepted_holds, holds_accepted}
 use Rattle.lazydfa.specs.StateSets.{grammar_of, last_in, StateSet}
 use Rattle.rulelines.specs.FirstLines.{ComesFirst, IsShortlexBefore, later, shorter, symbol}
-use Rattle.rulelines.specs.declared.listed.lines.NextLine.{NextLine}
-use Rattle.rulelines.specs.declared.listed.lines.NextLine.TheVariants.{Line, Done}
-use Rattle.rulelines.specs.declared.listed.search.Change.{Change}
-use Rattle.rulelines.specs.declared.listed.table.Table.{Table}
+use Rattle.rulelines.specs.declared.list.lines.NextLine.{NextLine}
+use Rattle.rulelines.specs.declared.list.lines.NextLine.TheVariants.{Line, Done}
+use Rattle.rulelines.specs.declared.list.search.Change.{Change}
+use Rattle.rulelines.specs.declared.list.table.Table.{Table}
 use Rattle.rulelines.specs.LineSets.{IsLineAfter, IsFirstAfter, is_line_symbol, IsLineIn}
 use Rattle.rulelines.specs.Rests.{IsRest}
 use Rattle.rulelines.specs.StateTables.{HasNoNextRestIn, line_symbols, IsCan, IsChangedTo, IsFilledBy, IsFirstFrom}

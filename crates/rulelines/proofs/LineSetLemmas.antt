@@ -16,10 +16,10 @@ use Rattle.letterclasses.specs.Stacks.{AreUncounted, MarksLast}
 use Rattle.lazydfa.specs.Conts.{last_of}
 use Rattle.lazydfa.specs.RunVerdicts.{IsOne}
 use Rattle.lazydfa.specs.StateSets.{AreMoreStates, AreStatesOf, grammar_of, IsStartState, last_in, StateSets}
-use Rattle.rulelines.specs.declared.listed.keys.LineSymbols.{LineSymbols}
-use Rattle.rulelines.specs.declared.listed.lines.NextLine.{NextLine}
-use Rattle.rulelines.specs.declared.listed.lines.NextLine.TheVariants.{Line, Done}
-use Rattle.rulelines.specs.declared.listed.table.Table.{Table}
+use Rattle.rulelines.specs.declared.list.keys.LineSymbols.{LineSymbols}
+use Rattle.rulelines.specs.declared.list.lines.NextLine.{NextLine}
+use Rattle.rulelines.specs.declared.list.lines.NextLine.TheVariants.{Line, Done}
+use Rattle.rulelines.specs.declared.list.table.Table.{Table}
 use Rattle.rulelines.specs.LineSets.{AreRuleLines, IsFirstStep, LineSet}
 use Rattle.rulelines.specs.Starts.{AreClassStarts}
 use Rattle.rulelines.specs.StateTables.{line_symbols, IsFirstFrom, IsTableGrown, IsTableFor}

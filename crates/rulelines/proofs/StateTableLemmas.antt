@@ -17,7 +17,7 @@ use Rattle.lazydfa.proofs.StateSetsLemmas.{got_at}
 use Rattle.rulelines.specs.Alone.{AreOfGrammar}
 use Rattle.rulelines.specs.FirstLines.{sort_key}
 use Rattle.rulelines.specs.Samples.{symbol_of}
-use Rattle.rulelines.specs.declared.listed.table.Table.{Table}
+use Rattle.rulelines.specs.declared.list.table.Table.{Table}
 use Rattle.rulelines.specs.Rests.{HasRest}
 use Rattle.rulelines.specs.Starts.{AreClassStarts, IsLastUpTo}
 use Rattle.rulelines.specs.StateTables.{AreLevelsOf, AreRowsOf, line_symbols, IsCanOf, IsEntryAdded, IsTableGrown}

@@ -9,8 +9,8 @@ use Rattle.letterclasses.specs.Stacks.{IsNext}
 use Rattle.lazydfa.specs.StateSets.{grammar_of, last_in, StateSet}
 use Rattle.rulelines.specs.FirstLines.{shorter, sort_key}
 use Rattle.rulelines.specs.Samples.{symbol_of}
-use Rattle.rulelines.specs.declared.listed.search.Change.{Change}
-use Rattle.rulelines.specs.declared.listed.table.Table.{Table}
+use Rattle.rulelines.specs.declared.list.search.Change.{Change}
+use Rattle.rulelines.specs.declared.list.table.Table.{Table}
 use Rattle.rulelines.specs.StateTables.{HasNoNextRestIn, line_symbols, IsChange, IsChangedTo, IsFilledBy}
 use Rattle.rulelines.specs.StateTables.{IsFirstKeyIn}
 use Rattle.rulelines.specs.StateTables.{IsFirstRestIn, IsLastChange, IsNextBy, IsNextRestIn, IsStep}

@@ -6,8 +6,8 @@ use Rattle.flatgrammar.specs.Flat.{Flat}
 use Rattle.flatgrammar.specs.FlatVerdicts.{DerivesLine}
 use Rattle.letters.specs.Letters.{has}
 use Rattle.letters.specs.declared.alphabet.Alphabet.{Alphabet}
-use Rattle.rulelines.specs.declared.listed.lines.NextLine.{NextLine}
-use Rattle.rulelines.specs.declared.listed.lines.NextLine.TheVariants.{Line, Done}
+use Rattle.rulelines.specs.declared.list.lines.NextLine.{NextLine}
+use Rattle.rulelines.specs.declared.list.lines.NextLine.TheVariants.{Line, Done}
 use Rattle.rulelines.specs.FirstLines.{ComesFirst, HasNoLine, IsFirstLine, IsShortlexBefore}
 
 -- whether a number is a symbol of the alphabet, and not the one that ends a line

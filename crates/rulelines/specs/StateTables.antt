@@ -8,11 +8,11 @@ use Rattle.lazydfa.specs.StateSets.{AreMoreStates, grammar_of, IsNextState, IsSt
 use Rattle.rulelines.specs.Alone.{AreOfGrammar}
 use Rattle.rulelines.specs.FirstLines.{ComesFirst}
 use Rattle.rulelines.specs.Samples.{symbol_of}
-use Rattle.rulelines.specs.declared.listed.keys.LineSymbols.{LineSymbols}
-use Rattle.rulelines.specs.declared.listed.lines.NextLine.{NextLine}
-use Rattle.rulelines.specs.declared.listed.lines.NextLine.TheVariants.{Line, Done}
-use Rattle.rulelines.specs.declared.listed.search.Change.{Change}
-use Rattle.rulelines.specs.declared.listed.table.Table.{Table}
+use Rattle.rulelines.specs.declared.list.keys.LineSymbols.{LineSymbols}
+use Rattle.rulelines.specs.declared.list.lines.NextLine.{NextLine}
+use Rattle.rulelines.specs.declared.list.lines.NextLine.TheVariants.{Line, Done}
+use Rattle.rulelines.specs.declared.list.search.Change.{Change}
+use Rattle.rulelines.specs.declared.list.table.Table.{Table}
 use Rattle.rulelines.specs.LineSets.{is_line_symbol, LineSet}
 use Rattle.rulelines.specs.Rests.{HasNoNextRest, HasRest, IsFirstKey, IsFirstRest, IsNextRest, TakesKey}
 use Rattle.rulelines.specs.Starts.{AreClassStarts}

@@ -5,7 +5,7 @@ mod alone;
 mod comparison;
 mod counts;
 mod laws;
-mod listed;
+mod list;
 mod pairs;
 mod samples;
 mod search;
@@ -16,4 +16,4 @@ pub use laws::{
     any_length, closed_pairs_include, first_line, included_lines, no_line, no_line_up_to,
     parts_include, swapped_pairs,
 };
-pub use listed::{Lines, NextLine};
+pub use list::{Lines, NextLine};

@@ -1,8 +1,8 @@
 //! Calls on the lines that a rule derives.
 
 use crate::sound_grammars::sound;
-use rulelines::{Lines, NextLine};
 use letters::Alphabet;
+use rulelines::{Lines, NextLine};
 use std::alloc::Global;
 use testio::{Fields, Text};
 

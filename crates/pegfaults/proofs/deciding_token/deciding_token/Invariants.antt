@@ -1,7 +1,0 @@
-use Rattle.std.proofs.Common.{map}
-use Rattle.lexer.specs.TokenLists.{tok_of}
-use Rattle.pegfaults.proofs.TakenTokensLemmas.{AreLeft, HasTaken}
-use Rattle.pegfaults.proofs.deciding_token.deciding_token.Given as goal
-
-abbrev pub invariant-loop-token : goal.invariant-loop-token
-invariant-loop-token l = HasTaken l.text (AreLeft l.token-iterator) l.place (map tok_of l.yielded)

@@ -1,6 +1,0 @@
-use Rattle.pegfaults.proofs.PegExplainedLemmas.{two-join}
-use Rattle.pegfaults.proofs.explain.deep_lines.Goals as goal
-
-pub returns : goal.returns
-returns c = two-join _ _ _ _ _ c.new-out.ensures.items c.in_ok-push_token_place.ensures
-    c.in_ok-extend_from_slice.ensures.items

@@ -1,7 +1,0 @@
-use Rattle.std.proofs.Common.{◌≡◌, drop}
-use Rattle.std.specs.List.{list_all}
-use Rattle.pegfaults.specs.PegStands.{allows}
-use Rattle.pegfaults.proofs.phrases.allows_all.Given as goal
-
-abbrev pub invariant-loop-kind : goal.invariant-loop-kind
-invariant-loop-kind l = list_all (allows l.place) (drop l.kind-index l.kinds) ≡ list_all (allows l.place) l.kinds

@@ -1,0 +1,7 @@
+use Rattle.std.proofs.Common.{map}
+use Rattle.lexer.specs.TokenLists.{tok_of}
+use Rattle.pegprint.proofs.TakenTokensLemmas.{AreLeft, HasTaken}
+use Rattle.pegprint.proofs.faults.deciding_token.deciding_token.Given as goal
+
+abbrev pub invariant-loop-token : goal.invariant-loop-token
+invariant-loop-token l = HasTaken l.text (AreLeft l.token-iterator) l.place (map tok_of l.yielded)

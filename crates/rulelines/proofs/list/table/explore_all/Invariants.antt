@@ -1,0 +1,5 @@
+use Rattle.rulelines.specs.StateTables.{IsTableGrown}
+use Rattle.rulelines.proofs.list.table.explore_all.Given as goal
+
+abbrev pub invariant-loop : goal.invariant-loop
+invariant-loop l = IsTableGrown l.initial.table l.table

@@ -1,9 +1,0 @@
-use Rattle.rulelines.proofs.StateTableLemmas.{kept_self, kept_trans}
-use Rattle.rulelines.proofs.listed.table.add_levels.Goals as goal
-
-pub loop-init : goal.loop-init
-loop-init c = kept_self c.args.table.now c.requires.table
-
-pub loop-preserved : goal.loop-preserved
-loop-preserved c =
-    kept_trans c.args.table.now c.loop.table c.add_level.new.table c.loop.invariant c.in_ok-add_level.ensures

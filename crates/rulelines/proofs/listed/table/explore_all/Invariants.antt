@@ -1,5 +1,0 @@
-use Rattle.rulelines.specs.StateTables.{IsTableGrown}
-use Rattle.rulelines.proofs.listed.table.explore_all.Given as goal
-
-abbrev pub invariant-loop : goal.invariant-loop
-invariant-loop l = IsTableGrown l.initial.table l.table

@@ -1,5 +1,0 @@
-use Rattle.rulelines.proofs.FirstKeyLemmas.{AreNotTaken}
-use Rattle.rulelines.proofs.listed.table.first_key.Given as goal
-
-abbrev pub invariant-loop-key : goal.invariant-loop-key
-invariant-loop-key l = AreNotTaken l.table l.state l.from l.rest l.key-index

@@ -1,0 +1,152 @@
+//! The lines that a rule derives, one after another.
+ghost use Rattle.std.specs.Prelude.{◌≡◌, IfOk, IfSome};
+ghost use Rattle.abnfread.specs.AbnfViews.{rules_of};
+ghost use Rattle.rulelines.specs.LineSets.{AreRuleLines, IsLineAfter, IsFirstStep, IsLineIn};
+ghost use Rattle.rulelines.specs.StateTables.{IsTableFor};
+
+use crate::list::keys::LineSymbols;
+use crate::list::search::{line_after, line_from};
+use crate::list::starts::find_starts;
+use crate::list::table::Table;
+use abnfcheck::SoundAbnf;
+use flatgrammar::Flat;
+use lazydfa::States;
+use letters::Alphabet;
+use lowering::lower;
+use ruletable::Memory;
+use std::alloc::Global;
+use std::marker::Model;
+
+/// The line after another. `Line`: its symbols. `Done`: there is none.
+#[derive(Drop)]
+pub enum NextLine {
+    Line(Vec<u32>),
+    Done,
+}
+
+/// The lines over an alphabet that a rule derives, in their order: shorter lines first, and else by the first symbol
+/// that differs: %x21-7E, then the space, then others by number. They have at most `limit` symbols, and not the one
+/// that ends a line.
+#[derive(Drop)]
+pub struct Lines {
+    /// Allocates the table and the lines.
+    alloc: Global,
+    /// The lowered rule.
+    flat: Flat,
+    /// The greatest length of a line.
+    limit: u32,
+    /// The symbols of a line.
+    inner: LineSymbols,
+    /// The states that were reached; none after an allocation failed.
+    table: Option<Table>,
+}
+
+impl Model for Lines {
+    ghost use Rattle.std.specs.Prelude.{IfSome};
+    ghost use Rattle.rulelines.specs.LineSets.{LineSet};
+    ghost use Rattle.rulelines.specs.StateTables.{IsTableFor};
+
+    ghost Value = { LineSet };
+
+    ghost view = { λ l. record {
+      flat = l.flat;
+      alphabet = l.inner.alphabet;
+      terminator = l.inner.terminator;
+      limit = l.limit;
+    } };
+
+    ghost invariant = { λ l. IfSome l.table (IsTableFor l.flat l.inner) };
+}
+
+// Returns the table of a flat grammar with its start state, with so much room for states and as much for entries.
+// `None` if the grammar counts how often something nullable is repeated, or there is no room. `Memory` if an allocation
+// fails.
+fn begin_table(
+    alloc: Global,
+    flat: &Flat,
+    inner: LineSymbols,
+    room: usize,
+) -> Result<Option<Table>, Memory>
+    ensures { IfOk result (λ reported. IfSome reported (IsTableFor flat.now inner)) }
+{
+    let starts = find_starts(alloc, inner, flat)?;
+    let Some(mut states) = States::new(alloc, flat, room)? else {
+        return Ok(None);
+    };
+    let Some(start) = states.start()? else {
+        return Ok(None);
+    };
+    Ok(Some(Table {
+        inner,
+        states,
+        start,
+        seen: start.saturating_add(1),
+        starts,
+        rows: Vec::new(alloc),
+        levels: Vec::new(alloc),
+        cells: 0,
+        room,
+    }))
+}
+
+impl Lines {
+    /// Returns the lines that the judged rule of a grammar derives, of at most `limit` symbols, with room for `room`
+    /// entries of states, and as many of the table. `None` if the grammar counts how often something nullable is
+    /// repeated, or there is no room. `Memory` if an allocation fails.
+    pub fn new(
+        alloc: Global,
+        grammar: &SoundAbnf,
+        alphabet: Alphabet,
+        terminator: u8,
+        limit: u32,
+        room: usize,
+    ) -> Result<Option<Lines>, Memory>
+        ensures { IfOk result (λ reported. IfSome reported (AreRuleLines alphabet terminator limit
+            (rules_of grammar.now.rules)
+            grammar.now.judged)) }
+    {
+        let flat = lower(alloc, grammar, limit as usize)?;
+        let inner = LineSymbols {
+            alphabet,
+            terminator,
+        };
+        let Some(table) = begin_table(alloc, &flat, inner, room)? else {
+            return Ok(None);
+        };
+        Ok(Some(Lines {
+            alloc,
+            flat,
+            limit,
+            inner,
+            table: Some(table),
+        }))
+    }
+
+    /// Returns the first line; `None` if there is no room for the states. `Memory` if an allocation fails, and `None`
+    /// from then on.
+    pub fn first(&mut self) -> Result<Option<NextLine>, Memory>
+        ensures same { self.new ≡ self.old }
+        ensures first { IfOk result (λ reported. IfSome reported (IsFirstStep (IsLineIn self.old))) }
+    {
+        let Some(mut table) = self.table.take() else {
+            return Ok(None);
+        };
+        let step = line_from(self.alloc, &mut table, 0, self.limit)?;
+        self.table = Some(table);
+        Ok(step)
+    }
+
+    /// Returns the line after another, and `Done` if there is none. `None` if there is no room for the states, or the
+    /// other is no line. `Memory` if an allocation fails, and `None` from then on.
+    pub fn after(&mut self, line: &[u32]) -> Result<Option<NextLine>, Memory>
+        ensures same { self.new ≡ self.old }
+        ensures after { IfOk result (λ reported. IfSome reported (IsLineAfter (IsLineIn self.old) line.now)) }
+    {
+        let Some(mut table) = self.table.take() else {
+            return Ok(None);
+        };
+        let step = line_after(self.alloc, &mut table, line, self.limit)?;
+        self.table = Some(table);
+        Ok(step)
+    }
+}
