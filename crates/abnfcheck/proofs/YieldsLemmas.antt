@@ -272,7 +272,7 @@ pub productive_marks : (alphabet : Alphabet) (rules : List Rule) (marks : List B
     AreMarksFor (Letters alphabet) rules marks → AreProductive alphabet rules (take n marks)
 productive_marks alphabet rules marks n same fits are = record {
   count = length-take-le n marks (omega (arith, same, fits)) ∙ same;
-  reports = λ id lt.
+  exact = λ id lt.
       subst (λ (b : Bool). (b ≡ true) ↔ ((w : List ℕ) × AreLetters (in_alphabet alphabet) w
       × RuleDerives (in_alphabet alphabet) rules id w))
       (sym (get_or-take n marks id false (omega (arith, lt, same)))) (are (in_alphabet alphabet) refl id lt);

@@ -19,7 +19,7 @@ AreNullMarks rules marks = (has : ℕ → Bool) (id : ℕ) → id < length rules
 -- there is a mark for each rule, and exactly those are marked that derive some list of letters
 pub record AreProductive (alphabet : Alphabet) (rules : List Rule) (marks : List Bool) : Type 0 where
   pub count : length marks ≡ length rules
-  pub reports : (id : ℕ) → id < length rules →
+  pub exact : (id : ℕ) → id < length rules →
       (IsMarked marks id ↔ ((w : List ℕ) × AreLetters (in_alphabet alphabet) w
       × RuleDerives (in_alphabet alphabet) rules id w))
 

@@ -303,7 +303,7 @@ pub left_marks : (alphabet : Alphabet) (letter : ℕ) → letter < 65 → (rules
     → id < length rules → (IsMarked marks id ↔ Sparing (in_alphabet alphabet) letter rules id)
 left_marks alphabet letter low rules left are marks report id lt = (
   (λ on.
-      let p = (report.reports id (omega (arith, lt, many_left letter are))).0 on in
+      let p = (report.exact id (omega (arith, lt, many_left letter are))).0 on in
       let b = at_from letter are id p.2.body p.2.is in
       let d = whole_derives (in_alphabet alphabet) letter low rules left are p.2.derives b.without in
       record {
@@ -314,7 +314,7 @@ left_marks alphabet letter low rules left are marks report id lt = (
       }),
   (λ s.
       let b = at_left letter are id s.derives.body s.derives.is in
-      (report.reports id (omega (arith, lt, many_left letter are))).1 (
+      (report.exact id (omega (arith, lt, many_left letter are))).1 (
         s.word,
         s.letters,
         record {

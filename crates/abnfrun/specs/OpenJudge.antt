@@ -21,11 +21,11 @@ pub record OpenJudge : Type 0 where
 pub record IsReadyFor (grammar : Grammar) (letters : Alphabet) (viable : Bool) (flat : Flat) (automaton : Option Flat)
     : Type 0 where
   pub lowered : viable ≡ false → IsLowered (rules_of grammar.rules) grammar.judged flat
-  pub reports : viable ≡ true → GivesPrefixes (has letters) (rules_of grammar.rules) grammar.judged flat
+  pub prefixes : viable ≡ true → GivesPrefixes (has letters) (rules_of grammar.rules) grammar.judged flat
   pub same : IfSome automaton (λ a. a ≡ flat)
 
 -- The flat grammar answers for the viable prefixes of lines of one letter more than so many. It explains rejected lines
 -- of so many.
 pub record ExplainsLines (rules : List Rule) (judged : ℕ) (letters : Alphabet) (limit : ℕ) (more : Flat) : Type 0 where
   pub longer : more.limit ≡ limit + 1
-  pub reports : GivesPrefixes (has letters) rules judged more
+  pub prefixes : GivesPrefixes (has letters) rules judged more

@@ -44,7 +44,7 @@ pub struct LineJudge<'a> {
     /// an allocation failed in making it.
     pub(crate) explainer: Option<&'a Flat>,
     ghost lowered: { viable ≡ false → ∥ IsLowered (rules_of grammar.now.rules) grammar.now.judged flat.now ∥₁ },
-    ghost reports: { viable ≡ true → ∥ GivesPrefixes (has letters) (rules_of grammar.now.rules) grammar.now.judged
+    ghost prefixes: { viable ≡ true → ∥ GivesPrefixes (has letters) (rules_of grammar.now.rules) grammar.now.judged
         flat.now ∥₁ },
 }
 
@@ -286,7 +286,7 @@ pub(crate) fn lowered(
     ensures limit { IfOk result (λ flat. flat.limit ≡ judged_size settings.now settings.now.limit) }
     ensures lowered { IfOk result (λ flat. settings.now.options.viable ≡ false →
         IsLowered (rules_of grammar.now.rules) grammar.now.judged flat) }
-    ensures reports { IfOk result (λ flat. settings.now.options.viable ≡ true →
+    ensures prefixes { IfOk result (λ flat. settings.now.options.viable ≡ true →
         GivesPrefixes (has settings.now.options.letters) (rules_of grammar.now.rules) grammar.now.judged flat) }
 {
     if settings.options.viable {

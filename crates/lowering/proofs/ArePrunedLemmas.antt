@@ -170,7 +170,7 @@ module _ (has : ℕ → Bool) (rules left : List Rule) (pruned : ArePruned has r
 
     pub gives_prefixes : GivesPrefixes has rules judged flat
     gives_prefixes = record {
-      settles = λ x line letters.
+      lines = λ x line letters.
           let exact = derives_exactly has left judged flat lowered x line letters in
           ((λ h. rule_back (exact.0 h)), (λ d. exact.1 (rule_forth letters d)));
       viable = viable_exactly;

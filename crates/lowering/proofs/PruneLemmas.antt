@@ -228,7 +228,7 @@ module _ (alphabet : Alphabet) (rules : List Rule) (reported : List Bool)
   name_left on =
       let below = marked_below reported (id_of rules n) on in
       let count = are.count in
-      let r = (are.settles (id_of rules n) (omega (arith, below, count))).0 on in
+      let r = (are.exact (id_of rules n) (omega (arith, below, count))).0 on in
       record { word = r.0; letters = r.1; derives = der.name (body_at_id rules n ∙ r.2.is) r.2.derives }
     where
       marked_below : (reported : List Bool) (id : ℕ) → IsMarked reported id → id < length reported
@@ -244,5 +244,5 @@ module _ (alphabet : Alphabet) (rules : List Rule) (reported : List Bool)
           let at : slice_get (bodies rules) (id_of rules n) ≡ Some body = sym (body_at_id rules n) ∙ found in
           let below = get_below (bodies rules) (id_of rules n) at in
           let same = length-map rules (λ rule. rule.body) in
-          off ((are.settles (id_of rules n) (omega (arith, below, same))).1
+          off ((are.exact (id_of rules n) (omega (arith, below, same))).1
           (w, all, record { body = body; is = at; derives = d }))

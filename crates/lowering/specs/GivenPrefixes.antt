@@ -10,7 +10,7 @@ use Rattle.flatgrammar.specs.Holds.{HasItem}
 -- On lines within the limit: the flat grammar derives a line exactly if the rule does; and the set after the first n
 -- symbols of a line, one or more, has an item exactly if they are a viable prefix.
 pub record GivesPrefixes (has : ℕ → Bool) (rules : List Rule) (id : ℕ) (flat : Flat) : Type 0 where
-  pub settles : (x : List ℕ) → length x ≤ flat.limit → AreLetters has x → DerivesLine flat x
+  pub lines : (x : List ℕ) → length x ≤ flat.limit → AreLetters has x → DerivesLine flat x
       ↔ RuleDerives has rules id x
   pub viable : (x : List ℕ) (n : ℕ) → length x ≤ flat.limit → AreLetters has x → 0 < n → n ≤ length x → HasItem flat x n
       ↔ BeginsMember has rules id x n

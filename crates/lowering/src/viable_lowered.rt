@@ -29,7 +29,7 @@ pub fn lower_viable(
     limit: usize,
 ) -> Result<Flat, Memory>
     ensures limit { IfOk result (λ flat. flat.limit ≡ limit) }
-    ensures settles { IfOk result (λ flat. GivesPrefixes (has alphabet) (rules_of grammar.now.rules) grammar.now.judged
+    ensures prefixes { IfOk result (λ flat. GivesPrefixes (has alphabet) (rules_of grammar.now.rules) grammar.now.judged
         flat) }
     ensures parts { IfOk result (SpellsProductive (has alphabet) (rules_of grammar.now.rules) grammar.now.judged) }
     ensures places { IfOk result (λ flat. places flat.nodes ≤ sizes limit (bodies (rules_of grammar.now.rules)) + 2) }

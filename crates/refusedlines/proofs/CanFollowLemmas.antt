@@ -125,7 +125,7 @@ pub letters_push : (has : ℕ → Bool) (z : List ℕ) (c : ℕ) → AreLetters 
 letters_push has [] c all is = (is, tt)
 letters_push has (a ∷ z) c all is = (all.0, letters_push has z c all.1 is)
 
-module _ (has : ℕ → Bool) (rules : List Rule) (id : ℕ) (flat : Flat) (reports : GivesPrefixes has rules id flat)
+module _ (has : ℕ → Bool) (rules : List Rule) (id : ℕ) (flat : Flat) (prefixes : GivesPrefixes has rules id flat)
     (z : List ℕ) (short : length z + 1 ≤ flat.limit) (letters : AreLetters has z) where
   module _ (dots : List DottedRule) (are : AreReadersAt flat z (length z) dots) where
     read_follows : (c : ℕ) → has c ≡ true → DotsRead flat dots c
@@ -135,7 +135,7 @@ module _ (has : ℕ → Bool) (rules : List Rule) (id : ℕ) (flat : Flat) (repo
         let on = same_held flat z (z ++ c ∷ []) (length z) (λ k lt. sym (get_front z c k lt)) there.1 (omega arith) in
         let found = dot_reads flat r.dot c (slice_get flat.nodes r.dot.node) refl r.reads in
         let size = length-append z (c ∷ []) in
-        (reports.viable (z ++ c ∷ []) (length z + 1) (omega (arith, size, short)) (letters_push has z c letters is)
+        (prefixes.viable (z ++ c ∷ []) (length z + 1) (omega (arith, size, short)) (letters_push has z c letters is)
         (omega arith) (omega (arith, size))).0
         (record {
           place = found.1;
@@ -147,7 +147,7 @@ module _ (has : ℕ → Bool) (rules : List Rule) (id : ℕ) (flat : Flat) (repo
         → DotsRead flat dots c
     follows_read c is b =
         let size = length-append z (c ∷ []) in
-        let item = (reports.viable (z ++ c ∷ []) (length z + 1) (omega (arith, size, short))
+        let item = (prefixes.viable (z ++ c ∷ []) (length z + 1) (omega (arith, size, short))
         (letters_push has z c letters is) (omega arith) (omega (arith, size))).1 b in
         let r = item_reads flat (z ++ c ∷ []) (length z) c (get_last z c) item.held refl in
         let back = same_held flat (z ++ c ∷ []) z (length z) (get_front z c) r.held (omega arith) in
@@ -166,7 +166,7 @@ module _ (has : ℕ → Bool) (rules : List Rule) (id : ℕ) (flat : Flat) (repo
         → AreFollowing has rules id z (length z) runs ends
     are_following runs ends apart report end =
         let all = take-length z in
-        let reported = reports.reports z (omega (arith, short)) letters in
+        let reported = prefixes.lines z (omega (arith, short)) letters in
         record {
           apart = apart;
           letters = λ c. (
@@ -246,11 +246,11 @@ take_following has rules id x z n m runs ends is within size a =
 pub last_is_furthest : (has : ℕ → Bool) (rules : List Rule) (id : ℕ) (flat : Flat) → GivesPrefixes has rules id flat
     → (x : List ℕ) (n : ℕ) → length x ≤ flat.limit → AreLetters has x → IsLastSet flat x n
     → IsFurthest has rules id x n
-last_is_furthest has rules id flat reports x n short letters last = record {
+last_is_furthest has rules id flat prefixes x n short letters last = record {
   within = last.within;
-  begins = λ some. (reports.viable x n short letters some last.within).0 (last.item some);
+  begins = λ some. (prefixes.viable x n short letters some last.within).0 (last.item some);
   last = λ m past most begins.
-      last.last m past most ((reports.viable x m short letters (omega (arith, past)) most).1 begins);
+      last.last m past most ((prefixes.viable x m short letters (omega (arith, past)) most).1 begins);
 }
 
 letters_front : (has : ℕ → Bool) (n : ℕ) (x : List ℕ) → AreLetters has x → AreLetters has (take n x)
@@ -264,10 +264,10 @@ pub following_of_set : (has : ℕ → Bool) (rules : List Rule) (id : ℕ) (flat
     → AreReadersAt flat x n dots → (runs : List LetterRun) (ends : Bool) → AreApartFrom 0 runs
     → ((c : ℕ) → RunsHave runs c ↔ ((has c ≡ true) × DotsRead flat dots c))
     → (IsTrue ends ↔ Holds flat x n (at flat.whole 1) 0) → AreFollowing has rules id x n runs ends
-following_of_set has rules id flat reports x n short letters within dots are runs ends apart report end =
+following_of_set has rules id flat prefixes x n short letters within dots are runs ends apart report end =
     let size = length-take-le n x within in
     take_following has rules id x (take n x) n (length (take n x)) runs ends refl within refl
-    (are_following has rules id flat reports (take n x) (omega (arith, size, within, short))
+    (are_following has rules id flat prefixes (take n x) (omega (arith, size, within, short))
     (letters_front has n x letters) dots
     (subst (λ v. AreReadersAt flat (take n x) v dots) (sym size) (readers_of_front flat x n within dots are))
     runs ends apart report

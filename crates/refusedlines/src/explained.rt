@@ -105,7 +105,7 @@ fn explain_bytes(
 ) -> Result<(), Memory>
     requires within { length line.bytes.now + 1 ≤ explainer.now.flat.now.limit }
     requires flat { IfSome automaton.old (λ a. a ≡ explainer.now.flat.now) }
-    requires reports { GivesPrefixes (has Alphabet.Bytes) (rules_of explainer.now.grammar.now.rules)
+    requires prefixes { GivesPrefixes (has Alphabet.Bytes) (rules_of explainer.now.grammar.now.rules)
         explainer.now.grammar.now.judged explainer.now.flat.now }
     ensures flat { IfSome automaton.new (λ a. a ≡ explainer.now.flat.now) }
     ensures reported { IfOk result (λ done. IsExplained Alphabet.Bytes (rules_of explainer.now.grammar.now.rules)
@@ -135,7 +135,7 @@ fn explain_points(
 ) -> Result<(), Memory>
     requires within { length line.bytes.now + 1 ≤ explainer.now.flat.now.limit }
     requires flat { IfSome automaton.old (λ a. a ≡ explainer.now.flat.now) }
-    requires reports { GivesPrefixes (has Alphabet.Utf8) (rules_of explainer.now.grammar.now.rules)
+    requires prefixes { GivesPrefixes (has Alphabet.Utf8) (rules_of explainer.now.grammar.now.rules)
         explainer.now.grammar.now.judged explainer.now.flat.now }
     ensures flat { IfSome automaton.new (λ a. a ≡ explainer.now.flat.now) }
     ensures reported { IfOk result (λ done. IsExplained Alphabet.Utf8 (rules_of explainer.now.grammar.now.rules)
@@ -174,7 +174,7 @@ pub fn explain_refused(
 ) -> Result<(), Memory>
     requires within { length line.bytes.now + 1 ≤ explainer.now.flat.now.limit }
     requires flat { IfSome automaton.old (λ a. a ≡ explainer.now.flat.now) }
-    requires reports { GivesPrefixes (has explainer.now.letters) (rules_of explainer.now.grammar.now.rules)
+    requires prefixes { GivesPrefixes (has explainer.now.letters) (rules_of explainer.now.grammar.now.rules)
         explainer.now.grammar.now.judged explainer.now.flat.now }
     ensures flat { IfSome automaton.new (λ a. a ≡ explainer.now.flat.now) }
     ensures reported { IfOk result (λ done. IsExplained explainer.now.letters (rules_of explainer.now.grammar.now.rules)

@@ -20,5 +20,5 @@ returns c =
     rules (rules_of c.in_ok-left.left) (rw c.byte.ensures at c.in_ok-left.ensures.left) c.in_ok-kept.kept.items
     c.in_ok-kept.ensures c.args.id lt in
     only_reported (has c.args.hinted.now.letters) (end_byte c.args.hinted.now.end) rules c.args.id c.is_marked-2.result
-    ((c.requires.sound.exact c.args.id lt).0 sound_on) ((c.requires.productive.reports c.args.id lt).0 some_on)
+    ((c.requires.sound.exact c.args.id lt).0 sound_on) ((c.requires.productive.exact c.args.id lt).0 some_on)
     ((λ on. left.0 (kept.0 on)), (λ s. kept.1 (left.1 s)))

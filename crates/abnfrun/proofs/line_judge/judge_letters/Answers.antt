@@ -14,7 +14,7 @@ returns-in-Yes-clause-answer g c =
     rw c.in-Yes.is at (verdict_says (has j.letters) (rules_of j.grammar.now.rules) j.grammar.now.judged
     (map g.L.Letter.number c.args.line.now) j.flat.now (omega (arith, short, size)) c.requires.letters
     c.derivation_is_decided.ensures c.furthest_is_found.ensures.found c.furthest_is_found.ensures.one
-    c.items_decide.ensures.verdict c.in_ok-viable.field-0 (j.reports c.if-judges.true)
+    c.items_decide.ensures.verdict c.in_ok-viable.field-0 (j.prefixes c.if-judges.true)
     c.in_ok-viable.ensures.verdict)
 
 pub returns-in-No-clause-answer : goal.returns-in-No-clause-answer
@@ -26,7 +26,7 @@ returns-in-No-clause-answer g c =
     j.grammar.now.judged (map g.L.Letter.number c.args.line.now) j.flat.now (omega (arith, short, size))
     c.requires.letters
     c.derivation_is_decided.ensures c.furthest_is_found.ensures.found c.furthest_is_found.ensures.one
-    c.items_decide.ensures.verdict c.in_ok-viable.field-0 (j.reports c.if-judges.true)
+    c.items_decide.ensures.verdict c.in_ok-viable.field-0 (j.prefixes c.if-judges.true)
     c.in_ok-viable.ensures.verdict) in
     (c.if-judges.true, said.0, said.1)
 

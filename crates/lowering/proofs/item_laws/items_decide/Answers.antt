@@ -13,14 +13,14 @@ use Rattle.lowering.proofs.item_laws.items_decide.Goals as goal
 verdict_of : (has : ℕ → Bool) (rules : List Rule) (judged : ℕ) (flat : Flat) (x : List ℕ) (verdict : Verdict)
     → GivesPrefixes has rules judged flat → length x ≤ flat.limit → AreLetters has x → IsFlatVerdict flat x verdict
     → IsVerdict has rules judged x verdict
-verdict_of has rules judged flat x Yes settles short letters derives = (settles.settles x short letters).0 derives
-verdict_of has rules judged flat x (No n) settles short letters is = (
-  λ derived. is.0 ((settles.settles x short letters).1 derived),
+verdict_of has rules judged flat x Yes prefixes short letters derives = (prefixes.lines x short letters).0 derives
+verdict_of has rules judged flat x (No n) prefixes short letters is = (
+  λ derived. is.0 ((prefixes.lines x short letters).1 derived),
   record {
     within = is.1.within;
-    begins = λ some. (settles.viable x n short letters some is.1.within).0 (is.1.item some);
+    begins = λ some. (prefixes.viable x n short letters some is.1.within).0 (is.1.item some);
     last = λ m past most begins.
-        is.1.last m past most ((settles.viable x m short letters (omega (arith, past)) most).1 begins);
+        is.1.last m past most ((prefixes.viable x m short letters (omega (arith, past)) most).1 begins);
   },
 )
 

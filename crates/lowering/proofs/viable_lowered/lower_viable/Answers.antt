@@ -13,8 +13,8 @@ lower_rules-requires-clause-alike c = null_alike (has c.args.alphabet) (rules_of
     (subst (λ v. ArePruned (has c.args.alphabet) (rules_of v) (rules_of c.in_ok-pruned.pruned)) c.rules.ensures.rules
     c.in_ok-pruned.ensures.pruned)
 
-pub returns-clause-settles : goal.returns-clause-settles
-returns-clause-settles c = IfOk-weaker c.lower_rules.result _ _ (λ flat lowered.
+pub returns-clause-prefixes : goal.returns-clause-prefixes
+returns-clause-prefixes c = IfOk-weaker c.lower_rules.result _ _ (λ flat lowered.
     gives_prefixes (has c.args.alphabet) (rules_of c.args.grammar.now.rules)
     (rules_of c.in_ok-pruned.pruned)
     (subst (λ v. ArePruned (has c.args.alphabet) (rules_of v) (rules_of c.in_ok-pruned.pruned)) c.rules.ensures.rules

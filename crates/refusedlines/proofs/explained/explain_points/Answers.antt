@@ -45,8 +45,8 @@ returns-clause-reported c =
     (numbers points) c.in_ok-first.first.size f.after e.longest
     (subst (λ v. Spells (numbers v) (take c.in_ok-first.first.size line)) (sym c.as_slice-points.ensures.value)
     e.spelled)
-    (c.in_ok-following.ensures.furthest rules grammar.judged c.requires.reports)
-    (c.in_ok-following.ensures.following rules grammar.judged c.requires.reports)
+    (c.in_ok-following.ensures.furthest rules grammar.judged c.requires.prefixes)
+    (c.in_ok-following.ensures.following rules grammar.judged c.requires.prefixes)
     (c.refused_at-at.ensures
     ∙ ap (λ v. refused_at f.after v (nat_lt c.in_ok-first.first.size (length line))) (sym (length-map points number)))
     (c.octets_of-place.ensures ∙ ap (λ v. octet_count Utf8 v) (sym (take-map number f.after points)))

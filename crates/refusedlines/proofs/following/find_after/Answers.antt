@@ -7,7 +7,7 @@ use Rattle.refusedlines.proofs.CanFollowLemmas.{are_following, readers_of_set}
 use Rattle.refusedlines.proofs.following.find_after.Goals as goal
 
 pub returns-clause-following : goal.returns-clause-following
-returns-clause-following g c = λ rules judged reports.
+returns-clause-following g c = λ rules judged prefixes.
     let x = map g.L.Letter.number c.args.line.now in
     let size = length-map c.args.line.now g.L.Letter.number in
     let short = c.requires in
@@ -15,7 +15,7 @@ returns-clause-following g c = λ rules judged reports.
     let readers = readers_of_set flat x (length x) _ (c.in_ok-ends.ensures.sets (length x)) c.in_ok-dots.dots.items
     (subst (λ v. AreDotsOf (set_at c.judge.new.chart v) c.in_ok-dots.dots.items) (sym size) c.in_ok-dots.ensures) in
     subst (λ v. AreFollowing (has g.L.Letter.ALPHABET) rules judged x v c.in_ok-runs.runs.items c.in_ok-ends.ends) size
-    (are_following (has g.L.Letter.ALPHABET) rules judged flat reports x (omega (arith, short, size))
+    (are_following (has g.L.Letter.ALPHABET) rules judged flat prefixes x (omega (arith, short, size))
     c.values_are_letters.ensures c.in_ok-dots.dots.items readers
     c.in_ok-runs.runs.items c.in_ok-ends.ends
     c.in_ok-runs.ensures.apart (rw (c.ALPHABET.ensures, c.deref.ensures.value) at c.in_ok-runs.ensures.letters)

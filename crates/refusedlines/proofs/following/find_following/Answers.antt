@@ -18,10 +18,10 @@ returns-clause-following g c =
     let long = length-take-le n c.args.line.now within in
     let made = c.find_after.ensures in
     let facts = ok_both c.find_after.result _ _ made.after made.following in
-    MatchResult-weaker c.find_after.result facts (λ f is rules judged reports.
+    MatchResult-weaker c.find_after.result facts (λ f is rules judged prefixes.
     subst (λ v. AreFollowing (has g.L.Letter.ALPHABET) rules judged x v f.runs.items f.ends) (sym (is.0 ∙ long))
     (take_following (has g.L.Letter.ALPHABET) rules judged x _ n _ _ _ (sym (take-map number n c.args.line.now))
-    (omega (arith, within, size)) (sym (length-map _ number)) (is.1 rules judged reports)))
+    (omega (arith, within, size)) (sym (length-map _ number)) (is.1 rules judged prefixes)))
     (λ _ _. tt)
 
 pub returns-clause-within : goal.returns-clause-within
@@ -33,6 +33,6 @@ returns-clause-within g c =
 pub returns-clause-furthest : goal.returns-clause-furthest
 returns-clause-furthest g c =
     let long = length-take-le c.in_ok-after.after c.args.line.now c.in_ok-after.ensures.within in
-    IfOk-weaker c.find_after.result _ _ (λ f at rules judged reports.
+    IfOk-weaker c.find_after.result _ _ (λ f at rules judged prefixes.
     subst (λ v. IsFurthest (has g.L.Letter.ALPHABET) rules judged (map g.L.Letter.number c.args.line.now) v)
-    (sym (at ∙ long)) (c.in_ok-after.ensures.furthest rules judged reports)) c.find_after.ensures.after
+    (sym (at ∙ long)) (c.in_ok-after.ensures.furthest rules judged prefixes)) c.find_after.ensures.after
