@@ -13,7 +13,7 @@ use Rattle.abnfblocks.specs.FoundRules.{it_reads, it_is_none}
 use Rattle.abnfblocks.specs.declared.found.RuleSearch.{RuleSearch}
 use Rattle.abnfblocks.specs.declared.found.RuleSearch.TheVariants as found
 
--- a text has at most one fault but for want of memory
+-- a text has at most one fault unless an allocation fails
 abbrev pub OneFault : Type 0
 OneFault = (text : List ℕ) (a b : ReadFault) → IsFaultOf text a → IsFaultOf text b → a ≢ faults.Memory
     → b ≢ faults.Memory → a ≡ b

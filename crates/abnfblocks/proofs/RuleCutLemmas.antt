@@ -164,7 +164,7 @@ less-other m n lt = grind (arith, lt, nat_tests)
 some-more : (n : ℕ) → 0 < n → nat_lt 0 n ≡ true
 some-more n lt = grind (arith, lt, nat_tests)
 
--- behind blank lines the next line decides
+-- after blank lines the next line decides
 pub slash-ends : (lines : List TextLine) (n : ℕ) (b : Bool) → n ≡ blanks_first (map numbered lines)
     → n < length lines → 0 < n → b ≡ slash_first (map numbered (take (length lines - n) (drop n lines)))
     → not b ≡ can_end (map numbered lines)

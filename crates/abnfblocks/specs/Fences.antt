@@ -27,7 +27,7 @@ fence_length mark line =
     let n = byte_run mark (after_spaces line) in
     if nat_lt (byte_run (code " ") line) 4 && nat_lt 2 n then n else 0
 
--- the same of a fence that opens a block: none of backticks has another one behind it in its line
+-- the same of a fence that opens a block: none of backticks has another one after it in its line
 abbrev pub opening_length : ℕ → List ℕ → ℕ
 opening_length mark line =
     if (mark == code "`") && list_any (λ b. b == code "`") (after_fence mark line) then 0 else fence_length mark line

@@ -1,4 +1,4 @@
--- The tokens of a text, with their marks, by what they say: each before what stands behind.
+-- The tokens of a text, with their marks, by what they say: each before what stands after.
 -- Serves: print_abnf, is_abnf_read_back
 use Rattle.std.proofs.Common.{◌≡◌, ℕ, ◌+◌, ◌≤◌, ◌==◌, ◌||◌, not, cond, Bool, true, false, Option, Some, None, List, []}
 use Rattle.std.proofs.Common.{◌∷◌, ◌++◌, length, take, refl, sym, ap, ◌∙◌, subst, arith, inl, inr, append_assoc}
@@ -29,12 +29,12 @@ pub record SaysLike (k : AbnfKind) (z : List ℕ) (p : Span) (s : Said) : Type 0
   pub same : SameSaid s said
   pub says : SaysKind k z p said
 
--- Something else than indentation stands before what is behind these bytes, on its line.
+-- Something else than indentation stands before what is after these bytes, on its line.
 pub record IsDark (s : List ℕ) : Type 0 where
   pub ends : (i : Option ℕ) → indent_from i s ≡ None
 
 -- The text's tokens say these words, but for their spans. i spaces and tabs stand before it on its line, if nothing
--- else does, and g tells whether white space stands directly before it.
+-- else does, and g says whether white space stands directly before it.
 pub data Cuts : Option ℕ → Bool → List ℕ → List Word → Type 0 where
   nothing : {i : Option ℕ} {g : Bool} → Cuts i g [] (word g false words.End ∷ [])
   blanked : {i : Option ℕ} {g : Bool} {b : ℕ} {t : List ℕ} {ws : List Word} → is_blank b ≡ true
@@ -47,7 +47,7 @@ pub data Cuts : Option ℕ → Bool → List ℕ → List Word → Type 0 where
 pub says-like : {k : AbnfKind} {z : List ℕ} {w : Said} → ((p : Span) → SaysKind k z p w) → (p : Span) → SaysLike k z p w
 says-like f p = record { said = _; same = same_said; says = f p }
 
--- the tokens behind the place n, where the text t begins, and the words that they say
+-- the tokens after the place n, where the text t begins, and the words that they say
 pub record Placed (text : List ℕ) (n : ℕ) (t : List ℕ) (ws : List Word) : Type 0 where
   pub tokens : List (Tok AbnfKind)
   pub are_tokens : lexing.AreTokens White First ends_list (length text) t tokens
@@ -59,7 +59,7 @@ indent-append : (i : Option ℕ) (xs ys : List ℕ) → indent_from i (xs ++ ys)
 indent-append i [] ys = refl
 indent-append i (x ∷ xs) ys = indent-append (indented i x) xs ys
 
--- the same marks, told in other words
+-- the same marks, in other words
 marked-so : {text : List ℕ} {n : ℕ} {t : List ℕ} {g h f e : Bool} {w : Said} {ws : List Word} → g ≡ h → f ≡ e
     → Placed text n t (word g f w ∷ ws) → Placed text n t (word h e w ∷ ws)
 marked-so {text} {n} {t} {g} {h} {f} {e} {w} {ws} p q r = subst (λ (x : Bool). Placed text n t (word x e w ∷ ws)) p
@@ -212,7 +212,7 @@ dark-on none = refl
 dark-on (more {b} {bs} e h) = ap (λ (x : Option ℕ). indent_from x bs) (dark-later (b == 10) ((b == 32) || (b == 9)) e)
     ∙ dark-on h
 
--- no blank, and no LF behind it
+-- no blank, and no LF after it
 pub run-dark : (b : ℕ) (bs : List ℕ) → is_blank b ≡ false → Run is_inside bs [] → IsDark (b ∷ bs)
 run-dark b bs e h = record {
   ends = λ i. ap (λ (x : Option ℕ). indent_from x bs) (dark-first i (b == 32) (b == 9) (b == 10)

@@ -1,4 +1,4 @@
--- The words of an element's canonical text, put before what stands behind. The first has white space before it or not.
+-- The words of an element's canonical text, put before what stands after. The first has white space before it or not.
 -- Serves: print_abnf, is_abnf_read_back
 use Rattle.std.proofs.Common.{◌≡◌, Bool, true, false, List, [], ◌∷◌, refl}
 use Rattle.ruletable.specs.declared.span.Span.{Span}

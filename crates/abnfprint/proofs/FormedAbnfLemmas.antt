@@ -35,7 +35,7 @@ use Rattle.abnfprint.specs.declared.place.Context.TheVariants.{Alternative, Memb
 use Rattle.abnfprint.specs.FormedAbnf.{IsName, named, IsFormed, AreFormed, IsSome}
 use Rattle.abnfprint.proofs.AbnfSpelledLemmas.{IsFull}
 
--- what a word is known to tell
+-- what a word is known to say
 abbrev pub IsProper : Said → Type 0
 IsProper (words.Name n p) = IsName n
 IsProper (words.Text c t) = Run is_quotable t []
@@ -168,7 +168,7 @@ alternation-formed none h w = absurd h
 alternation-formed (more x none) h w = w.0
 alternation-formed (more x (more y xs)) h w = (tt, w)
 
--- with d brackets open before the words, at most m are open anywhere in them, and they tell what may be told
+-- with d brackets open before the words, at most m are open anywhere in them, and they say what may be said
 record Pass (m d : ℕ) (ws : List Word) : Type 0 where
   shallow : IsShallow m d ws
   small : AreSmall ws

@@ -25,7 +25,7 @@ same-small same_none h = h
 same-small (same_more same_said k) h = (h.0, same-small k h.1)
 same-small (same_more same_name k) h = (tt, same-small k h.1)
 
--- words before whatever stands behind
+-- words before whatever stands after
 record Keeps (n : ℕ) (f : List Word → List Word) : Type 0 where
   keeps : (m d : ℕ) (ws : List Word) → d + n ≤ m → IsShallow m d ws → IsShallow m d (f ws)
 

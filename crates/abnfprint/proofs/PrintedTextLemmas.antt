@@ -27,7 +27,7 @@ use Rattle.abnfprint.proofs.PrintedTokenLemmas.{values-token, range-token, repea
 record Adds (s : List ℕ) (f : Bool → List Word → List Word) : Type 0 where
   adds : (g : Bool) (r : List ℕ) (ws : List Word) → Follows r → Cuts None false r ws → Cuts None g (s ++ r) (f g ws)
 
--- and right behind a token
+-- and right after a token
 record Goes (s : List ℕ) (f : List Word → List Word) : Type 0 where
   goes : (r : List ℕ) (ws : List Word) → Follows r → Cuts None false r ws → Cuts None false (s ++ r) (f ws)
 
@@ -55,7 +55,7 @@ adds-option {s} {f} a = record {
       (a.adds false (93 ∷ r) _ brack (token-cut rbrack-token r tt c)));
 }
 
--- one text behind another
+-- one text after another
 adds-both : {s u : List ℕ} {f : Bool → List Word → List Word} {h : List Word → List Word}
     → ((r : List ℕ) → Follows r → Follows (u ++ r)) → Adds s f → Goes u h → Adds (s ++ u) (λ g ws. f g (h ws))
 adds-both {s} {u} {f} {h} n a b = record {

@@ -1,4 +1,4 @@
--- The tokens that a canonical text is made of, each before what stands behind.
+-- The tokens that a canonical text is made of, each before what stands after.
 -- Serves: print_abnf, is_abnf_read_back
 use Rattle.std.proofs.Common.{◌≡◌, ℕ, ◌^◌, ◌<◌, ◌≤◌, ◌==◌, cond, Bool, true, false, Option, Some, None, List, [], ◌∷◌}
 use Rattle.std.proofs.Common.{◌++◌, length, refl, sym, ap, ◌∙◌, subst, arith, append_assoc, append-nil, inl, inr}
@@ -38,7 +38,7 @@ pub refuted-false : (x : Bool) → (x ≡ true → ⊥) → x ≡ false
 refuted-false true f = absurd (f refl)
 refuted-false false f = refl
 
--- what stands behind a name, a text or a number of a canonical text
+-- what stands after a name, a text or a number of a canonical text
 pub data Follows : List ℕ → Type 0 where
   space : {r : List ℕ} → Follows (32 ∷ r)
   line : {r : List ℕ} → Follows (10 ∷ r)
@@ -78,7 +78,7 @@ digits-inside {base} w h = run-map (inside-of (is_digit base) (no-digit base 10 
 digit-light : (b : ℕ) → is_digit 10 b ≡ true → is_blank b ≡ false
 digit-light b h = refuted-false (is_blank b) (λ e. digit-dark b h e)
 
--- anything may stand behind it
+-- anything may stand after it
 abbrev pub Anything : List ℕ → Type 0
 Anything r = Unit {0}
 
@@ -86,7 +86,7 @@ Anything r = Unit {0}
 abbrev pub NoCount : List ℕ → Type 0
 NoCount r = Stops (is_digit 10) r × Lacks 42 r
 
--- the slice is a token before what may stand behind it, and says that
+-- the slice is a token before what may stand after it, and says that
 pub record IsToken (Follows : List ℕ → Type 0) (z : List ℕ) (w : Said) : Type 0 where
   pub kind : AbnfKind
   pub first : (r : List ℕ) → Follows r → First kind (z ++ r) r
@@ -332,7 +332,7 @@ exactly-count {ds} d = record {
 most-is : {ds : List ℕ} → Digits 10 ds [] → most ds ≡ Some (digits_value 10 ds)
 most-is (digits e h) = refl
 
--- the number before the star, if any, the star, and what stands behind it
+-- the number before the star, if any, the star, and what stands after it
 least-count : (a : ℕ) {es : List ℕ} → a < 2 ^ 64 → Run (is_digit 10) es []
     → IsCount (least_text a ++ 42 ∷ es) a (most es)
 least-count a {es} h k = by (a == 0) refl

@@ -51,7 +51,7 @@ same_words-tail : (g f : Bool) (s : Said) {r t : List Word} → IsMark s → Sam
 same_words-tail g f s m (same_more same_said h) = record { rest = _; whole = refl; same = h }
 same_words-tail g f (words.Name n p) m (same_more same_name h) = absurd m
 
--- what stands behind begins with that word
+-- what stands after begins with that word
 record Passes (Spells : List Word → List Word → Type 0) (w : Word) (s r : List Word) : Type 0 where
   rest : List Word
   same : SameWords r rest

@@ -40,7 +40,7 @@ abbrev pub ReadBack : Type 0
 ReadBack = (source : List ℕ) (ds : List Definition) → Reads source ds → length (grammar_text (file_rules ds))
     ≤ max_grammar → ReadsAs (grammar_text (file_rules ds)) (file_rules ds)
 
--- the canonical text tells nothing of spans
+-- the canonical text says nothing of spans
 abbrev pub SpansUnseen : Type 0
 SpansUnseen = (rules again : List Rule) → SameButSpans rules again → grammar_text rules ≡ grammar_text again
 

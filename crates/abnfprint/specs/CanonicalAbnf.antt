@@ -40,7 +40,7 @@ upper_digits v = map (λ d. digit_glyph true d) (digits_of 16 v)
 abbrev pub hexadecimal : ℕ → List ℕ
 hexadecimal v = cond (nat_lt v 16) (code "0" ∷ digit_glyph true v ∷ []) (upper_digits v)
 
--- further values, each behind a dot
+-- further values, each after a dot
 abbrev pub dotted : List ℕ → List ℕ
 dotted vs = flat_map (λ v. code "." ∷ hexadecimal v) vs
 

@@ -72,7 +72,7 @@ rules_are_all text file core again early rules count many (ds, reads, t) c is = 
   counted = many ∙ sym (length-map file.rules rule_of) ∙ ap length t.kept;
 }
 
--- the line of a chain stands behind notes of two kinds
+-- the line of a chain stands after notes of two kinds
 pub reach_stands : (text : List ℕ) (start : Option (List ℕ)) (kind : NoteKind) (name line : List ℕ)
     → (kind ≡ Undefined) ⊎ (kind ≡ Prose) → IsReachLine text start name line → IsReachAfter text start kind name line
 reach_stands text start kind name line (inl is) r = rw is r

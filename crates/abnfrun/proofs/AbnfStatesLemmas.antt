@@ -1,4 +1,4 @@
--- What is stated for a text in ABNF, settings and an input is one, but for want of memory.
+-- What is stated for a text in ABNF, settings and an input is one, unless an allocation fails.
 -- Serves: one_statement_of_abnf, explanations_change_no_answer
 use Rattle.std.proofs.Common.{◌≡◌, ◌≢◌, ℕ, Bool, inl, inr, List, [], refl, sym, ◌∙◌, ap, map, subst, arith, Option}
 use Rattle.ruletable.specs.Notes.{Said, said}
@@ -200,7 +200,7 @@ one_statement explained reported hints one furthest text settings input notes ot
 long-unread : {text : List ℕ} {definitions : List Definition} → IsFaultOf text TooLong → Reads text definitions → ⊥
 long-unread long r = let within = r.size in omega arith
 
--- a text that is too long is told so, whatever memory does
+-- a text that is too long is reported so, whatever memory does
 pub long_is_reported : (text : List ℕ) (settings : AbnfSettings) (input : Input) (notes : List ℕ) (reply : Reply)
     → IsFaultOf text TooLong → AbnfStates text settings input notes reply
     → (notes ≡ []) × IsLongReply settings (Explains text TooLong) reply

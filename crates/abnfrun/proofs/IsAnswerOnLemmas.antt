@@ -20,7 +20,7 @@ use Rattle.lowering.specs.GivenPrefixes.{GivesPrefixes}
 use Rattle.linejudge.specs.declared.answers.Answer.{Answer}
 use Rattle.linejudge.specs.declared.answers.Answer.TheVariants.{Yes, No, NoAfter}
 
--- the laws of derivation and of viable beginnings
+-- the laws of derivation and of viable prefixes
 abbrev pub DerivationIsDecided : Type 0
 DerivationIsDecided = (has : ℕ → Bool) (rules : List Rule) (id : ℕ) (x : List ℕ) → (yes : Bool)
     × Says (RuleDerives has rules id x) yes

@@ -31,7 +31,7 @@ pub decoded_as : (Spelled Empty Text : Type 0) (is : Bool) → Text → (is ≡ 
 decoded_as Spelled Empty Text true text spelled none = spelled refl
 decoded_as Spelled Empty Text false text spelled none = absurd ((none refl).1 text)
 
--- where no longer beginning than that of m bytes is UTF-8
+-- where no longer prefix than that of m bytes is UTF-8
 longest_within : TextIsDecided → (line : List ℕ) (m : ℕ) → m ≤ length line
     → ((k : ℕ) → m < k → k ≤ length line → IsText (take k line) → ⊥) →
     (k : ℕ) × IsLongestText line k
@@ -51,7 +51,7 @@ longest_within text line (suc m) le none = elim (text (take (suc m) line)) [
   ])
 ]
 
--- one longest beginning that is UTF-8
+-- one longest prefix that is UTF-8
 longest_text : TextIsDecided → (line : List ℕ) → (k : ℕ) × IsLongestText line k
 longest_text text line = longest_within text line (length line) (omega arith)
     (λ k past high. absurd (omega (arith, past, high)))
@@ -114,7 +114,7 @@ module _ (viable : Bool) (rules : List Rule) (judged : ℕ) (line : List ℕ) wh
     },
   )
 
-  -- a line that is not UTF-8, by the code points of its longest beginning that is
+  -- a line that is not UTF-8, by the code points of its longest prefix that is
   pub no_text : (IsText line → ⊥) → IsMember Utf8 rules judged line → ⊥
   no_text bad m = bad (record { points = m.0; spelled = m.1 })
 

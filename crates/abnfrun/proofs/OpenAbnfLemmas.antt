@@ -48,7 +48,7 @@ use Rattle.toolrun.specs.declared.settings.Mode.TheVariants.{Run}
 use Rattle.abnfrun.specs.AbnfSettings.{AbnfSettings}
 use Rattle.toolrun.specs.declared.stop.Stop.TheVariants.{Quiet}
 
--- of one refused line no more are told
+-- of one rejected line no more are reported
 none_more : (asked : Bool) (said : Answer) → more_refused (count_untold asked (refused_by said)) ≡ []
 none_more true Yes = refl
 none_more true No = refl
@@ -132,7 +132,7 @@ module _ (Reported : List ℕ → Answer → Type 0) (asked : Bool) (Refusal : L
         reported = ap reply_of (sym (append-nil why));
       }
 
--- a text that was checked, and whose grammar is refused
+-- a text that was checked, and whose grammar is rejected
 pub refused_is_opened : (text : List ℕ) (settings : AbnfSettings) (notes : List Said) (rules : table.Rules Elem)
     (judged : Option ℕ) → IsChecked text (rule_given settings) notes rules judged → judged ≡ None
     → IsOpened text settings notes None

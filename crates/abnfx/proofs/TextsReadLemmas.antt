@@ -18,7 +18,7 @@ path_alone : (path at : Text) (paths : List Text) → Contains paths path → Co
 path_alone path at paths has (zero, low, is) = subst (Contains paths) is has
 path_alone path at paths has (suc x, low, is) = absurd (omega (arith, low))
 
--- what is not had of one path is not had of some that have it
+-- what cannot be read of one path cannot be read of some that have it
 pub unread_among : (why : Unread) (path : Text) (paths : List Text) → Contains paths path → IsUnreadOf (path ∷ []) why
     → IsUnreadOf paths why
 unread_among (Unreadable at) path paths has is = path_alone path at.now paths has is

@@ -20,7 +20,7 @@ pub record AreTextsOf (paths : List Text) (texts : List NamedText) : Type 0 wher
   pub names : map (λ t. t.name) texts ≡ paths
   pub lengths : All (λ t. length t.bytes ≤ 16777216) texts
 
--- the report where a text is not had
+-- the report where a text cannot be read
 abbrev pub unread_text : Unread → List ℕ
 unread_text (Unreadable path) = codes "cannot read " ++ path.now ++ codes "\n"
 unread_text (TooLong path) = path.now ++ codes " longer than 16777216 bytes\n"
@@ -32,14 +32,14 @@ unread_stop (Unreadable path) = stop.Quiet status.Fault
 unread_stop (TooLong path) = stop.Quiet status.Overlong
 unread_stop NoMemory = stop.NoMemory
 
--- a text among these is not had, or memory was wanting
+-- a text among these cannot be read, or an allocation failed
 abbrev pub IsUnreadOf : List Text → Unread → Type 0
 IsUnreadOf paths (Unreadable path) = Contains paths path.now
 IsUnreadOf paths (TooLong path) = Contains paths path.now
 IsUnreadOf paths NoMemory = ⊤
 
 -- What is stated for the files of these paths: what is stated for their texts. No clause can say which text a file
--- holds. Or one is not had.
+-- holds. Or one cannot be read.
 pub data FilesJoined (paths : List Text) (form : JoinForm) (input : Input) : List ℕ → Reply → Type 0 where
   joins : {texts : List NamedText} {notes : List ℕ} {reply : Reply} → AreTextsOf paths texts
       → JoinStates texts form input notes reply → FilesJoined paths form input notes reply

@@ -23,7 +23,7 @@ pub(crate) struct FileText<'a> {
     pub(crate) bytes: Vec<u8>,
 }
 
-/// Why texts are not had.
+/// Why texts cannot be read.
 #[derive(Drop)]
 pub(crate) enum Unread<'a> {
     /// That text cannot be read.

@@ -21,7 +21,7 @@ IsLimitOf None n = n ≡ 65536
 IsLimitOf (Some text) n = IsNumeral 10 (without_leading_plus text) → 1 ≤ digits_value 10 (without_leading_plus text) →
     digits_value 10 (without_leading_plus text) ≤ 16777216 → n ≡ digits_value 10 (without_leading_plus text)
 
--- given tells whether the flag was given
+-- given says whether the flag was given
 abbrev pub IsFlagOf : Option (List ℕ) → Bool → Type 0
 IsFlagOf text given = (text ≡ None → given ≡ false) × (text ≡ Some (codes "true") → given ≡ true) ×
     (text ≡ Some (codes "false") → given ≡ false)

@@ -16,7 +16,8 @@ use Rattle.toolrun.specs.declared.stop.Stop.{Stop}
 use Rattle.toolrun.specs.declared.stop.Stop.TheVariants.{NoMemory, Unreadable}
 
 -- What is stated where the matches ask for settings: what the tool states for the text of a grammar with these
--- settings. No clause can say which text a file holds. Or the grammar cannot be read, or memory is refused before that.
+-- settings. No clause can say which text a file holds. Or the grammar cannot be read, or an allocation fails before
+-- that.
 -- Asks says what the matches ask for in the language alone.
 pub data JobStates {O : Type 0} (Asks : List Row → O → Type 0)
     (States : List ℕ → Settings O → Input → List ℕ → Reply → Type 0) (rows : List Row)
@@ -33,7 +34,7 @@ IsStopOf (unready.Words error) stop = (kind_of error ≡ OutOfMemory) × (stop �
 IsStopOf unready.Unreadable stop = stop ≡ Unreadable
 IsStopOf unready.NoMemory stop = stop ≡ NoMemory
 
--- the output is as it was, and the error output tells of the stop
+-- the output is as it was, and the error output reports the stop
 abbrev pub ReportsOf : Stop → Option (List ℕ) → Option (List ℕ) → Bool → Option (List ℕ) → Option (List ℕ) → Bool → ℕ
     → Type 0
 ReportsOf stop out_old out_new out_failed err_old err_new err_failed code =

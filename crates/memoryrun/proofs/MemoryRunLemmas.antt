@@ -53,7 +53,7 @@ module _ (States : Input → List ℕ → Reply → Type 0) where
   from_memory r1 input out err out_failed err_failed code w =
       rw (w.4, w.5) (right_in_memory input w.0 w.1 w.2 out_failed err_failed code w.6)
 
-  -- a reader over the input and empty writers before; the same behind the run
+  -- a reader over the input and empty writers before; the same after the run
   pub memory_run : (r0 r1 o0 o1 e0 e1 : Option (List ℕ)) (input out err : List ℕ) (out_failed err_failed : Bool)
       (code : ℕ) → r0 ≡ Some input → o0 ≡ Some [] → e0 ≡ Some [] → Some out ≡ o1 → Some err ≡ e1 →
       IfSome r0 (λ given. (taken wrote reported : List ℕ) × Consumes r0 r1 taken × Appends o0 o1 wrote

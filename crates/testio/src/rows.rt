@@ -166,7 +166,7 @@ fn add_hex(byte: u8, out: &mut Text) {
     ]);
 }
 
-// Runs a row. Adds what it prints if that is not what the row wants. `None` if it is no row or the call fails.
+// Runs a row. Adds what it prints if that is not what the row asks for. `None` if it is no row or the call fails.
 fn run_row<C: Calls>(alloc: Global, calls: &C, line: &[u8], out: &mut Text) -> Option<bool> {
     let (row, wanted) = cut(line, b" => ")?;
     let (call, rest) = cut(row, b" ").unwrap_or((row, b""));
@@ -185,7 +185,7 @@ fn run_row<C: Calls>(alloc: Global, calls: &C, line: &[u8], out: &mut Text) -> O
     Some(false)
 }
 
-// Runs a row, and adds a line on it if it is not right. Tells whether it is.
+// Runs a row, and adds a line on it if it is not right. Returns whether it is.
 fn check_row<C: Calls>(alloc: Global, calls: &C, line: &RowLines, out: &mut Text) -> bool {
     let mut why = Text::new(alloc);
     let is_right = run_row(alloc, calls, &line.text, &mut why);
@@ -203,7 +203,7 @@ fn check_row<C: Calls>(alloc: Global, calls: &C, line: &RowLines, out: &mut Text
     false
 }
 
-/// Runs the rows of a text. Returns a line on each row whose call prints something else than the row wants, and then
+/// Runs the rows of a text. Returns a line on each row whose call prints something else than the row asks for, and then
 /// how many rows there are and how many of them are right. `None` if an allocation fails, or if the first line is
 /// indented.
 ///

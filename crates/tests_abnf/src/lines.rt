@@ -81,7 +81,7 @@ pub(crate) fn agrees<L: Letter>(judges: &mut Judges, line: &[L]) -> Result<bool,
     )
 }
 
-// Adds a verdict; of a refused line how many letters begin something too, if they are asked for.
+// Adds a verdict; of a rejected line how many letters begin something too, if they are asked for.
 fn add_verdict(verdict: Verdict, is_counted: bool, out: &mut Text) {
     out.add_answer(verdict == Verdict::Yes);
     if let Verdict::No(count) = verdict {

@@ -22,7 +22,7 @@ static TEXTS: &[(&[u8], &[u32])] = &[
     (b"\xF0\xA3\x8E\xB4", &[0x233B4]),
 ];
 
-// A line that is not UTF-8, and the length of its longest beginning that is.
+// A line that is not UTF-8, and the length of its longest prefix that is.
 static BROKEN: &[(&[u8], usize)] = &[
     // one beyond the last code point, and bytes that begin none
     (b"\xF4\x90\x80\x80", 0),

@@ -106,7 +106,7 @@ fn two_rules(alloc: Global, names: NameCase) -> Result<RuleTable<u32>, Memory> {
     Ok(table)
 }
 
-// How names are told apart, the id of a name in another case, and what a definition of one gives.
+// How names are distinguished, the id of a name in another case, and what a definition of one gives.
 static NAMES: [(NameCase, Option<usize>, Defined); 2] = [
     (NameCase::Exact, None, Defined::Added(2)),
     (NameCase::Fold, Some(1), Defined::Duplicate(0)),

@@ -8,7 +8,7 @@ use std::test::Fail;
 static CHAINS: [(&[&[usize]], usize, &[&[usize]]); 5] = [
     // the number alone
     (&[&[0]], 0, &[&[0]]),
-    // two ways of one length, of which the one by the least number is told, though the other is met first
+    // two ways of one length, of which the one by the least number is reported, though the other is met first
     (
         &[&[2, 1], &[3], &[3, 0], &[]],
         0,
@@ -22,7 +22,7 @@ static CHAINS: [(&[&[usize]], usize, &[&[usize]]); 5] = [
         1,
         &[&[1, 0], &[1], &[1, 2], &[]],
     ),
-    // behind the least number of one length stands the least of the length before
+    // after the least number of one length stands the least of the length before
     (
         &[&[3, 2], &[4], &[4], &[1, 4], &[]],
         0,

@@ -27,7 +27,7 @@ pub(crate) const USERNAME: &[u8] = b"start <- \"username\" { USER } / < . > { yy
 /// The grammar of a word.
 pub(crate) const WORD: &[u8] = b"word = 1*ALPHA";
 
-// What is told of a reader that fails.
+// What is reported of a reader that fails.
 const TORN: &[u8] = b"read error\n";
 
 // Checks a row by reads and writes of so many bytes. A torn reader fails after the input.
@@ -259,7 +259,7 @@ fn what_a_run_does_not_need_is_left(rt: HostRuntime) {
     check_rows(&rt, &LEFT, false);
 }
 
-// A limit, what is printed and told of 70,000 bytes that one unit takes, the status, and how many bytes are left.
+// A limit, what is printed and reported of 70,000 bytes that one unit takes, the status, and how many bytes are left.
 static LIMITS: [(usize, &[u8], &[u8], Status, usize); 3] = [
     (
         65_536,

@@ -4,7 +4,7 @@ use crate::ends::{RunEnds, Tool, Wanted, run_over};
 use fanquber::{DEFAULT_LIMIT, Mode, Status};
 use testio::{ALL, Takes};
 
-// A tool, a grammar, an input, what is printed, what is told, how many bytes are left to the reader, and when both
+// A tool, a grammar, an input, what is printed, what is reported, how many bytes are left to the reader, and when both
 // outputs are flushed: from 1, 0 for never.
 type RunRow = (
     Tool,

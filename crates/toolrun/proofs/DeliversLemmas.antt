@@ -15,7 +15,7 @@ pub begins_nothing : (xs ys : List ℕ) → IsPrefixOf xs ys → ys ≡ [] → x
 begins_nothing [] ys b none = refl
 begins_nothing (x ∷ xs) ys (rest, whole) none = absurd (cc)
 
--- what stands before is told before
+-- what stands before is reported before
 pub reported-after : (notes text reported : List ℕ) (err_failed : Bool) → IsReported err_failed reported text
     → IsReported err_failed (notes ++ reported) (notes ++ text)
 reported-after notes text reported err_failed t =

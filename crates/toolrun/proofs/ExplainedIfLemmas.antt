@@ -18,7 +18,7 @@ pub not_asked_nothing : (asked : Bool) (Why : List ℕ → Type 0) (why : List �
 not_asked_nothing true Why why is reported = absurd (cc)
 not_asked_nothing false Why why is reported = reported
 
--- what explains is one text, where what is told if it is asked is one
+-- what explains is one text, where what is reported if it is asked is one
 pub if-explained : (asked : Bool) (Why : List ℕ → Type 0) → ((a b : List ℕ) → Why a → Why b → a ≡ b)
     → (a b : List ℕ) → ExplainedIf asked Why a → ExplainedIf asked Why b → a ≡ b
 if-explained true Why one a b g h = one a b g h

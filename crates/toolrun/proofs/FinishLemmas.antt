@@ -1,4 +1,4 @@
--- What the steps at the end of a run tell together.
+-- What the steps at the end of a run report together.
 -- Serves: finish, conclude
 use Rattle.std.proofs.Common.{◌≡◌, ℕ, Option, List, [], ◌++◌, refl, sym, ◌∙◌, ap, true, false, Bool}
 use Rattle.std.specs.Prelude.{max, Result, Ok, Err}
@@ -47,7 +47,7 @@ module _ (out_was out_now err_reported err_flushed err_now : Bool) (e0 e1 : Opti
   reported_clean : err_now ≡ false → err_reported ≡ false
   reported_clean isnt = not_true err_reported err_now (λ e. stays (flushes.err_stays e)) isnt
 
-  -- where the output's flush failed: all of the text was told before, or the error output had failed
+  -- where the output's flush failed: all of the text was reported before, or the error output had failed
   reported_before : (text : List ℕ) (bad : out_now ≡ true) → out_was ≡ false → (f : First e0 e1 err_reported text)
       → (b : Bool)
       → err_reported ≡ b → IsReported err_now (f.reported ++ more) (text ++ write_error)

@@ -25,12 +25,12 @@ use Rattle.toolrun.specs.declared.status.Status.TheVariants as status
 use Rattle.toolrun.specs.declared.stop.Stop.{Stop}
 use Rattle.toolrun.specs.declared.stop.Stop.TheVariants.{NoMemory, Quiet, Refused}
 
--- a fault that is not explained is told by its line alone
+-- a fault that is not explained is reported by its line alone
 plain-refusal : (why : ReadFault) → refusal why [] ≡ stopped (Refused why)
 plain-refusal why = ap (λ (t : List ℕ). record { out = []; err = t; status = 2; taken = 0 })
     (append-nil (fault_text why))
 
--- what is told first is all that is told
+-- what is reported first is all that is reported
 whole-refusal : (why : ReadFault) (lines : List ℕ)
     → refusal why lines ≡ reported_after (fault_text why ++ lines) (stopped (Quiet status.Refused))
 whole-refusal why lines = ap (λ (t : List ℕ). record { out = []; err = t; status = 2; taken = 0 })
@@ -116,7 +116,7 @@ module _ {Grammar CheckedRules Judged Sound Options : Type 0}
     Makes rules judged sound = (t : List ℕ) (start : Option (List ℕ)) (notes : List Said)
         → IsChecked t start notes rules (Some judged) → IsReady t start notes sound
 
-    -- a grammar that was checked, and all whose notes are told
+    -- a grammar that was checked, and all whose notes are reported
     pub plan_task : (notes : List Said) (reported : List ℕ) (mode : Mode) (rules : CheckedRules)
         (judged : Option Judged)
         (task : Result (Task Grammar Sound) Stop) → settings.mode ≡ mode
@@ -135,7 +135,7 @@ module _ {Grammar CheckedRules Judged Sound Options : Type 0}
         after_notes (law.checked text settings input notes reported rules judged c t is))
     plan_task notes reported Print rules (Some judged) task is other c t e = absurd (other refl)
 
-    -- a grammar that was checked, and whose notes are told in part
+    -- a grammar that was checked, and whose notes are reported in part
     pub plan_cut : (notes : List Said) (reported : List ℕ) (rules : CheckedRules) (judged : Option Judged)
         → settings.mode ≢ Print → IsChecked text (option_copied settings.start) notes rules judged
         → CutNotes settings (ExplainsNote text) notes reported → Planned reported (Err NoMemory)

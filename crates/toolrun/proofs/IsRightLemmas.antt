@@ -55,7 +55,7 @@ pub stops_at_once : (stop : Stop) (r0 s0 : Option (List ℕ)) (r_was r_failed o_
     (record { old = s0; new = s0; was = o_was; failed = o_was }) r
 stops_at_once stop r0 s0 r_was r_failed o_was = record { stopped = nothing_done stop r0 s0; flag = refl }
 
--- a run that stops for want of memory ends so
+-- a run that stops since an allocation fails ends so
 refused_status : (end : Ending) → stop_of end ≡ NoMemory → ended_status end ≡ status.NoMemory
 refused_status (Plain stop) is = ap status_of is
 refused_status (Explained reported stop why) is = ap status_of is

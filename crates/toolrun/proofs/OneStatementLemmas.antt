@@ -1,4 +1,4 @@
--- What the tool of a language states for a text, settings and an input is one, but for want of memory.
+-- What the tool of a language states for a text, settings and an input is one, unless an allocation fails.
 -- Serves: one_statement, one_statement_of_abnf
 use Rattle.std.proofs.Common.{◌≡◌, ◌≢◌, ℕ, ◌⊎◌, inl, inr, List, [], refl, sym, ◌∙◌, ap, subst}
 use Rattle.ruletable.specs.Notes.{Said}
@@ -17,11 +17,12 @@ pub one-explained : {O : Type 0} (settings : Settings O) (Why : List ℕ → Typ
     → (a b : List ℕ) → Explained settings Why a → Explained settings Why b → a ≡ b
 one-explained settings Why one a b g h = if-explained settings.explain Why one a b g h
 
--- Of a text, IsFault says what is wrong with it, Explains what is told of that, and Reads which definitions it spells.
--- Of definitions, AreNotes and AreAgain say what is noted, IsRefused and IsSound which notes refuse them and which do
--- not, Runs what a run of them states, and printed what is written of them. IsReported says what is told of notes,
+-- Of a text, IsFault says what is wrong with it, Explains what is reported of that, and Reads which definitions it
+-- spells.
+-- Of definitions, AreNotes and AreAgain say what is noted, IsRefused and IsSound which notes reject them and which do
+-- not, Runs what a run of them states, and printed what is written of them. IsReported says what is reported of notes,
 -- IsHinted
--- what is with hints behind them.
+-- what is with hints after them.
 module _ {Definitions : Type 0} (IsFault : ReadFault → Type 0) (Explains : ReadFault → List ℕ → Type 0)
     (Reads : Definitions → Type 0)
     (AreNotes IsRefused IsSound AreAgain : Definitions → List Said → Type 0)
@@ -41,7 +42,7 @@ module _ {Definitions : Type 0} (IsFault : ReadFault → Type 0) (Explains : Rea
         → mode ≡ Print → StatesOf definitions reported (notes_alone 2)
     is_printed : AreAgain definitions [] → mode ≡ Print → StatesOf definitions [] (printed definitions)
 
-  -- the text has a fault, which is told, or spells definitions
+  -- the text has a fault, which is reported, or spells definitions
   pub record IsRefusal (notes : List ℕ) (reply : Reply) : Type 0 where
     pub fault : ReadFault
     pub is_fault : IsFault fault
@@ -79,7 +80,7 @@ module _ {Definitions : Type 0} (IsFault : ReadFault → Type 0) (Explains : Rea
       one_text a b s t g h reported other =
           one_hinted b s t (subst (λ (ns : List Said). IsHinted ns s) (one_notes definitions a b g h) reported) other
 
-      -- no list of notes refuses the grammar beside one that does not
+      -- no list of notes rejects the grammar beside one that does not
       not_both : (a b : List Said) → AreNotes definitions a → AreNotes definitions b → IsRefused definitions a
           → IsSound definitions b → ⊥
       not_both a b g h bad fine =

@@ -119,7 +119,7 @@ module _ {O : Type 0} (settings : Settings O) (Why : Option (List ℕ) → Said 
     all = sym (append-nil (notes_text notes));
   }
 
-  -- with explanations hints stand behind the notes
+  -- with explanations hints stand after the notes
   pub hinted-asked : (AreHints : List ℕ → Type 0) → settings.explain ≡ true → {notes : List Said}
       (first hints text : List ℕ) → AreNotesReported (Why (option_copied settings.start)) notes first → AreHints hints
       → text ≡ first ++ hints → HintedNotes settings Why AreHints notes text

@@ -58,7 +58,8 @@ module _ (Does : Input → Reply → Type 0) (ending : Result Ending WriteFault)
       })
 
 -- A run in steps: what is written before each point, how it ends there, what is taken by then, and that it goes on from
--- each. Its end may be explained: Tells says what is told of refused lines on the way, Why what explains how it ends,
+-- each. Its end may be explained: Reports says what is reported of rejected lines on the way, Why what explains how it
+-- ends,
 -- and MayLack where an allocation may fail in that.
 module _ {Point : Type 0} (Before : Input → Point → List ℕ → Type 0) (Ends : Input → Point → List ℕ → Stop → Type 0)
     (taken_at : Input → Point → ℕ)
@@ -104,7 +105,7 @@ module _ {Point : Type 0} (Before : Input → Point → List ℕ → Type 0) (En
         let r : Result Ending WriteFault = Ok ending in
         (wrote : List ℕ) × Appends a b wrote × EndedAs (DoesReported input) taken r wrote
 
-    -- memory was refused there, where this was told
+    -- an allocation failed there, where this was reported
     cut_there : (ending : Ending) (before : List ℕ) → Reports input point before → last ≡ []
         → stop_of ending ≡ NoMemory → ended_status ending ≡ status.NoMemory
         → ended_text ending ≡ before ++ message_of NoMemory → IsEndedAs ending
@@ -121,7 +122,7 @@ module _ {Point : Type 0} (Before : Input → Point → List ℕ → Type 0) (En
           },
         )
 
-    -- so it ended, with these lines before its message and behind it
+    -- so it ended, with these lines before its message and after it
     reported_there : (ending : Ending) (stop : Stop) (before why : List ℕ) → Reports input point before
         → Ends input point last stop → Why input point stop why → ended_status ending ≡ status_of stop
         → ended_text ending ≡ before ++ (message_of stop ++ why) → IsEndedAs ending
@@ -210,7 +211,7 @@ module _ {Point : Type 0} (Before : Input → Point → List ℕ → Type 0) (En
       run
       flag
 
-  -- memory was refused before anything was read
+  -- an allocation failed before anything was read
   reported_nothing : (first : Point) → ((input : Input) → Before input first [])
       → ((input : Input) → Reports input first []) → (old a : Option (List ℕ)) (failed : Bool) →
       let r : Result Ending WriteFault = Ok (Plain NoMemory) in

@@ -18,7 +18,7 @@ pub record Observed : Type 0 where
   pub err_failed : Bool
   pub status : ℕ
 
--- all of the text was told, or a beginning of it where the error output failed
+-- all of the text was reported, or a prefix of it where the error output failed
 abbrev pub IsReported : Bool → List ℕ → List ℕ → Type 0
 IsReported err_failed err text = IsPrefixOf err text × (err_failed ≡ false → err ≡ text)
 

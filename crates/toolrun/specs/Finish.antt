@@ -1,4 +1,4 @@
--- What the end of a run tells.
+-- What the end of a run reports.
 use Rattle.std.specs.Prelude.{ℕ, Bool, List, [], Result, Ok, Err}
 use Rattle.ruletable.specs.declared.sink.WriteFault.{WriteFault}
 use Rattle.toolrun.specs.Delivery.{Reports}
@@ -10,22 +10,22 @@ use Rattle.toolrun.specs.declared.status.Status.{Status}
 use Rattle.toolrun.specs.declared.status.Status.TheVariants.{Fault}
 use Rattle.toolrun.specs.declared.stop.Stop.{Stop}
 
--- the first text that is told
+-- the first text that is reported
 abbrev pub reported_of : Result Ending WriteFault → List ℕ
 reported_of (Ok ending) = ended_text ending
 reported_of (Err fault) = write_error
 
--- what is told before a fault of the output: how the run ends, or nothing where the output failed before
+-- what is reported before a fault of the output: how the run ends, or nothing where the output failed before
 abbrev pub text_of : Result Ending WriteFault → List ℕ
 text_of (Ok ending) = ended_text ending
 text_of (Err fault) = []
 
--- the status before anything is told
+-- the status before anything is reported
 abbrev pub ending_of : Result Ending WriteFault → Status
 ending_of (Ok ending) = ended_status ending
 ending_of (Err fault) = Fault
 
--- an ending is told as stated; after a fault of the output nothing stands before `write error`
+-- an ending is reported as stated; after a fault of the output nothing stands before `write error`
 abbrev pub Concludes : Result Ending WriteFault → Bool → Bool → List ℕ → ℕ → Type 0
 Concludes ending out_failed err_failed reported code = Reports (text_of ending) (code_of (ending_of ending)) out_failed
     err_failed reported code

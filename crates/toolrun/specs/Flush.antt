@@ -3,7 +3,7 @@ use Rattle.std.specs.Prelude.{◌≡◌, ℕ, Bool, true, false, List, []}
 use Rattle.ruletable.specs.Writing.{IsPrefixOf}
 use Rattle.toolrun.specs.Stop.{write_error}
 
--- a flush that fails is told on the error output, and nothing else is
+-- a flush that fails is reported on the error output, and nothing else is
 pub record Flushes (out_was out_now err_was err_now : Bool) (more : List ℕ) : Type 0 where
   pub quiet : out_now ≡ out_was → more ≡ []
   pub silent : err_was ≡ true → more ≡ []

@@ -23,20 +23,20 @@ pub record AreStated {Grammar CheckedRules Judged Sound Options : Type 0}
     (IsReady : List ℕ → Option (List ℕ) → List Said → Sound → Type 0)
     (IsPrintable : List ℕ → Grammar → List Said → Type 0) (canonical : Grammar → List ℕ)
     (Runs : Sound → Settings Options → Input → Reply → Type 0) : Type 0 where
-  -- a text that has a fault, which is told, and explained if that is asked
+  -- a text that has a fault, which is reported, and explained if that is asked
   pub refused : (text : List ℕ) (settings : Settings Options) (input : Input) (fault : ReadFault) (why : List ℕ)
       → HasFault text fault → fault ≢ Memory → Explained settings (Explains text fault) why
       → States text settings input [] (refusal fault why)
   pub unexplained : (text : List ℕ) (settings : Settings Options) (input : Input) (fault : ReadFault)
       → HasFault text fault
       → fault ≢ Memory → settings.explain ≡ true → States text settings input [] (unexplained_fault fault)
-  -- any allocation may fail in reading a text or behind that
+  -- any allocation may fail in reading a text or after that
   pub within : (text : List ℕ) (grammar : Grammar) → IsRead text grammar → HasFault text Memory
   pub within_checked : (text : List ℕ) (start : Option (List ℕ)) (notes : List Said) (rules : CheckedRules)
       (judged : Option Judged) → IsChecked text start notes rules judged → HasFault text Memory
   pub no_memory : (text : List ℕ) (settings : Settings Options) (input : Input) → HasFault text Memory
       → States text settings input [] (without_memory [] 0)
-  -- a grammar that is refused
+  -- a grammar that is rejected
   pub noted : (text : List ℕ) (settings : Settings Options) (input : Input) (notes : List Said) (reported : List ℕ)
       (rules : CheckedRules) → IsChecked text (option_copied settings.start) notes rules None
       → HintedNotes settings (ExplainsNote text) (AreHints text settings) notes reported

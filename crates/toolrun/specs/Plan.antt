@@ -31,13 +31,13 @@ abbrev pub met_before : {T : Type 0} → Result T Stop → Status
 met_before (Ok task) = Done
 met_before (Err stop) = status_of stop
 
--- the text of what is told before anything is read
+-- the text of what is reported before anything is read
 abbrev pub first_text : First → List ℕ
 first_text (Notes notes) = notes_text (map said_of notes.items)
 first_text (Reported reported) = reported.items
 first_text (Fault fault why) = fault_text fault ++ why.items
 
--- the reply that tells this text first
+-- the reply that reports this text first
 abbrev pub reported_after : List ℕ → Reply → Reply
 reported_after first reply = record {
   out = reply.out;
@@ -46,13 +46,13 @@ reported_after first reply = record {
   taken = reply.taken;
 }
 
--- What is stated where this text is told first: it is the notes, or the reply tells it, which writes nothing.
+-- What is stated where this text is reported first: it is the notes, or the reply reports it, which writes nothing.
 pub data Follows (States : Input → List ℕ → Reply → Type 0) (input : Input) (first : List ℕ) (reply : Reply) : Type
     0 where
   after_notes : States input first reply → Follows States input first reply
   in_reply : reply.out ≡ [] → States input [] (reported_after first reply) → Follows States input first reply
 
--- Behind these notes what is done is what is stated, and for each input something is.
+-- After these notes what is done is what is stated, and for each input something is.
 pub record IsPlan (States : Input → List ℕ → Reply → Type 0) (notes : List ℕ) (Does : Input → Reply → Type 0) : Type
     0 where
   pub stated : (input : Input) (reply : Reply) → Does input reply → States input notes reply

@@ -10,7 +10,7 @@ pub record Reply : Type 0 where
   pub status : ℕ
   pub taken : ℕ
 
--- a grammar's text is refused: its fault is told with what explains it, and nothing is taken
+-- a grammar's text is rejected: its fault is reported with what explains it, and nothing is taken
 abbrev pub refusal : ReadFault → List ℕ → Reply
 refusal fault why = record { out = []; err = fault_text fault ++ why; status = 2; taken = 0 }
 
@@ -18,7 +18,7 @@ refusal fault why = record { out = []; err = fault_text fault ++ why; status = 2
 abbrev pub unexplained_fault : ReadFault → Reply
 unexplained_fault fault = record { out = []; err = fault_text fault ++ codes "out of memory\n"; status = 5; taken = 0 }
 
--- nothing is written behind the notes, and nothing is taken
+-- nothing is written after the notes, and nothing is taken
 abbrev pub notes_alone : ℕ → Reply
 notes_alone status = record { out = []; err = []; status = status; taken = 0 }
 
@@ -30,7 +30,7 @@ text_alone text = record { out = text; err = []; status = 0; taken = 0 }
 abbrev pub without_memory : List ℕ → ℕ → Reply
 without_memory out taken = record { out = out; err = codes "out of memory\n"; status = 5; taken = taken }
 
--- an allocation fails after this output and so many bytes of input, where this was told
+-- an allocation fails after this output and so many bytes of input, where this was reported
 abbrev pub cut_reply : List ℕ → List ℕ → ℕ → Reply
 cut_reply reported out taken = record {
   out = out;
@@ -40,7 +40,7 @@ cut_reply reported out taken = record {
       taken;
 }
 
--- before the message of a reply stands what is told of refused lines, and behind it stand lines that explain it
+-- before the message of a reply stands what is reported of rejected lines, and after it stand lines that explain it
 abbrev pub explained_reply : List ℕ → Reply → List ℕ → Reply
 explained_reply reported plain why = record {
   out = plain.out;

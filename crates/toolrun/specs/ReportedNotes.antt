@@ -1,4 +1,4 @@
--- What is told of notes: their lines, and behind each those that explain it; and behind all of them hints.
+-- What is reported of notes: their lines, and after each those that explain it; and after all of them hints.
 use Rattle.std.specs.Prelude.{◌≡◌, ℕ, true, List, [], ◌∷◌, ◌++◌, Option, option_copied, Result, Err}
 use Rattle.ruletable.specs.Notes.{Said, note_text}
 use Rattle.toolrun.specs.Explained.{Explained}
@@ -10,7 +10,7 @@ use Rattle.toolrun.specs.declared.reported.HintText.TheVariants as hinted
 use Rattle.toolrun.specs.declared.reported.NoteText.{NoteText}
 use Rattle.toolrun.specs.declared.reported.NoteText.TheVariants.{Whole, Part}
 
--- all notes in order: the line of each, and behind it the lines that explain it
+-- all notes in order: the line of each, and after it the lines that explain it
 pub data AreNotesReported (Why : Said → List ℕ → Type 0) : List Said → List ℕ → Type 0 where
   no_note : AreNotesReported Why [] []
   note_reported : {note : Said} {why : List ℕ} {notes : List Said} {text : List ℕ} → Why note why
@@ -32,7 +32,7 @@ abbrev pub ReportedNotes : {O : Type 0} → Settings O → (Option (List ℕ) �
     → Type 0
 ReportedNotes settings Why = AreNotesReported (WhyNoted settings Why)
 
--- all notes, and behind them hints, if explanations are asked for
+-- all notes, and after them hints, if explanations are asked for
 pub record HintedNotes {O : Type 0} (settings : Settings O) (Why : Option (List ℕ) → Said → List ℕ → Type 0)
     (AreHints : List ℕ → Type 0) (notes : List Said) (text : List ℕ) : Type 0 where
   pub first : List ℕ
@@ -47,12 +47,12 @@ pub record CutNotes {O : Type 0} (settings : Settings O) (Why : Option (List ℕ
   pub asked : settings.explain ≡ true
   pub begun : AreNotesBegun (WhyNoted settings Why) notes text
 
--- what the code tells of notes
+-- what the code reports of notes
 abbrev pub IsReportedOf : (Said → List ℕ → Type 0) → List Said → NoteText → Type 0
 IsReportedOf Why notes (Whole text) = AreNotesReported Why notes text.items
 IsReportedOf Why notes (Part text) = AreNotesBegun Why notes text.items
 
--- what the code tells of notes, with hints behind them, and the rules that it hands back
+-- what the code reports of notes, with hints after them, and the rules that it hands back
 abbrev pub IsHintedOf : {R : Type 0} → (Said → List ℕ → Type 0) → (List ℕ → Type 0) → List Said → R → HintText R
     → Type 0
 IsHintedOf Why AreHints notes rules (hinted.Whole text kept) = ((first hints : List ℕ)
@@ -60,13 +60,13 @@ IsHintedOf Why AreHints notes rules (hinted.Whole text kept) = ((first hints : L
     × AreHints hints × (text.items ≡ first ++ hints)) × (kept ≡ rules)
 IsHintedOf Why AreHints notes rules (hinted.Part text) = AreNotesBegun Why notes text.items
 
--- all notes are told so before a task, or the first ones before the run stops for want of memory
+-- all notes are reported so before a task, or the first ones before the run stops since an allocation fails
 pub data AreBefore {T : Type 0} (IsReported IsCut : List ℕ → Type 0) (text : List ℕ) (task : Result T Stop)
     : Result T Stop → Type 0 where
   reported_whole : IsReported text → AreBefore IsReported IsCut text task task
   reported_part : IsCut text → AreBefore IsReported IsCut text task (Err NoMemory)
 
--- the notes are told before a task
+-- the notes are reported before a task
 abbrev pub AreReportedBefore : {T O : Type 0} → Settings O → (Option (List ℕ) → Said → List ℕ → Type 0) → List Said
     → List ℕ
     → Result T Stop → Result T Stop → Type 0

@@ -7,7 +7,7 @@ use Rattle.toolrun.specs.Reply.{Reply}
 use Rattle.toolrun.specs.Stream.{Stream}
 
 -- The run was right: both outputs and the status are what is stated, and the bytes taken are the input's, or a
--- beginning where a writer failed or memory was refused.
+-- prefix where a writer failed or an allocation failed.
 pub record IsRight (States : Input → List ℕ → Reply → Type 0) (given : List ℕ) (run : Observed) : Type 0 where
   pub notes : List ℕ
   pub stated : Reply
@@ -16,7 +16,7 @@ pub record IsRight (States : Input → List ℕ → Reply → Type 0) (given : L
   pub within : length run.taken ≤ stated.taken
   pub exact : run.out_failed ≡ false → run.err_failed ≡ false → run.status ≢ 5 → length run.taken ≡ stated.taken
 
--- where the reader tells its bytes, the run was right
+-- where the reader states its bytes, the run was right
 abbrev pub Comes : (Input → List ℕ → Reply → Type 0) → Stream → Stream → Stream → ℕ → Type 0
 Comes States reader out err code =
     IfSome reader.old (λ given. (taken wrote reported : List ℕ) × Consumes reader.old reader.new taken

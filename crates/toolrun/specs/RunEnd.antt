@@ -1,4 +1,4 @@
--- What a run tells at its end: refused lines, the message of the stop, and behind it what explains it.
+-- What a run reports at its end: rejected lines, the message of the stop, and after it what explains it.
 use Rattle.std.specs.Prelude.{ℕ, ◌==◌, List, [], ◌++◌, codes, decimal, if◌then◌else◌, Result, Ok, Err}
 use Rattle.ruletable.specs.declared.sink.WriteFault.{WriteFault}
 use Rattle.toolrun.specs.Stop.{message_of, status_of}
@@ -10,15 +10,15 @@ use Rattle.toolrun.specs.declared.status.Status.TheVariants as status
 use Rattle.toolrun.specs.declared.stop.Stop.{Stop}
 use Rattle.toolrun.specs.declared.stop.Stop.TheVariants.{NoMemory}
 
--- how many more lines were refused, if some were
+-- how many more lines were rejected, if some were
 abbrev pub more_refused : ℕ → List ℕ
 more_refused n = if n == 0 then [] else codes "more refused lines: " ++ decimal n ++ codes "\n"
 
--- the lines that explain the first refused lines, and how many more there are
+-- the lines that explain the first rejected lines, and how many more there are
 abbrev pub refusals_text : ReportedRefusals → List ℕ
 refusals_text reported = reported.text.items ++ more_refused reported.more
 
--- Refused lines come first. Behind the message stand the lines that explain it; where there is no memory for these the
+-- Rejected lines come first. After the message stand the lines that explain it; where there is no memory for these the
 -- message stands before that of this.
 abbrev pub ended_text : Ending → List ℕ
 ended_text (Plain stop) = message_of stop

@@ -36,11 +36,13 @@ module _ {Point : Type 0} (Before : Point → List ℕ → Type 0) (Ends : Point
     pub front : IsPrefixOf text reply.out
     pub taken : least ≤ reply.taken
 
-  -- Tells says what is told of refused lines on the way to a point, Why which lines explain how a run ends there, none
+  -- Reports says what is reported of rejected lines on the way to a point, Why which lines explain how a run ends
+  -- there, none
   -- where nothing is explained, and MayLack where an allocation may fail in explaining it.
   module _ (Reports : Point → List ℕ → Type 0) (Why : Point → Stop → List ℕ → Type 0) (MayLack : Point → Stop → Type 0)
     where
-      -- the reply of all steps: what is told of refused lines, its message, and the lines that explain how the run ends
+      -- the reply of all steps: what is reported of rejected lines, its message, and the lines that explain how the run
+      -- ends
       pub record RepliesReported (reply : Reply) : Type 0 where
         pub plain : Reply
         pub replies : Replies plain
@@ -51,7 +53,7 @@ module _ {Point : Type 0} (Before : Point → List ℕ → Type 0) (Ends : Point
         pub reported : reply ≡ explained_reply before plain why
 
       -- A run states its reply so. Where an allocation fails in explaining how it ends, its message stands whole; where
-      -- one fails before, the text of the first steps does, and what is told of them.
+      -- one fails before, the text of the first steps does, and what is reported of them.
       pub data ReportedStates : Reply → Type 0 where
         replied_reported : (reply : Reply) → RepliesReported reply → ReportedStates reply
         unexplained : (plain : Reply) (replies : Replies plain) (reported : List ℕ) → Reports replies.point reported
@@ -66,13 +68,13 @@ module _ {Point : Type 0} (Before : Point → List ℕ → Type 0) (Ends : Point
         pub front : IsPrefixOf text reply.out
         pub taken : least ≤ reply.taken
 
-      -- memory is refused there, before anything is written last
+      -- an allocation fails there, before anything is written last
       pub record IsCutThere (last : List ℕ) (stop : Stop) (why : List ℕ) : Type 0 where
         pub refused : stop ≡ NoMemory
         pub nothing : last ≡ []
         pub unexplained : why ≡ []
 
-      -- how a run ends there, with what explains it, or for want of memory
+      -- how a run ends there, with what explains it, or since an allocation fails
       abbrev pub EndsReported : Point → List ℕ → Ending → Type 0
       EndsReported point last (Plain stop) = Reports point []
           × (IsCutThere last stop [] ⊎ (Ends point last stop × Why point stop []))
@@ -83,7 +85,7 @@ module _ {Point : Type 0} (Before : Point → List ℕ → Type 0) (Ends : Point
           × MayLack point stop
 
       -- after so many bytes were taken: the text of steps and of a last one, after which the run ends so; or
-      -- a beginning of the text that something stated begins with
+      -- a prefix of the text that something stated begins with
       abbrev pub HasReportedRun : ℕ → Option (List ℕ) → Option (List ℕ) → Result Ending WriteFault → Type 0
       HasReportedRun taken old new (Ok ending) = (point : Point) × (text last : List ℕ) × Before point text
           × Appends old new (text ++ last) × (taken ≡ taken_at point) × EndsReported point last ending

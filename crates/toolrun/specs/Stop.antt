@@ -40,6 +40,6 @@ message_of NoMemory = codes "out of memory\n"
 message_of (Refused why) = fault_text why
 message_of Unreadable = codes "cannot read the grammar\n"
 
--- what is told of a writer that failed
+-- what is reported of a writer that failed
 abbrev pub write_error : List ℕ
 write_error = codes "write error\n"

@@ -13,12 +13,12 @@ use Rattle.toolrun.specs.declared.status.Status.TheVariants.{Done}
 use Rattle.toolrun.specs.declared.stop.Stop.{Stop}
 use Rattle.toolrun.specs.declared.stop.Stop.TheVariants.{NoMemory, Quiet}
 
--- the text was written, and the run is done; or a beginning of it, not all, was written where the writer failed
+-- the text was written, and the run is done; or a proper prefix of it was written where the writer failed
 abbrev pub Prints : Option (List ℕ) → Option (List ℕ) → List ℕ → Result Stop WriteFault → Type 0
 Prints old new text r = MatchResult r (λ stop. (stop ≡ Quiet Done) × Appends old new text)
     (λ _. AppendsPart old new text)
 
--- what is stated has been written, or a beginning of it that is not all where the writer failed
+-- what is stated has been written, or a proper prefix of it where the writer failed
 abbrev pub IsWritten : Result Ending WriteFault → Reply → List ℕ → Type 0
 IsWritten (Ok ending) stated wrote = (wrote ≡ stated.out) × (stated.err ≡ ended_text ending)
     × (stated.status ≡ code_of (ended_status ending))
@@ -33,7 +33,7 @@ pub record EndedAs (States : Reply → Type 0) (taken : List ℕ) (ending : Resu
   pub within : length taken ≤ stated.taken
   pub exact : IfOk ending (λ e. stop_of e ≢ NoMemory → length taken ≡ stated.taken)
 
--- Where the reader tells its bytes, the run ended as one that states this.
+-- Where the reader states its bytes, the run ended as one that states this.
 pub record Fulfils (Does : Input → Reply → Type 0) (reader out : Stream) (ending : Result Ending WriteFault) : Type
     0 where
   pub stopped : IfSome reader.old (λ given. (taken wrote : List ℕ) × Consumes reader.old reader.new taken

@@ -16,7 +16,7 @@ choice-first (rule ∷ rules) zero e h =
     rw (← body) refl
 choice-first (rule ∷ rules) (suc i) e h = choice-first rules i e h
 
--- some rule from one on has a choice exactly if this one has, or one behind it
+-- some rule from one on has a choice exactly if this one has, or one after it
 pub choice-left : (rules : List (table.Rule Expr)) (i : ℕ) (e : Expr) → slice_get (map (λ rule. rule.body) rules) i
     ≡ Some e →
     some_choice (map rule_of (drop i rules)) ≡ (is_choice (pattern_of e)

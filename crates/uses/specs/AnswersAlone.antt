@@ -1,4 +1,4 @@
--- Answers of an open grammar, as runs tell them.
+-- Answers of an open grammar, as runs report them.
 use Rattle.std.specs.Prelude.{◌≡◌, ℕ, false, List, []}
 use Rattle.abnfrun.specs.AbnfAnswers.{AbnfStates}
 use Rattle.abnfrun.specs.AbnfReply.{form_of}
@@ -8,7 +8,7 @@ use Rattle.linejudge.specs.declared.answers.Answer.{Answer}
 use Rattle.toolrun.specs.declared.settings.Mode.TheVariants.{Run}
 use Rattle.abnfrun.specs.AbnfSettings.{AbnfSettings}
 
--- A run of the grammar on the line alone answers so, behind what it tells of the grammar. The line does not hold the
+-- A run of the grammar on the line alone answers so, after what it reports the grammar. The line does not hold the
 -- byte that ends lines, and the settings ask for a run whose messages are not explained, of lines without their ends.
 abbrev pub AnswersAlone : List ℕ → AbnfSettings → List ℕ → Answer → Type 0
 AnswersAlone text settings line said = settings.mode ≡ Run → settings.explain ≡ false

@@ -16,7 +16,7 @@ IsCommentAnswer line Yes = IsComment line
 IsCommentAnswer line No = IsComment line → ⊥
 IsCommentAnswer line (NoAfter n) = ⊥
 
--- lines of at most 65,536 bytes, each with an LF behind it
+-- lines of at most 65,536 bytes, each with an LF after it
 abbrev pub comment_form : LineForm
 comment_form = record {
   limit = 65536;
@@ -28,6 +28,6 @@ comment_form = record {
   line_buffered = false;
 }
 
--- what is told of a line that is no comment
+-- what is reported of a line that is no comment
 abbrev pub LacksSign : List ℕ → ℕ → List ℕ → Type 0
 LacksSign line number why = why ≡ codes "a comment begins with #\n"

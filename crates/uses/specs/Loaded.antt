@@ -9,7 +9,7 @@ use Rattle.pegread.specs.Pattern.{Rule}
 use Rattle.pegread.specs.Reading.{Reads}
 use Rattle.pegread.specs.PegViews.{rules_of}
 
--- a note refuses the grammar of these definitions; or it can be run, from its first rule
+-- a note rejects the grammar of these definitions; or it can be run, from its first rule
 abbrev pub IsLoadedAs : List Rule → Option Grammar → Type 0
 IsLoadedAs definitions None =
     (notes : List Said) × AreNotes (firsts [] definitions) (names_at (firsts [] definitions) (agains [] definitions))
@@ -17,7 +17,7 @@ IsLoadedAs definitions None =
 IsLoadedAs definitions (Some g) = IsSoundGrammar g × (rules_of g.rules ≡ firsts [] definitions)
     × IsStart None (firsts [] definitions) g.start
 
--- the text is a grammar, which is refused or can be run
+-- the text is a grammar, which is rejected or can be run
 pub record IsLoaded (text : List ℕ) (sound : Option Grammar) : Type 0 where
   pub definitions : List Rule
   pub reads : Reads text definitions

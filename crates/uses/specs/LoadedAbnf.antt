@@ -6,7 +6,7 @@ use Rattle.abnfread.specs.AbnfViews.{rules_of}
 use Rattle.abnfcheck.specs.AbnfGrammar.{Grammar}
 use Rattle.abnfrun.specs.AbnfNoted.{IsRefusedFor, all_rules, judged_of}
 
--- The text is a grammar, which is refused; or it can judge lines by its rules, the core rules behind them, from the
+-- The text is a grammar, which is rejected; or it can judge lines by its rules, the core rules after them, from the
 -- judged one.
 pub record IsAbnfLoaded (text : List ℕ) (given : Option (List ℕ)) (sound : Option Grammar) : Type 0 where
   pub definitions : List Definition

@@ -1,4 +1,4 @@
--- Runs of an open grammar, as runs of its text tell them.
+-- Runs of an open grammar, as runs of its text report them.
 use Rattle.std.specs.Prelude.{◌≡◌, ℕ, false, List, ◌++◌}
 use Rattle.memoryrun.specs.MemoryRun.{IsMemoryRun}
 use Rattle.memoryrun.specs.declared.outputs.Outputs.{Outputs}
@@ -7,7 +7,7 @@ use Rattle.toolrun.specs.Status.{code_of}
 use Rattle.toolrun.specs.declared.settings.Mode.TheVariants.{Run}
 use Rattle.pegrun.specs.PegSettings.{PegSettings}
 
--- A run of the grammar's text on the input writes this, behind what it tells of the grammar. The settings ask for a run
+-- A run of the grammar's text on the input writes this, after what it reports the grammar. The settings ask for a run
 -- whose messages are not explained.
 abbrev pub RunsAlone : List ℕ → PegSettings → List ℕ → Outputs → Type 0
 RunsAlone text settings input wrote = settings.mode ≡ Run → settings.explain ≡ false → (reported : List ℕ)

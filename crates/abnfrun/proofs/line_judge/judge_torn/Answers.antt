@@ -1,4 +1,4 @@
--- The line's longest beginning that is UTF-8 is decoded, and its code points have this answer.
+-- The line's longest prefix that is UTF-8 is decoded, and its code points have this answer.
 use Rattle.std.proofs.Common.{◌≡◌, arith, length, length-take-le}
 use Rattle.std.proofs.lemmas.List.{length-map}
 use Rattle.abnfread.specs.AbnfViews.{rules_of}

@@ -1,4 +1,4 @@
--- Derivation and UTF-8 are decided, and a longest viable beginning is found.
+-- Derivation and UTF-8 are decided, and a longest viable prefix is found.
 use Rattle.abnfrun.proofs.IsAnswerToLemmas.{line_answered}
 use Rattle.abnfrun.proofs.line_judge.lines_have_answers.Goals as goal
 

@@ -1,4 +1,4 @@
--- The grammar is refused, or lines are judged by it.
+-- The grammar is rejected, or lines are judged by it.
 use Rattle.std.proofs.Common.{map}
 use Rattle.abnfrun.proofs.OpenAbnfLemmas.{judge_is_opened, refused_is_opened}
 use Rattle.abnfrun.proofs.opened.open_abnf.Goals as goal

@@ -1,4 +1,4 @@
--- Each way in which a text is not had.
+-- Each way in which a text cannot be read.
 use Rattle.toolrun.specs.Status.{code_of}
 use Rattle.toolrun.specs.Stream.{passed}
 use Rattle.toolrun.specs.declared.stop.Stop.TheVariants.{NoMemory}

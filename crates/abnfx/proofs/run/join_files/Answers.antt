@@ -1,4 +1,4 @@
--- The texts are joined, or else one is not had, or an allocation failed.
+-- The texts are joined, or else one cannot be read, or an allocation failed.
 use Rattle.toolrun.specs.Plan.{IsReportedAnd}
 use Rattle.toolrun.specs.Status.{code_of}
 use Rattle.toolrun.specs.Stream.{no_input, passed}

@@ -13,4 +13,5 @@ returns-clause-reported c =
     c.refused_at-at.result f.after c.args.out.now.items c.push_refusal.new.out.items c.judged_name.ensures
     c.in_ok-push_refusal.ensures
     (rw map-id at (c.in_ok-following.ensures.furthest rules grammar.judged c.requires.prefixes))
-    (rw map-id at (c.in_ok-following.ensures.following rules grammar.judged c.requires.prefixes)) c.refused_at-at.ensures
+    (rw map-id at (c.in_ok-following.ensures.following rules grammar.judged c.requires.prefixes))
+        c.refused_at-at.ensures

@@ -1,4 +1,4 @@
--- More behind the line of a stop.
+-- More after the line of a stop.
 use Rattle.ruletable.proofs.AppendsLemmas.{AppendsPart-first, Writes-then}
 use Rattle.toolrun.proofs.ending.write_after.Goals as goal
 

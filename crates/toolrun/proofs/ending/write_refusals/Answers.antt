@@ -1,4 +1,4 @@
--- How many more lines behind the text of the first ones.
+-- How many more lines after the text of the first ones.
 use Rattle.ruletable.proofs.AppendsLemmas.{AppendsPart-first, Writes-then}
 use Rattle.toolrun.proofs.ending.write_refusals.Goals as goal
 

@@ -1,4 +1,4 @@
--- The line of a stop behind what is told of refused lines.
+-- The line of a stop after what is reported of rejected lines.
 use Rattle.ruletable.proofs.AppendsLemmas.{AppendsPart-first, Writes-then}
 use Rattle.toolrun.proofs.ending.write_reported.Goals as goal
 

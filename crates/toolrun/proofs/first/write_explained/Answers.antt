@@ -1,4 +1,4 @@
--- The lines that explain a fault behind its own.
+-- The lines that explain a fault after its own.
 use Rattle.ruletable.proofs.AppendsLemmas.{AppendsPart-first, Writes-then}
 use Rattle.toolrun.proofs.first.write_explained.Goals as goal
 

@@ -1,4 +1,4 @@
--- The fault is told, and what explains it, or that memory was refused.
+-- The fault is reported, and what explains it, or that an allocation failed.
 use Rattle.toolrun.proofs.IsPlanLemmas.{plan_explained, plan_unexplained}
 use Rattle.toolrun.proofs.plan.plan_explained.Goals as goal
 

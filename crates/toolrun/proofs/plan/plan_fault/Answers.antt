@@ -1,4 +1,4 @@
--- The fault is told alone.
+-- The fault is reported alone.
 use Rattle.std.proofs.Common.{◌≡◌, true, false, rules}
 use Rattle.ruletable.specs.declared.fault.ReadFault.TheVariants.{Memory}
 use Rattle.toolrun.proofs.IsPlanLemmas.{plan_unread, plan_without_memory}

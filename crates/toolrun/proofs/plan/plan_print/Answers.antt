@@ -1,4 +1,4 @@
--- The text is refused, or its grammar is printed, or noted.
+-- The text is rejected, or its grammar is printed, or noted.
 use Rattle.std.proofs.Common.{◌≡◌, [], ap, map, arith}
 use Rattle.std.proofs.lemmas.Bool.Decides.{nat_tests}
 use Rattle.std.proofs.lemmas.List.{nil_from_length}

@@ -1,4 +1,4 @@
--- Nothing is told, or all notes are, with hints or without.
+-- Nothing is reported, or all notes are, with hints or without.
 use Rattle.std.proofs.Common.{map}
 use Rattle.ruletable.specs.Notes.{said_of}
 use Rattle.toolrun.specs.ReportedNotes.{begun_notes, no_note}

@@ -1,4 +1,4 @@
--- No note is told, or each with what explains it.
+-- No note is reported, or each with what explains it.
 use Rattle.std.proofs.Common.{map}
 use Rattle.ruletable.specs.Notes.{said_of}
 use Rattle.toolrun.specs.ReportedNotes.{begun_notes, no_note}

@@ -1,4 +1,4 @@
--- Memory was refused before the first line, or the lines were judged.
+-- An allocation failed before the first line, or the lines were judged.
 use Rattle.abnfread.specs.AbnfViews.{rules_of}
 use Rattle.abnfrun.specs.AbnfReply.{AnswersFor, RefusalFor, form_of}
 use Rattle.linejudge.proofs.LineRunLemmas.{no_line_was_run}
