@@ -46,6 +46,12 @@ TWINS = set(
     run_text dots_of steps_of taken_at unit_of unmarked way_of
     """.split()
 )
+# Words of the old dialect, which no name has, and names of the standard library and of the prover that have one.
+OLD_WORDS = set("told tell tells telling behind spot spots deed deeds hop hops beginning beginnings".split())
+OLD_NAMES = {"eqb_tells", "handle_tells", "told"}
+NAME = re.compile(r"[A-Za-z_]\w*")
+WORD = re.compile(r"[A-Z]?[a-z]+|[A-Z]+(?![a-z])")
+NO_CODE = re.compile(r"""b?'(?:\\.|[^'\\\n])'|(?://|--)[^\n]*|["](?:\\.|[^"\\])*["]""")
 # The most crates of the workspace, and the most that a chain of uses has which ends in a program. A program is a crate
 # of its own, as `abnfd` and `abnfg`. `rfcforms` reads XML, since `abnfblocks` and `abnftexts` are full.
 MOST_CRATES = 52
@@ -229,6 +235,17 @@ def of_twin_types(top, files):
             yield f"{name}: {', '.join(sorted(crates))}"
 
 
+def of_old_words(top, files):
+    """Yields the names that have a word of the old dialect, each with the first file that has it."""
+    found = {}
+    for path in files:
+        if path.suffix in {".rt", ".antt"}:
+            for name in NAME.findall(NO_CODE.sub("", (top / path).read_text())):
+                if OLD_WORDS.intersection(it.lower() for it in WORD.findall(name)) and name not in OLD_NAMES:
+                    found.setdefault(name, path)
+    yield from (f"{path}: {name}" for name, path in sorted(found.items()))
+
+
 def of_large_crates(top, files):
     """Yields the crates that have too many functions."""
     count = collections.Counter()
@@ -306,6 +323,7 @@ def main():
         "names that stand more than once": of_twins(files),
         "definitions whose name stands in two crates": of_twin_definitions(top, files),
         "types whose name stands in two crates": of_twin_types(top, files),
+        "names with a word of the old dialect": of_old_words(top, files),
         "the number of crates, and what programs use": of_uses(top),
         f"crates of more than {LARGEST_CRATE} functions": of_large_crates(top, files),
         f"folders of more than {LARGEST_FOLDER} entries": of_wide_folders(files),

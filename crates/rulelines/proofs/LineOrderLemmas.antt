@@ -18,7 +18,15 @@ use Rattle.rulelines.specs.declared.list.search.Change.{Change}
 use Rattle.rulelines.specs.declared.list.table.Table.{Table}
 use Rattle.rulelines.specs.LineSets.{IsLineAfter, IsFirstAfter, is_line_symbol, IsLineIn}
 use Rattle.rulelines.specs.Rests.{IsRest}
-use Rattle.rulelines.specs.StateTables.{HasNoNextRestIn, HasNoRestFrom, line_symbols, IsCan, IsChangedTo, IsFilledBy, IsFirstFrom}
+use Rattle.rulelines.specs.StateTables.{
+  HasNoNextRestIn,
+  HasNoRestFrom,
+  line_symbols,
+  IsCan,
+  IsChangedTo,
+  IsFilledBy,
+  IsFirstFrom,
+}
 use Rattle.rulelines.specs.StateTables.{IsFirstRestIn, IsTableGrown, IsNextBy, IsNextRestIn, IsStateTable}
 use Rattle.rulelines.specs.StateTables.{table_lines}
 use Rattle.rulelines.proofs.ComesFirstLemmas.{before_length}

@@ -86,15 +86,16 @@ module _ (table : Table) (is : IsStateTable table) (closed : AreRowsClosed table
       not_taken : AreNotTaken table n 0 k (length table.starts.items)
       not_taken t t_is j b within at_j more taken = taken_next k n j b t none lt t_is within at_j taken
 
-  longer : (count more : ℕ) → HaveNoRest table count table.seen → HaveNoRest table (count + more) table.seen
-  longer count zero none =
+  all_longer : (count more : ℕ) → HaveNoRest table count table.seen → HaveNoRest table (count + more) table.seen
+  all_longer count zero none =
       let e : count ≡ count + 0 = omega arith in
       subst (λ v. HaveNoRest table v table.seen) e none
-  longer count (suc more) none =
+  all_longer count (suc more) none =
       let e : count + more + 1 ≡ count + suc more = omega arith in
-      subst (λ v. HaveNoRest table v table.seen) e (one_longer (count + more) (longer count more none))
+      subst (λ v. HaveNoRest table v table.seen) e (one_longer (count + more) (all_longer count more none))
 
-  pub over : (count : ℕ) → table.start < table.seen → HaveNoRest table count table.seen → HasNoRestFrom table count
-  over count lt none s k s_is le h =
+  pub start_over : (count : ℕ) → table.start < table.seen → HaveNoRest table count table.seen
+      → HasNoRestFrom table count
+  start_over count lt none s k s_is le h =
       let e : k ≡ count + (k - count) = omega (arith, le) in
-      longer count (k - count) none table.start s lt s_is (subst (λ v. HasRestIn table s v) e h)
+      all_longer count (k - count) none table.start s lt s_is (subst (λ v. HasRestIn table s v) e h)
