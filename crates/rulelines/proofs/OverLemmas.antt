@@ -94,8 +94,8 @@ module _ (table : Table) (is : IsStateTable table) (closed : AreRowsClosed table
       let e : count + more + 1 ≡ count + suc more = omega arith in
       subst (λ v. HaveNoRest table v table.seen) e (one_longer (count + more) (all_longer count more none))
 
-  pub start_over : (count : ℕ) → table.start < table.seen → HaveNoRest table count table.seen
+  pub start_is_over : (count : ℕ) → table.start < table.seen → HaveNoRest table count table.seen
       → HasNoRestFrom table count
-  start_over count lt none s k s_is le h =
+  start_is_over count lt none s k s_is le h =
       let e : k ≡ count + (k - count) = omega (arith, le) in
       all_longer count (k - count) none table.start s lt s_is (subst (λ v. HasRestIn table s v) e h)
