@@ -226,7 +226,7 @@ def is_as_stated(run, ended):
 
 
 def may_go_on(run, number):
-    """Tells whether a run may go on without that growth. Earley's sets answer where the automaton has no memory, the
+    """Returns whether a run may go on without that growth. Earley's sets answer where an allocation of the automaton fails, the
     window joins a line in two pieces where there is none for its copy, notes are written by pieces where there is none
     for their lines, and a unit that is kept may not be asked for."""
     has_automaton = run.program == "abnfi" and "-m" not in run.words and run.name not in NO_AUTOMATON
@@ -237,7 +237,7 @@ def may_go_on(run, number):
 
 
 def explained_beginnings(told):
-    """Returns what may stand of messages that are explained where there is no memory for what is behind: the first
+    """Returns what may stand of messages that are explained where an allocation for the rest fails: the first
     ones, the last of them perhaps without what explains it."""
     lines = told.splitlines(keepends=True)
     messages = [at for at, line in enumerate(lines) if not line.startswith(b"  ")]
@@ -255,7 +255,7 @@ def not_explained(run):
 
 
 def refuse_each(tools, run, **more):
-    """Refuses each growth of a run in turn. Returns how many it has, and how many of them were made good."""
+    """Refuses each growth of a run in turn. Returns how many it has, and how many of them were retried."""
     fronts = [b"".join(run.texts[:k]) for k in range(len(run.texts) + 1)]
     number, good = 1, 0
     messages = explained_beginnings(run.told) if "-x" in run.words else [b""]
@@ -277,7 +277,7 @@ def refuse_each(tools, run, **more):
 
 
 def memory(tools):
-    """Refuses each growth in turn, alone and then with all behind it."""
+    """Refuses each growth in turn, alone and then with all after it."""
     for run in (it for it in GROWING if tools.has(it.program)):
         growths, good = refuse_each(tools, run)
         refuse_each(tools, run, LASTS=1)
@@ -285,7 +285,7 @@ def memory(tools):
 
 
 def writes(tools):
-    """Each write short, and each output failing behind each number of bytes."""
+    """Each write short, and each output failing after each number of bytes."""
     for run in (it for it in WRITTEN if tools.has(it.program)):
         for most in (1, 2, 3):
             ended = tools.run(run, WRITE=most)

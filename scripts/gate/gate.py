@@ -43,7 +43,7 @@ RT = os.environ.get("RT", "rt").split()
 
 
 def script(name, *words):
-    """Runs one of the scripts, and tells whether it ended well."""
+    """Runs one of the scripts, and returns whether it ended well."""
     by = ["sh"] if name.endswith(".sh") else [sys.executable, "-B"]
     return subprocess.run([*by, TOP / "scripts" / name, *words], cwd=TOP, check=False).returncode == 0
 
@@ -65,7 +65,7 @@ def ci():
 
 
 def put_programs():
-    """Puts the programs that `rt ci` built into bin/, or else builds them. Tells whether both are there."""
+    """Puts the programs that `rt ci` built into bin/, or else builds them. Returns whether both are there."""
     built = [TOP / "crates" / it / "out" / it for it in PROGRAMS]
     if not all(it.is_file() for it in built):
         return script("build/prove.py", *PROGRAMS)
@@ -76,7 +76,7 @@ def put_programs():
 
 
 def put_library():
-    """Makes the library for C in bin/, where there is a C compiler. Tells whether that went well."""
+    """Makes the library for C in bin/, where there is a C compiler. Returns whether that went well."""
     return bool(lacking()) or script("build/library.py", "--over-ci")
 
 

@@ -51,7 +51,7 @@ class Test:
         return program
 
     def ends(self, title, words, status=0, out=None, err=None, **others):
-        """Runs a program, and notes whether it ends with the status and writes what is wanted."""
+        """Runs a program, and notes whether it ends with the status and writes what is expected."""
         found = subprocess.run([str(it) for it in words], env=self.environment, capture_output=True, check=False,
                                **others)
         pairs = ((found.returncode, status), (found.stdout, out), (found.stderr, err))

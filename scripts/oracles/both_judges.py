@@ -31,7 +31,7 @@ def judged_rule(words, grammar):
 
 
 def is_alike(example, copy):
-    """Runs an example by item sets, in a copy of its folder, and tells whether it ends as it must."""
+    """Runs an example by item sets, in a copy of its folder. Returns whether it ends as it must."""
     shutil.copytree(example, copy)
     file = next(copy.glob("*.abnf"))
     grammar = file.read_text()

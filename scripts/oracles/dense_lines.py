@@ -78,7 +78,7 @@ def random_grammar():
 
 
 def are_as_slow(rules):
-    """Tells whether abnfi answers lines of a grammar, short ones and long ones, as the slow answer does."""
+    """Returns whether abnfi answers lines of a grammar, short ones and long ones, as the slow answer does."""
     sizes = (1, 3, 7, random.randrange(100, 140), random.randrange(100, 140))
     lines = ["".join(random.choices("aab" + "q" * (random.random() < 0.1), k=it)) for it in sizes]
     text, given = grammar_text(random, rules), "".join(f"{it}\n" for it in lines).encode()

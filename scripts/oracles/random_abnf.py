@@ -111,7 +111,7 @@ def line(r, rules, judged, longest, is_utf8, end):
 
 
 def given(r, grammar_of, judged, count, longest, is_utf8, end=b"\n"):
-    """Returns an input of so many lines, most of them of at most so many bytes, each with that byte behind it."""
+    """Returns an input of so many lines, most of them of at most so many bytes, each with that byte after it."""
     rules = slow_abnf.Rules(grammar_of)
     first = judged or next(iter(rules.file))
     lines = [line(r, rules, first, longest, is_utf8, end) for _ in range(count)]

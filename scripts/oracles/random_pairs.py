@@ -53,7 +53,7 @@ def like(r, grammar):
 
 
 def is_derived(rules, text, key, line, is_utf8, folder):
-    """Tells whether abnfi says that a rule derives a line. Where both of its ends stand in the line, the slow answer
+    """Returns whether abnfi says that a rule derives a line. Where both of its ends stand in the line, the slow answer
     says it."""
     ends = [it for it in (b"\n", b"\0") if it not in line]
     if not ends:

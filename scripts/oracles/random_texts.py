@@ -1,8 +1,8 @@
 #!/usr/bin/env python3
 """Makes random texts in the manner of RFCs, of rules, prose, pages, fenced blocks and tags, and texts in XML, and
 compares what abnfx writes of them with what slow_abnfx.py works out, and its canonical text with what `abnfi -m print`
-prints of the grammar, unless abnfi refuses that. A grammar that is too long is tried too, and so are words and files
-that it refuses.
+prints of the grammar, unless abnfi rejects that. A grammar that is too long is tried too, and so are words and files
+that it rejects.
 
 usage: random_texts.py [-n TEXTS] [-s SEED]
 
@@ -20,7 +20,7 @@ import slow_abnfx
 
 BIN = pathlib.Path(__file__).resolve().parents[2] / "bin"
 ABNFX, ABNFI = BIN / "abnfx", BIN / "abnfi"
-# What is told of both flags together.
+# The message on both flags together.
 BOTH = (b"error: the argument '-l' cannot be used with '-c'\n\nUsage: abnfx [OPTIONS] <TEXT>...\n\n"
         b"For more information, try '--help'.\n")
 # Two texts that read, whose grammar has more than 1048576 bytes.
@@ -148,7 +148,7 @@ class Trials:
                   f"tells {ran.stderr}\nwanted {told}\nstatus {ran.returncode}, wanted {status}")
 
     def canonical(self, grammar):
-        """Returns the canonical text of a grammar, as abnfi prints it; None if it refuses the grammar."""
+        """Returns the canonical text of a grammar, as abnfi prints it; None if it rejects the grammar."""
         if not grammar:
             return grammar
         (self.folder / "grammar").write_bytes(grammar)
@@ -163,7 +163,7 @@ class Trials:
         self.expect(LONG, ["-l"], listed.encode(), b"", 0)
 
     def refusals(self):
-        """Words and files of which nothing is joined: the first file that is not had is told."""
+        """Words and files of which nothing is joined: the first file that cannot be read is reported."""
         text, long_text, none = ("t.txt", b'a = "x"\n'), ("long.txt", b" " * 16777217), ("none.txt", b"")
         self.put([text, long_text])
         for option in (["-c", "-l"], ["-l", "-c"], ["-lc"]):

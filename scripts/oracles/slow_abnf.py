@@ -3,7 +3,7 @@ RFC 7405) and the notes on a grammar. It shares nothing with the crates.
 
 An element is a tuple: ("text", b, is_case_sensitive), ("values", [v ..]), ("range", a, b), ("concat", [e ..]),
 ("alt", [e ..]), ("rep", a, b or None, e), ("opt", e), ("name", n), ("prose", text). A grammar is a list of
-(name, adds, element), where `adds` tells whether the rule is given by `=/`.
+(name, adds, element), where `adds` says whether the rule is given by `=/`.
 """
 
 
@@ -102,7 +102,7 @@ def reached(rules, judged):
 
 
 def notes_on(rules, judged):
-    """Returns the lines of the notes on a grammar, and whether it is refused."""
+    """Returns the lines of the notes on a grammar, and whether it is rejected."""
     first = judged or next(iter(rules.file))
     uses = ([judged] if judged else []) + [it for body in rules.all.values() for it in names_in(body)]
     undefined, used = {}, set()
@@ -129,7 +129,7 @@ def lower(letter):
 
 def letters_of(line, is_utf8):
     """Returns the letters of a line, its bytes or its code points, and whether it is UTF-8 where it has to be; where it
-    is not, they are those of its longest beginning that is.
+    is not, they are those of its longest prefix that is.
     """
     if not is_utf8:
         return list(line), True
@@ -140,15 +140,15 @@ def letters_of(line, is_utf8):
 
 
 def is_letter(value, is_utf8):
-    """Tells whether a value is that of a letter: of a byte, or of a code point outside the surrogates."""
+    """Returns whether a value is that of a letter: of a byte, or of a code point outside the surrogates."""
     return value < 0xD800 or 0xE000 <= value < 0x110000 if is_utf8 else value < 0x100
 
 
 class Deriver:
     """Which parts of a list of letters the rules derive. A set of places is a number whose bits are the places.
 
-    If more letters may follow, `may_follow` tells whether one of the values of a range is a letter, and the last place
-    stands for all behind it.
+    If more letters may follow, `may_follow` says whether one of the values of a range is a letter, and the last place
+    stands for all after it.
     """
 
     def __init__(self, rules, line, may_follow=None):
@@ -157,7 +157,7 @@ class Deriver:
         self.ends = {}
 
     def derives(self, key):
-        """Tells whether the rule derives the line, or one that begins with it: the least sets, by rounds until none
+        """Returns whether the rule derives the line, or one that begins with it: the least sets, by rounds until none
         grows."""
         self.ends = {it: [0] * (self.size + 1) for it in self.wanted(key)}
         while True:
@@ -181,7 +181,7 @@ class Deriver:
         return getattr(self, "behind_" + e[0])(e, places) if places else 0
 
     def over(self, places, low, high, test):
-        """Returns the places behind a letter from `low` to `high` that meets the test."""
+        """Returns the places after a letter from `low` to `high` that meets the test."""
         ends = 1 << self.size if places >> self.size & 1 and self.may_follow(low, high) else 0
         for place in range(self.size):
             if places >> place & 1 and test(self.line[place]):
@@ -228,7 +228,7 @@ class Deriver:
         while most is None or turn < most:
             places = self.behind(part, places)
             turn += 1
-            if places | ends == ends:  # and so behind each further turn
+            if places | ends == ends:  # and so after each further turn
                 break
             ends |= places
         return ends

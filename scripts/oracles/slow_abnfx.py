@@ -29,7 +29,7 @@ def is_indented(line):
 
 
 def kind(line, has_feed):
-    """Returns what a line looks like behind its form feeds."""
+    """Returns what a line looks like after its form feeds."""
     bare = line.rstrip(BLANKS)
     if not bare:
         return "feed" if has_feed else "blank"
@@ -244,7 +244,7 @@ def tokens_of(text):
 
 
 def folded(tokens):
-    """Returns the tokens in small letters, but for prose and texts behind `%s`; `%i` says nothing."""
+    """Returns the tokens in small letters, but for prose and texts after `%s`; `%i` says nothing."""
     found, is_exact = [], False
     for it in tokens:
         found.append(it if it.startswith(b"<") or is_exact else re.sub(rb"%i$", b"", it.lower()))
@@ -273,7 +273,7 @@ class Rule:
         self.name, self.key = tokens[0].decode(), tokens[0].lower()
         self.adds = tokens[2] == b"/"
         self.body = folded(tokens[2 + self.adds:])
-        # the names that it uses, each with its line: what stands behind a repeat, but the name of the rule itself
+        # the names that it uses, each with its line: what stands after a repeat, but the name of the rule itself
         self.uses = [(number, REPEAT.sub(b"", it, count=1)) for number, line in self.rows for it in tokens_of(line)][1:]
         self.uses = [(number, it) for number, it in self.uses if NAME.fullmatch(it)]
 
@@ -291,7 +291,7 @@ class Rule:
         return f"{self.text}:{self.first}"
 
     def is_same(self, other):
-        """Tells whether the tokens are the same. Rules in brackets that say no more are not compared by this."""
+        """Returns whether the tokens are the same. Rules in brackets that say no more are not compared by this."""
         alike = self.adds == other.adds and self.is_prose == other.is_prose
         return alike and self.key == other.key and self.body == other.body
 
@@ -346,7 +346,7 @@ def fates(rules):
 
 
 def joined(texts):
-    """Returns the grammar that texts make up, the list of their rules, what is told, and the status."""
+    """Returns the grammar that texts make up, the list of their rules, the messages, and the status."""
     rules, told = [], ""
     for name, text in texts:
         more, said = given(name, text)

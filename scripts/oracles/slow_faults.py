@@ -1,6 +1,6 @@
 """Slow answers to what is wrong with a grammar's text, and the lines that explain it.
 
-The tokens of a text are found by regular expressions, and what can stand behind them by Earley's sets over a grammar of
+The tokens of a text are found by regular expressions, and what can stand after them by Earley's sets over a grammar of
 their kinds: a kind can stand exactly if an item of the last set reads it next, since each symbol derives something.
 """
 import collections
@@ -51,7 +51,7 @@ class Prefixes:
         return any(it.kind == kind and it.gap in (None, gap) and it.first == first for it in self.next_terminals())
 
     def read(self, token):
-        """Goes on behind a token that can stand."""
+        """Goes on after a token that can stand."""
         self.close({(n, b, d + 1, o) for n, b, d, o in self.sets[-1] if d < len(b) and isinstance(b[d], Reads)
                     and b[d].kind == token.kind and b[d].gap in (None, token.gap) and b[d].first == token.first})
 
@@ -195,7 +195,7 @@ def shown(text):
 
 
 def place(text, token, line_end):
-    """Returns the picture of a token's place, and the beginning of what is told of it."""
+    """Returns the picture of a token's place, and the first bytes of the report on it."""
     if token.kind == "End":
         return "  at the end of the text: "
     before = len(re.split(line_end, text[:token.start])[-1])
@@ -220,7 +220,7 @@ def bad_fact(token, text, facts):
 
 
 def peg_point(front):
-    """Returns what is told of the code point that these bytes begin with, or None."""
+    """Returns the report on the code point that these bytes begin with, or None."""
     for points, words in ((range(0x2018, 0x2020), "is a curly quote: literals stand in ' or \""),
                           ([*range(0x2010, 0x2016), 0x2212], 'is a dash: write "-"'),
                           ([0xA0, *range(0x2000, 0x200C), 0x202F, 0x3000], "is no white space: write a space"),
@@ -247,7 +247,7 @@ def peg_mistake(text, tokens, number):
 
 
 def is_large(token):
-    """Tells whether a number of a token of ABNF is over its limit."""
+    """Returns whether a number of a token of ABNF is over its limit."""
     if token.kind == "Repeat":
         return any(int(it) > MAX_NUMBER for it in re.findall(rb"[0-9]+", token.text))
     base = {b"x": 16, b"d": 10, b"b": 2}.get(token.text[1:2].lower())
@@ -260,7 +260,7 @@ def opens(token):
 
 
 def peg(text):
-    """Returns what is told of the fault of a grammar for pegi, and explains it; None if it has none."""
+    """Returns the report on the fault of a grammar for pegi, and explains it; None if it has none."""
     tokens, prefixes, depth = tokens_of(text, PEG_WHITE, PEG_TOKENS, True), Prefixes(PEG_RULES), 0
     for number, token in enumerate(tokens):
         line = len(re.findall(rb"\r\n|\r|\n", text[:token.start])) + 1
@@ -277,7 +277,7 @@ def peg(text):
 
 
 def line_facts(text, tokens, number):
-    """Returns what is told of a token of ABNF by where its line, and that of the first token, begin."""
+    """Returns the report on a token of ABNF by where its line, and that of the first token, begin."""
     token, margin, facts = tokens[number], indent(text, tokens[0].start), ""
     if token.first and number > 0:
         facts += f"  its line begins a rule: it is indented by {indent(text, token.start)}, the first by {margin}\n"
@@ -330,7 +330,7 @@ def mistake(text, tokens, number):
 
 
 def abnf(text):
-    """Returns what is told of the fault of a grammar for abnfi, and explains it; None if it has none."""
+    """Returns the report on the fault of a grammar for abnfi, and explains it; None if it has none."""
     tokens, prefixes, depth = tokens_of(text, ABNF_WHITE, ABNF_TOKENS, False), Prefixes(ABNF_RULES), 0
     tokens = marked(text, tokens)
     for number, token in enumerate(tokens):

@@ -1,6 +1,6 @@
 """Slow answers to which hints there are on a grammar in ABNF. It shares nothing with the crates.
 
-Whether a rule derives something, and whether it does without a letter, is told by how few letters it derives: the least
+Whether a rule derives something, and whether it does without a letter, is decided by how few symbols it derives: the least
 sums, by rounds until none changes.
 """
 import math
@@ -122,7 +122,7 @@ def fewest_of(rules, is_letter):
 
 
 def is_whole(rules, key):
-    """Tells whether a rule reaches no prose, and no name that no rule has."""
+    """Returns whether a rule reaches no prose, and no name that no rule has."""
     return all(it in rules.all and not slow_abnf.has_prose(rules.all[it]) for it in slow_abnf.reached(rules, key))
 
 

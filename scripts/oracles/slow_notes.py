@@ -64,7 +64,7 @@ class Places:
         return f"  line {line}: {cut(word)}\n"
 
     def lines_on(self, kind, name, start):
-        """Returns the lines behind a note."""
+        """Returns the lines after a note."""
         if kind == "undefined":
             return self.use(name, start)
         return self.prose(name) if kind == "prose" else self.definitions(kind, name)
@@ -126,7 +126,7 @@ def first_that_takes(alternatives, later):
 
 
 def literals(e, behind=None):
-    """Yields the literals in an expression, each with that behind which its alternative is never taken."""
+    """Yields the literals in an expression, each with that after which its alternative is never taken."""
     if e[0] == "bytes":
         yield e[1], behind
     for number, part in enumerate(slow_peg.parts(e)):
@@ -185,7 +185,7 @@ class PegPlaces(Places):
         return told + (f"  and {len(way) - STEPS} more\n" if len(way) > STEPS else "")
 
     def hints(self):
-        """Returns what is told of alternatives that are never taken."""
+        """Returns the report on alternatives that are never taken."""
         told = [f"alternative never taken in rule '{cut(name.encode())}'\n"
                 f"  line {line}: {cut(canonical(('bytes', later)).encode())}"
                 f" after {cut(canonical(('bytes', earlier)).encode())}\n"

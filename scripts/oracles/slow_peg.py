@@ -22,7 +22,7 @@ class Matcher:
         self.rules, self.text, self.looked, self.left = rules, text, 0, STEPS
 
     def compare(self, place, holds):
-        """Tells whether a byte stands at the place and meets the test."""
+        """Returns whether a byte stands at the place and meets the test."""
         if place >= len(self.text):
             return False
         self.looked = max(self.looked, place + 1)
@@ -147,7 +147,7 @@ def names_in(e):
 
 
 def is_nullable(e, rules):
-    """Tells whether an expression may take nothing, where `rules` are the names of the rules that may."""
+    """Returns whether an expression may take nothing, where `rules` are the names of the rules that may."""
     kind = e[0]
     if kind == "bytes":
         return e[1] == b""
@@ -210,7 +210,7 @@ def first_bodies(grammar):
 
 
 def notes_on(grammar, start):
-    """Returns the lines of the notes on a grammar, and whether one of them refuses it."""
+    """Returns the lines of the notes on a grammar, and whether one of them rejects it."""
     rules, again = first_bodies(grammar)
     used = [it for body in rules.values() for it in names_in(body)]
     first = next(iter(rules)) if start is None else start

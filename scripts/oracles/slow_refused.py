@@ -1,6 +1,6 @@
-"""Slow answers to what explains refused lines. It shares nothing with the crates.
+"""Slow answers to what explains rejected lines. It shares nothing with the crates.
 
-A letter can follow the longest viable beginning of a line if that beginning with the letter behind it is viable. All
+A letter can follow the longest viable prefix of a line if that prefix with the symbol after it is viable. All
 letters between two that the rules name behave alike, so that one of them is tried for all.
 """
 import re
@@ -29,7 +29,7 @@ def boundaries(rules):
 
 
 class Following:
-    """What can stand behind the longest viable beginning of a line."""
+    """What can stand after the longest viable prefix of a line."""
 
     def __init__(self, rules, key, is_utf8):
         self.rules, self.key, self.is_utf8 = rules, key, is_utf8
@@ -141,7 +141,7 @@ def letters_text(runs, is_utf8):
 
 
 def refusal(following, name, line, number):
-    """Returns the lines that explain a refused line of that number."""
+    """Returns the lines that explain a rejected line of that number."""
     letters, is_text = slow_abnf.letters_of(line, following.is_utf8)
     after = slow_abnf.furthest(following.rules, letters, following.key, following.is_utf8)
     front = letters[:after]
@@ -162,7 +162,7 @@ def refusal(following, name, line, number):
 
 
 def behind_notes(grammar, given, limit, judged, is_utf8, end, is_kept=False):
-    """Returns what a run of a grammar that is not refused tells behind its notes."""
+    """Returns what a run of a grammar that is not rejected reports after its notes."""
     rules = slow_abnf.Rules(grammar)
     key = (judged or next(iter(rules.file))).upper()
     following, told, more = Following(rules, key, is_utf8), [], 0

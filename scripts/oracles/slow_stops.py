@@ -97,7 +97,7 @@ def leaves(rules):
 
 
 def picture(line, before):
-    """Returns a line of a text with a caret below the byte behind so many."""
+    """Returns a line of a text with a caret below the byte after so many."""
     front = min(max(before - HALF, 0), len(line) - SHOWN) if len(line) > SHOWN else 0
     left = ".." * (front > 0) + slow_faults.shown(line[front:before])
     right = slow_faults.shown(line[before:front + SHOWN]) + ".." * (len(line) > front + SHOWN)
@@ -142,7 +142,7 @@ class Explained:
         return None if place is None else (unit + place, unit, sorted(it[1:] for it in matcher.found if it[0] == place))
 
     def no_match(self, before, last):
-        """Returns the lines behind `no match`, of the last unit, which begins there, and the one before it, if any."""
+        """Returns the lines after `no match`, of the last unit, which begins there, and the one before it, if any."""
         found = [it for it in (self.farthest(last), None if before is None else self.farthest(before)) if it]
         told = f"  rule '{cut(self.start)}' matched and took no byte\n" if self.takes_nothing(last) else ""
         if not found:
@@ -164,7 +164,7 @@ class Explained:
 
 
 def behind_stop(grammar, text, limit, start, is_whole=False):
-    """Returns the lines behind the message of a run that stops since no unit goes on, or since one is too long."""
+    """Returns the lines after the message of a run that stops since no unit goes on, or since one is too long."""
     rules, _ = slow_peg.first_bodies(grammar)
     start = start or next(iter(rules))
     before, place = None, 0
