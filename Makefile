@@ -85,12 +85,12 @@ dist: programs
 deb: programs
 	@python3 -B scripts/build/package.py deb
 
-# The gate: every proof from nothing, the edits that the prover must refuse, tests and programs; then the programs are
-# put into bin/, and run on random cases and with memory, writes, reads and stack refused.
+# The gate: every proof from nothing, the edits that the prover must reject, tests and programs; then the programs are
+# put into bin/, and run on random cases and with failing allocations, writes, reads and stack.
 test:
 	@python3 -B scripts/gate/gate.py
 
-# The edits that the prover must refuse, crate by crate; `-` marks those that the gate does not try.
+# The edits that the prover must reject, crate by crate; `-` marks those that the gate does not try.
 edits:
 	@python3 -B scripts/gate/edit_index.py
 

@@ -70,11 +70,11 @@ def libc_version():
     """Returns the least version of the C library that the programs run with; ends the script if they need another."""
     found = []
     for it in PROGRAMS:
-        told = output("readelf", "-dV", f"bin/{it}")
-        others = set(re.findall(r"\(NEEDED\).*\[(.*)\]", told)) - LIBRARIES
+        reported = output("readelf", "-dV", f"bin/{it}")
+        others = set(re.findall(r"\(NEEDED\).*\[(.*)\]", reported)) - LIBRARIES
         if others:
             sys.exit(f"package.py: {it} needs {', '.join(sorted(others))}, and is to need the C library alone")
-        found += [tuple(map(int, it.split("."))) for it in re.findall(r"Name: GLIBC_([\d.]+)", told)]
+        found += [tuple(map(int, it.split("."))) for it in re.findall(r"Name: GLIBC_([\d.]+)", reported)]
     return ".".join(map(str, max(found)))
 
 

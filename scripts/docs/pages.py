@@ -164,8 +164,8 @@ def contracts(crate, first):
             raise SystemExit(f"docs/crates/{crate}.md: the library has no public item '{it}'")
     order = [*first, *(it for it in own if it not in first)]
     passed = [f"`{path}`" for file, path in given.values() if not file]
-    told = f"It passes on {', '.join(passed)}.\n\n" if passed else ""
-    return told + block_of([text for it in order for text in item_texts(given, it)])
+    reported = f"It passes on {', '.join(passed)}.\n\n" if passed else ""
+    return reported + block_of([text for it in order for text in item_texts(given, it)])
 
 
 def laws(crate):

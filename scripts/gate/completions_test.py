@@ -89,9 +89,9 @@ def faults_of_help(program):
 
 def words_of(typed):
     """Returns the words of a line and the place of that to be completed, which two spaces or the end show."""
-    before, gap, behind = typed.partition("  ")
+    before, gap, after = typed.partition("  ")
     words = shlex.split(before) + ([""] if gap or typed.endswith(" ") else [])
-    return words + shlex.split(behind), len(words) - 1
+    return words + shlex.split(after), len(words) - 1
 
 
 def by_bash(program, typed, folder):

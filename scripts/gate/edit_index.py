@@ -94,8 +94,8 @@ class Function:
 
 
 def equates(text):
-    """Returns whether a clause equates something with a term: by one `≡`, at each byte perhaps, or by a word. `IfOk` and
-    the like speak of one outcome. Every other outcome is allowed, so an edit of it shows nothing."""
+    """Returns whether a clause equates something with a term: by one `≡`, at each byte perhaps, or by a word. `IfOk`
+    and the like speak of one outcome. Every other outcome is allowed, so an edit of it shows nothing."""
     text = re.sub(r"^\(\w : ℕ\) → (\w < 256 → )?", "", text)
     outcome = re.fullmatch(r"(?:IfOk|IfSome|OnOk|OnErr) \w+ \((?:λ \w+\. )?(.*)\)", text)
     if outcome:

@@ -29,7 +29,7 @@ BEFORE = (
     ("docs/pages.py", "--check"), ("gate/calls.py",), ("docs/private_definitions.py", "--check"),
     ("build/completions.py", "--check"),
 )
-BEHIND = (
+AFTER = (
     ("docs/run_examples.sh",), ("docs/man_examples.py",), ("gate/run_rows.py",),
     ("oracles/random_cases.py", "-n", "5000", "-u", "-w", "-z", "-k", "-p", "-q", "-b", "-1", "-x"),
     ("oracles/both_judges.py",),
@@ -88,7 +88,7 @@ def main():
     green = status == 0
     if green:
         print(last, flush=True)
-        green = put_programs() and put_library() and all([script(*it) for it in BEHIND])
+        green = put_programs() and put_library() and all([script(*it) for it in AFTER])
     print(last, flush=True)
     return 0 if green else status or 1
 

@@ -19,7 +19,7 @@ MIRRORS = {"Answers.antt", "Invariants.antt", "Proof.antt", "Lib.antt"}
 # Nouns that end as gerunds do.
 NOUNS = {"Nothing", "Spelling"}
 # Participles that do not end in `ed`.
-PARTICIPLES = {"Begun", "Chosen", "Kept", "Left", "Made", "Read", "Said", "Taken", "Told", "Written"}
+PARTICIPLES = {"Begun", "Chosen", "Kept", "Left", "Made", "Read", "Said", "Taken", "Written"}
 # What begins a block: its lines stand further in.
 BLOCK = re.compile(r"(?:(?:pub|unfoldable) )*(?:(abbrev) )?(?:pub )?(?:(data|record)|module|mutual)\b(?! *\{)")
 # A name of one word, and what it says, which may begin on the next line.

@@ -52,11 +52,7 @@ WORDS = (
     (r"made\s+good", "retried"),
 )
 # What is agreed to be otherwise: a file, and the word as it stands there.
-AGREED = {
-    ("docs/GLOSSARY.md", "told"), ("docs/GLOSSARY.md", "refuse"), ("docs/GLOSSARY.md", "comes back to itself"),
-    # names of types and methods, in the comments by which pages.py writes contracts
-    
-}
+AGREED = set()
 LONGEST_SENTENCE = 35
 # A number that documents name: the file of its constant, how that stands there, and how documents say it.
 Limit = collections.namedtuple("Limit", "name file constant phrases")

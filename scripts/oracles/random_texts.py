@@ -138,14 +138,14 @@ class Trials:
         for name, bytes_of in texts:
             (self.folder / name).write_bytes(bytes_of)
 
-    def expect(self, texts, option, want, told, status):
+    def expect(self, texts, option, want, reported, status):
         command = [ABNFX, *option, *(it for it, _ in texts)]
         ran = subprocess.run(command, cwd=self.folder, capture_output=True, check=False)
         out = ran.stdout if want is None else want
-        if (ran.stdout, ran.stderr, ran.returncode) != (out, told, status):
+        if (ran.stdout, ran.stderr, ran.returncode) != (out, reported, status):
             self.wrong += 1
             print(f"{option}: {str(texts)[:2000]}\nwrites {ran.stdout}\nwanted {want}\n"
-                  f"tells {ran.stderr}\nwanted {told}\nstatus {ran.returncode}, wanted {status}")
+                  f"tells {ran.stderr}\nwanted {reported}\nstatus {ran.returncode}, wanted {status}")
 
     def canonical(self, grammar):
         """Returns the canonical text of a grammar, as abnfi prints it; None if it rejects the grammar."""
@@ -187,11 +187,11 @@ def main():
         for _ in range(words.n):
             texts = [(f"t{it}.txt", made.choice((text, text, xml))(made)) for it in range(made.choice((1, 1, 2, 3)))]
             trials.put(texts)
-            grammar, listed, told, status = slow_abnfx.joined(texts)
-            trials.expect(texts, [], grammar, told.encode(), status)
-            trials.expect(texts, ["-l"], listed.encode(), told.encode(), status)
+            grammar, listed, reported, status = slow_abnfx.joined(texts)
+            trials.expect(texts, [], grammar, reported.encode(), status)
+            trials.expect(texts, ["-l"], listed.encode(), reported.encode(), status)
             if ABNFI.exists():
-                trials.expect(texts, ["-c"], trials.canonical(grammar), told.encode(), status)
+                trials.expect(texts, ["-c"], trials.canonical(grammar), reported.encode(), status)
     print(f"texts: {words.n} cases, {trials.wrong} wrong")
     return 1 if trials.wrong else 0
 

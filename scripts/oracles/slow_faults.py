@@ -168,8 +168,8 @@ def tokens_of(text, white, kinds, has_actions):
             ends.append((end, "Action"))
         kind = "End" if start == len(text) else "Bad"
         at, kind = max(ends, default=(len(text), kind))
-        behind = found[-1].start + len(found[-1].text) if found else 0
-        found.append(Token(kind, start, text[start:at], start > behind))
+        after = found[-1].start + len(found[-1].text) if found else 0
+        found.append(Token(kind, start, text[start:at], start > after))
         if kind in ("End", "Bad"):
             return found
 
@@ -216,7 +216,7 @@ def expected(prefixes, phrases):
 def bad_fact(token, text, facts):
     if token.kind != "Bad":
         return ""
-    return next((f"  {told}\n" for front, told in facts if text.startswith(front, token.start)), "")
+    return next((f"  {reported}\n" for front, reported in facts if text.startswith(front, token.start)), "")
 
 
 def peg_point(front):
@@ -238,8 +238,8 @@ def peg_mistake(text, tokens, number):
         return ""
     if text[:2] in (b"\xFF\xFE", b"\xFE\xFF") or b"\0" in text[:2]:
         return "  the text is UTF-16, not UTF-8\n"
-    if told := peg_point(text[token.start:]):
-        return f"  {told}\n"
+    if reported := peg_point(text[token.start:]):
+        return f"  {reported}\n"
     before = tokens[number - 1]
     if number > 1 and before.kind == "Ident" and not token.gap and re.match(rb":[A-Za-z_]", text[token.start:]):
         return '  "name:element" is of leg(1)\n'
@@ -267,8 +267,8 @@ def peg(text):
         where = place(text, token, rb"\r\n|\r|\n")
         if not prefixes.can_stand(token.kind, False, False):
             is_code = token.kind == "Action" and number > 0 and tokens[number - 1].kind == "Amp"
-            told = f"line {line}: " + ("code predicate\n" if is_code else "syntax error\n")
-            return told + where + expected(prefixes, PEG_PHRASES) + peg_mistake(text, tokens, number)
+            reported = f"line {line}: " + ("code predicate\n" if is_code else "syntax error\n")
+            return reported + where + expected(prefixes, PEG_PHRASES) + peg_mistake(text, tokens, number)
         depth += opens(token)
         if depth > MAX_OPEN:
             return f"line {line}: nested too deeply\n{where}200 brackets are open before it\n"
@@ -317,9 +317,9 @@ def mistake(text, tokens, number):
         return "elements have white space between them"
     if bad and ahead[0] >= 0x80:
         point = next((it for size in (2, 3) if (it := ahead[:size].decode(errors="replace")) != "\ufffd"), "\ufffd")
-        for those, told in POINTS:
+        for those, reported in POINTS:
             if re.match(f"[{those}]", point):
-                return f"U+{ord(point[0]):04X} is {told}"
+                return f"U+{ord(point[0]):04X} is {reported}"
     if bad and tight and ahead[:1] == b"+" and before and was == "Name" and before.text in (b"U", b"u"):
         return "a code point is written %x41"
     if bad and was in ("Num", "Text") and re.match(rb'-[ \t]*[%"0-9A-Fa-f]|\.\.', ahead):
@@ -336,9 +336,9 @@ def abnf(text):
     for number, token in enumerate(tokens):
         line, where = text.count(b"\n", 0, token.start) + 1, place(text, token, rb"\r?\n")
         if not prefixes.can_stand(token.kind, token.gap, token.first):
-            told = mistake(text, tokens, number)
+            reported = mistake(text, tokens, number)
             facts = bad_fact(token, text, ABNF_FACTS) + line_facts(text, tokens, number)
-            facts = f"  {told}\n" if told else facts
+            facts = f"  {reported}\n" if reported else facts
             return f"line {line}: syntax error\n{where}{expected(prefixes, ABNF_PHRASES)}{facts}"
         if is_large(token):
             return f"line {line}: number too large\n{where}above 4294967295\n"

@@ -220,17 +220,17 @@ def notes_on(grammar, start):
     uses = ([] if start is None else [start]) + used
     refusing += [f"rule '{it}' used but not defined" for it in dict.fromkeys(uses) if it not in rules]
     unused = [f"rule '{it}' defined but not used" for it in rules if it != first and it not in used]
-    behind = [f"possible infinite left recursion in rule '{it}'" for it in rules if it in left]
-    behind += [f"possible infinite loop in rule '{it}'" for it in rules if loops(rules[it], nullable)]
-    lines = refusing + unused + behind
-    return "".join(it + "\n" for it in lines).encode(), bool(refusing or behind)
+    after = [f"possible infinite left recursion in rule '{it}'" for it in rules if it in left]
+    after += [f"possible infinite loop in rule '{it}'" for it in rules if loops(rules[it], nullable)]
+    lines = refusing + unused + after
+    return "".join(it + "\n" for it in lines).encode(), bool(refusing or after)
 
 
 def answer(grammar, text, limit, start, raw, is_whole=False):
     """Returns the output, the error output, the status, and how many units were tried; refusals are one."""
-    told, refused = notes_on(grammar, start)
+    reported, refused = notes_on(grammar, start)
     if refused:
-        return b"", told, 2, 1
+        return b"", reported, 2, 1
     rules, _ = first_bodies(grammar)
     out, message, status, tried = run_units(rules, start or next(iter(rules)), text, limit, raw, is_whole)
-    return out, told + message, status, tried
+    return out, reported + message, status, tried

@@ -89,8 +89,8 @@ def main(given):
             (folder / "grammar").write_text(grammar)
             words = [[it, *options, folder / "grammar"] for it in programs]
             found = measure(folder, [*words, scripted(folder, of_lua), built(folder, of_peg)], text, rounds)
-            told = " | ".join(f"{it[0]:.1f} | {it[1]:.1f}" if it else " | " for it in found)
-            print(f"| {name} | {told} |", flush=True)
+            reported = " | ".join(f"{it[0]:.1f} | {it[1]:.1f}" if it else " | " for it in found)
+            print(f"| {name} | {reported} |", flush=True)
             if len({it[2] for it in found if it}) > 1:
                 wrong += 1
                 print(f"{name}: they do not print the same")
