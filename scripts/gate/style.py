@@ -1,6 +1,7 @@
 #!/usr/bin/env python3
 """Lists what breaks the style of documents, one line each, and fails where something does: words of the old dialect,
-long sentences, numbers that differ from the constants that they name, and crates that crates.txt does not have.
+long sentences, numbers that differ from the constants that they name, crates that crates.txt does not have, and what
+`man --warnings` and `mandoc -T lint` report on manual pages, where they are installed.
 
 Words are looked for in README, CONTRIBUTING, docs/ and man/, and in the doc comments of crates/*/src/, but only in the
 files of CHECKED. Sentences are counted in README and man/, if CHECKED has them. Numbers and crates are looked for in
@@ -12,8 +13,12 @@ With -a the words of all files are looked for, whatever CHECKED says.
 """
 import collections
 import fnmatch
+import os
 import pathlib
 import re
+import shlex
+import shutil
+import subprocess
 import sys
 
 sys.path.insert(0, str(pathlib.Path(__file__).resolve().parents[1]))  # scripts/, for what groups share
@@ -94,6 +99,8 @@ STATUSES = (
     ("NoMemory", r"out\s+of\s+memory"),
 )
 CODES = re.compile(r"Status::(\w+) => (\d)")
+# What reports faults of a manual page on standard output.
+PAGE_CHECKS = ("man --warnings -E UTF-8 -l -Tutf8 -Z {} 2>&1 >/dev/null", "mandoc -T lint {} 2>&1")
 FENCED = re.compile(r"^```.*?^```", re.S | re.M)
 MARKED = re.compile(r"`[^`]*`")
 # Examples of a manual page, and words that it shows as they are typed or printed.
@@ -219,6 +226,15 @@ def other_crates(path, text, crates):
             yield line_of(text, at), f"crates.txt has no crate {name}"
 
 
+def page_faults(file):
+    """Yields what `man` and `mandoc`, if they are installed, report on a manual page."""
+    for words in PAGE_CHECKS:
+        if shutil.which(words.split()[0]):
+            environment = os.environ | {"MANWIDTH": "80"}
+            ran = subprocess.run(words.format(shlex.quote(str(file))), shell=True, stdout=subprocess.PIPE, env=environment, check=False)
+            yield from ((1, it) for it in ran.stdout.decode(errors="replace").splitlines())
+
+
 def files(top):
     """Returns the documents, and the sources whose doc comments are looked at."""
     documents = [top / "README.md", top / "CONTRIBUTING.md", *top.glob("docs/**/*.md"), *top.glob("man/*")]
@@ -240,6 +256,8 @@ def main(*words):
             found += other_numbers(text, values)
             found += other_statuses(path, text, codes)
             found += other_crates(path, text, crates)
+        if path.startswith("man/"):
+            found += page_faults(file)
         for line, what in sorted(set(found)):
             print(f"{path}:{line}: {what}")
             wrong = 1
