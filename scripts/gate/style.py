@@ -230,8 +230,8 @@ def page_faults(file):
     """Yields what `man` and `mandoc`, if they are installed, report on a manual page."""
     for words in PAGE_CHECKS:
         if shutil.which(words.split()[0]):
-            environment = os.environ | {"MANWIDTH": "80"}
-            ran = subprocess.run(words.format(shlex.quote(str(file))), shell=True, stdout=subprocess.PIPE, env=environment, check=False)
+            command, environment = words.format(shlex.quote(str(file))), os.environ | {"MANWIDTH": "80"}
+            ran = subprocess.run(command, shell=True, stdout=subprocess.PIPE, env=environment, check=False)
             yield from ((1, it) for it in ran.stdout.decode(errors="replace").splitlines())
 
 
