@@ -10,7 +10,7 @@ use lexer::{MAX_GRAMMAR, MAX_OPEN, tokens};
 use ruletable::Memory;
 use std::alloc::Global;
 
-/// What the tokens so far leave open.
+/// The brackets and the definition that the tokens so far leave open.
 #[derive(Clone, Copy)]
 pub(crate) enum LeftOpen {
     /// So many brackets are open, and an element has to follow or not.
@@ -19,7 +19,7 @@ pub(crate) enum LeftOpen {
     Unknown,
 }
 
-// What is open after a token.
+// The state after a token.
 fn after_token(stand: LeftOpen, kind: AbnfKind) -> LeftOpen
     ensures { result ≡ stand_after stand kind }
 {
@@ -54,7 +54,7 @@ fn after_token(stand: LeftOpen, kind: AbnfKind) -> LeftOpen
     }
 }
 
-// What is open after the tokens of a text.
+// The state after the tokens of a text.
 fn after_text(before: LeftOpen, text: &[u8]) -> LeftOpen
     ensures { LeavesOpen before text.now result }
 {

@@ -1,4 +1,4 @@
-//! Beginnings of lines: margins, names of rules and other marks.
+//! The first bytes of lines: margins, names of rules and other marks.
 ghost use Rattle.std.specs.Prelude.{◌≡◌, ◌≤◌, length};
 ghost use Rattle.std.specs.List.{prefix_len};
 ghost use Rattle.abnfread.specs.AbnfSlices.{continues_name};
@@ -54,14 +54,14 @@ fn name_size(text: &[u8]) -> usize
     size
 }
 
-// Returns what follows the margin.
+// Returns the line after its margin.
 pub(crate) fn after_margin(line: &[u8]) -> &[u8]
     ensures { result.now ≡ rest_after_margin line.now }
 {
     &line[margin(line)..]
 }
 
-// Returns what follows the bytes of a name.
+// Returns the text after the bytes of a name.
 fn after_name(text: &[u8]) -> &[u8]
     ensures { result.now ≡ rest_after_name text.now }
 {

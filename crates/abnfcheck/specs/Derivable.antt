@@ -1,22 +1,22 @@
--- What an element derives: a list of letters, each a number.
+-- What an element derives: a list of symbols, each a number.
 use Rattle.std.specs.Prelude.{◌≡◌, ℕ, suc, ◌+◌, ◌≤◌, Bool, true, false, ◌&&◌, List, [], ◌∷◌, ◌++◌, slice_get, Option}
 use Rattle.std.specs.Prelude.{Some, None, if◌then◌else◌, ltb}
 use Rattle.abnfread.specs.Element.{Element, Elements, Text, Values, Range, Concat, Alt, Rep, Opt, Name, none, more}
 use Rattle.abnfread.specs.Element.{Rule, bodies, body_of}
 use Rattle.letters.specs.Letters.{small}
 
--- a letter of a text and one that may stand for it
+-- a symbol of a text and one that may stand for it
 abbrev pub StandsFor : Bool → ℕ → ℕ → Type 0
 StandsFor true t c = small c ≡ small t
 StandsFor false t c = c ≡ t
 
--- the spellings of a text: as long, letter by letter
+-- the spellings of a text: as long, symbol by symbol
 pub data Spelled : Bool → List ℕ → List ℕ → Type 0 where
   end : {folds : Bool} → Spelled folds [] []
   next : {folds : Bool} {t c : ℕ} {ts cs : List ℕ} → StandsFor folds t c → Spelled folds ts cs
       → Spelled folds (t ∷ ts) (c ∷ cs)
 
--- each of the values is a letter
+-- each of the values is a symbol
 abbrev pub AreLetters : (ℕ → Bool) → List ℕ → Type 0
 AreLetters has [] = Unit {0}
 AreLetters has (v ∷ vs) = (has v ≡ true) × AreLetters has vs
@@ -26,7 +26,7 @@ abbrev pub AtMost : ℕ → Option ℕ → Type 0
 AtMost k None = Unit {0}
 AtMost k (Some most) = k ≤ most
 
--- `has` marks the letters of the alphabet
+-- `has` marks the symbols of the alphabet
 module _ (has : ℕ → Bool) (rules : List Rule) where
   mutual
     pub data Derives : Element → List ℕ → Type 0 where

@@ -11,12 +11,12 @@ use Rattle.abnfcheck.specs.Derivable.{AreLetters, Derives, RuleDerives, AtMost}
 use Rattle.abnfcheck.specs.declared.aim.Aim.{Aim}
 use Rattle.abnfcheck.specs.declared.aim.Aim.TheVariants.{Empty, Letters}
 
--- exactly those rules are marked that derive the empty list, whatever the letters are
+-- exactly those rules are marked that derive the empty list, whatever the symbols are
 abbrev pub AreNullMarks : List Rule → List Bool → Type 0
 AreNullMarks rules marks = (has : ℕ → Bool) (id : ℕ) → id < length rules
     → (IsMarked marks id ↔ RuleDerives has rules id [])
 
--- there is a mark for each rule, and exactly those are marked that derive some list of letters
+-- there is a mark for each rule, and exactly those are marked that derive some list of symbols
 pub record AreProductive (alphabet : Alphabet) (rules : List Rule) (marks : List Bool) : Type 0 where
   pub count : length marks ≡ length rules
   pub exact : (id : ℕ) → id < length rules →
@@ -28,7 +28,7 @@ abbrev pub IsAim : Aim → List ℕ → Type 0
 IsAim Empty w = w ≡ []
 IsAim (Letters alphabet) w = AreLetters (in_alphabet alphabet) w
 
--- the tests of letters by which it asks; for the empty list each serves
+-- the tests of symbols by which it asks; for the empty list each serves
 abbrev pub IsTestOf : Aim → (ℕ → Bool) → Type 0
 IsTestOf Empty has = Unit {0}
 IsTestOf (Letters alphabet) has = has ≡ in_alphabet alphabet

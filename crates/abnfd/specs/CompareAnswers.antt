@@ -24,7 +24,7 @@ answer_reply text status = record { out = text; err = []; status = code_of statu
 abbrev pub IsWholeReport : List ℕ → List ℕ → Status → Input → List ℕ → Reply → Type 0
 IsWholeReport reported text status input notes reply = (notes ≡ reported) × (reply ≡ answer_reply text status)
 
--- the report where the text of a grammar is not had
+-- the message where the file of a grammar cannot be read; nothing where an allocation fails
 abbrev pub missing_text : UnreadFile → List ℕ
 missing_text Old = codes "old: " ++ message_of stop.Unreadable
 missing_text New = codes "new: " ++ message_of stop.Unreadable

@@ -11,7 +11,7 @@ use ruletable::Memory;
 use std::alloc::Global;
 use toolrun::Status;
 
-/// What is known of two rules.
+/// The relation of two rules, as far as it is known.
 #[derive(Clone, Copy)]
 pub(crate) enum LinesVerdict {
     /// They derive the same lines.
@@ -22,7 +22,7 @@ pub(crate) enum LinesVerdict {
     NotKnown,
 }
 
-// Returns what is known of two rules.
+// Returns the relation of two rules.
 fn verdict_of(found: &Comparison) -> LinesVerdict
     ensures { result ≡ verdict_between found.now.old_alone found.now.new_alone }
 {

@@ -12,7 +12,7 @@ pub(crate) struct Texts {
     pub(crate) new: Vec<u8>,
 }
 
-/// Why the texts of two grammars are not had.
+/// Why the texts of two grammars could not be read.
 #[derive(Clone, Copy)]
 pub(crate) enum UnreadFile {
     /// The file of the old grammar cannot be read.

@@ -49,7 +49,7 @@ fn end_compared<O: Sink, E: Sink>(report: &Report, out: &mut O, err: &mut E) -> 
     end_run(stop, out, err)
 }
 
-// Reports that the text of a grammar is not had, and ends.
+// Reports that the file of a grammar cannot be read, and ends.
 fn end_missing<O: Sink, E: Sink>(reported: &[u8], out: &mut O, err: &mut E) -> Status
     requires out_is_fresh { O.failed out.old ≡ false }
     requires err_is_fresh { E.failed err.old ≡ false }
@@ -62,7 +62,7 @@ fn end_missing<O: Sink, E: Sink>(reported: &[u8], out: &mut O, err: &mut E) -> S
     end_run(Ok(Stop::Quiet(Status::Fault)), out, err)
 }
 
-// Ends a program that has not both texts.
+// Ends a program that could not read both texts.
 fn end_unread<O: Sink, E: Sink>(why: UnreadFile, out: &mut O, err: &mut E) -> Status
     requires out_is_fresh { O.failed out.old ≡ false }
     requires err_is_fresh { E.failed err.old ≡ false }

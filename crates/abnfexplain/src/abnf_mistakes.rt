@@ -64,7 +64,7 @@ const ALL_BUT_BAD: &[AbnfKind] = &[
     Name, Is, Adds, Slash, LParen, RParen, LBrack, RBrack, Repeat, Text, Num, Prose, End,
 ];
 
-// What each token shows.
+// The fact that each token shows.
 const EACH_TOKEN: Mistake = Mistake {
     kinds: &[],
     marks: Any,
@@ -227,7 +227,7 @@ fn is_mistake(row: &Mistake, before: Option<MarkedToken<'_>>, token: MarkedToken
         && is_after(row, before)
 }
 
-// Returns what the first row that applies reports.
+// Returns the report of the first row that applies.
 fn first_mistake(
     rows: &[Mistake],
     before: Option<MarkedToken<'_>>,
@@ -251,7 +251,7 @@ fn ends_in_cr(text: &[u8]) -> bool
     has_byte(text, b'\r') && !has_byte(text, b'\n')
 }
 
-// Returns what a text as a whole shows, at what begins no token and at the end.
+// Returns the fact that a whole text shows, where no token begins and at the end.
 fn text_mistake(text: &[u8], kind: AbnfKind) -> Option<&'static [u8]>
     ensures { option_map (λ w. w.now) result ≡ text_mistake text.now kind }
 {
@@ -272,7 +272,7 @@ fn text_mistake(text: &[u8], kind: AbnfKind) -> Option<&'static [u8]>
     }
 }
 
-// Returns what a code point shows that is taken for a character of ABNF.
+// Returns the fact that a code point shows which is mistaken for a character of ABNF.
 fn point_mistake(token: MarkedToken<'_>) -> Option<&'static [u8]>
     ensures { option_map (λ w. w.now) result ≡ point_mistake token.entry.token.kind token.entry.token.slice.now }
 {

@@ -41,7 +41,7 @@ fn opening_settings(rule: Option<&str>) -> Opening<'_, AbnfOptions>
     }
 }
 
-// Returns how a run stops whose grammar was not opened.
+// Returns the stop of a run whose grammar was not opened.
 fn stop_unopened(fault: ReadFault) -> Stop
     ensures { result ≡ unread fault }
 {

@@ -163,7 +163,7 @@ fn write_lines<O: Sink>(
     Ok(Halt::All)
 }
 
-// Returns how a run ends that has too many stacks.
+// Returns the end of a run that has too many stacks.
 fn too_many(alloc: Global) -> Result<Ending, Memory>
     ensures { IfOk result (λ e. HaltEnds Halt.TooMany e) }
 {
@@ -176,7 +176,7 @@ fn too_many(alloc: Global) -> Result<Ending, Memory>
     })
 }
 
-// Returns how a run ends that writes no more lines.
+// Returns the end of a run that writes no more lines.
 fn ending_of(alloc: Global, halt: Halt) -> Ending
     ensures { HaltEnds halt result }
 {

@@ -25,15 +25,15 @@ use Rattle.diagnostics.specs.ShownBytes.{cut}
 use Rattle.ruletable.specs.declared.lines.LineRule.TheVariants.{Lf}
 use Rattle.ruletable.specs.declared.table.NameCase.TheVariants.{Fold}
 
--- `has` tests for the letters of the alphabet
+-- `has` tests for the symbols of the alphabet
 module _ (has : ℕ → Bool) (rules : List Rule) where
-  -- The rule of that id derives no list of letters. What it reaches is all there: each name has a rule, and there is no
+  -- The rule of that id derives no list of symbols. What it reaches is all there: each name has a rule, and there is no
   -- prose.
   pub record DerivesNothing (id : ℕ) : Type 0 where
     pub sound : IsSound rules id
     pub nothing : (w : List ℕ) → AreLetters has w → RuleDerives has rules id w → ⊥
 
-  -- It derives some list of letters, and in each of them that letter stands. Likewise what it reaches is all there.
+  -- It derives some list of symbols, and in each of them that symbol stands. Likewise what it reaches is all there.
   pub record DerivesOnlyWith (letter id : ℕ) : Type 0 where
     pub sound : IsSound rules id
     pub word : List ℕ

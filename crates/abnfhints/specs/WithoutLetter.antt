@@ -1,11 +1,11 @@
--- Elements and rules without what holds a letter. Private helpers alone use it.
+-- Elements and rules without what holds a symbol. Private helpers alone use it.
 use Rattle.std.specs.Prelude.{◌≡◌, ℕ, ◌+◌, ◌-◌, ◌<◌, ◌≤◌, Bool, List, [], ◌∷◌, Option, Contains}
 use Rattle.abnfread.specs.Element.{Element, Elements, Text, Values, Range, Concat, Alt, Rep, Opt, Name, Prose, none}
 use Rattle.abnfread.specs.Element.{more, Rule}
 
 module _ (letter : ℕ) where
   mutual
-    -- `IsWithout e d`: d derives those lists of e in which the letter does not stand
+    -- `IsWithout e d`: d derives those lists of e in which the symbol does not stand
     pub data IsWithout : Element → Element → Type 0 where
       keeps_text : {folds : Bool} {t : List ℕ} → (Contains t letter → ⊥) → IsWithout (Text folds t) (Text folds t)
       drops_text : {folds : Bool} {t : List ℕ} → Contains t letter → IsWithout (Text folds t) (Alt none)

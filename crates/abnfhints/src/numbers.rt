@@ -48,7 +48,7 @@ fn after_base(text: &[u8]) -> Option<(u8, &[u8])>
     Some((base, digits))
 }
 
-// Returns what stands after the digits with which a text begins.
+// Returns the text after the digits that begin it.
 fn after_digits(base: u8, text: &[u8]) -> &[u8]
     ensures run { Run (is_digit_in base) text.now result.now }
     ensures all { Stops (is_digit_in base) result.now }

@@ -15,7 +15,7 @@ fn nothing(alloc: Global) -> Elem
     Elem::Alt(Vec::new(alloc))
 }
 
-// Returns what is left of a text.
+// Returns the rest of a text.
 fn text_without(alloc: Global, letter: u8, folds: bool, text: &[u8]) -> Result<Elem, Memory>
     ensures { IfOk result (λ left. IsWithout letter (e.Text folds text.now) (element_of left)) }
 {
@@ -26,7 +26,7 @@ fn text_without(alloc: Global, letter: u8, folds: bool, text: &[u8]) -> Result<E
     Ok(Elem::Text { folds, text })
 }
 
-// Returns what is left of a list of values.
+// Returns the rest of a list of values.
 fn values_without(alloc: Global, letter: u8, values: &[u32]) -> Result<Elem, Memory>
     ensures { IfOk result (λ left. IsWithout letter (e.Values values.now) (element_of left)) }
 {
@@ -37,7 +37,7 @@ fn values_without(alloc: Global, letter: u8, values: &[u32]) -> Result<Elem, Mem
     Ok(Elem::Values(values))
 }
 
-// Returns what is left of a range: the parts before the letter and after it.
+// Returns the rest of a range: the parts before the symbol and after it.
 fn range_without(alloc: Global, letter: u8, low: u32, high: u32) -> Result<Elem, Memory>
     ensures { IfOk result (λ left. IsWithout letter (e.Range low high) (element_of left)) }
 {
@@ -61,7 +61,7 @@ fn range_without(alloc: Global, letter: u8, low: u32, high: u32) -> Result<Elem,
     Ok(Elem::Alt(parts))
 }
 
-// Returns what is left of an element.
+// Returns the rest of an element.
 #[cycle(leaving)]
 fn without(alloc: Global, letter: u8, e: &Elem) -> Result<Elem, Memory>
     ensures { IfOk result (λ left. IsWithout letter (element_of e.now) (element_of left)) }
@@ -101,7 +101,7 @@ fn without(alloc: Global, letter: u8, e: &Elem) -> Result<Elem, Memory>
     }
 }
 
-// Returns what is left of each of them, in order.
+// Returns the rest of each of them, in order.
 #[cycle(leaving)]
 fn all_without(alloc: Global, letter: u8, members: &[Elem]) -> Result<Vec<Elem>, Memory>
     ensures { IfOk result (λ left. AreWithout letter (elements_of members.now) (elements_of left.items)) }

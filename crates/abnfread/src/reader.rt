@@ -174,7 +174,7 @@ fn repeated(alloc: Global, times: Times, e: Elem) -> Result<Elem, AllocError>
     }
 }
 
-// What stands in a bracket of that form.
+// The element in a bracket of that form.
 fn bracketed(alloc: Global, bracket: Bracket, e: Elem) -> Result<Elem, AllocError>
     ensures { IfOk result (λ r. element_of r ≡ enclosed (bracket_of bracket) (element_of e)) }
 {

@@ -52,7 +52,7 @@ pub(crate) fn is_in(class: Class, b: u8) -> bool
     }
 }
 
-// Returns what follows the bytes of a class.
+// Returns the text after the bytes of a class.
 pub(crate) fn after_run(class: Class, text: &[u8]) -> &[u8]
     ensures run { Run (test_of class) text.now result.now }
     ensures all { Stops (test_of class) result.now }
@@ -67,7 +67,7 @@ pub(crate) fn after_run(class: Class, text: &[u8]) -> &[u8]
     rest
 }
 
-// Returns what follows bytes of a class and a mark of another.
+// Returns the text after bytes of a class and a mark of another.
 fn after_closed(class: Class, mark: u8, text: &[u8]) -> Option<&[u8]>
     requires { test_of class mark ≡ false }
     ensures { MatchOption result ((r : List ℕ) → Run (test_of class) text.now (mark ∷ r) → ⊥)
@@ -80,7 +80,7 @@ fn after_closed(class: Class, mark: u8, text: &[u8]) -> Option<&[u8]>
     }
 }
 
-// Returns what follows the digits.
+// Returns the text after the digits.
 fn after_digits(base: u8, text: &[u8]) -> Option<&[u8]>
     ensures { MatchOption result ((r : List ℕ) → Digits base text.now r → ⊥)
         (λ rest. Digits base text.now rest.now × Stops (is_digit_in base) rest.now) }
@@ -93,7 +93,7 @@ fn after_digits(base: u8, text: &[u8]) -> Option<&[u8]>
     }
 }
 
-// Returns what follows dots and digits.
+// Returns the text after dots and digits.
 fn after_dotted(base: u8, text: &[u8]) -> &[u8]
     requires { base ≤ 36 }
     ensures dotted { Dotted base text.now result.now }
@@ -109,7 +109,7 @@ fn after_dotted(base: u8, text: &[u8]) -> &[u8]
     rest
 }
 
-// Returns what follows numbers of a base.
+// Returns the text after numbers of a base.
 fn after_numbers(base: u8, text: &[u8]) -> Option<&[u8]>
     requires { base ≤ 36 }
     ensures { MatchOption result ((r : List ℕ) → Numbers base text.now r → ⊥)
@@ -126,7 +126,7 @@ fn after_numbers(base: u8, text: &[u8]) -> Option<&[u8]>
     }
 }
 
-// Returns what follows the rest of a number, and of a star and a number.
+// Returns the text after the rest of a number, and of a star and a number.
 fn after_count(text: &[u8]) -> &[u8]
     ensures count { Count text.now result.now }
     ensures longest { (s : List ℕ) → Count text.now s → length result.now ≤ length s }
@@ -144,7 +144,7 @@ fn is_white(b: u8) -> bool
     b == b' ' || b == b'\t' || b == b'\n'
 }
 
-// Returns what follows one piece of white space.
+// Returns the text after one piece of white space.
 fn after_piece(text: &[u8]) -> Option<&[u8]>
     ensures { MatchOption result (NoPiece Piece text.now)
         (λ rest. Piece text.now rest.now × (length rest.now < length text.now)) }
@@ -164,7 +164,7 @@ fn after_piece(text: &[u8]) -> Option<&[u8]>
     }
 }
 
-// Returns what follows the white space.
+// Returns the text after the white space.
 pub(crate) fn after_blanks(text: &[u8]) -> &[u8]
     ensures white { White text.now result.now }
     ensures all { NoPiece Piece result.now }

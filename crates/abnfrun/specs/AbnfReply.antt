@@ -25,19 +25,19 @@ use Rattle.abnfrun.specs.AbnfSettings.{AbnfSettings}
 abbrev pub printed_rules : List Rule → Reply
 printed_rules rules = text_alone (grammar_text rules)
 
--- The lines that the judged rule derives (RFC 5234, section 3; RFC 7405, section 2.1). Their letters are bytes, or the
+-- The lines that the judged rule derives (RFC 5234, section 3; RFC 7405, section 2.1). Their symbols are bytes, or the
 -- code points of UTF-8 (RFC 3629, section 3): then a line that is not UTF-8 is none of them.
 abbrev pub IsMember : Alphabet → List Rule → ℕ → List ℕ → Type 0
 IsMember Bytes rules judged line = RuleDerives (has Bytes) rules judged line
 IsMember Utf8 rules judged line = (points : List ℕ) × Spells points line × RuleDerives (has Utf8) rules judged points
 
--- The letters of a line: its bytes, or the code points of its longest prefix that is UTF-8, which is the whole line if
+-- The symbols of a line: its bytes, or the code points of its longest prefix that is UTF-8, which is the whole line if
 -- the line is UTF-8.
 abbrev pub AreLettersOf : Alphabet → List ℕ → List ℕ → Type 0
 AreLettersOf Bytes line x = x ≡ line
 AreLettersOf Utf8 line x = (k : ℕ) × IsLongestText line k × Spells x (take k line)
 
--- the longest viable prefix of a line's letters has n letters
+-- the longest viable prefix of a line's symbols has n symbols
 pub record Reaches (letters : Alphabet) (rules : List Rule) (judged : ℕ) (line : List ℕ) (n : ℕ) : Type 0 where
   pub of_line : List ℕ
   pub are : AreLettersOf letters line of_line

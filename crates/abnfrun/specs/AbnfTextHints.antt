@@ -23,7 +23,7 @@ hinted_rule keeps judged = cond keeps None judged
 abbrev pub end_for : Bool → LineEnd
 end_for nul = cond nul Nul Lf
 
--- the hints on the grammar of a text: on its rules for the letters and the ends of lines that settings ask for
+-- the hints on the grammar of a text: on its rules for the symbols and the ends of lines that settings ask for
 pub record AreTextHints (text : List ℕ) (settings : AbnfSettings) (hints : List ℕ) : Type 0 where
   pub definitions : List Definition
   pub reads : Reads text definitions

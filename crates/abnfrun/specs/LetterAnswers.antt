@@ -1,4 +1,4 @@
--- The answer to a list of letters.
+-- The answer to a list of symbols.
 use Rattle.std.specs.Prelude.{◌≡◌, ℕ, Bool, true, false, List}
 use Rattle.abnfread.specs.Element.{Rule}
 use Rattle.abnfcheck.specs.Prefixes.{IsFurthest}
@@ -13,7 +13,7 @@ IsAnswerOn has viable rules judged x No = (viable ≡ false) × (RuleDerives has
 IsAnswerOn has viable rules judged x (NoAfter n) = (viable ≡ true) × (RuleDerives has rules judged x → ⊥)
     × IsFurthest has rules judged x n
 
--- the answer to a line of which these many letters, and no more, are UTF-8, by the answer to them
+-- the answer to a line of which these many symbols, and no more, are UTF-8, by the answer to them
 abbrev pub torn : ℕ → Answer → Answer
 torn count Yes = NoAfter count
 torn count No = No

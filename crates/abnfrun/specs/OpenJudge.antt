@@ -9,7 +9,7 @@ use Rattle.lowering.specs.GivenPrefixes.{GivesPrefixes}
 use Rattle.letters.specs.Letters.{has}
 use Rattle.letters.specs.declared.alphabet.Alphabet.{Alphabet}
 
--- a grammar, what the letters of a line are, whether the longest viable prefix is asked for, and how many bytes a line
+-- a grammar, what the symbols of a line are, whether the longest viable prefix is asked for, and how many bytes a line
 -- may have
 pub record OpenJudge : Type 0 where
   pub grammar : Grammar
@@ -24,7 +24,7 @@ pub record IsReadyFor (grammar : Grammar) (letters : Alphabet) (viable : Bool) (
   pub prefixes : viable ≡ true → GivesPrefixes (has letters) (rules_of grammar.rules) grammar.judged flat
   pub same : IfSome automaton (λ a. a ≡ flat)
 
--- The flat grammar answers for the viable prefixes of lines of one letter more than so many. It explains rejected lines
+-- The flat grammar answers for the viable prefixes of lines of one symbol more than so many. It explains rejected lines
 -- of so many.
 pub record ExplainsLines (rules : List Rule) (judged : ℕ) (letters : Alphabet) (limit : ℕ) (more : Flat) : Type 0 where
   pub longer : more.limit ≡ limit + 1

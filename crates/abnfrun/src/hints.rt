@@ -36,7 +36,7 @@ fn hinted_id(rules: &RuleTable<Elem>, settings: &AbnfSettings<'_>) -> Result<Opt
     judged_rule(rules, settings.start)
 }
 
-// Returns what ends a line.
+// Returns the end of a line.
 fn line_end(nul: bool) -> LineEnd
     ensures { result ≡ end_for nul }
 {

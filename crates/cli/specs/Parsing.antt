@@ -15,7 +15,7 @@ use Rattle.toolrun.specs.Reply.{Reply, text_alone}
 use Rattle.toolrun.specs.declared.status.Status.TheVariants.{Refused}
 use Rattle.toolrun.specs.declared.stop.Stop.TheVariants.{NoMemory, Quiet}
 
--- Words in which nothing is wrong are matched as the command says, unless memory is wanting; of others the error says
+-- Words in which nothing is wrong are matched as the command says, unless an allocation fails; of others the error says
 -- what is wrong, or that help was asked for.
 abbrev pub Parses : App → List Text → Result ArgMatches Error → Type 0
 Parses app words r = MatchResult r (λ m. (fault_of app words ≡ []) × (rows_of (found_of m) ≡ matches_of app words))

@@ -21,7 +21,7 @@ use toolrun::{Status, Stop, close_run, end_run};
 /// The message on a word that is not UTF-8.
 const INVALID_UTF8: &str = "invalid UTF-8 was detected in one or more arguments";
 
-/// What is wrong with a file of the input where no grammar is run.
+/// The message for a file of the input where no grammar is run.
 const UNASKED: &str = "FILE is read only with -m run";
 
 /// Writes a text on the error output, and ends with this status.

@@ -36,7 +36,7 @@ pub enum Unready {
     Words(Error),
     /// Its grammar cannot be read.
     Unreadable,
-    /// There was no memory for its grammar.
+    /// An allocation for its grammar failed.
     NoMemory,
 }
 

@@ -73,7 +73,7 @@ fn push_plain(out: &mut String, text: &str) -> Result<(), AllocError>
     }
 }
 
-/// Returns what comes before the value of a limit in a word, and that value; `None` if the word has none.
+/// Returns the text before the value of a limit in a word, and that value; `None` if the word has none.
 fn split_word(role: Role, word: &str) -> Option<(&str, &str)>
     ensures { MatchOption result (IsUnsplit role word.entry.now)
         (λ parts. IsSplitWord role word.entry.now parts.0.now parts.1.now) }

@@ -17,7 +17,7 @@ pub fn words_of(rt: &(impl Env + AllocGlobal)) -> io::Result<Vec<String>> {
     Ok(env::args(rt)?.collect(rt.alloc())?)
 }
 
-/// Ends a program that found no memory for its words or for the buffers of its streams.
+/// Ends a program where an allocation for its words or for the buffers of its streams failed.
 pub fn end_without_memory(rt: &impl Eprint) -> ExitCode {
     let _ = rt.eprintln("out of memory");
     ExitCode::from(Status::NoMemory.code())

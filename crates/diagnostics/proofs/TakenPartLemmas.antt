@@ -1,4 +1,4 @@
--- Beginnings that a length bounds.
+-- Prefixes that a length bounds.
 -- Serves: push_cut
 use Rattle.std.proofs.Common.{◌≡◌, ℕ, min, List, ◌++◌, length, take, sym, ap}
 use Rattle.std.proofs.Common.{◌∙◌, arith, inl, inr, nat_lt, append_assoc}

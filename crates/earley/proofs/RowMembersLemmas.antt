@@ -47,7 +47,7 @@ in_range a n k le lt =
     let back : a + (k - a) ≡ k = omega (arith, le) in
     (k - a, omega (arith, size, below), get_or-range_with_len a n (k - a) k below ∙ back)
 
--- the bit of a number tells whether it is a member
+-- the bit of a number says whether it is a member
 pub bit_of_member : (first : ℕ) (words : List ℕ) (k : ℕ) → Contains (members first words) k
     → bit_at (word_in first words (k / 64)) (k % 64) ≡ 1
 unfolding members

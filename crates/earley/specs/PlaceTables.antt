@@ -30,7 +30,7 @@ abbrev pub IsCalledAt : code_flat.Tables → List DottedRule → DottedRule → 
 IsCalledAt flat dots at None = call_at flat at ≡ None
 IsCalledAt flat dots at (Some c) = IsCallAt flat dots at c
 
--- the number of the place after the letter that a place may read
+-- the number of the place after the symbol that a place may read
 abbrev pub IsReadAt : List DottedRule → DottedRule → Bool → Option ℕ → Type 0
 IsReadAt dots at may None = may ≡ false
 IsReadAt dots at may (Some p) = slice_get dots p ≡ Some (dot at.node (at.step + 1))

@@ -60,7 +60,7 @@ pub record IsCompletedBy (flat : code_flat.Tables) (sets : List (List Item)) (ro
   pub under : origin < below
   pub advanced : IsAdvanced flat root (waiting_in sets [] origin) a
 
--- what an item becomes by a letter
+-- what an item becomes by a symbol
 pub record IsScannedFor (flat : code_flat.Tables) (c : ℕ) (by a : Item) : Type 0 where
   pub reads : IfSomeSet (read_of flat by) c
   pub node : a.node ≡ by.node

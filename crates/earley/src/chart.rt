@@ -14,7 +14,7 @@ use ruletable::Memory;
 use std::alloc::Global;
 use std::marker::Model;
 
-// The sets of a line are kept item by item while they have at most this many items, or this many for each letter.
+// The sets of a line are kept item by item while they have at most this many items, or this many for each symbol.
 const FEW_ITEMS: usize = 4096;
 
 const FEW_FOR_EACH_LETTER: usize = 32;
@@ -86,7 +86,7 @@ impl Chart {
     }
 }
 
-// Returns how many items the sets of a line of so many letters may have before they are kept as rows.
+// Returns how many items the sets of a line of so many symbols may have before they are kept as rows.
 fn few_items(letters: usize) -> usize {
     letters.saturating_mul(FEW_FOR_EACH_LETTER).max(FEW_ITEMS)
 }

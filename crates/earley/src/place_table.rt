@@ -211,7 +211,7 @@ fn number(numbers: &Numbers, node: usize, step: usize) -> Option<usize>
     }
 }
 
-// Returns what a place calls. `None` if the place after the call has no number.
+// Returns the call of a place. `None` if the place after the call has no number.
 fn called_at(
     flat: &Tables,
     numbers: &Numbers,
@@ -233,7 +233,7 @@ fn called_at(
     Some(Some(Called { root, after, free }))
 }
 
-// Returns the place after the letter that a place reads, if it may read one. `None` if that place has no number.
+// Returns the place after the symbol that a place reads, if it may read one. `None` if that place has no number.
 fn read_at(numbers: &Numbers, at: DottedRule, operation: Operation) -> Option<Option<usize>>
     ensures { IfSome result (IsReadAt numbers.now.dots.items at operation.reads) }
 {
@@ -265,7 +265,7 @@ fn step_at(flat: &Tables, numbers: &Numbers, at: DottedRule) -> Option<DottedAct
     })
 }
 
-// Returns what each place does. `None` if the place after one has no number.
+// Returns the step of each place. `None` if the place after one has no number.
 fn all_steps(
     alloc: Global,
     flat: &Tables,

@@ -38,7 +38,7 @@ pub(crate) struct JudgedRows {
     pub(crate) yes: bool,
 }
 
-// Scans a letter for the row of a place.
+// Scans a symbol for the row of a place.
 fn scan_row(
     table: &PlaceTable,
     value: u32,
@@ -68,7 +68,7 @@ fn scan_row(
     Ok(())
 }
 
-// Scans a letter for the rows of a set.
+// Scans a symbol for the rows of a set.
 fn scan_rows(
     table: &PlaceTable,
     value: u32,

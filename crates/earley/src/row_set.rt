@@ -85,7 +85,7 @@ impl RowSet {
         &self.rows[place]
     }
 
-    /// Adds numbers to a row. Those that it had not are pending. `Memory` if an allocation fails.
+    /// Adds numbers to a row. Those that are new to it are pending. `Memory` if an allocation fails.
     pub fn add(&mut self, place: usize, found: &BitRow) -> Result<(), Memory>
         requires { place < length self.old.all }
         ensures { IfOk result (λ done. AddsAt place (λ k. Contains found.now k) self.old self.new) }

@@ -1,4 +1,4 @@
--- Rules that come back to themselves are the left-recursive ones.
+-- Rules in a cycle of left steps are the left-recursive ones.
 -- Serves: check_peg (notes, ranked)
 use Rattle.std.proofs.Common.{◌≡◌, ℕ, ◌+◌, Bool, true, false, cond, List, [], ◌∷◌, get_or, refl, sym, ap, subst, arith}
 use Rattle.std.proofs.Common.{◌∙◌, Some, add-one, Contains, option_to_list}
@@ -25,7 +25,7 @@ use Rattle.pegread.specs.Pattern as e
 use Rattle.pegnodes.specs.Nodes as node
 use Rattle.gramcheck.specs.Ranks as r
 
--- where no node comes back to itself, ranks that steps lower are ranks of the nodes
+-- where no node is in a cycle, ranks that steps lower are ranks of the nodes
 module _ (bodies : List ℕ) (nulls : List Bool) (nodes : List Shape) (rules : List Rule)
     (marked : AreNullMarks rules nodes nulls) where
   front_in : {ms : List ℕ} {m : ℕ} → FrontNode rules nodes bodies ms m → Contains (front nulls ms) m

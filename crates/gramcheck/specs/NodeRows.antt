@@ -1,4 +1,4 @@
--- Left steps between numbered nodes as rows of numbers, and rules that come back to themselves by them.
+-- Left steps between numbered nodes as rows of numbers, and rules in a cycle of them.
 use Rattle.std.specs.Prelude.{◌≡◌, ◌⊎◌, ◌↔◌, ℕ, ◌<◌, Bool, false, cond, List, [], ◌∷◌, length, map, slice_get}
 use Rattle.std.specs.Prelude.{slice_index_or, option_to_list, Some}
 use Rattle.pegread.specs.Pattern.{Rule}
@@ -50,7 +50,7 @@ module _ (rows : List (List ℕ)) (nodes : List Shape) (bodies : List ℕ) where
     pub named : slice_get nodes name ≡ Some (Name id)
     pub leads : Leads rows body name
 
-  -- exactly the rules that come back are marked
+  -- exactly the rules in a cycle are marked
   pub record AreComingBack (found : List Bool) : Type 0 where
     pub count : length found ≡ length bodies
     pub marks : (id : ℕ) → IsMarked found id ↔ ComesBack id

@@ -18,7 +18,7 @@ use ruletable::{Memory, NameCase, RuleTable};
 use std::alloc::Global;
 use std::slice::from_ref;
 
-// Returns what a node needs before it is nullable.
+// Returns the need of a node to be nullable.
 fn need<'a>(node: &'a Node, bodies: &'a [usize]) -> Need<'a>
     ensures { demand_of result ≡ null_demand bodies.now (shape_of node.now) }
 {
@@ -45,7 +45,7 @@ fn need<'a>(node: &'a Node, bodies: &'a [usize]) -> Need<'a>
     }
 }
 
-// Returns what each node needs before it is nullable.
+// Returns the need of each node to be nullable.
 fn needs<'a>(alloc: Global, nodes: &'a [Node], bodies: &'a [usize]) -> Result<Vec<Need<'a>>, Memory>
     ensures { IfOk result (λ needs. demands_of needs.items ≡ null_demands bodies.now (shapes_of nodes.now)) }
 {

@@ -13,7 +13,7 @@ use ruletable::Memory;
 use std::alloc::Global;
 use std::slice::from_ref;
 
-// Returns what a node needs before it prints.
+// Returns the need of a node to print.
 fn print_need<'a>(node: &'a Node, bodies: &'a [usize]) -> Need<'a>
     ensures { demand_of result ≡ print_demand bodies.now (shape_of node.now) }
 {
@@ -29,7 +29,7 @@ fn print_need<'a>(node: &'a Node, bodies: &'a [usize]) -> Need<'a>
     }
 }
 
-// Returns what each node needs before it prints.
+// Returns the need of each node to print.
 fn print_needs<'a>(
     alloc: Global,
     nodes: &'a [Node],

@@ -22,7 +22,7 @@ pub record IsBegun (tables : code_flat.Tables) (stack : List Place) : Type 0 whe
   pub is : whole_root tables ≡ Some root
   pub begun : Begun root (begin_count tables root) [] stack
 
--- what the whole's starts lead to without a letter
+-- what the whole's starts lead to without a symbol
 pub record IsStart (tables : code_flat.Tables) (conts : List Cont) (tops : List ℕ) (ended : Bool) : Type 0 where
   pub within : (id : ℕ) → Contains tops id → id ≤ length conts
   pub tops_are : (stack : List Place) → IsStackOf conts tops stack
@@ -48,7 +48,7 @@ pub record IsInterned (old new : List State) (tops : List ℕ) (ended : Bool) (t
       ⊎ ((length old ≤ s) × (state.tops.items ≡ tops) × (state.ended ≡ ended))
   pub is : IsStateOf new tops ended t
 
--- from one state to another, by a letter that one of its tops reads
+-- from one state to another, by a symbol that one of its tops reads
 pub record IsStep (tables : code_flat.Tables) (d : ℕ) (conts : List Cont) (states : List State) (s t : ℕ) : Type 0 where
   pub from : State
   pub to : State
@@ -70,7 +70,7 @@ pub record IsPush (tables : code_flat.Tables) (d : ℕ) (conts : List Cont) (sta
   pub split : IsSplitOff tables conts read to.tops.items part
   pub runs : to.ended ≡ false
 
--- no top reads the letter
+-- no top reads the symbol
 pub record IsDead (tables : code_flat.Tables) (d : ℕ) (conts : List Cont) (states : List State) (s : ℕ) : Type 0 where
   pub from : State
   pub from_is : slice_get states s ≡ Some from
@@ -113,7 +113,7 @@ pub record IsStartAt (tables : code_flat.Tables) (conts : List Cont) (states : L
   pub is : slice_get states t ≡ Some state
   pub start : IsStart tables conts state.tops.items state.ended
 
--- the number of a state that is the front after the first j letters, over what is below
+-- the number of a state that is the front after the first j symbols, over what is below
 pub record IsAt (tables : code_flat.Tables) (conts : List Cont) (states : List State) (s : ℕ) (x : List ℕ) (j : ℕ)
     (below : List Place) : Type 0 where
   pub state : State

@@ -78,7 +78,7 @@ pub record CallMoves (tables : code_flat.Tables) (n k : ℕ) (below stack : List
   pub called : call_of tables (item_at 0 (dot n k)) ≡ Some (root, next)
   pub begun : Begun root (begin_count tables root) (after tables n next below) stack
 
--- what a stack goes on to without a letter
+-- what a stack goes on to without a symbol
 abbrev pub Goes : code_flat.Tables → List Place → List Place → Type 0
 Goes tables [] stack = ⊥
 Goes tables (at n k ∷ below) stack = CallMoves tables n k below stack
@@ -89,7 +89,7 @@ abbrev pub EndsAlone : code_flat.Tables → List Place → Type 0
 EndsAlone tables [] = ⊥
 EndsAlone tables (at n k ∷ below) = (done_of tables (item_at 0 (dot n k)) ≡ true) × (below ≡ [])
 
--- what is led to from stacks without a letter
+-- what is led to from stacks without a symbol
 pub data GoesOn (tables : code_flat.Tables) (from : List Place → Type 0) : List Place → Type 0 where
   here : {stack : List Place} → from stack → GoesOn tables from stack
   on : {stack next : List Place} → GoesOn tables from stack → Goes tables stack next → GoesOn tables from next
@@ -112,20 +112,20 @@ pub record IsClosing (tables : code_flat.Tables) (first : List Cont) (given : Li
   pub ended_is : (ended ≡ true) ↔ ((k : ℕ) × (id : ℕ) × (k < count) × (slice_get ids k ≡ Some id)
       × EndsAlone tables (stack_of conts id))
 
--- all that ids go on to without a letter, and whether a place alone is done
+-- all that ids go on to without a symbol, and whether a place alone is done
 pub record IsClosure (tables : code_flat.Tables) (first : List Cont) (given : List ℕ) (conts : List Cont)
     (ids : List ℕ) (ended : Bool) : Type 0 where
   pub within : (id : ℕ) → Contains ids id → id ≤ length conts
   pub stacks : (stack : List Place) → IsStackOf conts ids stack ↔ GoesOn tables (IsStackOf first given) stack
   pub ended_is : (ended ≡ true) ↔ ((stack : List Place) × IsStackOf conts ids stack × EndsAlone tables stack)
 
--- what a stack comes to by a letter
+-- what a stack comes to by a symbol
 abbrev pub ReadsOn : code_flat.Tables → ℕ → List Place → List Place → Type 0
 ReadsOn tables c [] next = ⊥
 ReadsOn tables c (at n k ∷ below) next = IfSomeSet (read_of tables (item_at 0 (dot n k))) c
     × (next ≡ at n (k + 1) ∷ below)
 
--- a letter leads on from one of the ids
+-- a symbol leads on from one of the ids
 pub record ReadsFrom (tables : code_flat.Tables) (c : ℕ) (conts : List Cont) (ids : List ℕ) (next : List Place)
     : Type 0 where
   pub id : ℕ
@@ -142,7 +142,7 @@ pub record AreReaders (tables : code_flat.Tables) (conts : List Cont) (ids reade
   pub only : (id : ℕ) → Contains readers id → Contains ids id × TopReads tables (stack_of conts id)
   pub all : (id : ℕ) → Contains ids id → TopReads tables (stack_of conts id) → Contains readers id
 
--- a transition: by that letter, and what it leads to without another
+-- a transition: by that symbol, and what it leads to without another
 pub record IsTransition (tables : code_flat.Tables) (c : ℕ) (first : List Cont) (tops : List ℕ) (conts : List Cont)
     (next : List ℕ) (ended : Bool) : Type 0 where
   pub within : (id : ℕ) → Contains next id → id ≤ length conts

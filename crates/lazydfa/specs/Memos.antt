@@ -45,7 +45,7 @@ pub record IsMemo (tables : code_flat.Tables) (samples : List ℕ) (memo : Memo)
   pub transitions : AreTransitions tables samples memo.cache.conts.items.items memo.cache.states.items
       memo.transitions.items
 
--- a state is the front after the first j letters, over the parts
+-- a state is the front after the first j symbols, over the parts
 pub record IsOver (tables : code_flat.Tables) (conts : List Cont) (states : List State) (parts : List ℕ) (s : ℕ)
     (x : List ℕ) (j : ℕ) : Type 0 where
   pub parts_are : AreParts conts parts
@@ -63,7 +63,7 @@ RunsOver tables memo = IsOver tables memo.cache.conts.items.items memo.cache.sta
 abbrev pub RunsAt : code_flat.Tables → Memo → ℕ → List ℕ → ℕ → Type 0
 RunsAt tables memo = IsSettled tables memo.cache.conts.items.items memo.cache.states.items memo.parts.items
 
--- a run goes on from there, and some letters led to something; its state is given by its row
+-- a run goes on from there, and some symbols led to something; its state is given by its row
 pub record IsTrack (tables : code_flat.Tables) (samples : List ℕ) (memo : Memo) (x : List ℕ) (track : Track) : Type 0
   where
     pub state : ℕ
@@ -83,7 +83,7 @@ IsEndOf samples memo row ended = (tables : code_flat.Tables) → IsMemo tables s
     → row ≡ s * (length samples + 1) → (got : State) → slice_get memo.cache.states.items s ≡ Some got
     → ended ≡ got.ended
 
--- what the letter after the first j leads to from a state
+-- what the symbol after the first j leads to from a state
 abbrev pub IsStepTaken : code_flat.Tables → Memo → ℕ → List ℕ → ℕ → RunStep → Type 0
 IsStepTaken tables memo s x j (To t) = RunsAt tables memo t x (j + 1)
     × IsReached (flat_of tables) (last_of tables) x (j + 1)
@@ -91,7 +91,7 @@ IsStepTaken tables memo s x j Dead = RunsAt tables memo s x j
     × ((m : ℕ) → j < m → IsReached (flat_of tables) (last_of tables) x m → ⊥)
 IsStepTaken tables memo s x j Over = Unit {0}
 
--- where a run stops: at the end of the line, or where one more letter leads to nothing
+-- where a run stops: at the end of the line, or where one more symbol leads to nothing
 pub record IsRunStop (tables : code_flat.Tables) (samples : List ℕ) (memo : Memo) (x : List ℕ) (stop : Track) : Type 0
   where
     pub within : stop.at ≤ length x

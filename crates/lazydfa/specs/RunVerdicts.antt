@@ -10,11 +10,11 @@ abbrev pub IsOne : Flat → Type 0
 IsOne flat = (body : ℕ) × (slice_get flat.nodes flat.whole ≡ Some (Concat (body ∷ [])))
 
 module _ (flat : Flat) (last : Place → Bool) (x : List ℕ) where
-  -- j letters lead to some stack
+  -- j symbols lead to some stack
   abbrev pub IsReached : ℕ → Type 0
   IsReached j = (stack : List Place) × Reach flat last x j stack
 
-  -- n is the greatest number of letters that lead to some stack; nothing is said of no letters
+  -- n is the greatest number of symbols that lead to some stack; nothing is said of no symbols
   pub record IsLastReached (n : ℕ) : Type 0 where
     pub within : n ≤ length x
     pub reached : 0 < n → IsReached n

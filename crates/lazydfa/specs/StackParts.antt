@@ -15,7 +15,7 @@ pub record IsSplitOff (tables : code_flat.Tables) (conts : List Cont) (tops base
       stack
   pub all_read : (id : ℕ) → Contains base id → TopReads tables (stack_of conts id)
 
--- tops put on a part, and what the part goes on to without a letter
+-- tops put on a part, and what the part goes on to without a symbol
 pub record PutsBack (tables : code_flat.Tables) (first : List Cont) (tops : List ℕ) (part : ℕ) (conts : List Cont)
     (next : List ℕ) (ended : Bool) : Type 0 where
   pub within : (id : ℕ) → Contains next id → id ≤ length conts

@@ -61,7 +61,7 @@ impl Model for Automaton {
         a.classes.low a.classes.samples.items) × (IsMemo a.tables.value a.classes.samples.items a.memo) };
 }
 
-// Returns whether turns that take a letter are counted at a node.
+// Returns whether iterations that take a symbol are counted at a node.
 fn counts_turns(node: &Node) -> bool
     ensures { IsTrue result ↔ ((b : ℕ) × (m : ℕ) × (node_of node.now ≡ Turns (Some b) m)) }
 {
@@ -74,7 +74,7 @@ fn counts_turns(node: &Node) -> bool
     }
 }
 
-// Returns whether no turns that take a letter are counted.
+// Returns whether no iterations that take a symbol are counted.
 fn are_uncounted(tables: &Tables) -> bool
     ensures { IsTrue result → AreUncounted (flat_of tables.now) }
 {
@@ -198,7 +198,7 @@ impl Automaton {
         Ok(Some(verdict))
     }
 
-    /// Returns what can follow the longest viable prefix of a line, by one run over the line; `None` and `Memory` as
+    /// Finds the symbols that can follow the longest viable prefix of a line by one run over it. `None` and `Memory` as
     /// `judge`.
     pub fn expected<L: Letter>(&mut self, line: &[L]) -> Result<Option<Expected>, Memory>
         ensures same { self.new ≡ self.old }

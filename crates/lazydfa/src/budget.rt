@@ -58,7 +58,7 @@ impl Budget {
         self.tops = self.tops.saturating_add(tops).saturating_add(4);
     }
 
-    /// Returns whether so many turns may be spent while there are so many continuations and cells.
+    /// Returns whether so many iterations may be spent while there are so many continuations and cells.
     pub(crate) fn allows(&self, turns: usize, entries: usize) -> bool {
         let gift = self.letters.saturating_mul(TURNS).min(GIFT);
         let earned = self.turns.saturating_add(gift).saturating_add(self.letters);

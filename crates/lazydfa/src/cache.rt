@@ -130,7 +130,7 @@ pub(crate) fn has_ended(cache: &Cache, state: usize) -> bool
     }
 }
 
-// Returns what a state with these tops hashes to.
+// Returns the hash of a state with these tops.
 fn hash_of_tops(tops: &[usize]) -> usize {
     let mut mixed = 0usize;
     for top in tops {

@@ -1,4 +1,4 @@
-//! What can follow the symbols of a line, by the stacks that they lead to.
+//! The symbols that can follow those of a line, by the stacks that they lead to.
 ghost use Rattle.std.specs.Prelude.{◌≤◌, ℕ, IfOk, length, Contains};
 ghost use Rattle.lazydfa.specs.Conts.{AreOlder, AreTopsOf};
 
@@ -8,7 +8,7 @@ use flatgrammar::DottedRule;
 use ruletable::Memory;
 use std::alloc::Global;
 
-/// What can follow the longest viable prefix of a line.
+/// The symbols that can follow the longest viable prefix of a line.
 #[derive(Drop)]
 pub struct Expected {
     /// How many symbols that prefix has.

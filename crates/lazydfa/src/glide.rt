@@ -20,7 +20,7 @@ pub(crate) struct Track {
     pub(crate) at: usize,
 }
 
-// Returns whether a letter leads from the state of a row to that state.
+// Returns whether a symbol leads from the state of a row to that state.
 #[inline(always)]
 fn stays<L: Letter>(
     transitions: &[u32],
@@ -34,7 +34,7 @@ fn stays<L: Letter>(
     leads_back(transitions, row, class_of(low, samples, letter.value()))
 }
 
-// Returns whether the next four letters lead from the state of a row to that state.
+// Returns whether the next four symbols lead from the state of a row to that state.
 #[inline(always)]
 fn stay_four<L: Letter>(
     transitions: &[u32],
@@ -59,7 +59,7 @@ fn stay_four<L: Letter>(
     stays(transitions, low, samples, line[from.at + 3], from.row)
 }
 
-// Goes on by four letters while they lead from the state of a row to that state, if that is to be tried, and returns
+// Goes on by four symbols while they lead from the state of a row to that state, if that is to be tried, and returns
 // where that stops.
 #[inline(always)]
 fn stay_on<L: Letter>(

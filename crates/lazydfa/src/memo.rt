@@ -60,7 +60,7 @@ pub(crate) fn forget_all(memo: &mut Memo)
     memo.chains.clear();
 }
 
-// Returns what a state and a part hash to.
+// Returns the hash of a state and a part.
 fn hash_of_pair(state: usize, part: usize) -> usize {
     state.wrapping_mul(0x9E37_79B9).wrapping_add(part)
 }

@@ -101,7 +101,7 @@ module _ (Reported : List ℕ → Answer → Type 0) (asked : Bool) (Refusal : L
   nothing_explains true Why why is empty = absurd (cc)
   nothing_explains false Why why is empty = empty
 
-  -- no lines explain that memory was refused
+  -- no lines explain that an allocation failed
   no_lines : (b : Bool) → (if b then [] else stop_lines NoMemory) ≡ []
   no_lines true = refl
   no_lines false = refl

@@ -187,9 +187,9 @@ pub record GoesBy (form : LineForm) (input : Input) (at : LinePosition) (line : 
   pub goes : is_over form at ≡ false
   pub stands : StandsAt form input at.place line n
 
--- Told says which answer is that of a line.
+-- Reported says which answer is that of a line.
 module _ (Reported : List ℕ → Answer → Type 0) (form : LineForm) (input : Input) where
-  -- the lines up to a place, and what is printed for them
+  -- the lines up to a position, and what is printed for them
   pub data Lines : LinePosition → List ℕ → Type 0 where
     none : Lines at_front []
     one_more : (at : LinePosition) (before line : List ℕ) (n : ℕ) (said : Answer) → Lines at before

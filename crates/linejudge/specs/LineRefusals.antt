@@ -54,7 +54,7 @@ pub record RunPoint : Type 0 where
   pub at : LinePosition
   pub lacks : Bool
 
--- the lines up to a point, and what is printed for them, where Told says which answer is that of a line
+-- the lines up to a point, and what is printed for them, where Reported says which answer is that of a line
 abbrev pub LinesTo : (List ℕ → Answer → Type 0) → LineForm → Input → RunPoint → List ℕ → Type 0
 LinesTo Reported form input point text = Lines Reported form input point.at text
 
@@ -66,7 +66,7 @@ EndsAt form input point last stop = LinesEnd form input point.at last stop
 abbrev pub taken_by : ℕ → Input → RunPoint → ℕ
 taken_by limit input point = place_taken limit input point.at
 
--- What explains a stop at a point, where that is asked. It needs no memory that can be refused then. Nothing explains
+-- What explains a stop at a point, where that is asked. It makes no allocation that can fail then. Nothing explains
 -- it after an explanation that is missing.
 abbrev pub WhyTo : Bool → Input → RunPoint → Stop → List ℕ → Type 0
 WhyTo asked input point stop why = ExplainedIf (asked && not point.lacks) (λ text. text ≡ stop_lines stop) why
@@ -75,7 +75,7 @@ WhyTo asked input point stop why = ExplainedIf (asked && not point.lacks) (λ te
 abbrev pub NeverLacks : Input → RunPoint → Stop → Type 0
 NeverLacks input point stop = ⊥
 
--- Told says which answer is that of a line, asked whether rejected lines are explained, and Refusal by what, where a
+-- Reported says which answer is that of a line, asked whether rejected lines are explained, and Refusal how, where a
 -- line has that number.
 module _ (Reported : List ℕ → Answer → Type 0) (asked : Bool) (Refusal : List ℕ → ℕ → List ℕ → Type 0) where
   -- the explanation of a line with that answer at a position
@@ -130,7 +130,7 @@ module _ (Reported : List ℕ → Answer → Type 0) (asked : Bool) (Refusal : L
 
     -- So a run states its reply. Where an allocation fails in an explanation, that one is missing and none follows, but
     -- all that the run writes otherwise, and its status, are as ever. Where any other allocation fails, it states the
-    -- text of the first lines, and what is told of them.
+    -- text of the first lines, and what is reported of them.
     abbrev pub LinesStates : Reply → Type 0
     LinesStates reply = steps.ReportedStates (LinesTo Reported form input) (EndsAt form input)
         (taken_by form.limit input)

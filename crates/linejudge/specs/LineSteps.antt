@@ -26,7 +26,7 @@ pub record Adds (P : List ℕ → Type 0) (old new : List ℕ) : Type 0 where
   pub is : P text
   pub added : new ≡ old ++ text
 
--- What follows a line that takes n bytes: its text was written; or a beginning of it that is not all, where the output
+-- What follows a line that takes n bytes: its text was written; or a proper prefix of it, where the output
 -- failed; or nothing, where an allocation failed before.
 abbrev pub StepsAfter : ℕ → Option (List ℕ) → Option (List ℕ) → List ℕ → Result Answer Memory
     → Result LineStep WriteFault → Type 0

@@ -131,7 +131,7 @@ fn next_step<W, J: Judge<W>, R: Source, O: Sink>(
     }
 }
 
-/// Adds the lines that explain a stop to none, where there is room for them. It needs no memory.
+/// Adds the lines that explain a stop to none, where there is room for them. It allocates nothing.
 fn push_stop(stop: Stop, why: &mut Vec<u8>)
     requires none { why.old.items ≡ [] }
     requires room { vec_len why.old + 128 ≤ vec_capacity why.old }

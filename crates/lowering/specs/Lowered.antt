@@ -8,7 +8,7 @@ use Rattle.flatgrammar.specs.Flat.{Node, Flat, Set, Exactly, EitherCase, Between
 use Rattle.flatgrammar.specs.Flat.{Name, Nothing, capped}
 use Rattle.lowering.specs.NullElements.{IsEmpty, IsNeverEmpty}
 
--- the letters that may stand for one of a text
+-- the symbols that may stand for one of a text
 abbrev pub letter_set : Bool → ℕ → Set
 letter_set true c = EitherCase c
 letter_set false c = Exactly c
@@ -18,8 +18,8 @@ abbrev pub capped_most : ℕ → Option ℕ → Option ℕ
 capped_most limit None = None
 capped_most limit (Some most) = if leb most limit then Some most else None
 
--- On lines within the limit, numbers above it make no difference. Where the operand of a repetition derives the empty
--- list, only turns that take a letter are counted: the others are there without a letter, as many as are asked for.
+-- On lines within the limit, numbers above it make no difference. If the operand of a repetition derives the empty
+-- list, only iterations that take a symbol are counted: of the others there are as many as are needed.
 module _ (rules : List Rule) (limit : ℕ) (nodes : List Node) where
   mutual
     -- node s spells an element

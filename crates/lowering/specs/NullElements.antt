@@ -1,4 +1,4 @@
--- Elements that derive the empty list, whatever the letters.
+-- Elements that derive the empty list, whatever the symbols.
 use Rattle.std.specs.Prelude.{◌≡◌, ◌↔◌, ℕ, Bool, true, false, List, [], length, slice_get, Some}
 use Rattle.abnfread.specs.Element.{Element, Elements, Rule}
 use Rattle.abnfcheck.specs.Derivable.{Derives, DerivesAll, DerivesSome, RuleDerives}

@@ -1,4 +1,4 @@
--- Elements and rules without the parts that derive no list of letters.
+-- Elements and rules without the parts that derive no list of symbols.
 use Rattle.std.specs.Prelude.{◌≡◌, ℕ, ◌+◌, ◌≤◌, Bool, List, length, slice_get, Option, Some, None}
 use Rattle.abnfread.specs.Element.{Element, Elements, Text, Values, Range, Concat, Alt, Rep, Opt, Name, Prose, none}
 use Rattle.abnfread.specs.Element.{more, Rule, bodies, id_of}
@@ -11,15 +11,15 @@ use Rattle.flatgrammar.specs.Places.{places}
 use Rattle.lowering.specs.Sizes.{sizes}
 use Rattle.letters.specs.Letters.{HasLetter}
 
--- `has` marks the letters of the alphabet
+-- `has` marks the symbols of the alphabet
 module _ (has : ℕ → Bool) (rules : List Rule) where
-  -- an element derives some list of letters
+  -- an element derives some list of symbols
   pub record IsProductive (e : Element) : Type 0 where
     pub word : List ℕ
     pub letters : AreLetters has word
     pub derives : Derives has rules e word
 
-  -- the members one after another derive some list of letters
+  -- the members one after another derive some list of symbols
   pub record AreAllProductive (es : Elements) : Type 0 where
     pub word : List ℕ
     pub letters : AreLetters has word

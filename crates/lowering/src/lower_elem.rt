@@ -61,7 +61,7 @@ fn rule_id(rules: &RuleTable<Elem>, name: &[u8]) -> Result<usize, Memory>
     Ok(found.unwrap_or(rules.len()))
 }
 
-// The letters that may stand for one of a text.
+// The symbols that may stand for one of a text.
 fn letter_set(folds: bool, letter: u8) -> Set
     ensures { set_of result ≡ letter_set folds letter }
 {
@@ -72,7 +72,7 @@ fn letter_set(folds: bool, letter: u8) -> Set
     }
 }
 
-// Of each letter of a text those that may stand for it.
+// Of each symbol of a text those that may stand for it.
 fn text_sets(alloc: Global, folds: bool, text: &[u8]) -> Result<Vec<Set>, Memory>
     ensures { IfOk result (λ sets. map set_of sets.items ≡ map (letter_set folds) text.now) }
 {
@@ -133,7 +133,7 @@ fn capped(limit: usize, n: u32) -> u32
     }
 }
 
-// A greatest number, if it is within the limit. No line within it has more turns that take a letter.
+// A greatest number, if it is within the limit. No line within it has more iterations that take a symbol.
 fn capped_most(limit: usize, most: Option<u32>) -> Option<u32>
     ensures { result ≡ capped_most limit most }
 {
@@ -154,8 +154,8 @@ fn is_reversed(least: u32, most: Option<u32>) -> bool
     }
 }
 
-// The node of a repetition, for lines within the limit. Where the operand derives the empty list, only turns that take
-// a letter are counted, from none on: the others are there without a letter.
+// The node of a repetition, for lines within the limit. If the operand derives the empty list, only iterations that
+// take a symbol are counted, from none on: the others take none.
 fn repeat(limit: usize, least: u32, most: Option<u32>, made: Made) -> Node
     ensures shows { (rules : List Rule) (nodes : List flat.Node) (el : Element) →
         Settles rules made.empty el → Spells rules limit nodes made.number el → Shows rules limit nodes (node_of result)

@@ -15,7 +15,7 @@ use letters::Alphabet;
 use ruletable::{Memory, NameCase, RuleTable};
 use std::alloc::Global;
 
-// Returns what is left of a text: the text, since bytes are letters of each alphabet.
+// Returns the productive part of a text: the text, since bytes are symbols of each alphabet.
 fn prune_text(alloc: Global, folds: bool, text: &[u8]) -> Result<Option<Elem>, Memory>
     ensures { IfOk result (λ left. (alphabet : Alphabet) (rules : List Rule)
         → IsLeft (has alphabet) rules (e.Text folds text.now) (some_element left)) }
@@ -24,7 +24,7 @@ fn prune_text(alloc: Global, folds: bool, text: &[u8]) -> Result<Option<Elem>, M
     Ok(Some(Elem::Text { folds, text }))
 }
 
-// Returns what is left of a list of values: itself, if each is that of a letter.
+// Returns the productive part of a list of values: itself, if each is that of a symbol.
 fn prune_values(alloc: Global, alphabet: Alphabet, values: &[u32]) -> Result<Option<Elem>, Memory>
     ensures { IfOk result (λ left. (rules : List Rule) → IsLeft (has alphabet) rules (e.Values values.now)
         (some_element left)) }
@@ -39,7 +39,7 @@ fn prune_values(alloc: Global, alphabet: Alphabet, values: &[u32]) -> Result<Opt
     Ok(Some(Elem::Values(copied)))
 }
 
-// Returns what is left of a range: itself, if it holds a letter.
+// Returns the productive part of a range: itself, if it holds a symbol.
 fn prune_range(alphabet: Alphabet, low: u32, high: u32) -> Option<Elem>
     ensures { (rules : List Rule) → IsLeft (has alphabet) rules (e.Range low high) (some_element result) }
 {
@@ -50,7 +50,7 @@ fn prune_range(alphabet: Alphabet, low: u32, high: u32) -> Option<Elem>
     }
 }
 
-// Returns whether the bounds of a repetition allow some number of turns.
+// Returns whether the bounds of a repetition allow some number of iterations.
 fn is_within(least: u32, most: Option<u32>) -> bool
     ensures { IsTrue result ↔ AtMost least most }
 {
@@ -60,7 +60,7 @@ fn is_within(least: u32, most: Option<u32>) -> bool
     }
 }
 
-// Returns what is left of a repetition, from what is left of its operand. Without an operand no turn is left.
+// Returns the productive part of a repetition, from that of its operand. Without an operand no iteration is left.
 fn prune_repeat(
     alloc: Global,
     least: u32,
@@ -90,7 +90,7 @@ fn prune_repeat(
     }
 }
 
-// Returns what is left of an option, from what is left of its operand.
+// Returns the productive part of an option, from that of its operand.
 fn prune_option(alloc: Global, operand: Option<Elem>) -> Result<Option<Elem>, Memory>
     ensures { IfOk result (λ left. (test : ℕ → Bool) (rules : List Rule) (el : Element) →
         IsLeft test rules el (some_element operand) → IsLeft test rules (e.Opt el) (some_element left)) }
@@ -104,7 +104,7 @@ fn prune_option(alloc: Global, operand: Option<Elem>) -> Result<Option<Elem>, Me
     }
 }
 
-// Adds what is left of a member. Returns whether anything is left.
+// Adds the productive part of a member. Returns whether there is one.
 fn push_left(kept: &mut Vec<Elem>, left: Option<Elem>) -> Result<bool, Memory>
     ensures { IfOk result (λ some. (some ≡ is_some left)
         × (kept.new.items ≡ kept.old.items ++ option_to_list left)) }
@@ -118,7 +118,7 @@ fn push_left(kept: &mut Vec<Elem>, left: Option<Elem>) -> Result<bool, Memory>
     }
 }
 
-// Returns what is left of an alternation, from what is left of its alternatives.
+// Returns the productive part of an alternation, from those of its alternatives.
 fn alt_of(alternatives: Vec<Elem>) -> Option<Elem>
     ensures { (test : ℕ → Bool) (rules : List Rule) (es : Elements) →
         KeepsSome test rules es (elements_of alternatives.items) → IsLeft test rules (e.Alt es) (some_element result) }
@@ -140,7 +140,7 @@ fn is_marked(marks: &[bool], id: usize) -> bool
     }
 }
 
-// Returns what is left of a name: itself, if its rule is marked.
+// Returns the productive part of a name: itself, if its rule is marked.
 fn prune_name(
     alloc: Global,
     alphabet: Alphabet,
@@ -161,7 +161,7 @@ fn prune_name(
     }
 }
 
-// Returns what is left of an element: a copy of its productive parts, or nothing if it is not productive.
+// Returns the productive part of an element: a copy without the rest, or nothing if it is not productive.
 #[cycle(pruning)]
 fn prune(
     alloc: Global,
@@ -197,7 +197,7 @@ fn prune(
     }
 }
 
-// Returns what is left of a concatenation: what is left of its members, in order, if all are productive.
+// Returns the productive part of a concatenation: those of its members, in order, if all are productive.
 #[cycle(pruning)]
 fn prune_concat(
     alloc: Global,
@@ -222,7 +222,7 @@ fn prune_concat(
     Ok(Some(Elem::Concat(kept)))
 }
 
-// Returns what is left of an alternation: what is left of its productive alternatives, in order.
+// Returns the productive part of an alternation: those of its productive alternatives, in order.
 #[cycle(pruning)]
 fn prune_alt(
     alloc: Global,
@@ -244,7 +244,7 @@ fn prune_alt(
     Ok(alt_of(kept))
 }
 
-// Returns what is left of a body, or prose, which derives nothing.
+// Returns the productive part of a body, or prose, which derives nothing.
 fn prune_body(
     alloc: Global,
     alphabet: Alphabet,
@@ -263,7 +263,7 @@ fn prune_body(
     }
 }
 
-/// Returns the rules with what is left of their bodies, from the marks of the productive rules. `Memory` if an
+/// Returns the rules with the productive parts of their bodies, from the marks of the productive rules. `Memory` if an
 /// allocation fails.
 pub(crate) fn prune_rules(
     alloc: Global,

@@ -77,7 +77,7 @@ module _ (g : Grammar) (x : List ℕ) (more : Bool) where
     pub gives : StartGives g x (outcome_of f events) looked
     pub enough : WasEnough x more looked
 
-  -- What a match holds where it stops for want of bytes: no frame and no event. Stored are keys that are reached, each
+  -- What a match holds where it stops for lack of bytes: no frame and no event. Stored are keys that are reached, each
   -- once and with what it gives. The pairs are those that were begun. They stand before the window's end, and those of
   -- the stored keys are among them.
   pub record IsOnTheWay (marks : Marks) (c : Contents) : Type 0 where

@@ -46,7 +46,7 @@ fn found_at(verdict: ByteVerdict, place: usize) -> Found
     }
 }
 
-// Returns what the byte at a position decides by the table of a node, if it has one.
+// Returns the outcome that the byte at a position decides by the table of a node, if it has one.
 #[inline(always)]
 fn decided_at(
     peg: &SoundPeg,

@@ -116,7 +116,7 @@ pub(crate) fn tail_from(
     }
 }
 
-// Returns what was tried, if its comparison does not reach the last byte of a window that more bytes follow.
+// Returns the outcome of a trial, if its comparison does not reach the last byte of a window that more bytes follow.
 #[inline(always)]
 fn leaf(tried: Tried, length: usize, more: bool) -> Begun
     ensures { IsLeaf tried length more result }

@@ -1,4 +1,4 @@
--- Runs of letters, each the numbers from a first to a last.
+-- Runs of symbols, each the numbers from a first to a last.
 use Rattle.std.specs.Prelude.{ℕ, ◌+◌, ◌≤◌, ◌⊎◌, List, [], ◌∷◌}
 use Rattle.refusedlines.specs.declared.letterruns.run.LetterRun.{LetterRun}
 

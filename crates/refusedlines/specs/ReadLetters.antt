@@ -1,4 +1,4 @@
--- The letters that items read at their dotted rules.
+-- The symbols that items read at their dotted rules.
 use Rattle.std.specs.Prelude.{ℕ, ◌↔◌, ◌⊎◌, List, slice_get, Option, Some, None}
 use Rattle.flatgrammar.specs.Flat.{Flat, Node, Set}
 use Rattle.flatgrammar.specs.NodeSteps.{IfSomeSet, read_at}
@@ -12,11 +12,11 @@ abbrev pub read_by : Option Node → ℕ → Option Set
 read_by None k = None
 read_by (Some node) k = read_at node k
 
--- a dotted rule reads a letter
+-- a dotted rule reads a symbol
 abbrev pub DotReads : Flat → DottedRule → ℕ → Type 0
 DotReads flat s c = IfSomeSet (read_by (slice_get flat.nodes s.node) s.step) c
 
--- one of the dotted rules reads a letter
+-- one of the dotted rules reads a symbol
 pub record DotsRead (flat : Flat) (dots : List DottedRule) (c : ℕ) : Type 0 where
   pub dot : DottedRule
   pub stands : In dot dots

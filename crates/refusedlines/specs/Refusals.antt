@@ -11,7 +11,7 @@ use Rattle.refusedlines.specs.declared.letterruns.run.LetterRun.{LetterRun}
 use Rattle.refusedlines.specs.Following.{AreFollowing}
 use Rattle.refusedlines.specs.RefusedText.{refusal_text, refused_at}
 
--- how many bytes a letter takes: one, or in UTF-8 as many as the table in section 3 of RFC 3629 says
+-- how many bytes a symbol takes: one, or in UTF-8 as many as the table in section 3 of RFC 3629 says
 abbrev pub octets : Alphabet → ℕ → ℕ
 octets Bytes c = 1
 octets Utf8 c = if nat_lt c 0x80 then 1 else if nat_lt c 0x800 then 2 else if nat_lt c 0x10000 then 3 else 4
@@ -20,7 +20,7 @@ abbrev pub octet_count : Alphabet → List ℕ → ℕ
 octet_count alphabet [] = 0
 octet_count alphabet (c ∷ cs) = octets alphabet c + octet_count alphabet cs
 
--- the letters of the first `size` bytes of a line: of all of them, or of its longest prefix that is UTF-8
+-- the symbols of the first `size` bytes of a line: of all of them, or of its longest prefix that is UTF-8
 abbrev pub AreFirstLetters : Alphabet → List ℕ → List ℕ → ℕ → Type 0
 AreFirstLetters Bytes line x size = (x ≡ line) × (size ≡ length line)
 AreFirstLetters Utf8 line x size = IsLongestText line size × Spells x (take size line)
@@ -29,7 +29,7 @@ abbrev pub name_at : List Rule → ℕ → List ℕ
 name_at rules id = slice_index_or (map (λ rule. rule.name) rules) id []
 
 -- The text explains where the line with that number is rejected, and what can follow the longest viable prefix of its
--- letters.
+-- symbols.
 pub record IsRefusalReported (alphabet : Alphabet) (rules : List Rule) (judged : ℕ) (line : List ℕ) (number : ℕ)
     (text : List ℕ) : Type 0 where
   pub first : List ℕ

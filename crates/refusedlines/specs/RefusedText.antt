@@ -40,8 +40,8 @@ end_text (run ∷ runs) true = codes " or the end of the line"
 abbrev pub expected_text : Alphabet → List LetterRun → Bool → List ℕ
 expected_text alphabet runs ends = pieces_text (pieces alphabet runs) ++ end_text runs ends
 
--- Where a line is rejected: at the letter after its longest viable prefix; if that has all its letters, at bytes that
--- are not UTF-8, or at its end. Letters count from 1.
+-- Where a line is rejected: at the symbol after its longest viable prefix; if that has all its symbols, at bytes that
+-- are not UTF-8, or at its end. Symbols count from 1.
 abbrev pub refused_at : ℕ → ℕ → Bool → RefusedAt
 refused_at n count torn = if nat_lt n count then Letter (n + 1) else if torn then NoText (n + 1) else End
 
@@ -52,7 +52,7 @@ at_text number (NoText n) = codes "line " ++ (decimal number ++ (codes ", letter
     ++ codes ": not UTF-8, expected ")))
 at_text number End = codes "line " ++ (decimal number ++ codes " ends too early: expected ")
 
--- neither a letter nor the end can follow there
+-- neither a symbol nor the end can follow there
 abbrev pub is_none : List LetterRun → Bool → Bool
 is_none [] ends = if ends then false else true
 is_none (run ∷ runs) ends = false

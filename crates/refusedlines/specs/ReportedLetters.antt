@@ -1,4 +1,4 @@
--- The terms of ABNF for letters (RFC 5234, sections 2.1 and 2.3; RFC 7405, section 2.1).
+-- The terms of ABNF for symbols (RFC 5234, sections 2.1 and 2.3; RFC 7405, section 2.1).
 use Prim.Native.Char.{code}
 use Rattle.std.specs.Prelude.{ℕ, ◌+◌, ◌-◌, ◌==◌, ◌&&◌, ◌||◌, nat_le, nat_lt, Bool, false, if◌then◌else◌, List, []}
 use Rattle.std.specs.Prelude.{◌∷◌, ◌++◌}
@@ -20,11 +20,11 @@ use Rattle.refusedlines.specs.declared.letterruns.reported.ReportedLetters.TheVa
 }
 use Rattle.refusedlines.specs.declared.letterruns.reported.ReportedLetters.TheVariants.{Named, Printed}
 
--- one or two letters, which are single; 0xE000 follows 0xD7FF
+-- one or two symbols, which are single; 0xE000 follows 0xD7FF
 abbrev pub is_short : LetterRun → Bool
 is_short run = nat_le (run.last - run.first) 1 || (run.first == 0xD7FF && run.last == 0xE000)
 
--- a letter is single
+-- a symbol is single
 abbrev pub is_single : List LetterRun → ℕ → Bool
 is_single runs c = list_any (λ run. is_short run && (nat_le run.first c && nat_le c run.last)) runs
 
@@ -39,7 +39,7 @@ printed_runs = letter_run 0xA1 0xAC ∷ letter_run 0xAE 0x2FF ∷ letter_run 0x3
     ∷ letter_run 0x400 0x482 ∷ letter_run 0x48A 0x52F ∷ letter_run 0x3041 0x3096 ∷ letter_run 0x30A1 0x30FA
     ∷ letter_run 0x4E00 0x9FFF ∷ letter_run 0xAC00 0xD7A3 ∷ []
 
--- a letter is one of some run
+-- a symbol is one of some run
 abbrev pub has_letter : List LetterRun → ℕ → Bool
 has_letter runs c = list_any (λ run. nat_le run.first c && nat_le c run.last) runs
 
@@ -47,7 +47,7 @@ abbrev pub is_printed : Alphabet → ℕ → Bool
 is_printed Bytes c = false
 is_printed Utf8 c = nat_lt c 0xD800 && has_letter printed_runs c
 
--- a letter that is no core rule: in quotes, if it is printable; by its number, if it is not of US-ASCII
+-- a symbol that is no core rule: in quotes, if it is printable; by its number, if it is not of US-ASCII
 abbrev pub reported_other : Alphabet → ℕ → ReportedLetters
 reported_other alphabet c = if nat_le (code "!") c && nat_le c (code "~") then Quoted c
     else if is_printed alphabet c then Printed c else Numbered c
@@ -56,7 +56,7 @@ abbrev pub reported_plain : Alphabet → ℕ → Option CoreRule → ReportedLet
 reported_plain alphabet c None = reported_other alphabet c
 reported_plain alphabet c (Some rule) = Named rule
 
--- a single letter whose other case is single too: the first of both has one term for both
+-- a single symbol whose other case is single too: the first of both has one term for both
 abbrev pub reported_with : Alphabet → (ℕ → Bool) → ℕ → Option ℕ → Option ReportedLetters
 reported_with alphabet single c None = Some (reported_plain alphabet c (core_of c))
 reported_with alphabet single c (Some other) = if single other then (if nat_lt c other then Some (Quoted c) else None)
@@ -65,7 +65,7 @@ reported_with alphabet single c (Some other) = if single other then (if nat_lt c
 abbrev pub reported_letter : Alphabet → List LetterRun → ℕ → Option ReportedLetters
 reported_letter alphabet runs c = reported_with alphabet (is_single runs) c (other_case c)
 
--- the terms for a run: those of single letters, or one for all
+-- the terms for a run: those of single symbols, or one for all
 abbrev pub reported_run : Alphabet → List LetterRun → LetterRun → List ReportedLetters
 reported_run alphabet runs run = if is_short run then option_to_list (reported_letter alphabet runs run.first)
     ++ (if nat_lt run.first run.last then option_to_list (reported_letter alphabet runs run.last) else [])

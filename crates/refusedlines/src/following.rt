@@ -28,7 +28,7 @@ pub struct Following {
     pub ends: bool,
 }
 
-// Returns how many letters the longest viable prefix of a line has.
+// Returns how many symbols the longest viable prefix of a line has.
 fn furthest_place<L: Letter>(chart: &mut Chart, flat: &Flat, line: &[L]) -> Result<usize, Memory>
     requires { length line.now ≤ flat.now.limit }
     ensures within { IfOk result (λ n. n ≤ length line.now) }
@@ -44,7 +44,7 @@ fn furthest_place<L: Letter>(chart: &mut Chart, flat: &Flat, line: &[L]) -> Resu
     }
 }
 
-// Returns what can follow the letters of a line.
+// Returns the symbols that can follow those of a line.
 fn find_after<L: Letter>(
     alloc: Global,
     chart: &mut Chart,
@@ -65,7 +65,7 @@ fn find_after<L: Letter>(
     Ok(Following { after, runs, ends })
 }
 
-// Returns what can follow the letters of a line by the automaton; `None` if it gives no answer, or an allocation fails.
+// Returns the symbols that can follow a line by the automaton; `None` if it gives no answer, or an allocation fails.
 fn find_by_states<L: Letter>(
     alloc: Global,
     automaton: &mut Option<Automaton>,

@@ -28,7 +28,7 @@ fn add_numbers(low: u32, high: u32, runs: &mut Vec<LetterRun>) -> Result<(), Mem
     Ok(())
 }
 
-// Adds the letters of an alphabet from `low` to `high`.
+// Adds the symbols of an alphabet from `low` to `high`.
 fn add_range(
     alphabet: Alphabet,
     low: u32,
@@ -62,7 +62,7 @@ fn other_case(value: u32) -> u32
     }
 }
 
-// Adds the letters of an alphabet that a set has.
+// Adds the symbols of an alphabet that a set has.
 fn add_set(alphabet: Alphabet, set: Set, runs: &mut Vec<LetterRun>) -> Result<(), Memory>
     requires { All IsSomeRun runs.old.items }
     ensures some { IfOk result (λ done. All IsSomeRun runs.new.items) }
@@ -80,7 +80,7 @@ fn add_set(alphabet: Alphabet, set: Set, runs: &mut Vec<LetterRun>) -> Result<()
     }
 }
 
-// Adds the letters of an alphabet that a step of a node reads.
+// Adds the symbols of an alphabet that a step of a node reads.
 fn add_node(
     alphabet: Alphabet,
     node: &Node,
@@ -101,7 +101,7 @@ fn add_node(
     }
 }
 
-// Adds the letters of an alphabet that a dotted rule reads.
+// Adds the symbols of an alphabet that a dotted rule reads.
 fn add_dot(
     alphabet: Alphabet,
     flat: &Flat,

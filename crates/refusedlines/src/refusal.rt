@@ -58,7 +58,7 @@ pub(crate) fn refused_at(after: usize, letters: usize, torn: bool) -> RefusedAt
     }
 }
 
-// Adds the number of a letter, and the text after it.
+// Adds the number of a symbol, and the text after it.
 fn push_letter(n: usize, reported: &[u8], out: &mut Vec<u8>) -> Result<(), Memory>
     ensures { OnOk result (out.new.items ≡ out.old.items ++ (codes ", letter " ++ (decimal n ++ reported.now))) }
 {

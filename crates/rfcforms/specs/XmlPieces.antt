@@ -19,7 +19,7 @@ comment_left (b ∷ bytes) = if text_leads (codes "-->") (b ∷ bytes) then 3 el
 abbrev pub run_size : ℕ → ℕ → List ℕ → ℕ
 run_size a b text = prefix_len (λ x. not ((x == a) || (x == b))) text
 
--- How many bytes the piece has with which the text begins, outside of elements that hold ABNF, in one, and in a CDATA
+-- The length in bytes of the piece that begins the text: outside of elements that hold ABNF, in one, and in a CDATA
 -- section of one. A piece has at least one.
 abbrev pub outside_size : List ℕ → ℕ
 outside_size text = if text_leads (codes "<!--") text then comment_left (drop 4 text) + 4

@@ -19,7 +19,7 @@ number_from base value (b ∷ bytes) = if b == code ";" then value
     else if nat_lt 126 value || not (is_digit_of base b) then 0
     else number_from base (value * base + digit_value b) bytes
 
--- the number of the reference with which the text begins; 0 if none does
+-- the number of the reference that begins the text; 0 if none does
 abbrev pub referred_number : List ℕ → ℕ
 referred_number text = if text_leads (codes "&#x") text then number_from 16 0 (drop 3 text)
     else if text_leads (codes "&#") text then number_from 10 0 (drop 2 text) else 0
@@ -27,7 +27,7 @@ referred_number text = if text_leads (codes "&#x") text then number_from 16 0 (d
 abbrev pub printed_byte : ℕ → ℕ
 printed_byte n = if nat_lt n 32 || nat_lt 126 n then 0 else n
 
--- the byte to which the reference refers with which the text begins; 0 if none does
+-- the byte of the reference that begins the text; 0 if none does
 abbrev pub referred_byte : List ℕ → ℕ
 referred_byte text = if text_leads (codes "&lt;") text then code "<"
     else if text_leads (codes "&gt;") text then code ">"

@@ -46,7 +46,7 @@ abbrev pub closing_front : Holder → List ℕ
 closing_front Sourcecode = codes "</sourcecode"
 closing_front Artwork = codes "</artwork"
 
--- the element that a tag begins with which the text begins
+-- the element whose start tag begins the text
 abbrev pub holder_at : List ℕ → Option Holder
 holder_at text = if tag_leads (opening_front Sourcecode) text then Some Sourcecode
     else if tag_leads (opening_front Artwork) text then Some Artwork else None
@@ -68,12 +68,12 @@ tag_length quote (b ∷ bytes) = if (quote == 0) && (b == code ">") then 1
 abbrev pub begins_type : List ℕ → Bool
 begins_type text = text_leads (codes "type") text && byte_leads (code "=") (rest_after_white (drop 4 text))
 
--- what stands in the quotes with which the text begins
+-- the bytes in the quotes that begin the text
 abbrev pub quoted_value : List ℕ → List ℕ
 quoted_value [] = []
 quoted_value (b ∷ bytes) = if is_quote b then take (prefix_len (λ x. not (x == b)) bytes) bytes else []
 
--- the value of the attribute with which the text begins
+-- the value of the attribute that begins the text
 abbrev pub type_value : List ℕ → List ℕ
 type_value text = quoted_value (rest_after_white (drop 1 (rest_after_white (drop 4 text))))
 

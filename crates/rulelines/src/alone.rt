@@ -18,7 +18,7 @@ use letters::Alphabet;
 use ruletable::Memory;
 use std::alloc::Global;
 
-/// What is known of the lines that the old grammar alone derives. `First`: the first of them, shorter lines first, and
+/// A result on the lines that the old grammar alone derives. `First`: the first of them, shorter lines first, and
 /// else by the first symbol that differs: %x21-7E, then the space, then others by number. `Never`: there is none.
 /// `NeverUpTo`: there is none of at most so many symbols. `Unknown`: nothing is known.
 #[derive(Drop)]
@@ -89,7 +89,7 @@ fn begin_search(
     Ok(Some(PairSearch { olds, news, pairs }))
 }
 
-// Returns what the end of a search says of the lines that the old grammar alone derives. `Memory` if an allocation
+// Returns the result that a search shows on the lines that the old grammar alone derives. `Memory` if an allocation
 // fails.
 fn conclude(alloc: Global, search: &PairSearch, outcome: SearchEnd) -> Result<Alone, Memory>
     ensures { IfOk result (λ alone. (old new : Flat) (has : ℕ → Bool) (samples : List ℕ)
@@ -113,7 +113,7 @@ fn conclude(alloc: Global, search: &PairSearch, outcome: SearchEnd) -> Result<Al
     }
 }
 
-/// Returns what is known of the lines over an alphabet that the old one of two flat grammars alone derives. The search
+/// Searches for a line over an alphabet that the old one of two flat grammars alone derives. The search
 /// goes over at most `room` pairs, with room for `room` entries of each grammar's states. `Unknown` also if a grammar
 /// counts how often something nullable is repeated. `Memory` if an allocation fails.
 pub(crate) fn old_alone(

@@ -18,7 +18,7 @@ use std::alloc::Global;
 /// length.
 const GREATEST: usize = 4_294_967_295;
 
-/// What is known of the lines that the judged rule of one grammar derives, and that of another does not.
+/// The results on the lines that the judged rule of one grammar derives, and that of another does not.
 #[derive(Drop)]
 pub struct Comparison {
     /// The lines of the old grammar alone.

@@ -16,7 +16,7 @@ struct FilledChart {
     chart: Chart,
 }
 
-// Returns the flat grammar of a text for lines of so many letters, with no item sets.
+// Returns the flat grammar of a text for lines of so many symbols, with no item sets.
 fn no_sets(alloc: Global, text: &[u8], limit: usize) -> Option<FilledChart> {
     let flat = flat(alloc, text, limit)?;
     let chart = Chart::new(alloc);
@@ -31,7 +31,7 @@ fn is_derived(sets: &mut FilledChart, line: &[u8]) -> Option<bool> {
     judge(&mut sets.chart, &sets.flat, line).ok()
 }
 
-// `bytes`: the runs of the bytes that are derived as lines of one letter.
+// `bytes`: the runs of the bytes that are derived as lines of one symbol.
 fn add_bytes(sets: &mut FilledChart, out: &mut Text) -> Option<()> {
     let mut is_in_run = false;
     for byte in 0..=255u8 {
@@ -89,7 +89,7 @@ fn add_bounds(sets: &mut FilledChart, fields: &Fields, out: &mut Text) -> Option
     Some(())
 }
 
-// `one_chart .. | LINE`: whether one chart derives the prefixes of a line of seven letters a thousand times, and has no
+// `one_chart .. | LINE`: whether one chart derives the prefixes of a line of seven symbols a thousand times, and has no
 // items after their ends.
 fn add_prefixes(sets: &mut FilledChart, line: &[u8], out: &mut Text) -> Option<()> {
     let mut are_derived = true;

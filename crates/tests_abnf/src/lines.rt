@@ -22,7 +22,7 @@ pub(crate) struct Judges {
     automaton: Option<Automaton>,
 }
 
-// Returns what judges lines by a flat grammar: an automaton in so much room, or in the usual one if none is given.
+// Returns the judge of lines by a flat grammar: an automaton in so much room, or in the usual one if none is given.
 fn judges_of(alloc: Global, flat: Flat, room: Option<usize>) -> Result<Judges, Memory> {
     let automaton = match room {
         Some(room) => Automaton::with_room(alloc, &flat, room)?,
@@ -132,7 +132,7 @@ fn alphabet(fields: &Fields, at: usize) -> Alphabet {
     }
 }
 
-// What judges the lines of a row.
+// The judge of the lines of a row.
 fn judges_in(alloc: Global, fields: &Fields) -> Option<Judges> {
     let grammar = sound(alloc, fields.text(2), fields.string(3))?;
     let is_given = !fields.is(5, b"");

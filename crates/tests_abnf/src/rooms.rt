@@ -11,7 +11,7 @@ use testio::{Fields, Text};
 // Room for no entry, for the start alone, for a few states, and for all of them.
 static ROOMS: [usize; 4] = [0, 1, 50, 2_000_000];
 
-// The letters of words, as bytes and in UTF-8, and how many words have at most four of them.
+// The symbols of words, as bytes and in UTF-8, and how many words have at most four of them.
 static BYTES: [&[u8]; 3] = [b"a", b"B", b"\xE9"];
 
 static POINTS: [&[u8]; 3] = [b"a", b"B", b"\xC3\xA9"];

@@ -53,7 +53,7 @@ pub(crate) fn notes_of(alloc: Global, fields: &Fields, out: &mut Text) -> Option
     Some(())
 }
 
-// Adds whether the first rule derives some list of the letters.
+// Adds whether the first rule derives some list of the symbols.
 fn add_productive(
     alloc: Global,
     grammar: &SoundAbnf,

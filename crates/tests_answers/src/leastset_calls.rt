@@ -7,7 +7,7 @@ use std::alloc::{AllocError, AllocGlobal};
 use std::process::Abort;
 use std::test::Fail;
 
-// The steps from each number, and which numbers come back to themselves.
+// The steps from each number, and which numbers are in a cycle.
 static CYCLES: [(&[&[usize]], &[bool]); 5] = [
     // no cycle
     (&[&[1], &[2], &[]], &[false, false, false]),

@@ -16,7 +16,7 @@ static CHAINS: [(&[&[usize]], usize, &[&[usize]]); 5] = [
     ),
     // numbers that no chain reaches
     (&[&[1, 3], &[2], &[], &[2]], 3, &[&[], &[], &[3, 2], &[3]]),
-    // ways that come back
+    // cycles
     (
         &[&[1], &[2, 0], &[0], &[2]],
         1,

@@ -142,7 +142,7 @@ module _ {Grammar CheckedRules Judged Sound Options : Type 0}
     plan_cut notes reported rules judged other c t = λ input.
         after_notes (law.cut_notes text settings input notes reported rules judged c t other)
 
-    -- a grammar that was checked, and for which no memory was left
+    -- a grammar that was checked, and for which an allocation failed
     pub plan_unmade : (notes : List Said) (rules : CheckedRules) (judged : Option Judged)
         → IsChecked text (option_copied settings.start) notes rules judged → Planned [] (Err (unread fault.Memory))
     plan_unmade notes rules judged c = plan_without_memory fault.Memory refl

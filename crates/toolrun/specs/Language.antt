@@ -41,7 +41,7 @@ pub record AreStated {Grammar CheckedRules Judged Sound Options : Type 0}
       (rules : CheckedRules) → IsChecked text (option_copied settings.start) notes rules None
       → HintedNotes settings (ExplainsNote text) (AreHints text settings) notes reported
       → settings.mode ≢ Print → States text settings input reported (notes_alone 2)
-  -- a grammar that is not refused, and only to be checked
+  -- a grammar that is not rejected, and only to be checked
   pub checked : (text : List ℕ) (settings : Settings Options) (input : Input) (notes : List Said) (reported : List ℕ)
       (rules : CheckedRules) (judged : Judged)
       → IsChecked text (option_copied settings.start) notes rules (Some judged)

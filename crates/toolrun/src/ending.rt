@@ -49,7 +49,7 @@ pub enum Ending {
     },
 }
 
-/// Returns how a run ends that stopped so, where nothing explains it.
+/// Wraps the stop of a run as its ending, where nothing explains it.
 pub fn plain_ending(stop: Result<Stop, WriteFault>) -> Result<Ending, WriteFault>
     ensures { result ≡ plainly stop }
 {

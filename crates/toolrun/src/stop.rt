@@ -44,7 +44,7 @@ pub fn status(stop: Stop) -> Status
     }
 }
 
-/// Returns how a run stops whose grammar was not read.
+/// Returns the stop of a run whose grammar was not read.
 pub fn stop_unread(fault: ReadFault) -> Stop
     ensures { result ≡ unread fault }
 {

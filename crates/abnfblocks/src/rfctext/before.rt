@@ -28,7 +28,7 @@ impl Before {
         }
     }
 
-    // Returns what stands nearest before the next line, after such a line.
+    // Returns the kind nearest before the next line, after such a line.
     pub(crate) fn after(self, kind: LineKind) -> Before
         ensures { result ≡ next_after self kind }
     {

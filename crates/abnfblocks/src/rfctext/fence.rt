@@ -38,7 +38,7 @@ fn after_spaces(line: &[u8]) -> &[u8]
     &line[run_length(line, b' ')..]
 }
 
-// Returns what follows the fence of that character.
+// Returns the line after the fence of that character.
 fn after_fence(line: &[u8], mark: u8) -> &[u8]
     ensures { result.now ≡ rest_after mark line.now }
 {
@@ -46,7 +46,7 @@ fn after_fence(line: &[u8], mark: u8) -> &[u8]
     &text[run_length(text, mark)..]
 }
 
-// Returns how long the fence of that character is with which the line begins, or 0.
+// Returns the length of the fence of that character that begins the line, or 0.
 fn fence_length(line: &[u8], mark: u8) -> usize
     ensures { result ≡ length_of mark line.now }
 {
@@ -72,7 +72,7 @@ fn is_bare(text: &[u8]) -> bool
     text.iter().all(|b| is_space(*b))
 }
 
-// Returns how long the fence of that character is that opens a block, or 0.
+// Returns the length of the fence of that character that opens a block, or 0.
 pub(crate) fn opening_length(line: &[u8], mark: u8) -> usize
     ensures { result ≡ length_opening mark line.now }
 {
@@ -82,7 +82,7 @@ pub(crate) fn opening_length(line: &[u8], mark: u8) -> usize
     fence_length(line, mark)
 }
 
-// Returns how long the fence of that character is that closes a block, or 0.
+// Returns the length of the fence of that character that closes a block, or 0.
 pub(crate) fn closing_length(line: &[u8], mark: u8) -> usize
     ensures { result ≡ length_closing mark line.now }
 {
@@ -127,7 +127,7 @@ fn first_class(text: &[u8]) -> &[u8]
     &[]
 }
 
-// Returns what follows the line's fence.
+// Returns the line after its fence.
 fn information(line: &[u8]) -> &[u8]
     ensures { result.now ≡ information_of line.now }
 {

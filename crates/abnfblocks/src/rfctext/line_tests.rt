@@ -78,7 +78,7 @@ pub(crate) fn without_blanks(line: &[u8]) -> &[u8]
     &line[..line.len() - count_blanks(line)]
 }
 
-// What stands before that end, if the text has it.
+// The text before that end, if the text has it.
 fn before_end<'a>(text: &'a [u8], end: &[u8]) -> Option<&'a [u8]>
     ensures { MatchOption result (strip_end text.now end.now ≡ None)
         (λ front. strip_end text.now end.now ≡ Some front.now) }
@@ -86,7 +86,7 @@ fn before_end<'a>(text: &'a [u8], end: &[u8]) -> Option<&'a [u8]>
     text.strip_suffix(end)
 }
 
-// What stands before `[Page N]`, if the line ends with that.
+// The text before `[Page N]`, if the line ends with that.
 fn before_page_number(line: &[u8]) -> Option<&[u8]>
     ensures { MatchOption result (before_page line.now ≡ None) (λ front. before_page line.now ≡ Some front.now) }
 {

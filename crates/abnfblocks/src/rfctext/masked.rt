@@ -179,7 +179,7 @@ fn title_inside(lines: &[TextLine<'_>]) -> usize
     count
 }
 
-// Returns how many lines the title block has that the first line opens, or 0.
+// Returns the number of lines of the title block that the first line opens, or 0.
 fn title_size(lines: &[TextLine<'_>]) -> usize
     ensures size { result ≡ size_of_title (map numbered lines.now) }
     ensures within { result ≤ length lines.now }

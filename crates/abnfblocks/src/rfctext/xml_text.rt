@@ -60,7 +60,7 @@ fn push_part(out: &mut Vec<u8>, part: &[u8]) -> Result<(), Memory>
     Ok(())
 }
 
-// Returns what is read of the lines of a text with marks.
+// Returns the text to read, of the lines of a text with marks.
 fn shown_lines(alloc: Global, marked: &[u8]) -> Result<Vec<u8>, Memory>
     ensures { IfOk result (λ out. out.items ≡ flat_map shown_part (line_parts marked.now)) }
 {

@@ -57,7 +57,7 @@ fn find_same(
     Ok(place)
 }
 
-// What becomes of the rule with that number and key. All definitions that have elements are listed by name, and the
+// The fate of the rule with that number and key. All definitions that have elements are listed by name, and the
 // rules before this one by key.
 fn fate_at(
     names: &RuleTable<Vec<usize>>,

@@ -34,7 +34,7 @@ pub(crate) struct Signed<'a> {
     pub(crate) start: usize,
 }
 
-/// The beginning of a definition.
+/// The first bytes of a definition.
 #[derive(Clone, Copy)]
 pub(crate) struct Opening<'a> {
     /// The name.

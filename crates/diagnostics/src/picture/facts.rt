@@ -36,7 +36,7 @@ pub fn push_line(out: &mut Vec<u8>, line: &[u8]) -> Result<(), Memory>
     Ok(())
 }
 
-/// Returns what the first row reports with which the text begins.
+/// Returns the report of the first fact whose bytes begin the text.
 pub fn find_fact(facts: &[Fact], text: &[u8]) -> Option<&'static [u8]>
     ensures { option_map (λ w. w.now) result ≡ first_fact (map row_of facts.now) text.now }
 {

@@ -4,7 +4,7 @@ ghost use Rattle.diagnostics.specs.PhraseLists.{mark_before, listed};
 
 use ruletable::Memory;
 
-// What stands before so many phrases, after another one.
+// The text before so many phrases, after another one.
 fn mark(left: usize) -> &'static [u8]
     ensures { result.now ≡ mark_before left }
 {

@@ -17,7 +17,7 @@ use pegnodes::Node;
 use ruletable::{Defined, Memory, NameCase, RuleTable, Span};
 use std::alloc::Global;
 
-/// What orders an expression: the distance of its rule from the start rule, the rule, its kind, its node, and where it
+/// The rank of an expression: the distance of its rule from the start rule, the rule, its kind, its node, and where it
 /// begins.
 type Key = [usize; 5];
 
@@ -67,7 +67,7 @@ fn keys_of(
     Ok(keys)
 }
 
-// Returns what is reported of a pair: the expression, where it begins, and its rule.
+// Returns the report of a pair: the expression, where it begins, and its rule.
 fn entry_text(
     alloc: Global,
     peg: &SoundPeg,

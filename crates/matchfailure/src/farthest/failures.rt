@@ -26,7 +26,7 @@ pub struct Farthest {
     pub expected: Vec<Visit>,
 }
 
-/// What the evaluation of a unit shows.
+/// The end and the farthest failure that the evaluation of a unit shows.
 #[derive(Drop)]
 pub struct UnitSearch {
     /// Where the start rule ends, in bytes from the front of the window, if it succeeds.

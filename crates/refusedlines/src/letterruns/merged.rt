@@ -8,7 +8,7 @@ use crate::letterruns::run::LetterRun;
 use ruletable::Memory;
 use std::alloc::Global;
 
-// Sorts runs by their first letters.
+// Sorts runs by their first symbols.
 fn put_in_order(runs: &mut Vec<LetterRun>)
     requires { All IsSomeRun runs.old.items }
     ensures some { All IsSomeRun runs.new.items }

@@ -96,7 +96,7 @@ fn is_range(term: &ReportedLetters) -> bool
     matches!(term, ReportedLetters::Through(_))
 }
 
-// Returns what the terms for the letters of runs cost: two a range, one each of the others.
+// Returns the cost of the terms for the symbols of runs: two a range, one each of the others.
 fn cost(alloc: Global, alphabet: Alphabet, runs: &[LetterRun]) -> Result<u128, Memory>
     ensures { IfOk result (λ sum. sum ≡ reported_cost (the_letters alphabet runs.now)) }
 {

@@ -78,14 +78,14 @@ static PRINTED: [LetterRun; 10] = [
     },
 ];
 
-// Whether a run has one or two letters.
+// Whether a run has one or two symbols.
 fn is_short(run: LetterRun) -> bool
     ensures { result ≡ is_short run }
 {
     run.last.saturating_sub(run.first) <= 1 || (run.first == 0xD7FF && run.last == 0xE000)
 }
 
-// Whether a letter is one of a run of one or two.
+// Whether a symbol is one of a run of one or two.
 fn is_single(runs: &[LetterRun], letter: u32) -> bool
     ensures { result ≡ is_single runs.now letter }
 {
@@ -111,7 +111,7 @@ fn other_case(letter: u32) -> Option<u32>
     None
 }
 
-// Whether a letter is one of some run.
+// Whether a symbol is one of some run.
 fn has_letter(runs: &[LetterRun], letter: u32) -> bool
     ensures { result ≡ has_letter runs.now letter }
 {
@@ -134,7 +134,7 @@ fn printed(alphabet: Alphabet, letter: u32) -> Option<char>
     }
 }
 
-// Returns the term for a letter that is no core rule.
+// Returns the term for a symbol that is no core rule.
 fn reported_other(alphabet: Alphabet, letter: u32) -> ReportedLetters
     ensures { result ≡ reported_other alphabet letter }
 {
@@ -147,7 +147,7 @@ fn reported_other(alphabet: Alphabet, letter: u32) -> ReportedLetters
     }
 }
 
-// Returns the term for a letter that has no other case.
+// Returns the term for a symbol that has no other case.
 fn reported_plain(alphabet: Alphabet, letter: u32) -> ReportedLetters
     ensures { result ≡ reported_plain alphabet letter (core_of letter) }
 {
@@ -157,7 +157,7 @@ fn reported_plain(alphabet: Alphabet, letter: u32) -> ReportedLetters
     }
 }
 
-// Returns the term for a single letter; nothing if the term for its other case has it too.
+// Returns the term for a single symbol; nothing if the term for its other case has it too.
 fn reported_letter(alphabet: Alphabet, runs: &[LetterRun], letter: u32) -> Option<ReportedLetters>
     ensures { result ≡ reported_letter alphabet runs.now letter }
 {
@@ -173,7 +173,7 @@ fn reported_letter(alphabet: Alphabet, runs: &[LetterRun], letter: u32) -> Optio
     None
 }
 
-// Adds the term for a single letter.
+// Adds the term for a single symbol.
 fn add_letter(
     alphabet: Alphabet,
     runs: &[LetterRun],

@@ -68,7 +68,7 @@ fn push_printed(shown: char, out: &mut Vec<u8>) -> Result<(), Memory>
     Ok(())
 }
 
-// Adds the text of letters.
+// Adds the text of symbols.
 fn push_reported(reported: ReportedLetters, out: &mut Vec<u8>) -> Result<(), Memory>
     ensures { OnOk result (out.new.items ≡ out.old.items ++ reported_text reported) }
 {
@@ -103,7 +103,7 @@ fn push_slash(i: usize, out: &mut Vec<u8>) -> Result<(), Memory>
     Ok(())
 }
 
-// Adds the texts of letters, with slashes between.
+// Adds the texts of symbols, with slashes between.
 fn push_all(reported: &[ReportedLetters], out: &mut Vec<u8>) -> Result<(), Memory>
     ensures { OnOk result (out.new.items ≡ out.old.items ++ slashed (map reported_text reported.now)) }
 {
@@ -136,7 +136,7 @@ fn push_pieces(all: &[ReportedLetters], out: &mut Vec<u8>) -> Result<(), Memory>
     push_more(all.len().saturating_sub(SHOWN_PIECES), out)
 }
 
-// Returns the words for the end of a line, after the letters of runs.
+// Returns the words for the end of a line, after the symbols of runs.
 fn end_words(runs: &[LetterRun], ends: bool) -> &'static [u8]
     ensures { result.now ≡ end_text runs.now ends }
 {

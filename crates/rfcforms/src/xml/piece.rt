@@ -45,7 +45,7 @@ fn comment_left(text: &[u8]) -> usize
     size
 }
 
-// Returns how many bytes the piece has with which the text begins, outside of elements that hold ABNF; 0 is one.
+// Returns the length of the piece that begins the text, outside of elements that hold ABNF; 0 counts as one.
 fn outside_size(text: &[u8]) -> usize
     ensures { result ≡ size_outside text.now }
 {
@@ -84,7 +84,7 @@ fn cdata_size(text: &[u8]) -> usize
     run_size(text, b']', b']')
 }
 
-/// Returns how many bytes the piece has with which the text begins in that region, at least one.
+/// Returns the length of the piece that begins the text in that region, in bytes, at least one.
 pub(crate) fn piece_size(region: Region, text: &[u8]) -> usize
     ensures { result ≡ size_of_piece region text.now }
 {

@@ -51,7 +51,7 @@ fn number_in(base: usize, text: &[u8]) -> usize
     0
 }
 
-// Returns the number of the reference with which the text begins, or 0.
+// Returns the number of the reference that begins the text, or 0.
 fn referred_number(text: &[u8]) -> usize
     ensures { result ≡ number_referred text.now }
 {
@@ -74,7 +74,7 @@ fn printed_byte(number: usize) -> u8
     number as u8
 }
 
-// Returns the byte to which the reference refers with which the text begins, or 0.
+// Returns the byte of the reference that begins the text, or 0.
 pub(crate) fn referred_byte(text: &[u8]) -> u8
     ensures { result ≡ byte_referred text.now }
 {

@@ -1,4 +1,4 @@
-//! White space of XML, and beginnings of texts.
+//! White space of XML, and the first bytes of texts.
 ghost use Rattle.std.specs.Prelude.{◌≡◌, ◌≤◌, length};
 ghost use Rattle.std.specs.List.{prefix_len};
 ghost use Rattle.rfcforms.specs.XmlTags.{byte_leads, begins_xml, rest_after_white, is_white as white};

@@ -27,7 +27,7 @@ fn begins_tag(text: &[u8], front: &[u8]) -> bool
     text.starts_with(front) && ends_name(items_after(text, front.len()))
 }
 
-// Returns the element that a tag begins with which the text begins.
+// Returns the element whose start tag begins the text.
 pub(crate) fn holder_at(text: &[u8]) -> Option<Holder>
     ensures { result ≡ holder_there text.now }
 {
@@ -110,7 +110,7 @@ pub(crate) fn size_before(text: &[u8], byte: u8) -> usize
     size
 }
 
-// Returns the bytes in the quotes with which the text begins.
+// Returns the bytes in the quotes that begin the text.
 fn in_quotes(text: &[u8]) -> &[u8]
     ensures { result.now ≡ quoted_value text.now }
 {
@@ -120,7 +120,7 @@ fn in_quotes(text: &[u8]) -> &[u8]
     }
 }
 
-// Returns the value of the attribute with which the text begins.
+// Returns the value of the attribute that begins the text.
 fn type_value(text: &[u8]) -> &[u8]
     ensures { result.now ≡ value_of_type text.now }
 {
@@ -146,7 +146,7 @@ fn tag_type(tag: &[u8]) -> &[u8]
     &[]
 }
 
-// Whether the element holds ABNF that the tag begins.
+// Whether the element that the tag begins holds ABNF.
 pub(crate) fn opens_abnf(tag: &[u8]) -> bool
     ensures { result ≡ abnf_opens tag.now }
 {

@@ -1,4 +1,4 @@
--- The texts are compared as the rows ask, or one is not had.
+-- The texts are compared as the rows ask, or one cannot be read.
 use Rattle.std.specs.Prelude.{option_copied}
 use Rattle.abnfd.proofs.CompareAnswersLemmas.{asked_compared}
 use Rattle.abnfd.specs.CompareAnswers.{CompareAnswers, FilesCompared, unread, missing_stop, missing_text}

@@ -1,4 +1,4 @@
--- Each way in which a text is not had.
+-- Each reason why a text cannot be read.
 use Rattle.std.proofs.Common.{[], Some, false, refl}
 use Rattle.cli.proofs.JobStatesLemmas.{stop_comes}
 use Rattle.toolrun.specs.Plan.{IsReportedAnd}

@@ -1,4 +1,4 @@
--- The text is read, or it is not had.
+-- The text is read, or it cannot be read.
 use Rattle.std.proofs.Common.{[], Some, false}
 use Rattle.abnfg.proofs.ListWordsLemmas.{lines_asked}
 use Rattle.abnfg.specs.ListAnswers.{ListAnswers, TextStates, lists_text, unreadable, unroomed}

@@ -14,4 +14,4 @@ returns-clause-reported c =
     c.in_ok-push_refusal.ensures
     (rw map-id at (c.in_ok-following.ensures.furthest rules grammar.judged c.requires.prefixes))
     (rw map-id at (c.in_ok-following.ensures.following rules grammar.judged c.requires.prefixes))
-        c.refused_at-at.ensures
+    c.refused_at-at.ensures

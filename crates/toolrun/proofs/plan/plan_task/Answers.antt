@@ -1,4 +1,4 @@
--- The task follows the notes, or no memory was left to make the grammar ready.
+-- The task follows the notes, or an allocation failed in making the grammar ready.
 use Rattle.std.proofs.Common.{refl}
 use Rattle.toolrun.specs.Plan.{first_text}
 use Rattle.toolrun.proofs.IsPlanLemmas.{plan_task, plan_unmade}

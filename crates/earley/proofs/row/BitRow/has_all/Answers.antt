@@ -1,4 +1,4 @@
--- A bit that is missing tells of a member, and each word without one of none.
+-- A bit that is missing shows a member, and each word without one shows none.
 use Rattle.std.proofs.Common.{◌≡◌, ◌+◌, ◌*◌, ◌/◌, ◌∙◌, ap, sym, subst, arith, Contains, refl, ⊎_elim}
 use Rattle.std.proofs.lemmas.Bool.{cases_lt}
 use Rattle.earley.specs.RowMembers.{word_in}
