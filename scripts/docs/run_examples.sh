@@ -1,7 +1,7 @@
 #!/bin/sh
 # Runs each folder of examples/ by the command in its run.sh, with the programs of bin/. It must print the folder's
-# printed.txt, write its reported.txt on the error output, or nothing where there is none, and end with the status in its
-# file status, or else 0. `make programs` builds the programs; a folder whose program is not built is skipped.
+# printed.txt, write its reported.txt on the error output, or nothing where there is none, and end with the status in
+# its file status, or else 0. `make programs` builds the programs; a folder whose program is not built is skipped.
 set -eu
 cd "$(dirname "$0")/../.."
 made=$(mktemp -d)

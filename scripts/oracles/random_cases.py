@@ -5,11 +5,11 @@ usage: random_cases.py [-n COUNT] [-s SEED] [-u] [-w] [-z] [-k] [-p] [-q] [-b] [
 
 A case is a unit that pegi tries, a line that abnfi judges, or a grammar that is rejected. COUNT cases are compared,
 half of them by each program; 20000 if it is not given. Cases and their order follow from the seed alone. Prints how
-many cases were compared; at the first disagreement it prints the case and ends with status 1. A program that is not built is
-skipped. With -u half of the runs of abnfi have its option `-u utf8`; so it is with -w, -z and -k, and its options of
-these names. With -p most of them have its option `-p` or `-n`, with -q some its option `-q`, with -b half of them
-`--line-buffered`. With -1 a third of the runs of pegi have its option `-1`. With -x half of the runs of both have the
-option `-x`, half of these with what explains their notes, with hints (slow_notes.py, slow_hints.py), how the run of
+many cases were compared; at the first disagreement it prints the case and ends with status 1. A program that is not
+built is skipped. With -u half of the runs of abnfi have its option `-u utf8`; so it is with -w, -z and -k, and its
+options of these names. With -p most of them have its option `-p` or `-n`, with -q some its option `-q`, with -b half of
+them `--line-buffered`. With -1 a third of the runs of pegi have its option `-1`. With -x half of the runs of both have
+the option `-x`, half of these with what explains their notes, with hints (slow_notes.py, slow_hints.py), how the run of
 pegi stops (slow_stops.py), and rejected lines (slow_refused.py), the others of a text with a fault (slow_faults.py): a
 grammar's, of which some bytes are changed.
 """
