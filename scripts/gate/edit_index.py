@@ -1,5 +1,5 @@
 #!/usr/bin/env python3
-"""Prints the must-fail edits crate by crate: the function, what the edit changes, and the clause that refuses it.
+"""Prints the must-fail edits crate by crate: the function, what the edit changes, and the clause that rejects it.
 
 The edits of the gate stand in crates/NAME/must-fail/, the others in must-fail/NAME/; the list marks the others by `-`.
 The script ends with status 1 where an edit's name or first line lacks its form, where the text that it changes does not
@@ -20,7 +20,7 @@ TOP = pathlib.Path(__file__).resolve().parents[2]
 # The most edits that the gate has, and the fewest of a crate that has some: its first costs a proof of the crate.
 MOST_EDITS = 110
 FEWEST_EDITS = 4
-# What a first line names where no clause of the function refuses the edit.
+# What a first line names where no clause of the function rejects the edit.
 OTHERS = r"ensures|invariant|loop|safe|ends|requires of [\w.]+"
 # Traits whose methods need no edit of their own. A method of a `Language` hands on what one function of a crate below
 # says, where that function has its edit.
@@ -107,7 +107,7 @@ def equates(text):
 def are_equations(texts):
     """Returns whether all clauses on what a function returns or changes equate it with terms. A clause on neither says
     nothing of the body. A clause on a length fixes no value, and needs no edit beside those that do. Whether something
-    changes of which no clause speaks is not asked: no edit of it can be refused."""
+    changes of which no clause speaks is not asked: no edit of it can be rejected."""
     if any(re.match(r"result(\.now)? ≡ ", it) for it in texts):
         texts = [it for it in texts if ".new" in it or equates(it)]
     said = [it for it in texts if re.search(r"\bresult\b|\.new\b|self\.entry", it) and not it.startswith("length ")]

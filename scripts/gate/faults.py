@@ -1,6 +1,6 @@
 #!/usr/bin/env python3
-"""Runs the programs of bin/ as users run them, with memory, writes and reads refused by a
-library (faults.c), and with a stack of 256 KB.
+"""Runs the programs of bin/ as users run them, with allocations, writes and reads that a
+library lets fail (faults.c), and with a stack of 256 KB.
 
 usage: faults.py [SWEEP ..]
 
@@ -22,7 +22,7 @@ import tempfile
 TOP = pathlib.Path(__file__).resolve().parents[2]
 STACK = 256 * 1024
 # So many growths at most make the list of a program's words, beside one for each word before the grammar's. The list
-# asks first for all that it will need, and where that is refused it asks again, so the run can go on.
+# asks first for all that it will need, and where that fails it asks again, so the run can go on.
 GROWTHS_OF_WORDS = 7
 
 # A run: its name, the program and its words, the grammar, the input, the texts of the units or lines, the error output,
@@ -255,7 +255,7 @@ def not_explained(run):
 
 
 def refuse_each(tools, run, **more):
-    """Refuses each growth of a run in turn. Returns how many it has, and how many of them were retried."""
+    """Lets each growth of a run fail in turn. Returns how many it has, and how many of them were retried."""
     fronts = [b"".join(run.texts[:k]) for k in range(len(run.texts) + 1)]
     number, good = 1, 0
     messages = explained_prefixes(run.reported) if "-x" in run.words else [b""]
@@ -277,7 +277,7 @@ def refuse_each(tools, run, **more):
 
 
 def memory(tools):
-    """Refuses each growth in turn, alone and then with all after it."""
+    """Lets each growth fail in turn, alone and then with all after it."""
     for run in (it for it in GROWING if tools.has(it.program)):
         growths, good = refuse_each(tools, run)
         refuse_each(tools, run, LASTS=1)
@@ -343,7 +343,7 @@ def text_reads(tools):
             number += 1
 
 
-# Streams that the system itself refuses, as a shell gives them to a program, and the message of the run.
+# Streams at which the system itself fails, as a shell gives them to a program, and the message of the run.
 STREAMS = [
     ("an output on a full disk", '"$0" "$1" < "$2" > /dev/full', b"write error\n"),
     ("a closed output", '"$0" "$1" < "$2" >&-', b"write error\n"),

@@ -3,15 +3,15 @@
 pages of the libraries and the completions; if these are green `rt ci`; if that is green too the programs as users run
 them: those that `rt ci` built are put into bin/, and run on the folders of examples/, the examples of the manual pages
 and the rows of gate/runs/, on random cases against slow answers, by item sets alone, on grammars of a megabyte and
-lines of 16 MB that are made to cost much, and with memory, writes, reads and stack refused; then what shells complete,
-what is packed, answers that come line by line, the library for C, which is made over what `rt ci` proved, and the
-package for Python are tested.
+lines of 16 MB that are made to cost much, and with failing allocations, writes, reads and stack; then what shells
+complete, what is packed, answers that come line by line, the library for C, which is made over what `rt ci` proved, and
+the package for Python are tested.
 
 usage: gate.py
 
 Prints the last line of `rt ci` last. The status is 0 if all of it is green. RT names the command, `rt` if not set. What
-there is no C compiler for is skipped, and so are tests of Python without pytest: faults.py,
-library_test.py and python_test.py say so.
+there is no C compiler for is skipped, and so are tests of Python without pytest: faults.py, library_test.py and
+python_test.py say so.
 """
 import os
 import pathlib

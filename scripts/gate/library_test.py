@@ -1,7 +1,7 @@
 #!/usr/bin/env python3
 """Tests the library for C that the gate or `make lib` made: each folder of examples/ runs through C and through the
 package of python/; then come settings, buffers and windows at their edges, four threads at once, each allocation
-refused in turn, and the examples and tests in C++ and Rust.
+failing in turn, and the examples and tests in C++ and Rust.
 
 usage: library_test.py
 

@@ -6,7 +6,7 @@ LETTERS = b"abAB01"
 LARGE = [7, 65536, 4294967295]
 A, B, S = ("text", b"a", False), ("text", b"b", False), ("name", "s")
 EITHER = ("alt", [A, B])
-# Rules that come back to themselves at the end, at the front and inside, and rules of which many ways are open at once.
+# Rules that are recursive at the end, at the front and inside, and rules of which many ways are open at once.
 SHAPES = [
     [("s", False, ("alt", [("concat", [A, S]), A]))],
     [("s", False, ("alt", [("concat", [A, ("name", "t")]), A])), ("t", False, ("alt", [("concat", [B, S]), B]))],

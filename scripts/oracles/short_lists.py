@@ -1,4 +1,4 @@
-"""The short lists of letters that the rules of a grammar (slow_abnf.py) derive, as sets, and their order."""
+"""The short lists of symbols that the rules of a grammar (slow_abnf.py) derive, as sets, and their order."""
 import collections
 
 import slow_abnf

@@ -145,7 +145,7 @@ def is_letter(value, is_utf8):
 
 
 class Deriver:
-    """Which parts of a list of letters the rules derive. A set of places is a number whose bits are the places.
+    """Which parts of a list of symbols the rules derive. A set of places is a number whose bits are the places.
 
     If more letters may follow, `may_follow` says whether one of the values of a range is a letter, and the last place
     stands for all after it.
@@ -259,7 +259,7 @@ def lines_of(given, end, is_kept):
 
 
 def answer(grammar, given, limit, judged, is_utf8=False, is_viable=False, end=b"\n", is_kept=False):
-    """Returns the output, the error output, the status, and how many lines were judged; refusals are one."""
+    """Returns the output, the error output, the status, and how many lines were judged; a rejected grammar is one."""
     rules = Rules(grammar)
     reported, refused = notes_on(rules, judged)
     if refused:

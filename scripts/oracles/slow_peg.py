@@ -227,7 +227,7 @@ def notes_on(grammar, start):
 
 
 def answer(grammar, text, limit, start, raw, is_whole=False):
-    """Returns the output, the error output, the status, and how many units were tried; refusals are one."""
+    """Returns the output, the error output, the status, and how many units were tried; a rejected grammar is one."""
     reported, refused = notes_on(grammar, start)
     if refused:
         return b"", reported, 2, 1
