@@ -259,7 +259,8 @@ def page_faults(file):
     """Yields what `man` and `mandoc`, if they are installed, report on a manual page."""
     for words in PAGE_CHECKS:
         if shutil.which(words.split()[0]):
-            command, environment = words.format(shlex.quote(str(file))), os.environ | {"MANWIDTH": "80"}
+            command = words.format(shlex.quote(str(file)))
+            environment = os.environ | {"MANWIDTH": "80", "LC_ALL": "C.UTF-8"}
             ran = subprocess.run(command, shell=True, stdout=subprocess.PIPE, env=environment, check=False)
             yield from ((1, it) for it in ran.stdout.decode(errors="replace").splitlines())
 
