@@ -4,7 +4,7 @@
 
 all: programs example
 
-# Runs an example of each program before anything is proved, in about a minute; or a program on files of your own:
+# Runs an example of each program before anything is proved, in about two minutes; or a program on files of your own:
 # make try TOOL=pegi GRAMMAR=f INPUT=g, and OPTIONS='-m check' if it is to have some; make try TOOL=abnfx TEXTS=f;
 # make try TOOL=abnfd TEXTS='f g'; make try TOOL=abnfg TEXTS=f.
 # With CASES=folder in place of INPUT or TEXTS it builds the program once and runs it on each file of the folder.
