@@ -13,5 +13,6 @@ mod StartsLemmas
 mod StateTableLemmas
 mod FirstKeyLemmas
 mod WordLemmas
+mod OverLemmas
 mod LineOrderLemmas
 mod LineSetLemmas

@@ -18,7 +18,7 @@ use Rattle.rulelines.specs.declared.list.search.Change.{Change}
 use Rattle.rulelines.specs.declared.list.table.Table.{Table}
 use Rattle.rulelines.specs.LineSets.{IsLineAfter, IsFirstAfter, is_line_symbol, IsLineIn}
 use Rattle.rulelines.specs.Rests.{IsRest}
-use Rattle.rulelines.specs.StateTables.{HasNoNextRestIn, line_symbols, IsCan, IsChangedTo, IsFilledBy, IsFirstFrom}
+use Rattle.rulelines.specs.StateTables.{HasNoNextRestIn, HasNoRestFrom, line_symbols, IsCan, IsChangedTo, IsFilledBy, IsFirstFrom}
 use Rattle.rulelines.specs.StateTables.{IsFirstRestIn, IsTableGrown, IsNextBy, IsNextRestIn, IsStateTable}
 use Rattle.rulelines.specs.StateTables.{table_lines}
 use Rattle.rulelines.proofs.ComesFirstLemmas.{before_length}
@@ -194,6 +194,17 @@ module _ (old table : Table) (limit : ℕ) (grown : IsTableGrown old table) wher
   none_found least count none can =
       subst (λ set. (v : List ℕ) → IsLineIn set v → least ≤ length v → length v < count + 1 → ⊥) same_lines
       (no_line_more table grown.is limit least count (none_now least count none) can)
+
+  pub none_longer : (least count : ℕ) → AreNoOldLines least count → HasNoRestFrom table count
+      → IsFirstFrom Olds least Done
+  none_longer least count none over v l le = by (cases_lt (length v) count)
+    where
+      by : (length v < count) ⊎ (count ≤ length v) → ⊥
+      by (inl less) = none v l le less
+      by (inr ge) =
+          let now = subst (λ set. IsLineIn set v) (sym same_lines) l in
+          over grown.is.begins.state (length v) grown.is.begins.is ge
+          (v, line_rest table grown.is limit v (length v) refl now)
 
   pub after_none : (line : List ℕ) (step : NextLine)
       → ((s : StateSet) → IsState table table.start s → HasNoNextRestIn table s line)

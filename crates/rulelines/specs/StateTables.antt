@@ -98,6 +98,22 @@ IsNextRestIn table = IsNextRest (grammar_of table.states) (last_in table.states)
 abbrev pub HasNoNextRestIn : Table → StateSet → List ℕ → Type 0
 HasNoNextRestIn table = HasNoNextRest (grammar_of table.states) (last_in table.states) (line_symbols table.inner)
 
+-- each of the first states has a row, which leads each start to a state that was reached
+abbrev pub AreRowsClosed : Table → ℕ → Type 0
+AreRowsClosed table end = (s : ℕ) → s < end → (row : Vec ℕ Global) × (slice_get table.rows.items s ≡ Some row)
+    × (length row.items ≡ length table.starts.items)
+    × ((j t : ℕ) → slice_get row.items j ≡ Some t → t < table.seen)
+
+-- exactly so many symbols lead from none of the first states to the end
+abbrev pub HaveNoRest : Table → ℕ → ℕ → Type 0
+HaveNoRest table count end = (n : ℕ) (s : StateSet) → n < end → slice_get table.states.states n ≡ Some s
+    → HasRestIn table s count → ⊥
+
+-- no rest of the start state has so many symbols or more
+abbrev pub HasNoRestFrom : Table → ℕ → Type 0
+HasNoRestFrom table count = (s : StateSet) (k : ℕ) → slice_get table.states.states table.start ≡ Some s → count ≤ k
+    → HasRestIn table s k → ⊥
+
 -- the first list of that many symbols that leads from a state to the end was added
 abbrev pub IsFilledBy : Table → ℕ → ℕ → List ℕ → List ℕ → Type 0
 IsFilledBy table state count old new = (s : StateSet) → slice_get table.states.states state ≡ Some s

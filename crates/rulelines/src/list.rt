@@ -2,6 +2,7 @@
 
 mod keys;
 mod lines;
+mod over;
 mod search;
 mod starts;
 mod table;

@@ -7,6 +7,7 @@ ghost use Rattle.rulelines.specs.StateTables.{IsLastChange};
 ghost use Rattle.rulelines.specs.StateTables.{IsStateTable, table_lines};
 
 use crate::list::lines::NextLine;
+use crate::list::over::is_over;
 use crate::list::table::{Table, add_levels, can_end, first_key, step};
 use crate::samples::{key_of, symbol_at};
 use ruletable::Memory;
@@ -145,6 +146,9 @@ pub(crate) fn line_from(
                 return Ok(None);
             };
             return Ok(Some(NextLine::Line(word)));
+        }
+        if is_over(table, count) {
+            return Ok(Some(NextLine::Done));
         }
     }
     Ok(Some(NextLine::Done))

@@ -1,7 +1,7 @@
 use Rattle.std.proofs.Common.{[], arith, subst}
 use Rattle.std.specs.Prelude.{IfSome}
 use Rattle.rulelines.specs.StateTables.{IsCan, IsFilledBy}
-use Rattle.rulelines.proofs.LineOrderLemmas.{line_found, none_found}
+use Rattle.rulelines.proofs.LineOrderLemmas.{line_found, none_found, none_longer}
 use Rattle.rulelines.proofs.StateTableLemmas.{kept_trans}
 use Rattle.rulelines.proofs.list.search.line_from.Goals as goal
 
@@ -26,3 +26,11 @@ loop-count-preserved c =
           c.loop-count.invariant.none
           (subst (λ v. IsCan now now.start c.loop-count.count v) c.if-can.false c.in-Some.ensures);
     }
+
+pub returns-then-is_over-clause-is : goal.returns-then-is_over-clause-is
+returns-then-is_over-clause-is c =
+    let now = c.add_levels.new.table in
+    let grown = kept_trans c.args.table.now c.loop-count.table now c.loop-count.invariant.kept
+    c.in_ok-add_levels.ensures in
+    none_longer c.args.table.now now c.args.limit grown c.args.least c.loop-count.count c.loop-count.invariant.none
+    (c.is_over.ensures c.if-is_over.true)
