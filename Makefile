@@ -4,7 +4,7 @@
 
 all: programs example
 
-# Runs an example of each program before anything is proved, in about a minute; or a program on files of your own:
+# Runs an example of each program before anything is proved, in about two minutes; or a program on files of your own:
 # make try TOOL=pegi GRAMMAR=f INPUT=g, and OPTIONS='-m check' if it is to have some; make try TOOL=abnfx TEXTS=f;
 # make try TOOL=abnfd TEXTS='f g'; make try TOOL=abnfg TEXTS=f.
 # With CASES=folder in place of INPUT or TEXTS it builds the program once and runs it on each file of the folder.
@@ -85,12 +85,12 @@ dist: programs
 deb: programs
 	@python3 -B scripts/build/package.py deb
 
-# The gate: every proof from nothing, the edits that the prover must refuse, tests and programs; then the programs are
-# put into bin/, and run on random cases and with memory, writes, reads and stack refused.
+# The gate: every proof from nothing, the edits that the prover must reject, tests and programs; then the programs are
+# put into bin/, and run on random cases and with failing allocations, writes, reads and stack.
 test:
 	@python3 -B scripts/gate/gate.py
 
-# The edits that the prover must refuse, crate by crate; `-` marks those that the gate does not try.
+# The edits that the prover must reject, crate by crate; `-` marks those that the gate does not try.
 edits:
 	@python3 -B scripts/gate/edit_index.py
 

@@ -21,12 +21,12 @@ def uses(top):
 
 
 def is_static(top, crate):
-    """Tells whether a crate is a static library, which C is linked with."""
+    """Returns whether a crate is a static library, which C is linked with."""
     return "staticlib" in listed(top)[crate].partition(":")[0].split()
 
 
 def in_order(top):
-    """Returns the crates' names, each behind those that it uses."""
+    """Returns the crates' names, each after those that it uses."""
     left, order = uses(top), []
     while left:
         ready = [crate for crate, below in left.items() if all(it in order for it in below)]

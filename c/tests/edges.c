@@ -34,10 +34,10 @@ static int holds(const char *buffer, size_t size, const char *text, size_t len) 
     return 1;
 }
 
-#define ENDS(code, printed, told) \
+#define ENDS(code, printed, reported) \
     CHECK(got.status == (code)); \
     CHECK(got.out_len == strlen(printed) && holds(out, out_size, TEXT(printed))); \
-    CHECK(got.err_len == strlen(told) && holds(err, err_size, TEXT(told)))
+    CHECK(got.err_len == strlen(reported) && holds(err, err_size, TEXT(reported)))
 
 static void small_buffers(void) {
     const fanquber_settings settings = FANQUBER_SETTINGS;
@@ -147,7 +147,7 @@ static void many_windows(void) {
  * where the buffer is small, and where there is no window. */
 static void windows_of_grammars(void) {
     const struct {
-        const char *grammar, *front, *printed, *told;
+        const char *grammar, *front, *printed, *reported;
         uint8_t first, second;
     } rows[] = {
         { "S <- < 'x' > { yytext }\nT <- 'y'\n", "rule 'T' defined but not used\n", "x\n", "no match at byte 0\n",
@@ -166,11 +166,11 @@ static void windows_of_grammars(void) {
             memset(err, '#', ROOM);
             got = fanquber_peg_windows(&settings, TEXT(rows[row].grammar), TEXT(""), TEXT("xy"), windows, count, results,
                                        count, out, out_size, err, err_size);
-            snprintf(all, sizeof all, "%s%s", rows[row].front, count ? rows[row].told : "");
+            snprintf(all, sizeof all, "%s%s", rows[row].front, count ? rows[row].reported : "");
             ENDS(FANQUBER_DONE, count ? rows[row].printed : "", all);
             if (count == 0) continue;
             CHECK(results[0].out_len == strlen(rows[row].printed) && results[0].err_len == 0);
-            CHECK(results[1].out_len == 0 && results[1].err_len == strlen(rows[row].told));
+            CHECK(results[1].out_len == 0 && results[1].err_len == strlen(rows[row].reported));
             CHECK(results[0].status == rows[row].first && results[1].status == rows[row].second);
             CHECK(results[2].out_len == 0 && results[2].err_len == 0 && results[2].status == FANQUBER_BAD_SETTINGS);
         }
@@ -185,9 +185,9 @@ static fanquber_judge opened(const fanquber_settings *settings, const char *gram
     return judge;
 }
 
-#define OPENS(code, told) \
+#define OPENS(code, reported) \
     CHECK(got.status == (code) && got.out_len == 0 && judge.is_open == ((code) == FANQUBER_DONE)); \
-    CHECK(got.err_len == strlen(told) && holds(err, err_size, TEXT(told)))
+    CHECK(got.err_len == strlen(reported) && holds(err, err_size, TEXT(reported)))
 
 #define ANSWERS(line, len, code, count) \
     do { \
@@ -251,16 +251,16 @@ static fanquber_runner opened_runner(const fanquber_settings *settings, const ch
     return runner;
 }
 
-#define STARTS(code, told) \
+#define STARTS(code, reported) \
     CHECK(got.status == (code) && got.out_len == 0 && runner.is_open == ((code) == FANQUBER_DONE)); \
-    CHECK(got.err_len == strlen(told) && holds(err, err_size, TEXT(told)))
+    CHECK(got.err_len == strlen(reported) && holds(err, err_size, TEXT(reported)))
 
-#define WRITES(input, code, printed, told) \
+#define WRITES(input, code, printed, reported) \
     do { \
         memset(out, '#', ROOM); \
         memset(err, '#', ROOM); \
         got = fanquber_peg_run(&runner, TEXT(input), out, out_size, err, err_size); \
-        ENDS(code, printed, told); \
+        ENDS(code, printed, reported); \
     } while (0)
 
 /* What runners write, opened with each setting that they look at. */

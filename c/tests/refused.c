@@ -148,10 +148,10 @@ static void sweep_windows(void) {
         CHECK(live == base);
         CHECK(got.status == FANQUBER_DONE);
         size_t first = got.err_len - results[0].err_len - results[1].err_len;
-        int is_told = first == strlen(front) && memcmp(err, front, first) == 0;
-        CHECK(is_told || (!is_all && first == 0));
-        CHECK(results[0].status == FANQUBER_DONE ? is_told : results[0].status >= FANQUBER_FAULT);
-        CHECK(results[1].status == FANQUBER_NO_MATCH ? is_told : results[1].status >= FANQUBER_FAULT);
+        int is_reported = first == strlen(front) && memcmp(err, front, first) == 0;
+        CHECK(is_reported || (!is_all && first == 0));
+        CHECK(results[0].status == FANQUBER_DONE ? is_reported : results[0].status >= FANQUBER_FAULT);
+        CHECK(results[1].status == FANQUBER_NO_MATCH ? is_reported : results[1].status >= FANQUBER_FAULT);
         if (is_all || wrong) {
             printf("windows: %ld allocations refused in turn\n", granted);
             return;

@@ -8,9 +8,9 @@ program=$1
 shift
 status=0
 for file; do
-    told=$("$program" --mode=check -- "$file" 2>&1)
+    found=$("$program" --mode=check -- "$file" 2>&1)
     ended=$?
     [ "$ended" -le "$status" ] || status=$ended
-    [ -z "$told" ] || printf '%s\n' "$told" | while IFS= read -r line; do printf '%s: %s\n' "$file" "$line"; done
+    [ -z "$found" ] || printf '%s\n' "$found" | while IFS= read -r line; do printf '%s: %s\n' "$file" "$line"; done
 done
 exit "$status"

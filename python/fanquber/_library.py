@@ -126,7 +126,10 @@ def loaded_path() -> str:
 
 def _loaded() -> ctypes.CDLL:
     """Returns the shared object with the types of its calls."""
-    library = ctypes.CDLL(library_path())
+    try:
+        library = ctypes.CDLL(library_path())
+    except OSError as fault:
+        raise OSError(f"{fault}: `make lib` makes it in bin/; FANQUBER_LIBRARY names its file") from None
     settings: List[Any] = [ctypes.POINTER(_Settings)]
     text: List[Any] = [ctypes.c_char_p, ctypes.c_size_t]
     windows = [ctypes.POINTER(_Window), ctypes.c_size_t, ctypes.POINTER(_Result), ctypes.c_size_t]

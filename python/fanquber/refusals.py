@@ -30,8 +30,8 @@ class Refusal(NamedTuple):
         ends = ["the end"] if self.can_end else []
         more = f" and {self.more} more" if self.more else ""
         said = " or ".join(([" / ".join(self.expected) + more] if self.expected else []) + ends)
-        told = f"refused after {self.at} letters" + (f": expected {said}" if said else "")
-        return f"{told}\n{self.picture}" if self.picture else told
+        reported = f"refused after {self.at} letters" + (f": expected {said}" if said else "")
+        return f"{reported}\n{self.picture}" if self.picture else reported
 
 
 def read_refusal(at: int, err: bytes) -> Refusal:

@@ -176,10 +176,10 @@ class ExamplesTest(unittest.TestCase):
         self.assertTrue(folders)
         for folder in folders:
             with self.subTest(folder.name):
-                told, status = folder / "told.txt", folder / "status"
+                reported, status = folder / "reported.txt", folder / "status"
                 want = (
                     (folder / "printed.txt").read_bytes(),
-                    told.read_bytes() if told.is_file() else b"",
+                    reported.read_bytes() if reported.is_file() else b"",
                     Status(int(status.read_text()) if status.is_file() else 0),
                 )
                 self.assertEqual(self.run_folder(folder), want)

@@ -221,19 +221,19 @@ def test_close():
         day.derives("1985-04-12")
     day.close()
     assert list(day.rules) == ["day"]
-    kept, told = Peg("S <- 'x'"), []
+    kept, reported = Peg("S <- 'x'"), []
     kept.close()
 
     def ask():
         try:
             kept.run("x")
         except ValueError as fault:
-            told.append(str(fault))
+            reported.append(str(fault))
 
     thread = threading.Thread(target=ask)
     thread.start()
     thread.join()
-    assert told == ["the grammar is closed"]
+    assert reported == ["the grammar is closed"]
 
 
 def test_every_message_of_the_rows_is_read():

@@ -24,15 +24,15 @@ HOST = (
 class Client:
     def __init__(self):
         self.process = subprocess.Popen(SERVER, stdin=subprocess.PIPE, stdout=subprocess.PIPE)
-        self.writer, self.told, self.number = JsonRpcStreamWriter(self.process.stdin), queue.Queue(), 0
+        self.writer, self.reported, self.number = JsonRpcStreamWriter(self.process.stdin), queue.Queue(), 0
         reader = JsonRpcStreamReader(self.process.stdout)
-        threading.Thread(target=reader.listen, args=(self.told.put,), daemon=True).start()
+        threading.Thread(target=reader.listen, args=(self.reported.put,), daemon=True).start()
 
     def ask(self, method, **params):
         self.number += 1
         self.writer.write({"jsonrpc": "2.0", "id": self.number, "method": method, "params": params})
         while True:
-            it = self.told.get(timeout=60)
+            it = self.reported.get(timeout=60)
             if it.get("id") == self.number:
                 assert "error" not in it, it
                 return it["result"]
@@ -42,7 +42,7 @@ class Client:
 
     def diagnostics(self):
         while True:
-            it = self.told.get(timeout=60)
+            it = self.reported.get(timeout=60)
             if it.get("method") == "textDocument/publishDiagnostics":
                 return it["params"]["diagnostics"]
 
@@ -69,21 +69,21 @@ def short(it):
 
 
 def test_notes(client):
-    told = opened(client, HOST)
-    assert [short(it) for it in told] == [
+    reported = opened(client, HOST)
+    assert [short(it) for it in reported] == [
         (1, 0, 4, 1, "redefined"),
         (2, 0, 4, 2, "extended"),
         (0, 19, 23, 1, "undefined"),
         (1, 0, 4, 1, "prose"),
         (2, 0, 4, 2, "unused"),
     ]
-    assert told[2]["message"] == "rule 'path' used but not defined, reached by 'uri' > 'path'"
-    assert [it["location"]["range"]["start"]["line"] for it in told[0]["relatedInformation"]] == [1, 3]
+    assert reported[2]["message"] == "rule 'path' used but not defined, reached by 'uri' > 'path'"
+    assert [it["location"]["range"]["start"]["line"] for it in reported[0]["relatedInformation"]] == [1, 3]
 
 
 def test_faults_count_units_of_utf16(client):
-    told = opened(client, 'a = "x" ; \u00fc\U0001f600\nb = \U0001f600\n')
-    assert [short(it) for it in told] == [(1, 4, 6, 1, "syntax")]
+    reported = opened(client, 'a = "x" ; \u00fc\U0001f600\nb = \U0001f600\n')
+    assert [short(it) for it in reported] == [(1, 4, 6, 1, "syntax")]
 
 
 def test_changes(client):
@@ -129,19 +129,19 @@ def test_hover_in_a_grammar_with_a_fault(client):
     """A grammar that cannot be printed, as while it is typed, shows its rules as they stand."""
     opened(client, HOST + "; of the end\n")
     at = {"textDocument": {"uri": "file:///host.abnf"}, "position": {"line": 0, "character": 13}}
-    told = client.ask("textDocument/hover", **at)["contents"]["value"]
-    assert told == '```abnf\nHost = 1*( ALPHA / "." ) <a name>\nhost = 1*DIGIT\n```\nused once'
+    reported = client.ask("textDocument/hover", **at)["contents"]["value"]
+    assert reported == '```abnf\nHost = 1*( ALPHA / "." ) <a name>\nhost = 1*DIGIT\n```\nused once'
     at["position"] = {"line": 0, "character": 20}
     assert "no rule has this name" in client.ask("textDocument/hover", **at)["contents"]["value"]
     opened(client, "S <- ( A 'x'\nA <- 'y'\n  'z'\n# no more\n\n# B\nB <- .\n", "file:///s.peg")
     at = {"textDocument": {"uri": "file:///s.peg"}, "position": {"line": 0, "character": 7}}
-    told = client.ask("textDocument/hover", **at)["contents"]["value"]
-    assert told == "```peg\nA <- 'y'\n  'z'\n```\nused once"
+    reported = client.ask("textDocument/hover", **at)["contents"]["value"]
+    assert reported == "```peg\nA <- 'y'\n  'z'\n```\nused once"
 
 
 def test_peg(client):
-    told = opened(client, "S <- A 'x'\nA <- S / 'y' { S }\n", "file:///s.peg")
-    assert [it["code"] for it in told] == ["left-recursion", "left-recursion"]
+    reported = opened(client, "S <- A 'x'\nA <- S / 'y' { S }\n", "file:///s.peg")
+    assert [it["code"] for it in reported] == ["left-recursion", "left-recursion"]
     at = {"textDocument": {"uri": "file:///s.peg"}, "position": {"line": 1, "character": 5}}
     found = client.ask("textDocument/references", context={"includeDeclaration": True}, **at)
     assert [it["range"]["start"] for it in found] == [{"line": 0, "character": 0}, {"line": 1, "character": 5}]

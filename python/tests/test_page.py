@@ -118,8 +118,8 @@ def test_diagrams_of_a_fault_are_those_of_its_language(page):
 
 def test_notes(page):
     put(page, "grammar", 'a = b / <by hand>\nb = "x"\nc = "y"\n')
-    told = "return [...document.querySelectorAll('#notes li')].map((it) => it.className).join(' ')"
-    wait(page, lambda: page.execute_script(told) == "error warning")
+    reported = "return [...document.querySelectorAll('#notes li')].map((it) => it.className).join(' ')"
+    wait(page, lambda: page.execute_script(reported) == "error warning")
 
 
 def test_texts_are_no_markup(page):
@@ -218,7 +218,7 @@ def test_another_origin_gets_nothing(server, browser, tmp_path):
     with http.server.ThreadingHTTPServer(("127.0.0.1", 0), Quiet) as other:
         threading.Thread(target=other.serve_forever, daemon=True).start()
         browser.get(f"http://127.0.0.1:{other.server_port}/evil.html")
-        told = browser.execute_async_script(
+        reported = browser.execute_async_script(
             """
             const [own, secret, body, done] = arguments, tries = {};
             const attempt = async (name, init) => {
@@ -248,7 +248,8 @@ def test_another_origin_gets_nothing(server, browser, tmp_path):
             json.dumps(QUESTION),
         )
         other.shutdown()
-    assert told == {"cors": "refused", "plain": "refused", "opaque": "refused", "script": "refused", "frame": "closed"}
+    ways = ("cors", "plain", "opaque", "script")
+    assert reported == {**dict.fromkeys(ways, "refused"), "frame": "closed"}
 
 
 def focused(browser):
@@ -284,8 +285,8 @@ def test_the_keyboard_alone_is_enough(page):
 
 def colour(browser, selector, name):
     """Returns the brightness of a colour, from 0 to 255."""
-    told = browser.execute_script(f"return getComputedStyle(document.querySelector({selector!r})).{name}")
-    numbers = [int(it) for it in told.partition("(")[2].rstrip(")").split(",")[:3]]
+    reported = browser.execute_script(f"return getComputedStyle(document.querySelector({selector!r})).{name}")
+    numbers = [int(it) for it in reported.partition("(")[2].rstrip(")").split(",")[:3]]
     return sum(numbers) / 3
 
 

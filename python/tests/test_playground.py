@@ -182,35 +182,35 @@ def answered(limits=playground.Limits(), **changed):
 
 
 def test_an_answer():
-    told = answered(grammar='a = "x"\nb = a\n', input="x\ny\n")
-    assert (told["out"], told["status"], told["broken_by"]) == ("yes\nno 0\n", 1, "")
-    assert (told["rules"], told["canonical"]) == (["a", "b"], 'a = "x"\nb = a\n')
-    assert [it["code"] for it in told["findings"]] == ["unused"]
-    assert [(it["line"], it["column"]) for it in told["stops"]] == [(2, 1)]
-    assert [name for name, _ in told["diagrams"]] == ["a", "b"]
+    reported = answered(grammar='a = "x"\nb = a\n', input="x\ny\n")
+    assert (reported["out"], reported["status"], reported["broken_by"]) == ("yes\nno 0\n", 1, "")
+    assert (reported["rules"], reported["canonical"]) == (["a", "b"], 'a = "x"\nb = a\n')
+    assert [it["code"] for it in reported["findings"]] == ["unused"]
+    assert [(it["line"], it["column"]) for it in reported["stops"]] == [(2, 1)]
+    assert [name for name, _ in reported["diagrams"]] == ["a", "b"]
 
 
 def test_time_is_bounded():
     lines = "a" * 20000 + "b\n"
     for processor, clock in ((1, 60.0), (60, 0.7)):
         limits = playground.Limits(processor=processor, clock=clock, memory=1 << 33)
-        told = answered(limits, grammar=DENSE, input=lines)
-        assert (told["broken_by"], told["status"], told["rules"]) == ("time", None, ["s"])
-        assert told["milliseconds"] < 30000
+        reported = answered(limits, grammar=DENSE, input=lines)
+        assert (reported["broken_by"], reported["status"], reported["rules"]) == ("time", None, ["s"])
+        assert reported["milliseconds"] < 30000
 
 
 def test_memory_is_bounded():
     # The output has 60 MB
     grammar = "S <- . { " + "x" * 1000 + " }\n"
-    told = answered(playground.Limits(memory=80 << 20), kind="peg", grammar=grammar, input="a" * 60000)
-    assert (told["status"], told["broken_by"], told["rules"]) == (5, "", ["S"])
+    reported = answered(playground.Limits(memory=80 << 20), kind="peg", grammar=grammar, input="a" * 60000)
+    assert (reported["status"], reported["broken_by"], reported["rules"]) == (5, "", ["S"])
 
 
 def test_output_is_bounded():
-    told = answered(
+    reported = answered(
         playground.Limits(output=5000), kind="peg", grammar="S <- . { " + "x" * 100 + " }\n", input="a" * 1000
     )
-    assert (len(told["out"]), told["broken_by"]) == (5000, "output")
+    assert (len(reported["out"]), reported["broken_by"]) == (5000, "output")
 
 
 def test_the_environment_is_empty(monkeypatch):
@@ -238,7 +238,7 @@ def test_names_are_no_options():
     [{}, {"cut": "whole", "letters": "utf8"}, {"rule": "end"}, {"kind": "peg", "grammar": "S <- . { it's yytext }"}],
 )
 def test_the_script_makes_the_same_run(changed, given, ends, tmp_path):
-    told = answered(**{"grammar": 'a = *( "x\'" CRLF )\nEND = "y"\n', "input": given, "ends": ends, **changed})
+    reported = answered(**{"grammar": 'a = *( "x\'" CRLF )\nEND = "y"\n', "input": given, "ends": ends, **changed})
     environment = {"PATH": f"{BIN}:{os.environ['PATH']}"}
-    ran = subprocess.run(["sh", "-c", told["command"]], cwd=tmp_path, capture_output=True, env=environment)
-    assert (ran.stdout, ran.returncode) == (told["out"].encode("latin-1"), told["status"])
+    ran = subprocess.run(["sh", "-c", reported["command"]], cwd=tmp_path, capture_output=True, env=environment)
+    assert (ran.stdout, ran.returncode) == (reported["out"].encode("latin-1"), reported["status"])

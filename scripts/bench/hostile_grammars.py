@@ -5,8 +5,8 @@ those that the grammars were made for.
 usage: hostile_grammars.py [PROGRAM]
 
 PROGRAM is a build of abnfi; bin/abnfi if it is not given. Prints of each case the processor time in seconds and the
-greatest memory in MB. A case that takes more than two minutes, or ends with another answer or status, is told, and then
-the status is 1.
+greatest memory in MB. A case that takes more than two minutes, or ends with another answer or status, is reported, and
+then the status is 1.
 """
 import collections
 import os

@@ -5,7 +5,7 @@ compares the answers and the status with those of `abnfi` alone.
 usage: large_inputs.py [MEGABYTES]
 
 It needs bin/abnfi, GNU parallel, and room for the lines in a temporary folder; 1 megabyte if no number is given. The
-lines are those of scripts/bench/judge/lines.py, again and again, with a line that is refused at the end.
+lines are those of scripts/bench/judge/lines.py, again and again, with a line that is rejected at the end.
 """
 import os
 import pathlib
@@ -48,14 +48,14 @@ def seconds_of(words, processors, folder):
     words = ["taskset", "-c", ",".join(map(str, range(processors))), *words]
     start = time.monotonic()
     with open(folder / "lines", "rb") as given, open(folder / "answers", "wb") as out:
-        # (each part tells the notes on the grammar)
+        # (each part reports the notes on the grammar)
         status = subprocess.run(words, cwd=folder, env=environment, stdin=given, stdout=out, stderr=subprocess.DEVNULL,
                                 check=False).returncode
     return time.monotonic() - start, status
 
 
 def is_wanted(folder):
-    """Tells whether the answers are those of `abnfi` alone."""
+    """Returns whether the answers are those of `abnfi` alone."""
     return subprocess.run(["cmp", "answers", "wanted"], cwd=folder, check=False).returncode == 0
 
 

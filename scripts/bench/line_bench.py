@@ -70,12 +70,12 @@ def main(programs):
         for name, letters, options, said in ROWS:
             grammar, lines = given(name, letters)
             (folder / "grammar").write_bytes(grammar)
-            told = [measure([it, *options.split(), folder / "grammar"], lines, folder / "lines") for it in programs]
+            reported = [measure([it, *options.split(), folder / "grammar"], lines, folder / "lines") for it in programs]
             if said:
                 (folder / "words").write_text(said + "\n")
                 words = ["grep", "-cixE", "-f", folder / "words"]
-                told.append(measure(words, lines, folder / "lines", 1_000_000))
-            row = " | ".join(f"{ns:,.1f} | {mb:,.0f}" for ns, mb in told)
+                reported.append(measure(words, lines, folder / "lines", 1_000_000))
+            row = " | ".join(f"{ns:,.1f} | {mb:,.0f}" for ns, mb in reported)
             what = ", ".join(filter(None, (name, letters and f"{letters:,} letters", options)))
             print(f"| {what} | {row} |", flush=True)
 

@@ -7,7 +7,7 @@ usage: package.py dist|deb
 The archive fanquber-VERSION-x86_64-linux.tar.gz holds the folders bin/ and share/, the file PROVED, which says what was
 proved with which kit, the file LICENSE, and SHA256SUMS. Beside it stands its own sum. The same sources and kit give the
 same archive. VERSION is what `--version` writes, and the date of the last commit: 1.2+20261128. The programs need the C
-library and no other: the script refuses to pack them otherwise. It needs readelf (Debian: binutils) and for `deb`
+library and no other: the script does not pack them otherwise. It needs readelf (Debian: binutils) and for `deb`
 dpkg-deb.
 """
 import gzip
@@ -70,11 +70,11 @@ def libc_version():
     """Returns the least version of the C library that the programs run with; ends the script if they need another."""
     found = []
     for it in PROGRAMS:
-        told = output("readelf", "-dV", f"bin/{it}")
-        others = set(re.findall(r"\(NEEDED\).*\[(.*)\]", told)) - LIBRARIES
+        reported = output("readelf", "-dV", f"bin/{it}")
+        others = set(re.findall(r"\(NEEDED\).*\[(.*)\]", reported)) - LIBRARIES
         if others:
             sys.exit(f"package.py: {it} needs {', '.join(sorted(others))}, and is to need the C library alone")
-        found += [tuple(map(int, it.split("."))) for it in re.findall(r"Name: GLIBC_([\d.]+)", told)]
+        found += [tuple(map(int, it.split("."))) for it in re.findall(r"Name: GLIBC_([\d.]+)", reported)]
     return ".".join(map(str, max(found)))
 
 

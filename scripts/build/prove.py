@@ -97,7 +97,7 @@ def early_crates(named, needed):
 
 
 def has_room():
-    """Tells whether there are processors and memory for two runs at a time, and one takes what the other proved."""
+    """Returns whether there are processors and memory for two runs at a time, and one takes what the other proved."""
     pages = os.sysconf("SC_AVPHYS_PAGES") * os.sysconf("SC_PAGE_SIZE")
     has_processors = not os.environ.get("JOBS") and len(os.sched_getaffinity(0)) >= PROCESSORS
     return has_processors and pages >= MEMORY and keeps_work(RT)

@@ -64,9 +64,9 @@ class Trial:
         print(f"\n$ {self.shown}", flush=True)
         sys.stdout.buffer.write(self.out.read())
         sys.stdout.flush()
-        told = self.err.read().decode(errors="replace")
-        ended = ENDED.search(told)
-        print(told[: ended.start()] if ended else told, end="", file=sys.stderr, flush=True)
+        reported = self.err.read().decode(errors="replace")
+        ended = ENDED.search(reported)
+        print(reported[: ended.start()] if ended else reported, end="", file=sys.stderr, flush=True)
         return int(ended[2]) if ended else status
 
 

@@ -5,7 +5,7 @@ the lemmas that serve it stand.
 usage: contract_index.py [WORD ..]
 
 A word is a crate or a function; with none all are printed. A line is a file, and the names in it that the contract
-cites. The lemma files are those whose second line names the function behind `-- Serves:`.
+cites. The lemma files are those whose second line names the function after `-- Serves:`.
 """
 import pathlib
 import re

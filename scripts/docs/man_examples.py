@@ -4,7 +4,7 @@
 usage: man_examples.py [BIN PAGES]
 
 `The file NAME` stands before the text of a file in a manual page; in README `$ cat NAME` does. Lines with `$ ` are
-commands; what stands behind a command is what it prints, on either output. The commands of a page run in one folder.
+commands; what stands after a command is what it prints, on either output. The commands of a page run in one folder.
 The programs are those of bin/, or of the first folder that is named, and then the manual pages alone are run: those of
 the second folder, where they may be packed.
 """

@@ -32,7 +32,7 @@ LAW = re.compile(r"(?:pub )?fn \w+(?:<[^<>]*>)?\(\)(?! *->)")
 
 
 def libraries():
-    """Returns the names of the libraries, each behind those that it uses."""
+    """Returns the names of the libraries, each after those that it uses."""
     has_source = lambda it: (TOP / "crates" / it / "src/lib.rt").is_file()
     return [it for it in in_order(TOP) if has_source(it) and not NO_LIBRARY.fullmatch(it)]
 
@@ -69,7 +69,7 @@ def with_docs(text, start):
 
 
 def closed(text, start):
-    """Returns where an item ends: behind the bracket that closes it, or behind its `;`."""
+    """Returns where an item ends: after the bracket that closes it, or after its `;`."""
     depth = 0
     for place in range(start, len(text)):
         depth += (text[place] in "([{") - (text[place] in ")]}")
@@ -149,7 +149,7 @@ def block_of(texts):
 
 
 def item_texts(given, name):
-    """Returns the texts of an item, under a row that tells its name outside if that is another."""
+    """Returns the texts of an item, under a row that says its name outside if that is another."""
     file, inside = given[name]
     texts = quoted(file, inside)
     return [f"// the library gives it out as `{name}`\n" + texts[0], *texts[1:]] if inside != name else texts
@@ -164,8 +164,8 @@ def contracts(crate, first):
             raise SystemExit(f"docs/crates/{crate}.md: the library has no public item '{it}'")
     order = [*first, *(it for it in own if it not in first)]
     passed = [f"`{path}`" for file, path in given.values() if not file]
-    told = f"It passes on {', '.join(passed)}.\n\n" if passed else ""
-    return told + block_of([text for it in order for text in item_texts(given, it)])
+    reported = f"It passes on {', '.join(passed)}.\n\n" if passed else ""
+    return reported + block_of([text for it in order for text in item_texts(given, it)])
 
 
 def laws(crate):

@@ -5,7 +5,7 @@ offers what it should.
 usage: completions_test.py [--terminals]
 
 It needs the programs in bin/. A shell that is not installed is skipped, and the script says so. bash runs the function
-that it would run at the tab key, and fish tells what it would offer. With --terminals bash and zsh run on a terminal
+that it would run at the tab key, and fish prints what it would offer. With --terminals bash and zsh run on a terminal
 of their own too, where the tab key is pressed; a busy machine may then answer too late.
 """
 import os
@@ -89,9 +89,9 @@ def faults_of_help(program):
 
 def words_of(typed):
     """Returns the words of a line and the place of that to be completed, which two spaces or the end show."""
-    before, gap, behind = typed.partition("  ")
+    before, gap, after = typed.partition("  ")
     words = shlex.split(before) + ([""] if gap or typed.endswith(" ") else [])
-    return words + shlex.split(behind), len(words) - 1
+    return words + shlex.split(after), len(words) - 1
 
 
 def by_bash(program, typed, folder):
@@ -108,7 +108,7 @@ def by_bash(program, typed, folder):
 
 
 def by_fish(program, typed, folder):
-    """Returns the words that fish would offer. It completes the end of a line, so the words behind go to the front."""
+    """Returns the words that fish would offer. It completes the end of a line, so the words after go to the front."""
     words, at = words_of(typed)
     line = f"{shlex.join([program, *words[at + 1:], *words[:at]])} {words[at]}".replace(" = ", "=")
     command = f"source {FOLDER}/fish/{program}.fish; complete -C {shlex.quote(line)}"
@@ -118,7 +118,7 @@ def by_fish(program, typed, folder):
 
 
 def at_tab(shell, setup, line, wanted, folder):
-    """Returns the wanted words that a shell shows on a terminal of its own at the tab key, behind the line."""
+    """Returns the expected words that a shell shows on a terminal of its own at the tab key, after the line."""
     child, end = pty.fork()
     if child == 0:
         os.chdir(folder)

@@ -2,7 +2,7 @@
 """Lists the names in code marks of the documents that nothing has, one line each, and fails where there is one.
 
 A name is a text in backticks that is wholly a path, a file's name, a word in snake case or camel case, or several such
-words with `::` between them; behind the name of a folder `specs/` or of a file in it, each further name of a list is
+words with `::` between them; after the name of a folder `specs/` or of a file in it, each further name of a list is
 that of a file there. A name must be that of a file, a folder or a crate, or stand in the code: comments do not count.
 What pages.py writes and fenced code are not looked at. Capitals stand for any name.
 
@@ -24,7 +24,7 @@ WORD = re.compile(r"[A-Za-z_][A-Za-z0-9_]*")
 NAME = re.compile(r"[a-z]\w*_\w+|_?[A-Z]\w*[a-z]\w*")
 FILE = re.compile(r"[\w.+-]*\w\.(?:rt|antt|edit|md|py|sh|peg|abnf|txt|json|c)")
 PATH = re.compile(r"(?:[\w.+*-]+/)+(?:[\w.+*-]+)?")
-# A file or folder of definitions, and files of the same folder behind it.
+# A file or folder of definitions, and files of the same folder after it.
 LISTED = re.compile(r"`(\w+/specs/)(?:\w+(?:\.antt)?)?`:?((?:,?\s`[A-Z]\w+`)+)")
 # What begins a comment, by a file's ending.
 COMMENTS = {".rt": "//", ".antt": "--", ".py": "#", ".sh": "#"}
@@ -44,7 +44,7 @@ def words_of(path):
 
 def ends_of(path):
     """Yields the ends of a path and of its folders, from the last part alone on. A source may lack its ending, and a
-    folder may have `/` behind it."""
+    folder may have `/` after it."""
     parts = path.split("/")
     for last in range(1, len(parts) + 1):
         for first in range(last):
@@ -54,7 +54,7 @@ def ends_of(path):
 
 
 def texts(path):
-    """Yields the texts in code marks of a document, and what stands listed behind a folder, each with its line."""
+    """Yields the texts in code marks of a document, and what stands listed after a folder, each with its line."""
     blank = lambda found: "\n" * found.group().count("\n")
     text = FENCED.sub(blank, WRITTEN.sub(blank, (TOP / path).read_text()))
     for found in MARKED.finditer(text):

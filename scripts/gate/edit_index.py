@@ -1,5 +1,5 @@
 #!/usr/bin/env python3
-"""Prints the must-fail edits crate by crate: the function, what the edit changes, and the clause that refuses it.
+"""Prints the must-fail edits crate by crate: the function, what the edit changes, and the clause that rejects it.
 
 The edits of the gate stand in crates/NAME/must-fail/, the others in must-fail/NAME/; the list marks the others by `-`.
 The script ends with status 1 where an edit's name or first line lacks its form, where the text that it changes does not
@@ -20,7 +20,7 @@ TOP = pathlib.Path(__file__).resolve().parents[2]
 # The most edits that the gate has, and the fewest of a crate that has some: its first costs a proof of the crate.
 MOST_EDITS = 110
 FEWEST_EDITS = 4
-# What a first line names where no clause of the function refuses the edit.
+# What a first line names where no clause of the function rejects the edit.
 OTHERS = r"ensures|invariant|loop|safe|ends|requires of [\w.]+"
 # Traits whose methods need no edit of their own. A method of a `Language` hands on what one function of a crate below
 # says, where that function has its edit.
@@ -28,16 +28,16 @@ PLAIN_TRAITS = ("From", "Model", "Display", "Drop", "Language")
 # Crates that show how to call the others, or that tests alone call: they need no edits.
 EXAMPLES = ("uses", "testio")
 # Words that equate what they speak of.
-# Writes: the bytes that a writer took; at an error, a beginning of them. Keeps: a stream's bytes are those of before.
+# Writes: the bytes that a writer took; at an error, a prefix of them. Keeps: a stream's bytes are those of before.
 # Flags: a stream's flag is the one of before; at an error, it is set. Defines: the new table and the id of a rule.
-# SameLoan, SameFeed: a feed's reader, or all of the feed, is that of before. LendsBody, LendsWindow: what stands behind
+# SameLoan, SameFeed: a feed's reader, or all of the feed, is that of before. LendsBody, LendsWindow: what stands after
 # a loan when it ends.
 EXACT = r"(Writes|Keeps|Flags|Defines|SameLoan|SameFeed|sem 𝓛 \(Lends(Body|Window)) "
 # Functions that need no edit for a reason that the form of their clauses does not show.
 EXEMPT = (
     # It lends a field of a type of which no other value is at hand.
     "flatgrammar: Flat.share",
-    # Its equation stands behind a premise, and `requires` says that something meets the premise.
+    # Its equation stands after a premise, and `requires` says that something meets the premise.
     "pegmatch: writing.write_event", "matchfailure: TextPlace.after",
     # It passes on what the reader inside gives.
     "cli: Input.read",
@@ -50,7 +50,7 @@ EXEMPT = (
     "pegexplain: notes.explain_peg_note",
     # It passes on what its helpers return, whose clauses equate.
     "pegexplain: reported.peg_hints",
-    # It tells what its helpers find, of which `is_barren` has an edit.
+    # It reports what its helpers find, of which `is_barren` has an edit.
     "abnfhints: hints.abnf_hints",
     # It passes on what `nullable` marks, and `need` has an edit.
     "gramcheck: nullable.nullable_rules",
@@ -94,8 +94,8 @@ class Function:
 
 
 def equates(text):
-    """Tells whether a clause equates something with a term: by one `≡`, at each byte perhaps, or by a word. `IfOk` and
-    the like speak of one outcome. Every other outcome is allowed, so an edit of it shows nothing."""
+    """Returns whether a clause equates something with a term: by one `≡`, at each byte perhaps, or by a word. `IfOk`
+    and the like speak of one outcome. Every other outcome is allowed, so an edit of it shows nothing."""
     text = re.sub(r"^\(\w : ℕ\) → (\w < 256 → )?", "", text)
     outcome = re.fullmatch(r"(?:IfOk|IfSome|OnOk|OnErr) \w+ \((?:λ \w+\. )?(.*)\)", text)
     if outcome:
@@ -105,9 +105,9 @@ def equates(text):
 
 
 def are_equations(texts):
-    """Tells whether all clauses on what a function returns or changes equate it with terms. A clause on neither says
+    """Returns whether all clauses on what a function returns or changes equate it with terms. A clause on neither says
     nothing of the body. A clause on a length fixes no value, and needs no edit beside those that do. Whether something
-    changes of which no clause speaks is not asked: no edit of it can be refused."""
+    changes of which no clause speaks is not asked: no edit of it can be rejected."""
     if any(re.match(r"result(\.now)? ≡ ", it) for it in texts):
         texts = [it for it in texts if ".new" in it or equates(it)]
     said = [it for it in texts if re.search(r"\bresult\b|\.new\b|self\.entry", it) and not it.startswith("length ")]
@@ -185,7 +185,7 @@ def functions_of(folder, promises):
 
 
 def applies(file, folder):
-    """Tells whether each text that an edit changes stands once in the crate's file that it names, as `rt` asks."""
+    """Returns whether each text that an edit changes stands once in the crate's file that it names, as `rt` asks."""
     text = file.read_text()
     named = re.search(r"^file: (.+)$", text, re.M)
     source = folder / named[1] if named else None

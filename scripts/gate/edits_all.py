@@ -9,7 +9,7 @@ copy has these crates and those that they use. Where `rt ci` keeps what it passe
 machine, and the edits that it tried, if nothing has changed since; with `--anew` it proves and tries all. RT names the
 command, `rt` if not set.
 
-The status is 0 if the prover refuses each edit, and that of `rt ci` if not. An edit that cannot be applied or compiled
+The status is 0 if the prover rejects each edit, and that of `rt ci` if not. An edit that cannot be applied or compiled
 fails too, with status 1. The status is 2 where a name is no crate's, or the crate has no edit.
 """
 import os

@@ -1,13 +1,13 @@
 /* A library for LD_PRELOAD that refuses memory, writes and reads of the program that it is loaded into.
  *
  * FAULT_GROWTH=N      the Nth call that asks for memory is refused
- * FAULT_LASTS=1       and so are all calls behind it
+ * FAULT_LASTS=1       and so are all calls after it
  * FAULT_ROOM=FD:N     writes to FD are taken up to N bytes in all; then they fail
  * FAULT_WRITE=N       each write takes at most N bytes
  * FAULT_READ=N        the Nth read fails, of any file
  * FAULT_INPUT=N       reads of standard input give at most N bytes in all; then they fail
  * FAULT_PIECE=N       each read gives at most N bytes
- * FAULT_TOLD=FILE     a file that is made when something is refused
+ * FAULT_REPORTED=FILE a file that is made when something is refused
  * FAULT_LEFT=FILE     a file that says at the end how many blocks of memory were not given back
  */
 #define _GNU_SOURCE
@@ -31,7 +31,7 @@ extern void __libc_free(void *);
 static long growth = -1, room = -1, most_written = -1, bad_read = -1, input = -1, piece = -1;
 static int room_fd = -1, lasts = 0;
 static long blocks = 0;
-static const char *told, *left;
+static const char *reported, *left;
 
 static long number(const char *name) {
     const char *text = getenv(name);
@@ -48,7 +48,7 @@ __attribute__((constructor)) static void begin(void) {
     bad_read = number("FAULT_READ");
     input = number("FAULT_INPUT");
     piece = number("FAULT_PIECE");
-    told = getenv("FAULT_TOLD");
+    reported = getenv("FAULT_REPORTED");
     left = getenv("FAULT_LEFT");
     blocks = 0;
     lasts = getenv("FAULT_LASTS") != NULL;
@@ -56,8 +56,8 @@ __attribute__((constructor)) static void begin(void) {
 }
 
 static void refused(void) {
-    if (told) {
-        long fd = syscall(SYS_openat, AT_FDCWD, told, O_CREAT | O_WRONLY, 0600);
+    if (reported) {
+        long fd = syscall(SYS_openat, AT_FDCWD, reported, O_CREAT | O_WRONLY, 0600);
         if (fd >= 0)
             syscall(SYS_close, fd);
     }

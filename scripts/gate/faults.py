@@ -1,6 +1,6 @@
 #!/usr/bin/env python3
-"""Runs the programs of bin/ as users run them, with memory, writes and reads refused by a
-library (faults.c), and with a stack of 256 KB.
+"""Runs the programs of bin/ as users run them, with allocations, writes and reads that a
+library lets fail (faults.c), and with a stack of 256 KB.
 
 usage: faults.py [SWEEP ..]
 
@@ -22,33 +22,33 @@ import tempfile
 TOP = pathlib.Path(__file__).resolve().parents[2]
 STACK = 256 * 1024
 # So many growths at most make the list of a program's words, beside one for each word before the grammar's. The list
-# asks first for all that it will need, and where that is refused it asks again, so the run can go on.
+# asks first for all that it will need, and where that fails it asks again, so the run can go on.
 GROWTHS_OF_WORDS = 7
 
 # A run: its name, the program and its words, the grammar, the input, the texts of the units or lines, the error output,
 # and the status.
-Run = collections.namedtuple("Run", "name program words grammar given texts told status")
+Run = collections.namedtuple("Run", "name program words grammar given texts reported status")
 Ended = collections.namedtuple("Ended", "out err status refused left", defaults=[None])
 
 
-def peg(name, grammar, given, texts, told=b"", status=0, words=()):
-    return Run(name, "pegi", list(words), grammar, given, texts, told, status)
+def peg(name, grammar, given, texts, reported=b"", status=0, words=()):
+    return Run(name, "pegi", list(words), grammar, given, texts, reported, status)
 
 
-def abnf(name, grammar, given, texts, told=b"", status=0, words=()):
-    return Run(name, "abnfi", list(words), grammar, given, texts, told, status)
+def abnf(name, grammar, given, texts, reported=b"", status=0, words=()):
+    return Run(name, "abnfi", list(words), grammar, given, texts, reported, status)
 
 
-def taken(name, text, texts, told=b"", status=0, words=()):
-    return Run(name, "abnfx", list(words), text, b"", texts, told, status)
+def taken(name, text, texts, reported=b"", status=0, words=()):
+    return Run(name, "abnfx", list(words), text, b"", texts, reported, status)
 
 
-def compared(name, old, new, texts, told=b"", status=0, words=()):
-    return Run(name, "abnfd", [*words, "old"], new, old, texts, told, status)
+def compared(name, old, new, texts, reported=b"", status=0, words=()):
+    return Run(name, "abnfd", [*words, "old"], new, old, texts, reported, status)
 
 
-def listed(name, grammar, texts, told=b"", status=0, words=()):
-    return Run(name, "abnfg", list(words), grammar, b"", texts, told, status)
+def listed(name, grammar, texts, reported=b"", status=0, words=()):
+    return Run(name, "abnfg", list(words), grammar, b"", texts, reported, status)
 
 
 # Names of runs of abnfi by a grammar that counts how often something nullable is repeated: they have no automaton.
@@ -109,13 +109,13 @@ ABNF_PRINTED = abnf("a grammar in ABNF printed", ALTERNATIVES, b"", [b'k = %s"Ab
 
 TEXT = (b"Rules\n\n  a = b /\n      <x>\n\n\nOne [Page 1]\n\f\nTwo 2001\n\n"
         b'      / c\n  b = "x" ; y\n  B = "X"\nx = 1, 2\n')
-TAKEN_TOLD = b"grammar:14: not ABNF: line 14: syntax error\ngrammar:11: 'c' is not defined\n"
+TAKEN_REPORTED = b"grammar:14: not ABNF: line 14: syntax error\ngrammar:11: 'c' is not defined\n"
 TAKEN = taken("the rules of a text", TEXT, [b"; grammar:3\na = b /\n    <x>\n    / c\n", b'b = "x" ; y\n'],
-              TAKEN_TOLD, 1)
+              TAKEN_REPORTED, 1)
 TAKEN_PRINTED = taken("the rules of a text, printed", TEXT.replace(b"x = 1, 2", b"c = a"),
                       [b'a = b / <x> / c\nb = "x"\nc = a\n'], words=["-c"])
 TAKEN_LISTED = taken("the list of the rules of a text", TEXT, [b"grammar:3: 'a' stands\n", b"grammar:12: 'b' stands\n",
-                     b"grammar:13: 'B' is given at grammar:12\n"], TAKEN_TOLD, 1, words=["-l"])
+                     b"grammar:13: 'B' is given at grammar:12\n"], TAKEN_REPORTED, 1, words=["-l"])
 NONE_TAKEN = taken("a text without rules", b"Rules\n", [], b"no rules found\n", 1)
 
 COMPARED = compared("rules that differ", b's = 1*ALPHA "\\"\n', b't = 1*2ALPHA "\\"\nu = s\ns = "x"\n',
@@ -197,17 +197,17 @@ class Tools:
 
     def run(self, run, **faults):
         """Runs a program with these faults, and returns how it ended."""
-        told, left, grammar = self.folder / "told", self.folder / "left", self.folder / "grammar"
-        told.unlink(missing_ok=True)
+        reported, left, grammar = self.folder / "reported", self.folder / "left", self.folder / "grammar"
+        reported.unlink(missing_ok=True)
         left.unlink(missing_ok=True)
         grammar.write_bytes(run.grammar)
         (self.folder / "old").write_bytes(run.given)
-        environment = {"LD_PRELOAD": str(self.library), "FAULT_TOLD": str(told), "FAULT_LEFT": str(left)}
+        environment = {"LD_PRELOAD": str(self.library), "FAULT_REPORTED": str(reported), "FAULT_LEFT": str(left)}
         environment |= {f"FAULT_{it}": str(n) for it, n in faults.items()}
         ran = subprocess.run([TOP / "bin" / run.program, *run.words, grammar.name], cwd=self.folder, input=run.given,
                              capture_output=True, env=os.environ | environment, timeout=120, check=False)
         blocks = int(left.read_text()) if left.exists() else -1
-        return Ended(ran.stdout, ran.stderr, ran.returncode, told.exists(), blocks)
+        return Ended(ran.stdout, ran.stderr, ran.returncode, reported.exists(), blocks)
 
     def expect(self, run, ended, holds, what):
         """Counts a run, and prints it if it is not as it must be, or if some memory was not given back."""
@@ -222,24 +222,24 @@ def whole(run):
 
 
 def is_as_stated(run, ended):
-    return (ended.out, ended.err, ended.status) == (whole(run), run.told, run.status)
+    return (ended.out, ended.err, ended.status) == (whole(run), run.reported, run.status)
 
 
 def may_go_on(run, number):
-    """Tells whether a run may go on without that growth. Earley's sets answer where the automaton has no memory, the
-    window joins a line in two pieces where there is none for its copy, notes are written by pieces where there is none
-    for their lines, and a unit that is kept may not be asked for."""
+    """Returns whether a run may go on without that growth. If an allocation of the automaton fails, Earley's sets
+    answer. If one for the copy of a line fails, the window joins its two pieces. If one for the lines of notes fails,
+    they are written by pieces. A unit that is kept may not be asked for."""
     has_automaton = run.program == "abnfi" and "-m" not in run.words and run.name not in NO_AUTOMATON
-    has_notes = bool(run.told) and "-x" not in run.words and run.program != "abnfx"
+    has_notes = bool(run.reported) and "-x" not in run.words and run.program != "abnfx"
     explains = run.program == "pegi" and "-x" in run.words and run.status == 0
     keeps_units = explains or run.name in UNITS_OF_A_BYTE
     return has_automaton or has_notes or keeps_units or number <= len(run.words) + GROWTHS_OF_WORDS
 
 
-def explained_beginnings(told):
-    """Returns what may stand of messages that are explained where there is no memory for what is behind: the first
+def explained_prefixes(reported):
+    """Returns what may stand of messages that are explained where an allocation for the rest fails: the first
     ones, the last of them perhaps without what explains it."""
-    lines = told.splitlines(keepends=True)
+    lines = reported.splitlines(keepends=True)
     messages = [at for at, line in enumerate(lines) if not line.startswith(b"  ")]
     counts = {0, *messages, *(at + 1 for at in messages), len(lines)}
     return [b"".join(lines[:count]) for count in sorted(counts)]
@@ -248,22 +248,22 @@ def explained_beginnings(told):
 def not_explained(run):
     """Returns what may stand of the explanations of rejected lines where there is no memory for one of them: those
     before it, and a line in its place."""
-    lines = run.told.splitlines(keepends=True)
+    lines = run.reported.splitlines(keepends=True)
     heads = [(at, re.match(rb"line (\d+)(,| ends too early:)", line)) for at, line in enumerate(lines)]
     return [b"%sline %s: no\n  not explained: out of memory\n" % (b"".join(lines[:at]), head[1])
             for at, head in heads if head]
 
 
 def refuse_each(tools, run, **more):
-    """Refuses each growth of a run in turn. Returns how many it has, and how many of them were made good."""
+    """Lets each growth of a run fail in turn. Returns how many it has, and how many of them were retried."""
     fronts = [b"".join(run.texts[:k]) for k in range(len(run.texts) + 1)]
     number, good = 1, 0
-    messages = explained_beginnings(run.told) if "-x" in run.words else [b""]
-    messages += [run.told] * (run.program in ("abnfx", "abnfg"))
+    messages = explained_prefixes(run.reported) if "-x" in run.words else [b""]
+    messages += [run.reported] * (run.program in ("abnfx", "abnfg"))
     cut = not_explained(run) if run.program == "abnfi" and "-x" in run.words else []
     stops = [it + b"out of memory\n" for it in messages + cut]
     # the message in which a run ends stands without its explanation
-    last = b"".join(re.findall(rb"^line \d+ longer than .*\n", run.told, re.MULTILINE))
+    last = b"".join(re.findall(rb"^line \d+ longer than .*\n", run.reported, re.MULTILINE))
     while (ended := tools.run(run, GROWTH=number, **more)).refused:
         right = ended.out in fronts and ended.err in stops and ended.status == 5
         if is_as_stated(run, ended) and may_go_on(run, number):
@@ -277,15 +277,15 @@ def refuse_each(tools, run, **more):
 
 
 def memory(tools):
-    """Refuses each growth in turn, alone and then with all behind it."""
+    """Lets each growth fail in turn, alone and then with all after it."""
     for run in (it for it in GROWING if tools.has(it.program)):
         growths, good = refuse_each(tools, run)
         refuse_each(tools, run, LASTS=1)
-        print(f"  {run.name}: {growths} growths" + f", {good} made good by another" * bool(good))
+        print(f"  {run.name}: {growths} growths" + f", {good} retried" * bool(good))
 
 
 def writes(tools):
-    """Each write short, and each output failing behind each number of bytes."""
+    """Each write short, and each output failing after each number of bytes."""
     for run in (it for it in WRITTEN if tools.has(it.program)):
         for most in (1, 2, 3):
             ended = tools.run(run, WRITE=most)
@@ -293,11 +293,11 @@ def writes(tools):
         for room in range(len(whole(run))):
             for most in (1, 4096):
                 ended = tools.run(run, ROOM=f"1:{room}", WRITE=most)
-                right = ended[:3] == (whole(run)[:room], run.told + b"write error\n", 4)
+                right = ended[:3] == (whole(run)[:room], run.reported + b"write error\n", 4)
                 tools.expect(run, ended, right, f"room for {room} bytes of output")
-        for room in range(len(run.told)):
+        for room in range(len(run.reported)):
             ended = tools.run(run, ROOM=f"2:{room}", WRITE=7)
-            tools.expect(run, ended, ended[:3] == (b"", run.told[:room], 4), f"room for {room} bytes of messages")
+            tools.expect(run, ended, ended[:3] == (b"", run.reported[:room], 4), f"room for {room} bytes of messages")
 
 
 def judged_of(run, size):
@@ -315,11 +315,13 @@ def reads(tools):
             out = judged_of(run, size) if run.program == "abnfi" else b""
             for most in (1, 4096):
                 ended = tools.run(run, INPUT=size, PIECE=most)
-                tools.expect(run, ended, ended[:3] == (out, run.told + b"read error\n", 4), f"{size} bytes of input")
+                right = ended[:3] == (out, run.reported + b"read error\n", 4)
+                tools.expect(run, ended, right, f"{size} bytes of input")
         number = 1
         while (ended := tools.run(run, READ=number, PIECE=3)).refused:
             unread = ended[:3] == (b"", b"cannot read the grammar\n", 4)
-            begun = ended.err == run.told + b"read error\n" and whole(run).startswith(ended.out) and ended.status == 4
+            is_part = whole(run).startswith(ended.out)
+            begun = ended.err == run.reported + b"read error\n" and is_part and ended.status == 4
             tools.expect(run, ended, unread or begun, f"read {number} fails")
             number += 1
     text_reads(tools)
@@ -341,7 +343,7 @@ def text_reads(tools):
             number += 1
 
 
-# Streams that the system itself refuses, as a shell gives them to a program, and the message of the run.
+# Streams at which the system itself fails, as a shell gives them to a program, and the message of the run.
 STREAMS = [
     ("an output on a full disk", '"$0" "$1" < "$2" > /dev/full', b"write error\n"),
     ("a closed output", '"$0" "$1" < "$2" >&-', b"write error\n"),
@@ -363,11 +365,11 @@ def streams(tools):
     given.write_bytes(b"ab\n" * 200000)
     for program, text in (("pegi", b"S <- . {yytext}"), ("abnfi", b"word = 1*ALPHA")):
         grammar.write_bytes(text)
-        for name, line, told in STREAMS if tools.has(program) else []:
+        for name, line, reported in STREAMS if tools.has(program) else []:
             ran = subprocess.run(["sh", "-c", line, TOP / "bin" / program, grammar, given, status], capture_output=True,
                                  timeout=120, check=False)
             ended = Ended(ran.stdout, ran.stderr, ran.returncode, False)
-            tools.expect(peg(program, b"", b"", []), ended, ended[:3] == (b"", told, 4), name)
+            tools.expect(peg(program, b"", b"", []), ended, ended[:3] == (b"", reported, 4), name)
 
 
 def deep_grammars():
@@ -418,8 +420,8 @@ def example(tools, folder):
     ran = subprocess.run(["sh", "run.sh"], cwd=folder, capture_output=True, env=os.environ | path,
                          preexec_fn=small_stack, check=False)
     ended = Ended(ran.stdout, ran.stderr, ran.returncode, False)
-    texts, told = [text_of(folder / "printed.txt", b"")], text_of(folder / "told.txt", b"")
-    run = Run(f"examples/{folder.name}", "", [], b"", b"", texts, told, int(text_of(folder / "status", b"0")))
+    texts, reported = [text_of(folder / "printed.txt", b"")], text_of(folder / "reported.txt", b"")
+    run = Run(f"examples/{folder.name}", "", [], b"", b"", texts, reported, int(text_of(folder / "status", b"0")))
     tools.expect(run, ended, is_as_stated(run, ended), "a stack of 256 KB")
 
 

@@ -3,15 +3,15 @@
 pages of the libraries and the completions; if these are green `rt ci`; if that is green too the programs as users run
 them: those that `rt ci` built are put into bin/, and run on the folders of examples/, the examples of the manual pages
 and the rows of gate/runs/, on random cases against slow answers, by item sets alone, on grammars of a megabyte and
-lines of 16 MB that are made to cost much, and with memory, writes, reads and stack refused; then what shells complete,
-what is packed, answers that come line by line, the library for C, which is made over what `rt ci` proved, and the
-package for Python are tested.
+lines of 16 MB that are made to cost much, and with failing allocations, writes, reads and stack; then what shells
+complete, what is packed, answers that come line by line, the library for C, which is made over what `rt ci` proved, and
+the package for Python are tested.
 
 usage: gate.py
 
 Prints the last line of `rt ci` last. The status is 0 if all of it is green. RT names the command, `rt` if not set. What
-there is no C compiler for is skipped, and so are tests of Python without pytest: faults.py,
-library_test.py and python_test.py say so.
+there is no C compiler for is skipped, and so are tests of Python without pytest: faults.py, library_test.py and
+python_test.py say so.
 """
 import os
 import pathlib
@@ -29,7 +29,7 @@ BEFORE = (
     ("docs/pages.py", "--check"), ("gate/calls.py",), ("docs/private_definitions.py", "--check"),
     ("build/completions.py", "--check"),
 )
-BEHIND = (
+AFTER = (
     ("docs/run_examples.sh",), ("docs/man_examples.py",), ("gate/run_rows.py",),
     ("oracles/random_cases.py", "-n", "5000", "-u", "-w", "-z", "-k", "-p", "-q", "-b", "-1", "-x"),
     ("oracles/both_judges.py",),
@@ -43,7 +43,7 @@ RT = os.environ.get("RT", "rt").split()
 
 
 def script(name, *words):
-    """Runs one of the scripts, and tells whether it ended well."""
+    """Runs one of the scripts, and returns whether it ended well."""
     by = ["sh"] if name.endswith(".sh") else [sys.executable, "-B"]
     return subprocess.run([*by, TOP / "scripts" / name, *words], cwd=TOP, check=False).returncode == 0
 
@@ -65,7 +65,7 @@ def ci():
 
 
 def put_programs():
-    """Puts the programs that `rt ci` built into bin/, or else builds them. Tells whether both are there."""
+    """Puts the programs that `rt ci` built into bin/, or else builds them. Returns whether both are there."""
     built = [TOP / "crates" / it / "out" / it for it in PROGRAMS]
     if not all(it.is_file() for it in built):
         return script("build/prove.py", *PROGRAMS)
@@ -76,7 +76,7 @@ def put_programs():
 
 
 def put_library():
-    """Makes the library for C in bin/, where there is a C compiler. Tells whether that went well."""
+    """Makes the library for C in bin/, where there is a C compiler. Returns whether that went well."""
     return bool(lacking()) or script("build/library.py", "--over-ci")
 
 
@@ -88,7 +88,7 @@ def main():
     green = status == 0
     if green:
         print(last, flush=True)
-        green = put_programs() and put_library() and all([script(*it) for it in BEHIND])
+        green = put_programs() and put_library() and all([script(*it) for it in AFTER])
     print(last, flush=True)
     return 0 if green else status or 1
 

@@ -10,7 +10,7 @@ the crates below from another checkout, if one has proved them. With the word `-
 gate can be measured in parts, as by `ci --kept NAME ..` and then `ci --kept`. RT names the command, `rt` if not set.
 
 proofs: each crate proved from nothing. tests: the crate proved again with its tests. edits: the edits that the prover
-must refuse, and the proof of the crate from which they begin. rest: what compiles, links and runs, and the work of `rt`
+must reject, and the proof of the crate from which they begin. rest: what compiles, links and runs, and the work of `rt`
 itself.
 
 The processor time of each process of the prover is read twice a second, so a process that ends between two readings

@@ -1,7 +1,7 @@
 #!/usr/bin/env python3
 """Tests the library for C that the gate or `make lib` made: each folder of examples/ runs through C and through the
 package of python/; then come settings, buffers and windows at their edges, four threads at once, each allocation
-refused in turn, and the examples and tests in C++ and Rust.
+failing in turn, and the examples and tests in C++ and Rust.
 
 usage: library_test.py
 
@@ -51,7 +51,7 @@ class Test:
         return program
 
     def ends(self, title, words, status=0, out=None, err=None, **others):
-        """Runs a program, and notes whether it ends with the status and writes what is wanted."""
+        """Runs a program, and notes whether it ends with the status and writes what is expected."""
         found = subprocess.run([str(it) for it in words], env=self.environment, capture_output=True, check=False,
                                **others)
         pairs = ((found.returncode, status), (found.stdout, out), (found.stderr, err))
@@ -68,10 +68,10 @@ class Test:
         for it in folders:
             words = shlex.split((it / "run.sh").read_text().splitlines()[-1].replace("<", " < "))
             at = words.index("<")
-            told, status = it / "told.txt", it / "status"
+            reported, status = it / "reported.txt", it / "status"
             with open(it / words[at + 1], "rb") as given:
                 self.ends(it.name, [program, *words[:at]], int(status.read_text()) if status.is_file() else 0,
-                          (it / "printed.txt").read_bytes(), told.read_bytes() if told.is_file() else b"",
+                          (it / "printed.txt").read_bytes(), reported.read_bytes() if reported.is_file() else b"",
                           stdin=given, cwd=it)
         return f"{len(folders)} examples through C"
 
@@ -80,12 +80,12 @@ class Test:
         uris = TOP / "examples/rfc3986/rfc3986.abnf"
         for name, out in PRINTS.items():
             self.ends(f"{name}.c", [self.built(CC, TOP / f"c/examples/{name}.c")], out=out)
-        told = [self.examples(self.built(CC, TOP / "c/examples/run.c"))]
+        reported = [self.examples(self.built(CC, TOP / "c/examples/run.c"))]
         self.ends("edges", [self.built(CC, TOP / "c/tests/edges.c")], out=b"")
         self.ends("threads", [self.built(CC, TOP / "c/tests/threads.c", "-pthread"), uris], out=b"")
         refused = self.built(CC, TOP / "c/tests/refused.c", *REFUSED, flags=(self.folder / "libfanquber.a",))
-        told += self.ends("refused", [refused, uris]).stdout.decode().splitlines()
-        return told
+        reported += self.ends("refused", [refused, uris]).stdout.decode().splitlines()
+        return reported
 
     def in_others(self):
         """Runs the examples and tests in C++ and Rust, and the tests in Python."""

@@ -53,7 +53,7 @@ class Talk:
         self.given, self.taken = given[1], taken[0]
 
     def ask(self, sent, wanted):
-        """Sends some bytes, and tells whether what comes is what is wanted."""
+        """Sends some bytes, and returns whether the answer is the expected one."""
         os.write(self.given, sent)
         got = b""
         while len(got) < len(wanted) and select.select([self.taken], [], [], SECONDS)[0]:
@@ -73,7 +73,7 @@ class Talk:
 
 
 def pipes_differ(words, talk, grammar):
-    """Tells what is wrong with a talk through pipes; nothing is an empty text."""
+    """Returns what is wrong with a talk through pipes; nothing is an empty text."""
     over = Talk(words, os.pipe(), os.pipe(), grammar)
     for number, (sent, wanted) in enumerate(talk, 1):
         if not over.ask(sent, wanted):
@@ -88,7 +88,7 @@ def pipes_differ(words, talk, grammar):
 
 
 def terminal_differs(grammar):
-    """Tells what is wrong with a talk on a terminal, where the end of the input is a key."""
+    """Returns what is wrong with a talk on a terminal, where the end of the input is a key."""
     master, slave = pty.openpty()
     mode = termios.tcgetattr(slave)
     mode[1] &= ~termios.OPOST
@@ -105,7 +105,7 @@ def terminal_differs(grammar):
 
 
 def closed_differs(grammar):
-    """Tells what is wrong where nobody reads the answers any more."""
+    """Returns what is wrong where nobody reads the answers any more."""
     over = Talk((), os.pipe(), os.pipe(), grammar)
     right = over.ask(b"ab\n", b"yes\n")
     os.close(over.taken)
@@ -122,7 +122,7 @@ def closed_differs(grammar):
 
 
 def coprocess_differs(grammar):
-    """Tells what is wrong with a coprocess of bash."""
+    """Returns what is wrong with a coprocess of bash."""
     script = f"""
 coproc ABNFI {{ '{ABNFI}' --line-buffered '{grammar}'; }}
 for line in ab a1 ab; do

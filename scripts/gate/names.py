@@ -19,7 +19,7 @@ MIRRORS = {"Answers.antt", "Invariants.antt", "Proof.antt", "Lib.antt"}
 # Nouns that end as gerunds do.
 NOUNS = {"Nothing", "Spelling"}
 # Participles that do not end in `ed`.
-PARTICIPLES = {"Begun", "Chosen", "Kept", "Left", "Made", "Read", "Said", "Taken", "Told", "Written"}
+PARTICIPLES = {"Begun", "Chosen", "Kept", "Left", "Made", "Read", "Said", "Taken", "Written"}
 # What begins a block: its lines stand further in.
 BLOCK = re.compile(r"(?:(?:pub|unfoldable) )*(?:(abbrev) )?(?:pub )?(?:(data|record)|module|mutual)\b(?! *\{)")
 # A name of one word, and what it says, which may begin on the next line.
@@ -86,7 +86,7 @@ def sources(top):
 
 
 def is_proof(path):
-    """Tells whether the file has lemmas of several functions."""
+    """Returns whether the file has lemmas of several functions."""
     parts = path.parts
     return len(parts) == 4 and parts[0] == "crates" and parts[2] == "proofs" and path.name not in MIRRORS
 
@@ -210,7 +210,7 @@ def crates_that_define(top, files):
     return found
 
 def is_one_of_each(crates):
-    """Tells whether the crates are one of each language, or of the crates on which both stand."""
+    """Returns whether the crates are one of each language, or of the crates on which both stand."""
     by_language = [len(crates & language) for language in LANGUAGES]
     return sum(by_language) == len(crates) and max(by_language, default=0) <= 1
 
@@ -299,7 +299,7 @@ def of_long_files(top, files):
 
 
 def is_long(line):
-    """Tells whether a line is too long; the formatter keeps an attribute on one line."""
+    """Returns whether a line is too long; the formatter keeps an attribute on one line."""
     return len(line) > LONGEST_LINE and not line.lstrip().startswith("#[")
 
 

@@ -44,9 +44,9 @@ def faults_of_version(programs):
     """Returns which programs of a folder do not write the version that the packages have."""
     found = []
     for it in PROGRAMS:
-        told = subprocess.run([programs / it, "--version"], capture_output=True, text=True, check=False).stdout
-        if told != f"{it} (Fanquber) {number()}\n":
-            found.append(f"{it} --version writes {told!r}")
+        reported = subprocess.run([programs / it, "--version"], capture_output=True, text=True, check=False).stdout
+        if reported != f"{it} (Fanquber) {number()}\n":
+            found.append(f"{it} --version writes {reported!r}")
     return found
 
 

@@ -1,5 +1,5 @@
 #!/usr/bin/env python3
-"""Runs the programs of bin/ on the rows of scripts/gate/runs/, and compares what they write with what is wanted.
+"""Runs the programs of bin/ on the rows of scripts/gate/runs/, and compares what they write with what is expected.
 
 usage: run_rows.py [-b FOLDER] [NAME ..]
 
@@ -131,7 +131,7 @@ def is_wanted(found, wanted):
 
 
 def faults_of(programs, words, row, files, out):
-    """Runs a command. Returns what is not as the row wants it, with this on standard output."""
+    """Runs a command. Returns what differs from the row, with this on standard output."""
     try:
         *texts, status, count = run(programs, words, row, files)
     except (OSError, subprocess.TimeoutExpired) as fault:

@@ -1,10 +1,12 @@
 #!/usr/bin/env python3
 """Lists what breaks the style of documents, one line each, and fails where something does: words of the old dialect,
-long sentences, numbers that differ from the constants that they name, and crates that crates.txt does not have.
+long sentences, numbers that differ from the constants that they name, crates that crates.txt does not have, and what
+`man --warnings` and `mandoc -T lint` report on manual pages, where they are installed.
 
-Words are looked for in README, CONTRIBUTING, docs/ and man/, and in the doc comments of crates/*/src/, but only in the
-files of CHECKED. Sentences are counted in README and man/, if CHECKED has them. Numbers and crates are looked for in
-all documents. Code marks, fenced code and examples of manual pages are no words.
+Words are looked for in README, CONTRIBUTING, docs/ and man/, in the doc comments of crates/*/src/, and in comments and
+doc strings of scripts/, but only in the files of CHECKED. Names of the old dialect are looked for in src/ and specs/.
+Sentences are counted in README and man/, if CHECKED has them. Numbers and crates are looked for in all documents. Code
+marks, fenced code and examples of manual pages are no words.
 
 usage: style.py [-a]
 
@@ -12,9 +14,15 @@ With -a the words of all files are looked for, whatever CHECKED says.
 """
 import collections
 import fnmatch
+import io
+import os
 import pathlib
 import re
+import shlex
+import shutil
+import subprocess
 import sys
+import tokenize
 
 sys.path.insert(0, str(pathlib.Path(__file__).resolve().parents[1]))  # scripts/, for what groups share
 from crates import in_order
@@ -33,7 +41,7 @@ CHECKED = (
     "README.md", "CONTRIBUTING.md", "docs/ARCHITECTURE.md", "docs/DECISIONS.md", "docs/DEFINITIONS.md",
     "docs/DEFINITIONS_ABNF.md", "docs/EMBEDDING.md", "docs/GLOSSARY.md", "docs/HOW_IT_WORKS.md",
     "docs/LARGE_INPUTS.md", "docs/PROVED.md", "docs/RELIABILITY.md", "man/*",
-    "docs/crates/*", *(f"crates/{it}/src/*" for it in SOURCES),
+    "docs/crates/*", "scripts/*", *(f"crates/{it}/src/*" for it in SOURCES),
 )
 # The words of the old dialect, each with the field's word.
 WORDS = (
@@ -51,12 +59,11 @@ WORDS = (
     (r"turns\s+(?:that|of|over)", "iterations"),
     (r"made\s+good", "retried"),
 )
+# Words of the old dialect in names, and the names of the standard library that have one.
+OLD_PART = re.compile(r"(?:^|_)(told|tells?|behind|spots?|deeds?|hops?|beginnings?)(?=_|$)")
+KIT_NAMES = {"eqb_tells", "handle_tells"}
 # What is agreed to be otherwise: a file, and the word as it stands there.
-AGREED = {
-    ("docs/GLOSSARY.md", "told"), ("docs/GLOSSARY.md", "refuse"), ("docs/GLOSSARY.md", "comes back to itself"),
-    # names of types and methods, in the comments by which pages.py writes contracts
-    
-}
+AGREED = set()
 LONGEST_SENTENCE = 35
 # A number that documents name: the file of its constant, how that stands there, and how documents say it.
 Limit = collections.namedtuple("Limit", "name file constant phrases")
@@ -98,6 +105,8 @@ STATUSES = (
     ("NoMemory", r"out\s+of\s+memory"),
 )
 CODES = re.compile(r"Status::(\w+) => (\d)")
+# What reports faults of a manual page on standard output.
+PAGE_CHECKS = ("man --warnings -E UTF-8 -l -Tutf8 -Z {} 2>&1 >/dev/null", "mandoc -T lint {} 2>&1")
 FENCED = re.compile(r"^```.*?^```", re.S | re.M)
 MARKED = re.compile(r"`[^`]*`")
 # Examples of a manual page, and words that it shows as they are typed or printed.
@@ -120,10 +129,33 @@ def comments(text):
     return re.sub(r"```.*?```", lambda found: re.sub(r"[^\n]", " ", found.group()), "\n".join(lines), flags=re.S)
 
 
+def script_comments(text):
+    """Returns the comments and doc strings of a script, with empty lines in place of its code."""
+    lines = [""] * (text.count("\n") + 1)
+    for token in tokenize.generate_tokens(io.StringIO(text).readline):
+        if token.type == tokenize.COMMENT or token.type == tokenize.STRING and token.string.startswith('"""'):
+            for number, line in enumerate(token.string.split("\n"), token.start[0] - 1):
+                lines[number] = line
+    return "\n".join(lines)
+
+
+def old_names(top):
+    """Yields each name of the old dialect in a source or a specification, with its file and line."""
+    for file in sorted([*top.glob("crates/*/src/**/*.rt"), *top.glob("crates/*/specs/**/*.antt")]):
+        mark = "--" if file.suffix == ".antt" else "//"
+        for number, line in enumerate(file.read_text().split("\n"), 1):
+            for name in re.findall(r"[A-Za-z_]\w*", re.sub(r'"[^"]*"', "", line.partition(mark)[0])):
+                parts = re.sub(r"(?<=[a-z])(?=[A-Z])", "_", name).lower()
+                if OLD_PART.search(parts) and name not in KIT_NAMES:
+                    yield f"{file.relative_to(top)}:{number}: the name `{name}` is of the old dialect"
+
+
 def prose(path, text):
     """Returns the words of a file as a reader meets them: without code marks, fenced code and examples."""
     if path.startswith("crates/"):
         return blanked(MARKED, comments(text))
+    if path.startswith("scripts/"):
+        return blanked(MARKED, script_comments(text))
     if path.startswith("man/"):
         return blanked(TYPED, blanked(EXAMPLE, text))
     return blanked(MARKED, blanked(FENCED, text))
@@ -223,10 +255,20 @@ def other_crates(path, text, crates):
             yield line_of(text, at), f"crates.txt has no crate {name}"
 
 
+def page_faults(file):
+    """Yields what `man` and `mandoc`, if they are installed, report on a manual page."""
+    for words in PAGE_CHECKS:
+        if shutil.which(words.split()[0]):
+            command = words.format(shlex.quote(str(file)))
+            environment = os.environ | {"MANWIDTH": "80", "LC_ALL": "C.UTF-8"}
+            ran = subprocess.run(command, shell=True, stdout=subprocess.PIPE, env=environment, check=False)
+            yield from ((1, it) for it in ran.stdout.decode(errors="replace").splitlines())
+
+
 def files(top):
-    """Returns the documents, and the sources whose doc comments are looked at."""
+    """Returns the documents, and the sources and scripts whose comments are looked at."""
     documents = [top / "README.md", top / "CONTRIBUTING.md", *top.glob("docs/**/*.md"), *top.glob("man/*")]
-    return sorted(documents), sorted(top.glob("crates/*/src/**/*.rt"))
+    return sorted(documents), sorted([*top.glob("crates/*/src/**/*.rt"), *top.glob("scripts/*/*.py")])
 
 
 def main(*words):
@@ -244,9 +286,14 @@ def main(*words):
             found += other_numbers(text, values)
             found += other_statuses(path, text, codes)
             found += other_crates(path, text, crates)
+        if path.startswith("man/"):
+            found += page_faults(file)
         for line, what in sorted(set(found)):
             print(f"{path}:{line}: {what}")
             wrong = 1
+    for line in old_names(TOP):
+        print(line)
+        wrong = 1
     return wrong
 
 

@@ -31,7 +31,7 @@ def judged_rule(words, grammar):
 
 
 def is_alike(example, copy):
-    """Runs an example by item sets, in a copy of its folder, and tells whether it ends as it must."""
+    """Runs an example by item sets, in a copy of its folder. Returns whether it ends as it must."""
     shutil.copytree(example, copy)
     file = next(copy.glob("*.abnf"))
     grammar = file.read_text()
@@ -39,8 +39,8 @@ def is_alike(example, copy):
     file.write_text(f"{grammar}{rule} =/ {UNSERVED}\n")
     path = f"{TOP / 'bin'}:{os.environ['PATH']}"
     run = subprocess.run(["sh", "run.sh"], cwd=copy, env={**os.environ, "PATH": path}, capture_output=True, check=False)
-    wanted = (read(example / "printed.txt", b""), read(example / "told.txt", b""), int(read(example / "status", b"0")))
-    return (run.stdout, run.stderr, run.returncode) == wanted
+    texts = (read(example / "printed.txt", b""), read(example / "reported.txt", b""))
+    return (run.stdout, run.stderr, run.returncode) == (*texts, int(read(example / "status", b"0")))
 
 
 def main():

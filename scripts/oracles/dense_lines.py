@@ -22,7 +22,7 @@ from random_abnf import grammar_text
 ABNFI = pathlib.Path(__file__).resolve().parents[2] / "bin/abnfi"
 
 
-def beginning(letters, line):
+def prefix(letters, line):
     """Returns how many letters at the front of the line are some of these."""
     return re.match(f"[{letters}]*", line).end()
 
@@ -49,7 +49,7 @@ def random_line(letters):
 
 def answer_to(line, letters, derives):
     """Returns the answer of `abnfi -w`."""
-    front = beginning(letters, line)
+    front = prefix(letters, line)
     return "yes" if front == len(line) and derives(line) else f"no {front}"
 
 
@@ -78,7 +78,7 @@ def random_grammar():
 
 
 def are_as_slow(rules):
-    """Tells whether abnfi answers lines of a grammar, short ones and long ones, as the slow answer does."""
+    """Returns whether abnfi answers lines of a grammar, short ones and long ones, as the slow answer does."""
     sizes = (1, 3, 7, random.randrange(100, 140), random.randrange(100, 140))
     lines = ["".join(random.choices("aab" + "q" * (random.random() < 0.1), k=it)) for it in sizes]
     text, given = grammar_text(random, rules), "".join(f"{it}\n" for it in lines).encode()
@@ -86,10 +86,11 @@ def are_as_slow(rules):
         file.write(text)
         file.flush()
         run = subprocess.run([ABNFI, file.name], input=given, capture_output=True, check=False)
-    out, told, status, _ = slow_abnf.answer(rules, given, 65536, None)
-    right = (run.stdout, run.stderr, run.returncode) == (out, told, status)
+    out, reported, status, _ = slow_abnf.answer(rules, given, 65536, None)
+    right = (run.stdout, run.stderr, run.returncode) == (out, reported, status)
     if not right:
-        print(f"{text!r}, {given!r}: {run.stdout!r}, {run.stderr!r}, {run.returncode}, not {out!r}, {told!r}, {status}")
+        print(f"{text!r}, {given!r}: {run.stdout!r}, {run.stderr!r}, {run.returncode}, "
+              f"not {out!r}, {reported!r}, {status}")
     return right
 
 

@@ -16,7 +16,7 @@ BIN = TOP / "bin"
 
 
 def listed(grammar, count):
-    """Returns the lines of a grammar, each with its end; none if the grammar is refused."""
+    """Returns the lines of a grammar, each with its end; none if the grammar is rejected."""
     words = [BIN / "abnfg", "-z", "-c", str(count), grammar]
     ran = subprocess.run(words, capture_output=True, check=False)
     return ran.stdout if ran.returncode in (0, 3) else b""

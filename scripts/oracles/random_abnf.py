@@ -6,7 +6,7 @@ LETTERS = b"abAB01"
 LARGE = [7, 65536, 4294967295]
 A, B, S = ("text", b"a", False), ("text", b"b", False), ("name", "s")
 EITHER = ("alt", [A, B])
-# Rules that come back to themselves at the end, at the front and inside, and rules of which many ways are open at once.
+# Rules that are recursive at the end, at the front and inside, and rules of which many ways are open at once.
 SHAPES = [
     [("s", False, ("alt", [("concat", [A, S]), A]))],
     [("s", False, ("alt", [("concat", [A, ("name", "t")]), A])), ("t", False, ("alt", [("concat", [B, S]), B]))],
@@ -111,7 +111,7 @@ def line(r, rules, judged, longest, is_utf8, end):
 
 
 def given(r, grammar_of, judged, count, longest, is_utf8, end=b"\n"):
-    """Returns an input of so many lines, most of them of at most so many bytes, each with that byte behind it."""
+    """Returns an input of so many lines, most of them of at most so many bytes, each with that byte after it."""
     rules = slow_abnf.Rules(grammar_of)
     first = judged or next(iter(rules.file))
     lines = [line(r, rules, first, longest, is_utf8, end) for _ in range(count)]

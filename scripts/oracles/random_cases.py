@@ -3,14 +3,14 @@
 
 usage: random_cases.py [-n COUNT] [-s SEED] [-u] [-w] [-z] [-k] [-p] [-q] [-b] [-1] [-x] [pegi | abnfi]
 
-A case is a unit that pegi tries, a line that abnfi judges, or a grammar that is refused. COUNT cases are compared, half
-of them by each program; 20000 if it is not given. Cases and their order follow from the seed alone. Prints how many
-cases were compared; at the first disagreement it prints the case and ends with status 1. A program that is not built is
-skipped. With -u half of the runs of abnfi have its option `-u utf8`; so it is with -w, -z and -k, and its options of
-these names. With -p most of them have its option `-p` or `-n`, with -q some its option `-q`, with -b half of them
-`--line-buffered`. With -1 a third of the runs of pegi have its option `-1`. With -x half of the runs of both have the
-option `-x`, half of these with what explains their notes, with hints (slow_notes.py, slow_hints.py), how the run of
-pegi stops (slow_stops.py), and refused lines (slow_refused.py), the others of a text with a fault (slow_faults.py): a
+A case is a unit that pegi tries, a line that abnfi judges, or a grammar that is rejected. COUNT cases are compared,
+half of them by each program; 20000 if it is not given. Cases and their order follow from the seed alone. Prints how
+many cases were compared; at the first disagreement it prints the case and ends with status 1. A program that is not
+built is skipped. With -u half of the runs of abnfi have its option `-u utf8`; so it is with -w, -z and -k, and its
+options of these names. With -p most of them have its option `-p` or `-n`, with -q some its option `-q`, with -b half of
+them `--line-buffered`. With -1 a third of the runs of pegi have its option `-1`. With -x half of the runs of both have
+the option `-x`, half of these with what explains their notes, with hints (slow_notes.py, slow_hints.py), how the run of
+pegi stops (slow_stops.py), and rejected lines (slow_refused.py), the others of a text with a fault (slow_faults.py): a
 grammar's, of which some bytes are changed.
 """
 import argparse
@@ -38,7 +38,7 @@ LINES = 40
 PIECES = [*(bytes([it]) for it in b"|=_-'\"[](){}/&!*+?<>%#;a9 \t\n\r"), b"::=", b"<-", b"4294967296", b"\r\n",
           b"\xC3\xA9", b"\xE2\x86\x90", b"\xEF\xBB\xBF", b"(" * 201, b"x " * 50]
 
-# A run: the words behind the grammar's name, the grammar's text, the input, and what is to come of it.
+# A run: the words after the grammar's name, the grammar's text, the input, and what is to come of it.
 Case = collections.namedtuple("Case", "words grammar given wanted count")
 
 
@@ -63,11 +63,11 @@ def explained(r, case, start, fault_of, notes_of, hints_of):
     if r.random() < 0.5:
         out, message, status = case.wanted
         notes, rest = parted(message)
-        told = notes_of(case.grammar, notes, start) + hints_of(case.grammar) + rest
-        return case._replace(words=words, wanted=(out, told, status))
+        reported = notes_of(case.grammar, notes, start) + hints_of(case.grammar) + rest
+        return case._replace(words=words, wanted=(out, reported, status))
     text = spoiled(r, case.grammar)
-    told = fault_of(text)
-    return told and Case(words, text, case.given, (b"", told.encode(), 2), 1)
+    reported = fault_of(text)
+    return reported and Case(words, text, case.given, (b"", reported.encode(), 2), 1)
 
 
 def peg_case(r, may):
@@ -85,8 +85,8 @@ def peg_case(r, may):
     case = Case(words, text, given, tuple(wanted), count)
     if "x" in may and r.random() < 0.5:
         out, message, status = wanted
-        behind = slow_stops.behind_stop(rules, given, limit, start, is_whole) if status in (1, 3) else b""
-        case = case._replace(wanted=(out, message + behind, status))
+        after = slow_stops.after_stop(rules, given, limit, start, is_whole) if status in (1, 3) else b""
+        case = case._replace(wanted=(out, message + after, status))
         return explained(r, case, start, slow_faults.peg, functools.partial(slow_notes.peg, grammar=rules),
                          functools.partial(slow_notes.peg_hints, grammar=rules))
     return case
@@ -122,7 +122,7 @@ def with_end(r, rules, end):
 
 
 def until_refused(given, answers, end):
-    """Returns the lines of an input up to the first that these answers refuse."""
+    """Returns the lines of an input up to the first that these answers reject."""
     for number, answer in enumerate(answers, 1):
         if answer != b"yes\n":
             return b"".join(it + end for it in given.split(end)[:number])[:len(given)]
@@ -157,7 +157,7 @@ def abnf_case(r, may):
         out, message, status = case.wanted
         if status != 2:
             notes, _ = slow_abnf.notes_on(slow_abnf.Rules(rules), judged)
-            message = notes + slow_refused.behind_notes(rules, seen, limit, judged, is_utf8, end, is_kept)
+            message = notes + slow_refused.after_notes(rules, seen, limit, judged, is_utf8, end, is_kept)
         hints = functools.partial(slow_hints.abnf_hints, start=judged, letters="utf8" if is_utf8 else "bytes",
                                   end=None if is_kept else end[0])
         case = case._replace(wanted=(out, message, status))

@@ -50,7 +50,7 @@ class Case:
         rule = r.choice([None, None, grammar[0][0]])
         self.is_utf8, self.end, self.count = r.random() < 0.5, r.choice([10, 10, 0]), r.choice([1, 2, 3, 5, 20])
         rules = slow_abnf.Rules(grammar)
-        self.told, self.is_refused = slow_abnf.notes_on(rules, rule)
+        self.reported, self.is_refused = slow_abnf.notes_on(rules, rule)
         self.lines, self.limit = [], 1
         if not self.is_refused:
             self.find_lines(rules, (rule or next(iter(rules.file))).upper(), r.choice([1, 2, 3, 8]))
@@ -72,11 +72,11 @@ class Case:
     def ended(self, out, err, status):
         """Returns how a run ended: a word, or nothing if something is wrong with it."""
         if self.is_refused:
-            return "refused" if (out, err, status) == (b"", self.told, 2) else None
+            return "refused" if (out, err, status) == (b"", self.reported, 2) else None
         if status == 3:
             is_part = self.output().startswith(out) and (not out or out[-1] == self.end)
-            return "too many stacks" if is_part and err == self.told + TOO_MANY else None
-        wanted = (self.output(), self.told, 0 if self.lines else 1)
+            return "too many stacks" if is_part and err == self.reported + TOO_MANY else None
+        wanted = (self.output(), self.reported, 0 if self.lines else 1)
         return ("lines" if self.lines else "no line") if (out, err, status) == wanted else None
 
 
@@ -100,8 +100,8 @@ def main():
             if how is None:
                 print(f"grammar {number}: abnfg {' '.join(case.words)}: {ran}\n{case.text}\nwanted: {case.output()}")
                 return 1
-    told = ", ".join(f"{count} ({what})" for what, count in counts.most_common())
-    print(f"{asked.n} grammars listed: {told}")
+    reported = ", ".join(f"{count} ({what})" for what, count in counts.most_common())
+    print(f"{asked.n} grammars listed: {reported}")
     return 0
 
 

@@ -53,7 +53,7 @@ def like(r, grammar):
 
 
 def is_derived(rules, text, key, line, is_utf8, folder):
-    """Tells whether abnfi says that a rule derives a line. Where both of its ends stand in the line, the slow answer
+    """Returns whether abnfi says that a rule derives a line. Where both of its ends stand in the line, the slow answer
     says it."""
     ends = [it for it in (b"\n", b"\0") if it not in line]
     if not ends:
@@ -73,7 +73,7 @@ class Side:
         self.name, self.text = name, random_abnf.grammar_text(r, grammar)
         self.rules = slow_abnf.Rules(grammar)
         notes, self.is_refused = slow_abnf.notes_on(self.rules, rule)
-        self.told = b"".join(b"%s: %s" % (name, it) for it in notes.splitlines(keepends=True))
+        self.reported = b"".join(b"%s: %s" % (name, it) for it in notes.splitlines(keepends=True))
         self.key = (rule or next(iter(self.rules.file))).upper()
 
     def bodies(self):
@@ -107,8 +107,8 @@ def fault_of_alone(found, mine, others, is_utf8, folder, first, longest):
 
 def fault_of(old, new, is_utf8, ran, folder):
     """Returns what is wrong with a run, if something is, and what was known of both sides."""
-    if ran.stderr != old.told + new.told:
-        return f"messages: {old.told + new.told}", ()
+    if ran.stderr != old.reported + new.reported:
+        return f"messages: {old.reported + new.reported}", ()
     if old.is_refused or new.is_refused:
         return None if (ran.stdout, ran.returncode) == (b"", 2) else "a grammar is refused", ("refused",)
     letters = samples(old.bodies() + new.bodies(), is_utf8)
@@ -158,8 +158,8 @@ def main():
             if fault:
                 print(f"pair {number}: abnfd {' '.join(options)}: {fault}\n{ran}\nold: {old.text}\nnew: {new.text}")
                 return 1
-    told = ", ".join(f"{count} ({what})" for what, count in counts.most_common())
-    print(f"{asked.n} pairs compared: {told}")
+    reported = ", ".join(f"{count} ({what})" for what, count in counts.most_common())
+    print(f"{asked.n} pairs compared: {reported}")
     return 0
 
 

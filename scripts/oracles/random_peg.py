@@ -88,12 +88,12 @@ def byte_text(r, byte, quoted):
 
 
 def bytes_text(r, letters):
-    # a digit behind an octal or hexadecimal escape of fewer digits would belong to it: all have their full length
+    # a digit after an octal or hexadecimal escape of fewer digits would belong to it: all have their full length
     return r.choice("'\"").join(["", "".join(byte_text(r, it, "'\"") for it in letters), ""])
 
 
 def set_text(r, members):
-    """Returns a class, by single bytes, or by the others behind `^`."""
+    """Returns a class, by single bytes, or by the others after `^`."""
     others = frozenset(range(256)) - members
     front, some = ("^", others) if len(others) < len(members) else ("", members)
     return "[" + front + "".join(byte_text(r, it, "-^[]") for it in sorted(some)) + "]"
@@ -104,7 +104,7 @@ def blank(r):
 
 
 def needs_brackets(e, within):
-    """Tells whether an expression needs brackets in the form round it: body, choice, seq, suffix, prefix, or and."""
+    """Returns whether an expression needs brackets in the form round it: body, choice, seq, suffix, prefix, or and."""
     kind = e[0]
     if within == "body":
         return False
@@ -114,7 +114,7 @@ def needs_brackets(e, within):
         return within in ("suffix", "prefix", "and")
     if kind in ("star", "plus", "opt"):
         return within == "suffix" or within == "and" and e[1][0] == "act"
-    # an action right behind `&` would be a code predicate
+    # an action right after `&` would be a code predicate
     return kind == "choice" or kind == "act" and within == "and"
 
 

@@ -1,8 +1,8 @@
 #!/usr/bin/env python3
 """Makes random texts in the manner of RFCs, of rules, prose, pages, fenced blocks and tags, and texts in XML, and
 compares what abnfx writes of them with what slow_abnfx.py works out, and its canonical text with what `abnfi -m print`
-prints of the grammar, unless abnfi refuses that. A grammar that is too long is tried too, and so are words and files
-that it refuses.
+prints of the grammar, unless abnfi rejects that. A grammar that is too long is tried too, and so are words and files
+that it rejects.
 
 usage: random_texts.py [-n TEXTS] [-s SEED]
 
@@ -20,7 +20,7 @@ import slow_abnfx
 
 BIN = pathlib.Path(__file__).resolve().parents[2] / "bin"
 ABNFX, ABNFI = BIN / "abnfx", BIN / "abnfi"
-# What is told of both flags together.
+# The message on both flags together.
 BOTH = (b"error: the argument '-l' cannot be used with '-c'\n\nUsage: abnfx [OPTIONS] <TEXT>...\n\n"
         b"For more information, try '--help'.\n")
 # Two texts that read, whose grammar has more than 1048576 bytes.
@@ -138,17 +138,17 @@ class Trials:
         for name, bytes_of in texts:
             (self.folder / name).write_bytes(bytes_of)
 
-    def expect(self, texts, option, want, told, status):
+    def expect(self, texts, option, want, reported, status):
         command = [ABNFX, *option, *(it for it, _ in texts)]
         ran = subprocess.run(command, cwd=self.folder, capture_output=True, check=False)
         out = ran.stdout if want is None else want
-        if (ran.stdout, ran.stderr, ran.returncode) != (out, told, status):
+        if (ran.stdout, ran.stderr, ran.returncode) != (out, reported, status):
             self.wrong += 1
             print(f"{option}: {str(texts)[:2000]}\nwrites {ran.stdout}\nwanted {want}\n"
-                  f"tells {ran.stderr}\nwanted {told}\nstatus {ran.returncode}, wanted {status}")
+                  f"tells {ran.stderr}\nwanted {reported}\nstatus {ran.returncode}, wanted {status}")
 
     def canonical(self, grammar):
-        """Returns the canonical text of a grammar, as abnfi prints it; None if it refuses the grammar."""
+        """Returns the canonical text of a grammar, as abnfi prints it; None if it rejects the grammar."""
         if not grammar:
             return grammar
         (self.folder / "grammar").write_bytes(grammar)
@@ -163,7 +163,7 @@ class Trials:
         self.expect(LONG, ["-l"], listed.encode(), b"", 0)
 
     def refusals(self):
-        """Words and files of which nothing is joined: the first file that is not had is told."""
+        """Words and files of which nothing is joined: the first file that cannot be read is reported."""
         text, long_text, none = ("t.txt", b'a = "x"\n'), ("long.txt", b" " * 16777217), ("none.txt", b"")
         self.put([text, long_text])
         for option in (["-c", "-l"], ["-l", "-c"], ["-lc"]):
@@ -187,11 +187,11 @@ def main():
         for _ in range(words.n):
             texts = [(f"t{it}.txt", made.choice((text, text, xml))(made)) for it in range(made.choice((1, 1, 2, 3)))]
             trials.put(texts)
-            grammar, listed, told, status = slow_abnfx.joined(texts)
-            trials.expect(texts, [], grammar, told.encode(), status)
-            trials.expect(texts, ["-l"], listed.encode(), told.encode(), status)
+            grammar, listed, reported, status = slow_abnfx.joined(texts)
+            trials.expect(texts, [], grammar, reported.encode(), status)
+            trials.expect(texts, ["-l"], listed.encode(), reported.encode(), status)
             if ABNFI.exists():
-                trials.expect(texts, ["-c"], trials.canonical(grammar), told.encode(), status)
+                trials.expect(texts, ["-c"], trials.canonical(grammar), reported.encode(), status)
     print(f"texts: {words.n} cases, {trials.wrong} wrong")
     return 1 if trials.wrong else 0
 

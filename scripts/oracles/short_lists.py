@@ -1,4 +1,4 @@
-"""The short lists of letters that the rules of a grammar (slow_abnf.py) derive, as sets, and their order."""
+"""The short lists of symbols that the rules of a grammar (slow_abnf.py) derive, as sets, and their order."""
 import collections
 
 import slow_abnf
@@ -24,7 +24,7 @@ def bounds_in(e):
 
 
 def is_taken(e, letter):
-    """Tells whether a part of the element takes a letter."""
+    """Returns whether a part of the element takes a letter."""
     return any(
         it[0] == "text" and any(slow_abnf.lower(c) == slow_abnf.lower(letter) for c in it[1])
         or it[0] == "values" and letter in it[1] or it[0] == "range" and it[1] <= letter <= it[2]

@@ -3,7 +3,7 @@ RFC 7405) and the notes on a grammar. It shares nothing with the crates.
 
 An element is a tuple: ("text", b, is_case_sensitive), ("values", [v ..]), ("range", a, b), ("concat", [e ..]),
 ("alt", [e ..]), ("rep", a, b or None, e), ("opt", e), ("name", n), ("prose", text). A grammar is a list of
-(name, adds, element), where `adds` tells whether the rule is given by `=/`.
+(name, adds, element), where `adds` says whether the rule is given by `=/`.
 """
 
 
@@ -102,7 +102,7 @@ def reached(rules, judged):
 
 
 def notes_on(rules, judged):
-    """Returns the lines of the notes on a grammar, and whether it is refused."""
+    """Returns the lines of the notes on a grammar, and whether it is rejected."""
     first = judged or next(iter(rules.file))
     uses = ([judged] if judged else []) + [it for body in rules.all.values() for it in names_in(body)]
     undefined, used = {}, set()
@@ -129,7 +129,7 @@ def lower(letter):
 
 def letters_of(line, is_utf8):
     """Returns the letters of a line, its bytes or its code points, and whether it is UTF-8 where it has to be; where it
-    is not, they are those of its longest beginning that is.
+    is not, they are those of its longest prefix that is.
     """
     if not is_utf8:
         return list(line), True
@@ -140,15 +140,15 @@ def letters_of(line, is_utf8):
 
 
 def is_letter(value, is_utf8):
-    """Tells whether a value is that of a letter: of a byte, or of a code point outside the surrogates."""
+    """Returns whether a value is that of a letter: of a byte, or of a code point outside the surrogates."""
     return value < 0xD800 or 0xE000 <= value < 0x110000 if is_utf8 else value < 0x100
 
 
 class Deriver:
-    """Which parts of a list of letters the rules derive. A set of places is a number whose bits are the places.
+    """Which parts of a list of symbols the rules derive. A set of places is a number whose bits are the places.
 
-    If more letters may follow, `may_follow` tells whether one of the values of a range is a letter, and the last place
-    stands for all behind it.
+    If more letters may follow, `may_follow` says whether one of the values of a range is a letter, and the last place
+    stands for all after it.
     """
 
     def __init__(self, rules, line, may_follow=None):
@@ -157,13 +157,13 @@ class Deriver:
         self.ends = {}
 
     def derives(self, key):
-        """Tells whether the rule derives the line, or one that begins with it: the least sets, by rounds until none
+        """Returns whether the rule derives the line, or one that begins with it: the least sets, by rounds until none
         grows."""
         self.ends = {it: [0] * (self.size + 1) for it in self.wanted(key)}
         while True:
             before = {it: list(rows) for it, rows in self.ends.items()}
             for it in self.ends:
-                self.ends[it] = [self.behind(self.rules[it], 1 << place) for place in range(self.size + 1)]
+                self.ends[it] = [self.after(self.rules[it], 1 << place) for place in range(self.size + 1)]
             if before == self.ends:
                 return bool(self.ends[key][0] >> self.size & 1)
 
@@ -176,64 +176,64 @@ class Deriver:
                 left += [other.upper() for other in names_in(self.rules[it])]
         return found
 
-    def behind(self, e, places):
+    def after(self, e, places):
         """Returns where a string of the element may end that begins at one of the places."""
-        return getattr(self, "behind_" + e[0])(e, places) if places else 0
+        return getattr(self, "after_" + e[0])(e, places) if places else 0
 
     def over(self, places, low, high, test):
-        """Returns the places behind a letter from `low` to `high` that meets the test."""
+        """Returns the places after a letter from `low` to `high` that meets the test."""
         ends = 1 << self.size if places >> self.size & 1 and self.may_follow(low, high) else 0
         for place in range(self.size):
             if places >> place & 1 and test(self.line[place]):
                 ends |= 1 << place + 1
         return ends
 
-    def behind_text(self, e, places):
+    def after_text(self, e, places):
         _, letters, exact = e
         for c in letters:
             places = self.over(places, c, c, lambda b, c=c: b == c or not exact and lower(b) == lower(c))
         return places
 
-    def behind_values(self, e, places):
+    def after_values(self, e, places):
         for v in e[1]:
             places = self.over(places, v, v, lambda b, v=v: b == v)
         return places
 
-    def behind_range(self, e, places):
+    def after_range(self, e, places):
         return self.over(places, e[1], e[2], lambda b: e[1] <= b <= e[2])
 
-    def behind_concat(self, e, places):
+    def after_concat(self, e, places):
         for part in e[1]:
-            places = self.behind(part, places)
+            places = self.after(part, places)
         return places
 
-    def behind_alt(self, e, places):
+    def after_alt(self, e, places):
         ends = 0
         for part in e[1]:
-            ends |= self.behind(part, places)
+            ends |= self.after(part, places)
         return ends
 
-    def behind_opt(self, e, places):
-        return places | self.behind(e[1], places)
+    def after_opt(self, e, places):
+        return places | self.after(e[1], places)
 
-    def behind_rep(self, e, places):
+    def after_rep(self, e, places):
         _, least, most, part = e
         if most is not None and most < least:
             return 0
         for _ in range(least):
-            before, places = places, self.behind(part, places)
+            before, places = places, self.after(part, places)
             if places == before:  # as after each further turn
                 break
         ends, turn = places, least
         while most is None or turn < most:
-            places = self.behind(part, places)
+            places = self.after(part, places)
             turn += 1
-            if places | ends == ends:  # and so behind each further turn
+            if places | ends == ends:  # and so after each further turn
                 break
             ends |= places
         return ends
 
-    def behind_name(self, e, places):
+    def after_name(self, e, places):
         ends, rows = 0, self.ends[e[1].upper()]
         for place in range(self.size + 1):
             if places >> place & 1:
@@ -259,20 +259,20 @@ def lines_of(given, end, is_kept):
 
 
 def answer(grammar, given, limit, judged, is_utf8=False, is_viable=False, end=b"\n", is_kept=False):
-    """Returns the output, the error output, the status, and how many lines were judged; refusals are one."""
+    """Returns the output, the error output, the status, and how many lines were judged; a rejected grammar is one."""
     rules = Rules(grammar)
-    told, refused = notes_on(rules, judged)
+    reported, refused = notes_on(rules, judged)
     if refused:
-        return b"", told, 2, 1
+        return b"", reported, 2, 1
     key = (judged or next(iter(rules.file))).upper()
     lines = list(lines_of(given, end, is_kept))
     out, status = [], 0
     for number, (line, size) in enumerate(lines, 1):
         if size > limit:
-            return b"".join(out), told + b"line %d longer than %d bytes\n" % (number, limit), 3, number
+            return b"".join(out), reported + b"line %d longer than %d bytes\n" % (number, limit), 3, number
         letters, is_text = letters_of(line, is_utf8)
         yes = is_text and Deriver(rules, letters).derives(key)
         no = b"no %d\n" % furthest(rules, letters, key, is_utf8) if is_viable and not yes else b"no\n"
         out.append(b"yes\n" if yes else no)
         status = status if yes else 1
-    return b"".join(out), told, status, max(1, len(lines))
+    return b"".join(out), reported, status, max(1, len(lines))

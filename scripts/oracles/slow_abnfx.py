@@ -29,7 +29,7 @@ def is_indented(line):
 
 
 def kind(line, has_feed):
-    """Returns what a line looks like behind its form feeds."""
+    """Returns what a line looks like after its form feeds."""
     bare = line.rstrip(BLANKS)
     if not bare:
         return "feed" if has_feed else "blank"
@@ -215,16 +215,16 @@ def fault(some):
     text = b"".join(line[min(size, margin(line)):] + b"\n" for _, line, _ in some)
     if len(text) > MAX_GRAMMAR:
         return "grammar too long"
-    told = slow_faults.abnf(text)
-    return told and told.partition("\n")[0]
+    reported = slow_faults.abnf(text)
+    return reported and reported.partition("\n")[0]
 
 
 def is_cut(some, count):
     """Returns whether the rule that has these lines can end after so many of them."""
     if some[count - 1][2] == "blank":
         return False
-    behind = [it for it in some[count:] if it[2] != "blank"]
-    return not behind or some[count][2] == "blank" and behind[0][1].lstrip(MARGINS)[:1] != b"/"
+    after = [it for it in some[count:] if it[2] != "blank"]
+    return not after or some[count][2] == "blank" and after[0][1].lstrip(MARGINS)[:1] != b"/"
 
 
 def cuts(some):
@@ -244,7 +244,7 @@ def tokens_of(text):
 
 
 def folded(tokens):
-    """Returns the tokens in small letters, but for prose and texts behind `%s`; `%i` says nothing."""
+    """Returns the tokens in small letters, but for prose and texts after `%s`; `%i` says nothing."""
     found, is_exact = [], False
     for it in tokens:
         found.append(it if it.startswith(b"<") or is_exact else re.sub(rb"%i$", b"", it.lower()))
@@ -273,7 +273,7 @@ class Rule:
         self.name, self.key = tokens[0].decode(), tokens[0].lower()
         self.adds = tokens[2] == b"/"
         self.body = folded(tokens[2 + self.adds:])
-        # the names that it uses, each with its line: what stands behind a repeat, but the name of the rule itself
+        # the names that it uses, each with its line: what stands after a repeat, but the name of the rule itself
         self.uses = [(number, REPEAT.sub(b"", it, count=1)) for number, line in self.rows for it in tokens_of(line)][1:]
         self.uses = [(number, it) for number, it in self.uses if NAME.fullmatch(it)]
 
@@ -291,7 +291,7 @@ class Rule:
         return f"{self.text}:{self.first}"
 
     def is_same(self, other):
-        """Tells whether the tokens are the same. Rules in brackets that say no more are not compared by this."""
+        """Returns whether the tokens are the same. Rules in brackets that say no more are not compared by this."""
         alike = self.adds == other.adds and self.is_prose == other.is_prose
         return alike and self.key == other.key and self.body == other.body
 
@@ -307,7 +307,7 @@ def in_text(why, some):
 
 def found(name, text):
     """Returns for each line of a text that begins a rule the rule, or its number and the fault."""
-    bare, told = text.removeprefix(b"\xEF\xBB\xBF"), []
+    bare, reported = text.removeprefix(b"\xEF\xBB\xBF"), []
     if is_xml(bare):
         shown = kept(lines(xml_text(bare)))
         rest = without(shown, [it.span() for it in TAG.finditer(text_of(shown))])
@@ -318,13 +318,13 @@ def found(name, text):
             some = rest[place:place + size_of(rest[place:])]
             read = [it for it in cuts(some) if fault(some[:it]) is None]
             if read:
-                behind = rest[place + read[-1]:]
-                blanks = next((it for it, row in enumerate(behind) if row[2] != "blank"), len(behind))
-                told.append(Rule(name, some[:read[-1]], blanks))
+                after = rest[place + read[-1]:]
+                blanks = next((it for it, row in enumerate(after) if row[2] != "blank"), len(after))
+                reported.append(Rule(name, some[:read[-1]], blanks))
             else:
                 whole = some[:cuts(some)[-1]]
-                told.append((number, in_text(fault(whole), whole)))
-    return told
+                reported.append((number, in_text(fault(whole), whole)))
+    return reported
 
 
 def given(name, text):
@@ -346,12 +346,12 @@ def fates(rules):
 
 
 def joined(texts):
-    """Returns the grammar that texts make up, the list of their rules, what is told, and the status."""
-    rules, told = [], ""
+    """Returns the grammar that texts make up, the list of their rules, the messages, and the status."""
+    rules, reported = [], ""
     for name, text in texts:
         more, said = given(name, text)
-        rules, told = rules + more, told + said
-    is_faulty = told != ""
+        rules, reported = rules + more, reported + said
+    is_faulty = reported != ""
     known = {it.key for it in rules} | set(CORE)
     for it in rules:
         it.lose_brackets(known)
@@ -363,7 +363,8 @@ def joined(texts):
         if not it.adds:
             first.setdefault(it.key, it)
     clashes = [it for it in stand if not it.adds and first[it.key] is not it]
-    told += "".join(f"{it.place()}: '{it.name}' is defined otherwise at {first[it.key].place()}\n" for it in clashes)
+    for it in clashes:
+        reported += f"{it.place()}: '{it.name}' is defined otherwise at {first[it.key].place()}\n"
     order = []
     for number, it in enumerate(stand):
         if not it.adds:
@@ -383,14 +384,14 @@ def joined(texts):
         for number, name in it.uses:
             if name.lower() not in known:
                 known.add(name.lower())
-                told += f"{it.text}:{number}: '{name.decode()}' is not defined\n"
+                reported += f"{it.text}:{number}: '{name.decode()}' is not defined\n"
     status = 1 if is_faulty or clashes or not stand else 0
-    return grammar, listed, told + ("" if stand else "no rules found\n"), status
+    return grammar, listed, reported + ("" if stand else "no rules found\n"), status
 
 
-def shown(told):
+def shown(reported):
     return "".join(f"{it.first}-{it.last} {it.name}\n" if isinstance(it, Rule) else f"{it[0]} not ABNF: {it[1]}\n"
-                   for it in told)
+                   for it in reported)
 
 
 def main():

@@ -1,6 +1,6 @@
 """Slow answers to what is wrong with a grammar's text, and the lines that explain it.
 
-The tokens of a text are found by regular expressions, and what can stand behind them by Earley's sets over a grammar of
+The tokens of a text are found by regular expressions, and what can stand after them by Earley's sets over a grammar of
 their kinds: a kind can stand exactly if an item of the last set reads it next, since each symbol derives something.
 """
 import collections
@@ -51,7 +51,7 @@ class Prefixes:
         return any(it.kind == kind and it.gap in (None, gap) and it.first == first for it in self.next_terminals())
 
     def read(self, token):
-        """Goes on behind a token that can stand."""
+        """Goes on after a token that can stand."""
         self.close({(n, b, d + 1, o) for n, b, d, o in self.sets[-1] if d < len(b) and isinstance(b[d], Reads)
                     and b[d].kind == token.kind and b[d].gap in (None, token.gap) and b[d].first == token.first})
 
@@ -168,8 +168,8 @@ def tokens_of(text, white, kinds, has_actions):
             ends.append((end, "Action"))
         kind = "End" if start == len(text) else "Bad"
         at, kind = max(ends, default=(len(text), kind))
-        behind = found[-1].start + len(found[-1].text) if found else 0
-        found.append(Token(kind, start, text[start:at], start > behind))
+        after = found[-1].start + len(found[-1].text) if found else 0
+        found.append(Token(kind, start, text[start:at], start > after))
         if kind in ("End", "Bad"):
             return found
 
@@ -195,7 +195,7 @@ def shown(text):
 
 
 def place(text, token, line_end):
-    """Returns the picture of a token's place, and the beginning of what is told of it."""
+    """Returns the picture of a token's place, and the first bytes of the report on it."""
     if token.kind == "End":
         return "  at the end of the text: "
     before = len(re.split(line_end, text[:token.start])[-1])
@@ -216,11 +216,11 @@ def expected(prefixes, phrases):
 def bad_fact(token, text, facts):
     if token.kind != "Bad":
         return ""
-    return next((f"  {told}\n" for front, told in facts if text.startswith(front, token.start)), "")
+    return next((f"  {reported}\n" for front, reported in facts if text.startswith(front, token.start)), "")
 
 
 def peg_point(front):
-    """Returns what is told of the code point that these bytes begin with, or None."""
+    """Returns the report on the code point that these bytes begin with, or None."""
     for points, words in ((range(0x2018, 0x2020), "is a curly quote: literals stand in ' or \""),
                           ([*range(0x2010, 0x2016), 0x2212], 'is a dash: write "-"'),
                           ([0xA0, *range(0x2000, 0x200C), 0x202F, 0x3000], "is no white space: write a space"),
@@ -238,8 +238,8 @@ def peg_mistake(text, tokens, number):
         return ""
     if text[:2] in (b"\xFF\xFE", b"\xFE\xFF") or b"\0" in text[:2]:
         return "  the text is UTF-16, not UTF-8\n"
-    if told := peg_point(text[token.start:]):
-        return f"  {told}\n"
+    if reported := peg_point(text[token.start:]):
+        return f"  {reported}\n"
     before = tokens[number - 1]
     if number > 1 and before.kind == "Ident" and not token.gap and re.match(rb":[A-Za-z_]", text[token.start:]):
         return '  "name:element" is of leg(1)\n'
@@ -247,7 +247,7 @@ def peg_mistake(text, tokens, number):
 
 
 def is_large(token):
-    """Tells whether a number of a token of ABNF is over its limit."""
+    """Returns whether a number of a token of ABNF is over its limit."""
     if token.kind == "Repeat":
         return any(int(it) > MAX_NUMBER for it in re.findall(rb"[0-9]+", token.text))
     base = {b"x": 16, b"d": 10, b"b": 2}.get(token.text[1:2].lower())
@@ -260,15 +260,15 @@ def opens(token):
 
 
 def peg(text):
-    """Returns what is told of the fault of a grammar for pegi, and explains it; None if it has none."""
+    """Returns the report on the fault of a grammar for pegi, and explains it; None if it has none."""
     tokens, prefixes, depth = tokens_of(text, PEG_WHITE, PEG_TOKENS, True), Prefixes(PEG_RULES), 0
     for number, token in enumerate(tokens):
         line = len(re.findall(rb"\r\n|\r|\n", text[:token.start])) + 1
         where = place(text, token, rb"\r\n|\r|\n")
         if not prefixes.can_stand(token.kind, False, False):
             is_code = token.kind == "Action" and number > 0 and tokens[number - 1].kind == "Amp"
-            told = f"line {line}: " + ("code predicate\n" if is_code else "syntax error\n")
-            return told + where + expected(prefixes, PEG_PHRASES) + peg_mistake(text, tokens, number)
+            reported = f"line {line}: " + ("code predicate\n" if is_code else "syntax error\n")
+            return reported + where + expected(prefixes, PEG_PHRASES) + peg_mistake(text, tokens, number)
         depth += opens(token)
         if depth > MAX_OPEN:
             return f"line {line}: nested too deeply\n{where}200 brackets are open before it\n"
@@ -277,7 +277,7 @@ def peg(text):
 
 
 def line_facts(text, tokens, number):
-    """Returns what is told of a token of ABNF by where its line, and that of the first token, begin."""
+    """Returns the report on a token of ABNF by where its line, and that of the first token, begin."""
     token, margin, facts = tokens[number], indent(text, tokens[0].start), ""
     if token.first and number > 0:
         facts += f"  its line begins a rule: it is indented by {indent(text, token.start)}, the first by {margin}\n"
@@ -317,9 +317,9 @@ def mistake(text, tokens, number):
         return "elements have white space between them"
     if bad and ahead[0] >= 0x80:
         point = next((it for size in (2, 3) if (it := ahead[:size].decode(errors="replace")) != "\ufffd"), "\ufffd")
-        for those, told in POINTS:
+        for those, reported in POINTS:
             if re.match(f"[{those}]", point):
-                return f"U+{ord(point[0]):04X} is {told}"
+                return f"U+{ord(point[0]):04X} is {reported}"
     if bad and tight and ahead[:1] == b"+" and before and was == "Name" and before.text in (b"U", b"u"):
         return "a code point is written %x41"
     if bad and was in ("Num", "Text") and re.match(rb'-[ \t]*[%"0-9A-Fa-f]|\.\.', ahead):
@@ -330,15 +330,15 @@ def mistake(text, tokens, number):
 
 
 def abnf(text):
-    """Returns what is told of the fault of a grammar for abnfi, and explains it; None if it has none."""
+    """Returns the report on the fault of a grammar for abnfi, and explains it; None if it has none."""
     tokens, prefixes, depth = tokens_of(text, ABNF_WHITE, ABNF_TOKENS, False), Prefixes(ABNF_RULES), 0
     tokens = marked(text, tokens)
     for number, token in enumerate(tokens):
         line, where = text.count(b"\n", 0, token.start) + 1, place(text, token, rb"\r?\n")
         if not prefixes.can_stand(token.kind, token.gap, token.first):
-            told = mistake(text, tokens, number)
+            reported = mistake(text, tokens, number)
             facts = bad_fact(token, text, ABNF_FACTS) + line_facts(text, tokens, number)
-            facts = f"  {told}\n" if told else facts
+            facts = f"  {reported}\n" if reported else facts
             return f"line {line}: syntax error\n{where}{expected(prefixes, ABNF_PHRASES)}{facts}"
         if is_large(token):
             return f"line {line}: number too large\n{where}above 4294967295\n"

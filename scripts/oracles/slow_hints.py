@@ -1,7 +1,7 @@
 """Slow answers to which hints there are on a grammar in ABNF. It shares nothing with the crates.
 
-Whether a rule derives something, and whether it does without a letter, is told by how few letters it derives: the least
-sums, by rounds until none changes.
+Whether a rule derives something, and whether it does without a letter, is decided by how few letters it derives: the
+least sums, by rounds until none changes.
 """
 import math
 import re
@@ -122,11 +122,11 @@ def fewest_of(rules, is_letter):
 
 
 def is_whole(rules, key):
-    """Tells whether a rule reaches no prose, and no name that no rule has."""
+    """Returns whether a rule reaches no prose, and no name that no rule has."""
     return all(it in rules.all and not slow_abnf.has_prose(rules.all[it]) for it in slow_abnf.reached(rules, key))
 
 
-def told(some):
+def reported(some):
     return "".join(some[:HINTS]) + (f"  and {len(some) - HINTS} more\n" if len(some) > HINTS else "")
 
 
@@ -149,17 +149,17 @@ def abnf_hints(text, start, letters, end):
     judged = (start or next(iter(rules.file))).upper()
     spared = fewest_of(rules.all, lambda it: slow_abnf.is_letter(it, is_utf8) and it != end)
     last = ""
-    may_be_told = end is not None and judged in rules.all
-    if may_be_told and some[judged] < math.inf == spared[judged] and is_whole(rules, judged):
+    may_be_reported = end is not None and judged in rules.all
+    if may_be_reported and some[judged] < math.inf == spared[judged] and is_whole(rules, judged):
         last = (f"rule '{cut(rules.spelled.get(judged, judged).encode())}' derives no line\n"
                 f"  all that it derives holds %x{end:02X}\n"
                 + ("  with -z, records end with %x00 and may hold %x0A\n" if end == 10 else ""))
-    return (told(barren) + told(turned) + last).encode("latin-1")
+    return (reported(barren) + reported(turned) + last).encode("latin-1")
 
 
 def places(text):
     """Yields the names that are defined, each with its line."""
     tokens = slow_faults.tokens_of(text, slow_faults.ABNF_WHITE, slow_faults.ABNF_TOKENS, False)
-    for token, behind in zip(tokens, tokens[1:]):
-        if token.kind == "Name" and behind.kind in ("Is", "Adds"):
+    for token, after in zip(tokens, tokens[1:]):
+        if token.kind == "Name" and after.kind in ("Is", "Adds"):
             yield token.text.decode(), text[:token.start].count(b"\n") + 1

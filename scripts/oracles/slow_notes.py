@@ -24,10 +24,10 @@ class Places:
 
     def __init__(self, text, tokens, signs, line_end, key):
         self.key, self.named, self.bodies, self.repeats, self.literals, within = key, {}, {}, {}, {}, None
-        for token, behind in zip(tokens, tokens[1:]):
+        for token, after in zip(tokens, tokens[1:]):
             line = len(re.findall(line_end, text[:token.start])) + 1
-            if token.kind in ("Ident", "Name") and behind.kind in signs:
-                within = self.begin(token.text, line, behind.kind == "Adds")
+            if token.kind in ("Ident", "Name") and after.kind in signs:
+                within = self.begin(token.text, line, after.kind == "Adds")
             elif token.kind in ("Ident", "Name", "Prose") and within is not None:
                 self.bodies[within].append((token.kind == "Prose", token.text, line))
             elif token.kind in ("Star", "Plus") and within is not None:
@@ -44,12 +44,12 @@ class Places:
 
     def definitions(self, kind, name):
         (first, line, _), *others = self.named[self.key(name)]
-        told = f"  line {line}: '{cut(first)}' "
+        reported = f"  line {line}: '{cut(first)}' "
         if kind != "redefined":
-            return told + ("begins with \"=/\"\n" if kind == "early" else "is defined\n")
+            return reported + ("begins with \"=/\"\n" if kind == "early" else "is defined\n")
         others = [(name, line) for name, line, adds in others if not adds]
         more = "".join(f"  line {line}: '{cut(name)}' is defined again\n" for name, line in others[:AGAIN])
-        return told + "is defined\n" + more + (f"  and {len(others) - AGAIN} more\n" if len(others) > AGAIN else "")
+        return reported + "is defined\n" + more + (f"  and {len(others) - AGAIN} more\n" if len(others) > AGAIN else "")
 
     def use(self, name, start):
         if start is not None and self.key(start) == self.key(name):
@@ -64,7 +64,7 @@ class Places:
         return f"  line {line}: {cut(word)}\n"
 
     def lines_on(self, kind, name, start):
-        """Returns the lines behind a note."""
+        """Returns the lines after a note."""
         if kind == "undefined":
             return self.use(name, start)
         return self.prose(name) if kind == "prose" else self.definitions(kind, name)
@@ -125,13 +125,13 @@ def first_that_takes(alternatives, later):
                  and slow_peg.Matcher({}, first[1]).match(it, 0) is not None), None)
 
 
-def literals(e, behind=None):
-    """Yields the literals in an expression, each with that behind which its alternative is never taken."""
+def literals(e, after=None):
+    """Yields the literals in an expression, each with that after which its alternative is never taken."""
     if e[0] == "bytes":
-        yield e[1], behind
+        yield e[1], after
     for number, part in enumerate(slow_peg.parts(e)):
         before = first_that_takes(e[1][:number], part) if e[0] == "choice" else None
-        yield from literals(part, behind if e[0] == "seq" and number == 0 else before)
+        yield from literals(part, after if e[0] == "seq" and number == 0 else before)
 
 
 class PegPlaces(Places):
@@ -147,18 +147,18 @@ class PegPlaces(Places):
                        if slow_peg.is_nullable(e[1], self.nullable))
         return f"  line {line}: {cut(canonical(e).encode())} repeats what may take nothing\n"
 
-    def uses(self, e, behind):
+    def uses(self, e, after):
         """Yields the names in an expression, each with the members that left steps skip, if they lead to it."""
         if e[0] == "name":
-            yield e[1], behind
+            yield e[1], after
         for part in slow_peg.parts(e):
-            yield from self.uses(part, behind)
-            if e[0] == "seq" and behind is not None:
-                behind = behind + [part] if slow_peg.is_nullable(part, self.nullable) else None
+            yield from self.uses(part, after)
+            if e[0] == "seq" and after is not None:
+                after = after + [part] if slow_peg.is_nullable(part, self.nullable) else None
 
     def way(self, rule):
         """Returns the rules on the way from a left-recursive one back to itself."""
-        steps = {it: [name for name, behind in self.uses(e, []) if behind is not None] for it, e in self.rules.items()}
+        steps = {it: [name for name, after in self.uses(e, []) if after is not None] for it, e in self.rules.items()}
         far, depth = {rule: 0}, 0
         while depth in far.values():
             for used in [used for it in self.rules if far.get(it) == depth for used in steps[it] if used in self.rules]:
@@ -171,28 +171,28 @@ class PegPlaces(Places):
 
     def step(self, rule, to):
         uses = [(*it, line) for it, (_, _, line) in zip(self.uses(self.rules[rule], []), self.bodies[rule.encode()])]
-        behind, line = next((behind, line) for name, behind, line in uses if name == to and behind is not None)
-        skipped = " ".join(canonical(it, "seq") for it in behind)
-        told = " behind " + cut(skipped.encode()) if behind else ""
-        return f"  line {line}: '{cut(rule.encode())}' begins with '{cut(to.encode())}'{told}\n"
+        after, line = next((after, line) for name, after, line in uses if name == to and after is not None)
+        skipped = " ".join(canonical(it, "seq") for it in after)
+        reported = " behind " + cut(skipped.encode()) if after else ""
+        return f"  line {line}: '{cut(rule.encode())}' begins with '{cut(to.encode())}'{reported}\n"
 
     def left(self, name):
         self.ways += 1
         if self.ways > WAYS:
             return self.definitions("unused", name)
         way = self.way(name.decode())
-        told = "".join(self.step(*it) for it in list(zip(way, way[1:] + way[:1]))[:STEPS])
-        return told + (f"  and {len(way) - STEPS} more\n" if len(way) > STEPS else "")
+        reported = "".join(self.step(*it) for it in list(zip(way, way[1:] + way[:1]))[:STEPS])
+        return reported + (f"  and {len(way) - STEPS} more\n" if len(way) > STEPS else "")
 
     def hints(self):
-        """Returns what is told of alternatives that are never taken."""
-        told = [f"alternative never taken in rule '{cut(name.encode())}'\n"
+        """Returns the report on alternatives that are never taken."""
+        reported = [f"alternative never taken in rule '{cut(name.encode())}'\n"
                 f"  line {line}: {cut(canonical(('bytes', later)).encode())}"
                 f" after {cut(canonical(('bytes', earlier)).encode())}\n"
                 for name, e in self.rules.items()
                 for line, (later, earlier) in zip(self.literals.get(name.encode(), []), literals(e))
                 if earlier is not None]
-        return "".join(told[:HINTS]) + (f"  and {len(told) - HINTS} more\n" if len(told) > HINTS else "")
+        return "".join(reported[:HINTS]) + (f"  and {len(reported) - HINTS} more\n" if len(reported) > HINTS else "")
 
     def lines_on(self, kind, name, start):
         if kind == "left":
@@ -234,29 +234,29 @@ class AbnfPlaces(Places):
         keys = self.chain(name, start)
         if keys is None or len(keys) < 2:
             return ""
-        told = [f"'{cut(self.spelled(it, name))}'" for it in keys]
-        if len(told) > CHAIN:
-            told[1:1 - CHAIN] = [f"{len(told) - CHAIN} more"]
-        return f"  reached by {' > '.join(told)}\n"
+        reported = [f"'{cut(self.spelled(it, name))}'" for it in keys]
+        if len(reported) > CHAIN:
+            reported[1:1 - CHAIN] = [f"{len(reported) - CHAIN} more"]
+        return f"  reached by {' > '.join(reported)}\n"
 
     def lines_on(self, kind, name, start):
-        behind = self.reached(name, start) if kind in ("undefined", "prose") else ""
-        return super().lines_on(kind, name, start) + behind
+        after = self.reached(name, start) if kind in ("undefined", "prose") else ""
+        return super().lines_on(kind, name, start) + after
 
 
 def kind_of(line):
     """Returns how the note of a line is explained, and its name; none where nothing explains it."""
-    return next(((kind, line[len(front):-len(behind)].encode("latin-1")) for front, behind, kind in KINDS
-                 if line.startswith(front) and line.endswith(behind)), None)
+    return next(((kind, line[len(front):-len(after)].encode("latin-1")) for front, after, kind in KINDS
+                 if line.startswith(front) and line.endswith(after)), None)
 
 
 def explained(message, places, start):
     """Returns messages, each with the lines that explain it."""
-    told = ""
+    reported = ""
     for line in message.decode("latin-1").split("\n")[:-1]:
-        told, note = told + line + "\n", kind_of(line)
-        told += places.lines_on(*note, start) if note else ""
-    return told.encode("latin-1")
+        reported, note = reported + line + "\n", kind_of(line)
+        reported += places.lines_on(*note, start) if note else ""
+    return reported.encode("latin-1")
 
 
 def peg(text, message, start, grammar):

@@ -22,7 +22,7 @@ class Matcher:
         self.rules, self.text, self.looked, self.left = rules, text, 0, STEPS
 
     def compare(self, place, holds):
-        """Tells whether a byte stands at the place and meets the test."""
+        """Returns whether a byte stands at the place and meets the test."""
         if place >= len(self.text):
             return False
         self.looked = max(self.looked, place + 1)
@@ -147,7 +147,7 @@ def names_in(e):
 
 
 def is_nullable(e, rules):
-    """Tells whether an expression may take nothing, where `rules` are the names of the rules that may."""
+    """Returns whether an expression may take nothing, where `rules` are the names of the rules that may."""
     kind = e[0]
     if kind == "bytes":
         return e[1] == b""
@@ -210,7 +210,7 @@ def first_bodies(grammar):
 
 
 def notes_on(grammar, start):
-    """Returns the lines of the notes on a grammar, and whether one of them refuses it."""
+    """Returns the lines of the notes on a grammar, and whether one of them rejects it."""
     rules, again = first_bodies(grammar)
     used = [it for body in rules.values() for it in names_in(body)]
     first = next(iter(rules)) if start is None else start
@@ -220,17 +220,17 @@ def notes_on(grammar, start):
     uses = ([] if start is None else [start]) + used
     refusing += [f"rule '{it}' used but not defined" for it in dict.fromkeys(uses) if it not in rules]
     unused = [f"rule '{it}' defined but not used" for it in rules if it != first and it not in used]
-    behind = [f"possible infinite left recursion in rule '{it}'" for it in rules if it in left]
-    behind += [f"possible infinite loop in rule '{it}'" for it in rules if loops(rules[it], nullable)]
-    lines = refusing + unused + behind
-    return "".join(it + "\n" for it in lines).encode(), bool(refusing or behind)
+    after = [f"possible infinite left recursion in rule '{it}'" for it in rules if it in left]
+    after += [f"possible infinite loop in rule '{it}'" for it in rules if loops(rules[it], nullable)]
+    lines = refusing + unused + after
+    return "".join(it + "\n" for it in lines).encode(), bool(refusing or after)
 
 
 def answer(grammar, text, limit, start, raw, is_whole=False):
-    """Returns the output, the error output, the status, and how many units were tried; refusals are one."""
-    told, refused = notes_on(grammar, start)
+    """Returns the output, the error output, the status, and how many units were tried; a rejected grammar is one."""
+    reported, refused = notes_on(grammar, start)
     if refused:
-        return b"", told, 2, 1
+        return b"", reported, 2, 1
     rules, _ = first_bodies(grammar)
     out, message, status, tried = run_units(rules, start or next(iter(rules)), text, limit, raw, is_whole)
-    return out, told + message, status, tried
+    return out, reported + message, status, tried

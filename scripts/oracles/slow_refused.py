@@ -1,6 +1,6 @@
-"""Slow answers to what explains refused lines. It shares nothing with the crates.
+"""Slow answers to what explains rejected lines. It shares nothing with the crates.
 
-A letter can follow the longest viable beginning of a line if that beginning with the letter behind it is viable. All
+A letter can follow the longest viable prefix of a line if that prefix with the symbol after it is viable. All
 letters between two that the rules name behave alike, so that one of them is tried for all.
 """
 import re
@@ -29,7 +29,7 @@ def boundaries(rules):
 
 
 class Following:
-    """What can stand behind the longest viable beginning of a line."""
+    """What can stand after the longest viable prefix of a line."""
 
     def __init__(self, rules, key, is_utf8):
         self.rules, self.key, self.is_utf8 = rules, key, is_utf8
@@ -43,12 +43,12 @@ class Following:
     def runs(self, front):
         """Returns the maximal runs of letters that can follow, each by its first and its last."""
         runs = []
-        for first, behind in zip(self.bounds, self.bounds[1:]):
+        for first, bound in zip(self.bounds, self.bounds[1:]):
             if slow_abnf.is_letter(first, self.is_utf8) and self.is_viable([*front, first]):
                 if runs and runs[-1][1] + 1 == first:
-                    runs[-1] = (runs[-1][0], behind - 1)
+                    runs[-1] = (runs[-1][0], bound - 1)
                 else:
-                    runs.append((first, behind - 1))
+                    runs.append((first, bound - 1))
         return runs
 
 
@@ -109,13 +109,13 @@ class Symbols:
         """Returns the terms of ABNF for the set."""
         runs = self.runs()
         single = {symbol(it) for first, last in runs if last <= first + 1 for it in (first, last)}
-        told = []
+        reported = []
         for first, last in runs:
             if last <= first + 1:
-                told += [letter_text(symbol(it), single, self.is_utf8) for it in sorted({first, last})]
+                reported += [letter_text(symbol(it), single, self.is_utf8) for it in sorted({first, last})]
             else:
-                told.append(f"%x{symbol(first):02X}-{symbol(last):02X}")
-        return [it for it in told if it]
+                reported.append(f"%x{symbol(first):02X}-{symbol(last):02X}")
+        return [it for it in reported if it]
 
     def cost(self):
         return sum(2 if re.match("%x[0-9A-F]+-", it) else 1 for it in self.terms())
@@ -130,18 +130,18 @@ def letters_text(runs, is_utf8):
         return c if c < 0xD800 else c - GAP
     rest = Symbols({it for first, last in runs for it in range(first, min(last, 0xFF) + 1)},
                    [(place(max(first, 0x100)), place(last)) for first, last in runs if last > 0xFF], is_utf8)
-    told = []
+    reported = []
     for name, symbols in SETS.items():
         less = rest.without(set(symbols))
         if set(symbols) <= rest.low and less.cost() <= rest.cost():
-            told.append(name)
+            reported.append(name)
             rest = less
-    told += rest.terms()
-    return " / ".join(told[:MOST]) + (f" and {len(told) - MOST} more" if len(told) > MOST else "")
+    reported += rest.terms()
+    return " / ".join(reported[:MOST]) + (f" and {len(reported) - MOST} more" if len(reported) > MOST else "")
 
 
 def refusal(following, name, line, number):
-    """Returns the lines that explain a refused line of that number."""
+    """Returns the lines that explain a rejected line of that number."""
     letters, is_text = slow_abnf.letters_of(line, following.is_utf8)
     after = slow_abnf.furthest(following.rules, letters, following.key, following.is_utf8)
     front = letters[:after]
@@ -161,11 +161,11 @@ def refusal(following, name, line, number):
     return at + expected + "\n" + slow_stops.picture(line, before)
 
 
-def behind_notes(grammar, given, limit, judged, is_utf8, end, is_kept=False):
-    """Returns what a run of a grammar that is not refused tells behind its notes."""
+def after_notes(grammar, given, limit, judged, is_utf8, end, is_kept=False):
+    """Returns what a run of a grammar that is not rejected reports after its notes."""
     rules = slow_abnf.Rules(grammar)
     key = (judged or next(iter(rules.file))).upper()
-    following, told, more = Following(rules, key, is_utf8), [], 0
+    following, reported, more = Following(rules, key, is_utf8), [], 0
     message = ""
     for number, (line, size) in enumerate(slow_abnf.lines_of(given, end, is_kept), 1):
         if size > limit:
@@ -174,10 +174,10 @@ def behind_notes(grammar, given, limit, judged, is_utf8, end, is_kept=False):
         letters, is_text = slow_abnf.letters_of(line, is_utf8)
         if is_text and slow_abnf.Deriver(rules, letters).derives(key):
             continue
-        if len(told) < MOST:
-            told.append(refusal(following, rules.spelled.get(key, key), line, number))
+        if len(reported) < MOST:
+            reported.append(refusal(following, rules.spelled.get(key, key), line, number))
         else:
             more += 1
     if more:
-        told.append(f"more refused lines: {more}\n")
-    return ("".join(told) + message).encode()
+        reported.append(f"more refused lines: {more}\n")
+    return ("".join(reported) + message).encode()

@@ -58,12 +58,12 @@ def byte_text(byte, octal, marked):
 def class_text(members):
     """Returns the canonical text of a class: the runs of its members, or of the others where byte 255 is a member."""
     front, some = ("^", set(range(256)) - members) if 255 in members else ("", members)
-    told = "[" + front
+    reported = "[" + front
     for first in sorted(it for it in some if it - 1 not in some):
         last = next(it for it in range(first, 257) if it + 1 not in some)
         ends = [byte_text(it, "-^", "[\\]") for it in sorted({first, last})]
-        told += ("-" if last > first + 1 else "").join(ends)
-    return told + "]"
+        reported += ("-" if last > first + 1 else "").join(ends)
+    return reported + "]"
 
 
 def leaf_text(e):
@@ -97,7 +97,7 @@ def leaves(rules):
 
 
 def picture(line, before):
-    """Returns a line of a text with a caret below the byte behind so many."""
+    """Returns a line of a text with a caret below the byte after so many."""
     front = min(max(before - HALF, 0), len(line) - SHOWN) if len(line) > SHOWN else 0
     left = ".." * (front > 0) + slow_faults.shown(line[front:before])
     right = slow_faults.shown(line[before:front + SHOWN]) + ".." * (len(line) > front + SHOWN)
@@ -142,29 +142,29 @@ class Explained:
         return None if place is None else (unit + place, unit, sorted(it[1:] for it in matcher.found if it[0] == place))
 
     def no_match(self, before, last):
-        """Returns the lines behind `no match`, of the last unit, which begins there, and the one before it, if any."""
+        """Returns the lines after `no match`, of the last unit, which begins there, and the one before it, if any."""
         found = [it for it in (self.farthest(last), None if before is None else self.farthest(before)) if it]
-        told = f"  rule '{cut(self.start)}' matched and took no byte\n" if self.takes_nothing(last) else ""
+        reported = f"  rule '{cut(self.start)}' matched and took no byte\n" if self.takes_nothing(last) else ""
         if not found:
-            return told or '  no comparison failed outside of "!"\n'
+            return reported or '  no comparison failed outside of "!"\n'
         place, unit, failures = max(found, key=lambda it: it[0])
         begin = max(unit, self.taken.rfind(10, 0, place) + 1)
         line = self.taken[begin:].partition(b"\n")[0]
         end = ", the end of the input" if place == len(self.taken) else ""
-        told += f"  byte {place}, {position(self.taken, place)}{end}, in the unit at byte {unit}\n"
-        told += picture(line, place - begin) if line else ""
+        reported += f"  byte {place}, {position(self.taken, place)}{end}, in the unit at byte {unit}\n"
+        reported += picture(line, place - begin) if line else ""
         listed = self.listed(failures)
         for text, begun, name in listed[:MOST]:
             where = "" if unit + begun == place else f" from byte {unit + begun}"
-            told += f"  expected {cut(text)}{where} in {cut(name)}\n"
-        return told + (f"  and {len(listed) - MOST} more\n" if len(listed) > MOST else "")
+            reported += f"  expected {cut(text)}{where} in {cut(name)}\n"
+        return reported + (f"  and {len(listed) - MOST} more\n" if len(listed) > MOST else "")
 
     def long_unit(self, place):
         return f"  the unit begins on {position(self.taken, place)}\n  -l allows at most 16777216\n"
 
 
-def behind_stop(grammar, text, limit, start, is_whole=False):
-    """Returns the lines behind the message of a run that stops since no unit goes on, or since one is too long."""
+def after_stop(grammar, text, limit, start, is_whole=False):
+    """Returns the lines after the message of a run that stops since no unit goes on, or since one is too long."""
     rules, _ = slow_peg.first_bodies(grammar)
     start = start or next(iter(rules))
     before, place = None, 0
@@ -176,5 +176,5 @@ def behind_stop(grammar, text, limit, start, is_whole=False):
         before, place = place, place + found[0]
         if is_whole:
             break
-    told = Explained(rules, start, text[:place + limit + 1])
-    return (told.long_unit(place) if matcher.looked > limit else told.no_match(before, place)).encode("latin-1")
+    reported = Explained(rules, start, text[:place + limit + 1])
+    return (reported.long_unit(place) if matcher.looked > limit else reported.no_match(before, place)).encode("latin-1")

@@ -244,10 +244,10 @@ function showStop(it) {
   if (!stop) { if (latest.status === 0) pointAt(0, true); return; }
   const byte = /^byte (\d+)/.exec(stop.more[0] || "") || /at byte (\d+)/.exec(stop.message);
   if (byte) pointAt(unitsInInput(it, Number(byte[1]), "bytes"), false);
-  by("why").textContent = told(stop);
+  by("why").textContent = reported(stop);
 }
 
-function told(it) {
+function reported(it) {
   const place = it.line ? `line ${it.line}${it.column ? `, letter ${it.column}` : ""}: ` : "";
   // What was expected of an input of peg(1) stands in lines of its own
   const said = it.code === "no-match" ? it.message.split(": expected")[0] : it.message;
@@ -259,7 +259,7 @@ function showWhy() {
   if (!latest || by("kind").value === "peg") return;
   const line = by("cut").value === "whole" ? 1 : input.getCursor().line + 1;
   const found = latest.stops.filter((it) => it.line === line || it.line === null);
-  by("why").textContent = (found.length ? found : latest.stops.slice(0, 1)).map(told).join("\n");
+  by("why").textContent = (found.length ? found : latest.stops.slice(0, 1)).map(reported).join("\n");
 }
 
 function showDiagrams(kind) {

@@ -35,7 +35,7 @@ word <- < [a-z]+ > { yytext } / [ \n]
 rest <- ( !'\n' . )* ( '\n' / !. )
 """
 
-# What stands before each of LPeg's programs, and behind it: `all` matches the units one after another.
+# What stands before each of LPeg's programs, and after it: `all` matches the units one after another.
 LUA_HEAD = """local l = require "lpeg"
 local P, R, S, C, Cc, Ct, Cp, V = l.P, l.R, l.S, l.C, l.Cc, l.Ct, l.Cp, l.V
 l.setmaxstack(10000000)

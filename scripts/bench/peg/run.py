@@ -5,7 +5,7 @@ usage: run.py [-n ROUNDS] [PROGRAM ..]
 
 The programs are builds of pegi; bin/pegi if none is given. Prints for each row of rows.py and each program the
 processor time a byte in nanoseconds, the least of so many rounds (5 if not given), on an input of one megabyte; the
-programs run in turn. Behind that stands the memory of one run more in MB, by time(1). LPeg is Lua's (Debian: lua5.3
+programs run in turn. After that stands the memory of one run more in MB, by time(1). LPeg is Lua's (Debian: lua5.3
 and lua-lpeg); peg(1) is Debian's peg, whose parser is compiled by gcc -O2. What is not installed is left out.
 """
 import os
@@ -89,8 +89,8 @@ def main(given):
             (folder / "grammar").write_text(grammar)
             words = [[it, *options, folder / "grammar"] for it in programs]
             found = measure(folder, [*words, scripted(folder, of_lua), built(folder, of_peg)], text, rounds)
-            told = " | ".join(f"{it[0]:.1f} | {it[1]:.1f}" if it else " | " for it in found)
-            print(f"| {name} | {told} |", flush=True)
+            reported = " | ".join(f"{it[0]:.1f} | {it[1]:.1f}" if it else " | " for it in found)
+            print(f"| {name} | {reported} |", flush=True)
             if len({it[2] for it in found if it}) > 1:
                 wrong += 1
                 print(f"{name}: they do not print the same")
