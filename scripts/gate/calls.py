@@ -61,10 +61,10 @@ UNREAD = {
     "memo: last_of.cells", "memo: last_of.count",
     # what is evaluated, and on which bytes
     "matchfailure: FailureSearch.failure_in.unit", "matchfailure: add_outside.window",
-    "packrat: Machine.run_turns.more", "packrat: close.peg", "packrat: close.window", "packrat: go_on_node.window",
-    "packrat: go_on_tail.window", "packrat: put_operands.window", "packrat: put_turns.window",
+    "packrat: Machine.run_iterations.more", "packrat: close.peg", "packrat: close.window", "packrat: go_on_node.window",
+    "packrat: go_on_tail.window", "packrat: put_operands.window", "packrat: put_iterations.window",
     # of which tables, sets or rows the lists are
-    "earley: complete_rest.places", "earley: keep_set.places", "earley: predict_row.row",
+    "earley: complete_rest.positions", "earley: keep_set.positions", "earley: predict_row.row",
     "earleyitems: add_linked.room", "lazydfa: look.tables", "lazydfa: write.tables",
     # of which grammar, form or letters the result is true
     "abnfhints: is_barren.hinted", "abnftexts: write_text.form", "lowering: prune_name.alphabet",

@@ -38,7 +38,7 @@ EXEMPT = (
     # It lends a field of a type of which no other value is at hand.
     "flatgrammar: Flat.share",
     # Its equation stands after a premise, and `requires` says that something meets the premise.
-    "pegmatch: writing.write_event", "matchfailure: TextPlace.after",
+    "pegmatch: writing.write_event", "matchfailure: TextPosition.after",
     # It passes on what the reader inside gives.
     "cli: Input.read",
     # It passes on what `KeyLog::get` finds.
@@ -71,7 +71,7 @@ EXEMPT = (
     "capi: calls.abnf", "capi: runner_calls.peg_open",
     # A crate above has such an edit.
     "abnfrun: AbnfJudge.judge", "memoryrun: whole_run.abnf_in_memory", "memoryrun: whole_run.peg_in_memory",
-    "earleyitems: ItemChart.dots", "toolrun: plan.plan_of", "toolrun: tool.act", "diagnostics: explained.places_of",
+    "earleyitems: ItemChart.dots", "toolrun: plan.plan_of", "toolrun: tool.act", "diagnostics: explained.positions_of",
     "abnfcheck: table_marks.sound_rules",
 )
 

@@ -42,13 +42,16 @@ TWINS = set(
     Begins
     Chain Closes Drops ended Finishes GoesOn Grammar Grows IsAdded IsBegun IsBuilt IsClosing IsCut IsFirst IsHead IsIn
     IsLast IsNext IsOver IsPart IsPrinted IsRanked IsStart IsStep IsTable IsTaken Names Piece
-    Place Reads Says Way Writes empty head_of is_blank key_of members_of node_of pair place_of places_of row_of
+    Position Reads Says Way Writes empty head_of is_blank key_of members_of node_of pair position_of positions_of row_of
     run_text dots_of steps_of taken_at unit_of unmarked way_of
     """.split()
 )
 # Words of the old dialect, which no name has, and names of the standard library and of the prover that have one.
-OLD_WORDS = set("told tell tells telling behind spot spots deed deeds hop hops beginning beginnings".split())
-OLD_NAMES = {"eqb_tells", "handle_tells", "told"}
+OLD_WORDS = set(
+    "told tell tells telling behind spot spots deed deeds hop hops beginning beginnings place places turn turns".split()
+    + "unfold unfolds home homes".split()
+)
+OLD_NAMES = {"eqb_tells", "handle_tells", "told", "appended_in_turn", "in_turn"}
 NAME = re.compile(r"[A-Za-z_]\w*")
 WORD = re.compile(r"[A-Z]?[a-z]+|[A-Z]+(?![a-z])")
 NO_CODE = re.compile(r"""b?'(?:\\.|[^'\\\n])'|(?://|--)[^\n]*|["](?:\\.|[^"\\])*["]""")

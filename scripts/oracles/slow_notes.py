@@ -134,7 +134,7 @@ def literals(e, after=None):
         yield from literals(part, after if e[0] == "seq" and number == 0 else before)
 
 
-class PegPlaces(Places):
+class PegPositions(Places):
     """Of a text of peg(1) also what the bodies of the rules are."""
 
     def __init__(self, text, tokens, grammar):
@@ -200,7 +200,7 @@ class PegPlaces(Places):
         return self.loop(name) if kind == "loop" else super().lines_on(kind, name, start)
 
 
-class AbnfPlaces(Places):
+class AbnfPositions(Places):
     """Of a text in ABNF also by which rules the judged one reaches names. Keys are names in small letters."""
 
     def names_in(self, rule):
@@ -262,17 +262,17 @@ def explained(message, places, start):
 def peg(text, message, start, grammar):
     """Returns the messages of pegi on a grammar and an input, with what explains the notes."""
     tokens = slow_faults.tokens_of(text, slow_faults.PEG_WHITE, slow_faults.PEG_TOKENS, True)
-    return explained(message, PegPlaces(text, tokens, grammar), start and start.encode())
+    return explained(message, PegPositions(text, tokens, grammar), start and start.encode())
 
 
 def peg_hints(text, grammar):
     """Returns the hints on a grammar, of which the text is given, too."""
     tokens = slow_faults.tokens_of(text, slow_faults.PEG_WHITE, slow_faults.PEG_TOKENS, True)
-    return PegPlaces(text, tokens, grammar).hints().encode("latin-1")
+    return PegPositions(text, tokens, grammar).hints().encode("latin-1")
 
 
 def abnf(text, message, judged):
     """Returns the messages of abnfi on a grammar and an input, with what explains the notes."""
     tokens = slow_faults.tokens_of(text, slow_faults.ABNF_WHITE, slow_faults.ABNF_TOKENS, False)
-    places = AbnfPlaces(text, tokens, ("Is", "Adds"), rb"\n", bytes.lower)
+    places = AbnfPositions(text, tokens, ("Is", "Adds"), rb"\n", bytes.lower)
     return explained(message, places, judged and judged.encode())

@@ -61,7 +61,7 @@ next-rest w h = record {
   white = white-rest (first-dark h.first) w h.white;
   first = h.first;
   cut = h.cut;
-  place = h.place;
+  position = h.position;
   size = h.size;
 }
 
@@ -74,7 +74,7 @@ tokens-rest w (one_more h e more) = one_more (next-rest w h) e more
 next-starts : {total : ℕ} {s r : List ℕ} {x : Tok AbnfKind} → Next White First total s x r
     → (total ≤ start_of x + length s) × (length r ≤ length s)
 next-starts {r = r} {x = tok k z p} h =
-    let e = h.place in
+    let e = h.position in
     let shorter = end-shorter (white-ends h.white) in
     let c = ap length h.cut in
     (omega arith, omega (arith, length-append z r))
@@ -190,7 +190,7 @@ module _ (a b : List ℕ) (m : Option ℕ) where
       got lt =
       let first = first-here l h e y all in
       let rest = first.are in
-      let within : p.start ≤ length a = (let q = h.place in omega arith) in
+      let within : p.start ≤ length a = (let q = h.position in omega arith) in
       let whole = first.whole in
       let here : slice_get (marks (a ++ b) m n (tok k z p ∷ first.others)) j ≡ Some w = rw whole at got in
       rw whole (marks-step _ _ (first-marked k z p n within) j (λ i f. front-marks p.end i w (line-left l h e y) more
@@ -204,7 +204,7 @@ module _ (a b : List ℕ) (m : Option ℕ) where
       absurd (none-within 0 j w l (white-end h e) all got lt)
   first-margin {us = us} j w o l (one_more {x = tok k z p} h e more) all (say_more y says_more) got lt =
       let first = first-here l h e y all in
-      let within : p.start ≤ length a = (let q = h.place in omega arith) in
+      let within : p.start ≤ length a = (let q = h.position in omega arith) in
       let whole = first.whole in
       rw whole (indent-front a b p.start within)
 

@@ -35,7 +35,7 @@ next-moved n (tok k z p) h = record {
   white = h.white;
   first = h.first;
   cut = h.cut;
-  place = (let e = h.place in omega arith);
+  position = (let e = h.position in omega arith);
   size = (let e = h.size in omega arith);
 }
 
@@ -56,7 +56,7 @@ tokens-white w (last_one h e) = last_one (record {
   white = white-through w h.white;
   first = h.first;
   cut = h.cut;
-  place = h.place;
+  position = h.position;
   size = h.size;
 }) e
 tokens-white w (one_more h e more) = one_more (record {
@@ -64,7 +64,7 @@ tokens-white w (one_more h e more) = one_more (record {
   white = white-through w h.white;
   first = h.first;
   cut = h.cut;
-  place = h.place;
+  position = h.position;
   size = h.size;
 }) e more
 
@@ -80,7 +80,7 @@ next-on a b {t} {r} {z = z} h l lt longest = record {
   white = white-on b (some_text l) h.white;
   first = found (longest-on b lt longest);
   cut = ap (λ (v : List ℕ). v ++ b) h.cut ∙ append_assoc z r b;
-  place = (let e = h.place in omega (arith, length-append h.token b, length-append a b));
+  position = (let e = h.position in omega (arith, length-append h.token b, length-append a b));
   size = h.size;
 }
 

@@ -234,10 +234,10 @@ module _ (p : NumberedLine → Bool) where
       → p (get_or xs i d) ≡ true
   pass-at xs i d le lt =
       let n = full_before xs in
-      let place : n + (i - n) ≡ i = omega (arith, le) in
+      let position : n + (i - n) ≡ i = omega (arith, le) in
       let passes = prefix_len_passes p (drop n xs) (i - n) d
       (omega (arith, le, lt, pass-after xs, length-drop n xs)) in
-      sym (ap (λ (k : ℕ). p (get_or xs k d)) place) ∙ sym (ap p (get_or-drop n xs (i - n) d)) ∙ passes
+      sym (ap (λ (k : ℕ). p (get_or xs k d)) position) ∙ sym (ap p (get_or-drop n xs (i - n) d)) ∙ passes
 
 none-ends : (others : List NumberedLine)
     → suffix_len is_empty_line (take (length others - suffix_len is_empty_line others) others) ≡ 0

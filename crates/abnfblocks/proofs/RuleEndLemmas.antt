@@ -148,7 +148,7 @@ closed-by : (s : LeftOpen) → Agrees s (Open 0 false) → nothing_open s ≡ tr
 closed-by s (inl e) = rw e refl
 closed-by s (inr e) = rw e refl
 
--- what lines up to a place leave open
+-- what lines up to a position leave open
 pub data IsStand : List ℕ → LeftOpen → Type 0 where
   no_line : IsStand [] (Open 0 false)
   some_lines : {text : List ℕ} {ts : List (Tok AbnfKind)} → EndsLine text → AreTokens text ts

@@ -166,36 +166,37 @@ module _ (rules : List Rule) (given : Option (List ℕ)) (names : List (List ℕ
         (λ high. subst (λ v. Reachable rules (judged_in given rules) v) high.1 judged_rule)
         (judged_at rules given names rows judged graph))
 
-    pub refused_broken : (place : ℕ) → ReachesBroken rows (prose_marks rules) judged place
+    pub refused_broken : (position : ℕ) → ReachesBroken rows (prose_marks rules) judged position
         → IsRefused file rules again (judged_in given rules)
-    refused_broken place b =
-        let r = reached_as rules given names rows judged graph place b.reaches in
+    refused_broken position b =
+        let r = reached_as rules given names rows judged graph position b.reaches in
         ⊎_elim
         (λ low. by_prose r.reachable (subst (λ v. HoldsProse rules v) (sym low.1)
-        (marked_prose rules place true low.0 b.broken)))
+        (marked_prose rules position true low.0 b.broken)))
         (λ high. n.by_name (subst (λ v. Reachable rules (judged_in given rules) v) high.1 r.reachable))
         r.is
 
     pub broken_refused : ((id : ℕ) → IsMarked redefined id → ⊥) → IsRefused file rules again (judged_in given rules)
-        → (place : ℕ) × ReachesBroken rows (prose_marks rules) judged place
+        → (position : ℕ) × ReachesBroken rows (prose_marks rules) judged position
     broken_refused none (by_redefinition {id = id} lt h) = absurd (none id ((marks.exact id lt).1 h))
     broken_refused none (n.by_name r) =
         let b = reached_by rules given names rows judged graph (length rules) r in
-        let le : length rules ≤ b.place = ⊎_elim (λ low. absurd
+        let le : length rules ≤ b.position = ⊎_elim (λ low. absurd
         (let lt = low.0 in let is = low.1 in omega (arith, lt, is))) (λ high. high.0) b.is in (
-          b.place,
+          b.position,
           record {
             reaches = b.reaches;
-            broken = get_or_past (prose_marks rules) b.place true (let l =
+            broken = get_or_past (prose_marks rules) b.position true (let l =
                 length-map rules (λ (rule : Rule). prose_in rule.body) in omega (arith, l, le));
           },
         )
     broken_refused none (by_prose {id = id} r h) =
         let b = reached_by rules given names rows judged graph id r in
         let lt = body_below rules id h.body h.body_is in
-        let same : b.place ≡ id = ⊎_elim (λ low. sym low.1) (λ high. absurd (let is = high.1 in omega (arith, lt, is)))
+        let same : b.position ≡ id =
+        ⊎_elim (λ low. sym low.1) (λ high. absurd (let is = high.1 in omega (arith, lt, is)))
         b.is in (
-          b.place,
+          b.position,
           record {
             reaches = b.reaches;
             broken = ap (λ v. slice_index_or (prose_marks rules) v
@@ -243,8 +244,9 @@ sound_unless_refused file rules again given passes = record {
         (passes (n.by_name (subst (λ v. Reachable rules (judged_in given rules) v) is r))))
         (low id (length rules) (reached_most rules (judged_in given rules) (judged_most given rules) r))
 
-pub judged_where : (count place id : ℕ) → id < count → IsIdAt count place id → id ≡ place
-judged_where count place id lt at = ⊎_elim (λ low. low.1) (λ high. absurd (let is = high.1 in omega (arith, lt, is))) at
+pub judged_where : (count position id : ℕ) → id < count → IsIdAt count position id → id ≡ position
+judged_where count position id lt at =
+    ⊎_elim (λ low. low.1) (λ high. absurd (let is = high.1 in omega (arith, lt, is))) at
 
 -- there is at most one list of notes
 pub those_same : (P : ℕ → Type 0) {i : ℕ} {rules : List Rule} {a b : List (List ℕ)} → Those P i rules a

@@ -131,25 +131,25 @@ module _ (rules : List Rule) (given : Option (List ℕ)) (names : List (List ℕ
       old.is in
       record {
         id = id_of rules u.name;
-        is = id_at rules given names rows judged graph u.place_is;
+        is = id_at rules given names rows judged graph u.position_is;
         reachable = by_name (subst (λ v. Reachable rules s v) same old.reachable) u.body_is u.within;
       }
 
   record ReachedAt (id : ℕ) : Type 0 where
-    pub place : ℕ
-    pub is : IsIdAt (length rules) place id
-    pub reaches : Reaches rows s place
+    pub position : ℕ
+    pub is : IsIdAt (length rules) position id
+    pub reaches : Reaches rows s position
 
   reached_at : {id : ℕ} → Reachable rules s id → ReachedAt id
-  reached_at judged_rule = record { place = s; is = inl (lt, refl); reaches = start }
+  reached_at judged_rule = record { position = s; is = inl (lt, refl); reaches = start }
   reached_at (by_name {id = user} {body = body} {name = name} r at within) =
       let old = reached_at r in
       let below = body_below rules user body at in
-      let same : old.place ≡ user = ⊎_elim (λ low. sym low.1)
+      let same : old.position ≡ user = ⊎_elim (λ low. sym low.1)
       (λ high. absurd (let is = high.1 in omega (arith, below, is))) old.is in
       let t = uses_for rules given names rows judged graph user body name at within in
       record {
-        place = t.target;
+        position = t.target;
         is = t.is;
         reaches = further (subst (λ v. Reaches rows s v) same old.reaches) t.step;
       }
@@ -165,18 +165,18 @@ module _ (rules : List Rule) (given : Option (List ℕ)) (names : List (List ℕ
         (λ high. let below = sound.defined r.id r.reachable in let is = high.1 in omega (arith, below, is))
         r.is
 
-    place_comes : (place : ℕ) → Reaches rows s place → place < length rows
-        → slice_index_or (prose_marks rules) place true ≡ true → Comes needs s
-    place_comes place r below is = reaches_comes rows (prose_marks rules) needs are r
-        (bad_comes rows (prose_marks rules) needs are place below is)
+    position_comes : (position : ℕ) → Reaches rows s position → position < length rows
+        → slice_index_or (prose_marks rules) position true ≡ true → Comes needs s
+    position_comes position r below is = reaches_comes rows (prose_marks rules) needs are r
+        (bad_comes rows (prose_marks rules) needs are position below is)
 
     target_below : {m : ℕ} → Reaches rows s m → m < length rows
     target_below start = let long = rows_long rules given names rows judged graph in omega (arith, lt, long)
     target_below (further {n = n} {m = m} r step) =
         (steps_within rules given names rows judged graph).within n m step
 
-    no_rule_marked : (place : ℕ) → length rules ≤ place → slice_index_or (prose_marks rules) place true ≡ true
-    no_rule_marked place le = get_or_past (prose_marks rules) place true
+    no_rule_marked : (position : ℕ) → length rules ≤ position → slice_index_or (prose_marks rules) position true ≡ true
+    no_rule_marked position le = get_or_past (prose_marks rules) position true
         (let l = length-map rules (λ (rule : Rule). prose_in rule.body) in omega (arith, l, le))
 
     sound_unless_comes : (Comes needs s → ⊥) → IsSound rules s
@@ -184,17 +184,18 @@ module _ (rules : List Rule) (given : Option (List ℕ)) (names : List (List ℕ
       judged_is_rule = lt;
       defined = λ id r. ⊎_elim (λ below. below) (λ le.
           let b = reached_at r in
-          let past : length rules ≤ b.place = ⊎_elim
+          let past : length rules ≤ b.position = ⊎_elim
           (λ low. absurd (let under = low.0 in let is = low.1 in omega (arith, under, is, le))) (λ high. high.0)
           b.is in
-          absurd (never (place_comes b.place b.reaches (target_below b.reaches) (no_rule_marked b.place past))))
+          absurd (never (position_comes b.position b.reaches (target_below b.reaches)
+          (no_rule_marked b.position past))))
           (cases_lt id (length rules));
       plain = λ id body text r at within.
           let b = reached_at r in
           let below = body_below rules id body at in
-          let same : b.place ≡ id = ⊎_elim (λ low. sym low.1)
+          let same : b.position ≡ id = ⊎_elim (λ low. sym low.1)
           (λ high. absurd (let is = high.1 in omega (arith, below, is))) b.is in
-          never (place_comes b.place b.reaches (target_below b.reaches)
+          never (position_comes b.position b.reaches (target_below b.reaches)
           (ap (λ v. slice_index_or (prose_marks rules) v true) same
           ∙ prose_marked rules id true (record { body = body; text = text; body_is = at; within = within })));
     }

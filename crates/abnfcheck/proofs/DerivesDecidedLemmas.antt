@@ -100,14 +100,14 @@ from_each zero f a h = elim h [ ]
 from_each (suc n) f a h = ⊎_elim (λ l. (n, omega arith, l))
     (λ r. let g = from_each n f a r in (g.0, omega (arith, g.1), g.2)) (one_side (f n) h)
 
--- a repetition with a turn less
+-- a repetition with an iteration less
 abbrev less : Option ℕ → Option ℕ
 less None = None
 less (Some b) = Some (b - 1)
 
-abbrev turns : ℕ → Option ℕ → Element → List Element
-turns a None d = every (a + 1) (λ k. e.Rep k None d)
-turns a (Some b) d = each (a + 1) (λ k. every (b + 1) (λ l. e.Rep k (Some l) d))
+abbrev iterations : ℕ → Option ℕ → Element → List Element
+iterations a None d = every (a + 1) (λ k. e.Rep k None d)
+iterations a (Some b) d = each (a + 1) (λ k. every (b + 1) (λ l. e.Rep k (Some l) d))
 
 -- what a derivation of an element goes through, itself included
 abbrev mutual
@@ -117,7 +117,7 @@ abbrev mutual
   subs (e.Range low high) = e.Range low high ∷ []
   subs (e.Concat es) = subs_concat es
   subs (e.Alt es) = subs_alt es
-  subs (e.Rep a b d) = turns a b d ++ subs d
+  subs (e.Rep a b d) = iterations a b d ++ subs d
   subs (e.Opt d) = e.Opt d ∷ subs d
   subs (e.Name n) = e.Name n ∷ []
   subs (e.Prose t) = e.Prose t ∷ []
@@ -136,13 +136,13 @@ data Part : Element → Element → Type 0 where
   concat_rest : {d : Element} {es : Elements} → Part (e.Concat (e.more d es)) (e.Concat es)
   alt_first : {d : Element} {es : Elements} → Part (e.Alt (e.more d es)) d
   alt_rest : {d : Element} {es : Elements} → Part (e.Alt (e.more d es)) (e.Alt es)
-  turn : {a : ℕ} {b : Option ℕ} {d : Element} → Part (e.Rep a b d) d
-  turns_left : {a : ℕ} {b : Option ℕ} {d : Element} → Part (e.Rep a b d) (e.Rep (a - 1) (less b) d)
+  iteration : {a : ℕ} {b : Option ℕ} {d : Element} → Part (e.Rep a b d) d
+  iterations_left : {a : ℕ} {b : Option ℕ} {d : Element} → Part (e.Rep a b d) (e.Rep (a - 1) (less b) d)
   operand : {d : Element} → Part (e.Opt d) d
 
-turns_itself : (a : ℕ) (b : Option ℕ) (d : Element) → Listed (e.Rep a b d) (turns a b d)
-turns_itself a None d = in_every (a + 1) a (λ k. e.Rep k None d) (omega arith)
-turns_itself a (Some b) d = in_each (a + 1) a (λ k. every (b + 1) (λ l. e.Rep k (Some l) d)) (omega arith)
+iterations_itself : (a : ℕ) (b : Option ℕ) (d : Element) → Listed (e.Rep a b d) (iterations a b d)
+iterations_itself a None d = in_every (a + 1) a (λ k. e.Rep k None d) (omega arith)
+iterations_itself a (Some b) d = in_each (a + 1) a (λ k. every (b + 1) (λ l. e.Rep k (Some l) d)) (omega arith)
     (in_every (b + 1) b (λ l. e.Rep a (Some l) d) (omega arith))
 
 listed_itself : (d : Element) → Listed d (subs d)
@@ -153,29 +153,30 @@ listed_itself (e.Concat e.none) = first refl
 listed_itself (e.Concat (e.more d es)) = first refl
 listed_itself (e.Alt e.none) = first refl
 listed_itself (e.Alt (e.more d es)) = first refl
-listed_itself (e.Rep a b d) = on_left (subs d) (turns_itself a b d)
+listed_itself (e.Rep a b d) = on_left (subs d) (iterations_itself a b d)
 listed_itself (e.Opt d) = first refl
 listed_itself (e.Name n) = first refl
 listed_itself (e.Prose t) = first refl
 
 -- the parts of a repetition
 rep_part : (a : ℕ) (b : Option ℕ) (d c : Element) → Part (e.Rep a b d) c → (c ≡ d) ⊎ (c ≡ e.Rep (a - 1) (less b) d)
-rep_part a b d c turn = inl refl
-rep_part a b d c turns_left = inr refl
+rep_part a b d c iteration = inl refl
+rep_part a b d c iterations_left = inr refl
 
-in_turns : (a : ℕ) (b : Option ℕ) (d x c : Element) → Listed x (turns a b d) → Part x c → Listed c (turns a b d)
+in_iterations : (a : ℕ) (b : Option ℕ) (d x c : Element) → Listed x (iterations a b d) → Part x c
+    → Listed c (iterations a b d)
     ⊎ (c ≡ d)
-in_turns a None d x c h p =
+in_iterations a None d x c h p =
     let f = from_every (a + 1) (λ k. e.Rep k None d) x h in
     ⊎_elim (λ same. inr same)
-    (λ same. inl (subst (λ v. Listed v (turns a None d)) (sym same)
+    (λ same. inl (subst (λ v. Listed v (iterations a None d)) (sym same)
     (in_every (a + 1) (f.0 - 1) (λ k. e.Rep k None d) (let lt = f.1 in omega (arith, lt)))))
     (rep_part f.0 None d c (subst (λ v. Part v c) f.2 p))
-in_turns a (Some b) d x c h p =
+in_iterations a (Some b) d x c h p =
     let g = from_each (a + 1) (λ k. every (b + 1) (λ l. e.Rep k (Some l) d)) x h in
     let f = from_every (b + 1) (λ l. e.Rep g.0 (Some l) d) x g.2 in
     ⊎_elim (λ same. inr same)
-    (λ same. inl (subst (λ v. Listed v (turns a (Some b) d)) (sym same)
+    (λ same. inl (subst (λ v. Listed v (iterations a (Some b) d)) (sym same)
     (in_each (a + 1) (g.0 - 1) (λ k. every (b + 1) (λ l. e.Rep k (Some l) d)) (let lt = g.1 in omega (arith, lt))
     (in_every (b + 1) (f.0 - 1) (λ l. e.Rep (g.0 - 1) (Some l) d) (let lt = f.1 in omega (arith, lt))))))
     (rep_part g.0 (Some f.0) d c (subst (λ v. Part v c) f.2 p))
@@ -201,10 +202,10 @@ mutual
   parts_in (e.Concat es) x c h p = concat_parts_in es x c h p
   parts_in (e.Alt es) x c h p = alt_parts_in es x c h p
   parts_in (e.Rep a b d) x c h p = ⊎_elim
-      (λ l. ⊎_elim (λ t. on_left (subs d) t) (λ same. on_right (turns a b d)
-      (subst (λ v. Listed v (subs d)) (sym same) (listed_itself d))) (in_turns a b d x c l p))
-      (λ r. on_right (turns a b d) (parts_in d x c r p))
-      (one_side (turns a b d) h)
+      (λ l. ⊎_elim (λ t. on_left (subs d) t) (λ same. on_right (iterations a b d)
+      (subst (λ v. Listed v (subs d)) (sym same) (listed_itself d))) (in_iterations a b d x c l p))
+      (λ r. on_right (iterations a b d) (parts_in d x c r p))
+      (one_side (iterations a b d) h)
   parts_in (e.Opt d) x c (first same) p = inner (subst (λ v. Part v c) same p)
     where
       inner : {c : Element} → Part (e.Opt d) c → Listed c (subs (e.Opt d))
@@ -465,14 +466,15 @@ module _ (has : ℕ → Bool) (rules : List Rule) (last : ℕ) (goes : ℕ → �
   alternative_of : {es : Elements} {w : List ℕ} → Derives has rules (e.Alt es) w → DerivesSome has rules es w
   alternative_of (der.alt d) = d
 
-  record Turns (a : ℕ) (b : Option ℕ) (d : Element) (w : List ℕ) : Type 0 where
+  record Iterations (a : ℕ) (b : Option ℕ) (d : Element) (w : List ℕ) : Type 0 where
     count : ℕ
     low : a ≤ count
     high : der.AtMost count b
     times : DerivesTimes has rules d count w
 
-  turns_of : {a : ℕ} {b : Option ℕ} {d : Element} {w : List ℕ} → Derives has rules (e.Rep a b d) w → Turns a b d w
-  turns_of (der.rep {k = k} low high d) = record { count = k; low = low; high = high; times = d }
+  iterations_of : {a : ℕ} {b : Option ℕ} {d : Element} {w : List ℕ} → Derives has rules (e.Rep a b d) w
+      → Iterations a b d w
+  iterations_of (der.rep {k = k} low high d) = record { count = k; low = low; high = high; times = d }
 
   none_within : (b : Option ℕ) → der.AtMost 0 b
   none_within None = tt
@@ -522,7 +524,7 @@ module _ (has : ℕ → Bool) (rules : List Rule) (last : ℕ) (goes : ℕ → �
         (λ some.
         let t = two_of d (e.Rep (a - 1) (less b) d) i j
         (and_second (may b) (both s d (e.Rep (a - 1) (less b) d) i j) some) in
-        let r = turns_of t.rest.derives in
+        let r = iterations_of t.rest.derives in
         let low = r.low in
         record {
           word = t.left.word ++ t.rest.word;
@@ -675,9 +677,9 @@ module _ (has : ℕ → Bool) (rules : List Rule) (last : ℕ) (goes : ℕ → �
           (may most && both s d (e.Rep (least - 1) (less most) d) i j)
           (and_true (may most) (both s d (e.Rep (least - 1) (less most) d) i j) left.0
           (both_come d (e.Rep (least - 1) (less most) d) i c.mid j mid
-          (derived_in_set h i c.mid c.left (universe_parts rules (e.Rep least most d) d at turn) a mid)
+          (derived_in_set h i c.mid c.left (universe_parts rules (e.Rep least most d) d at iteration) a mid)
           (times_derived hs c.mid j c.right (least - 1) (less most) (omega (arith, low)) left.1
-          (universe_parts rules (e.Rep least most d) (e.Rep (least - 1) (less most) d) at turns_left) mid b))))
+          (universe_parts rules (e.Rep least most d) (e.Rep (least - 1) (less most) d) at iterations_left) mid b))))
 
   span_is_decided : (f : Fact) → Listed f (facts (last + 1) (universe rules)) → (said : Bool) × Says (Spans f) said
   span_is_decided f at = least_is_decided (facts (last + 1) (universe rules)) grow Spans

@@ -10,8 +10,8 @@ use Rattle.fixpoint.specs.StepRows.{Step, AreStepsWithin}
 use Rattle.fixpoint.proofs.ContainsLemmas.{none_of, in_first, in_later, cons_cases}
 use Rattle.ruletable.specs.declared.table.NameCase.TheVariants.{Fold}
 use Rattle.rulenames.specs.FirstUses.{news}
-use Rattle.rulenames.specs.NameUses.{IsPlace, here, there, AreIdsOf, no_uses, one_use}
-use Rattle.rulenames.proofs.IsPlaceLemmas.{place_below}
+use Rattle.rulenames.specs.NameUses.{IsPosition, here, there, AreIdsOf, no_uses, one_use}
+use Rattle.rulenames.proofs.IsPositionLemmas.{position_below}
 use Rattle.abnfread.specs.Element as e
 use Rattle.abnfread.specs.Element.{Element, Elements, Rule, bodies, id_of}
 use Rattle.abnfcheck.specs.AbnfGrammar.{Within, WithinSome, itself, of_concat, of_alt, of_rep, of_opt, of_first}
@@ -21,7 +21,7 @@ use Rattle.abnfcheck.specs.AbnfUses.{names_in, names_in_all, names_used, rule_na
 use Rattle.std.specs.Prelude.{option_to_list}
 use Rattle.abnfcheck.specs.NameIds.{IsIdAt, IsJudged, IsGraph, UsesNameAt}
 use Rattle.abnfcheck.specs.ProseIn.{prose_in, prose_in_one, prose_marks}
-use Rattle.abnfcheck.proofs.NameIdsLemmas.{place_id, judged_id}
+use Rattle.abnfcheck.proofs.NameIdsLemmas.{position_id, judged_id}
 
 -- a member of a list
 pub data In {A : Type 0} (a : A) : List A → Type 0 where
@@ -167,35 +167,36 @@ prose_marked rules id d h = prose_mark rules id h.body d h.body_is ∙ within_pr
 record UseOf (names uses : List (List ℕ)) (m : ℕ) : Type 0 where
   name : List ℕ
   among : In name uses
-  place : IsPlace Fold name names m
+  position : IsPosition Fold name names m
 
 id_use : {names uses : List (List ℕ)} {ids : List ℕ} (m : ℕ) → AreIdsOf Fold names uses ids → Contains ids m
     → UseOf names uses m
 id_use m no_uses h = absurd (none_of m h)
 id_use {names = names} m (one_use {used = used} {uses = uses} {id = id} {ids = ids} p rest) h = ⊎_elim
-    (λ is. record { name = used; among = in_head; place = subst (λ v. IsPlace Fold used names v) is p })
-    (λ later. let u = id_use m rest later in record { name = u.name; among = in_tail u.among; place = u.place })
+    (λ is. record { name = used; among = in_head; position = subst (λ v. IsPosition Fold used names v) is p })
+    (λ later. let u = id_use m rest later in record { name = u.name; among = in_tail u.among; position = u.position })
     (cons_cases id m ids h)
 
 -- a name stands at one position first
-pub place_is_one : {name : List ℕ} {xs : List (List ℕ)} {i j : ℕ} → IsPlace Fold name xs i → IsPlace Fold name xs j
+pub position_is_one : {name : List ℕ} {xs : List (List ℕ)} {i j : ℕ} → IsPosition Fold name xs i
+    → IsPosition Fold name xs j
     → i ≡ j
-place_is_one (here is) (here too) = refl
-place_is_one (here is) (there other p) = let e : true ≡ false = sym is ∙ other in absurd (cc e)
-place_is_one (there other p) (here is) = let e : true ≡ false = sym is ∙ other in absurd (cc e)
-place_is_one (there other p) (there unlike q) = ap suc (place_is_one p q)
+position_is_one (here is) (here too) = refl
+position_is_one (here is) (there other p) = let e : true ≡ false = sym is ∙ other in absurd (cc e)
+position_is_one (there other p) (here is) = let e : true ≡ false = sym is ∙ other in absurd (cc e)
+position_is_one (there other p) (there unlike q) = ap suc (position_is_one p q)
 
 record IdOf (names : List (List ℕ)) (ids : List ℕ) (used : List ℕ) : Type 0 where
   id : ℕ
   among : Contains ids id
-  place : IsPlace Fold used names id
+  position : IsPosition Fold used names id
 
 use_id : {names uses : List (List ℕ)} {ids : List ℕ} {used : List ℕ} → AreIdsOf Fold names uses ids → In used uses
     → IdOf names ids used
 use_id no_uses i = elim i [ ]
-use_id (one_use {id = id} {ids = ids} p rest) in_head = record { id = id; among = in_first id ids; place = p }
+use_id (one_use {id = id} {ids = ids} p rest) in_head = record { id = id; among = in_first id ids; position = p }
 use_id (one_use {id = id} {ids = ids} p rest) (in_tail i) = let f = use_id rest i in
-    record { id = f.id; among = in_later id f.id ids f.among; place = f.place }
+    record { id = f.id; among = in_later id f.id ids f.among; position = f.position }
 
 module _ (rules : List Rule) (given : Option (List ℕ)) (names : List (List ℕ)) (rows : List (List ℕ)) (judged : ℕ)
     (graph : IsGraph rules given names rows judged) where
@@ -205,8 +206,8 @@ module _ (rules : List Rule) (given : Option (List ℕ)) (names : List (List ℕ
   abbrev count : ℕ
   count = length rules
 
-  pub id_at : {n : List ℕ} {m : ℕ} → IsPlace Fold n names m → IsIdAt count m (id_of rules n)
-  id_at {n = n} {m = m} p = place_id rules more (subst (λ l. IsPlace Fold n l m) graph.all p)
+  pub id_at : {n : List ℕ} {m : ℕ} → IsPosition Fold n names m → IsIdAt count m (id_of rules n)
+  id_at {n = n} {m = m} p = position_id rules more (subst (λ l. IsPosition Fold n l m) graph.all p)
 
   -- each rule has a name
   pub rows_long : count ≤ length rows
@@ -223,18 +224,18 @@ module _ (rules : List Rule) (given : Option (List ℕ)) (names : List (List ℕ
   step_use user m step =
       let b = body_there rules user (user_below user m step) in
       let u = id_use m (graph.are_rows.ids user b.0 b.1) step in
-      record { body = b.0; name = u.name; body_is = b.1; within = name_within b.0 u.among; place_is = u.place }
+      record { body = b.0; name = u.name; body_is = b.1; within = name_within b.0 u.among; position_is = u.position }
 
   pub use_step : (user m : ℕ) → UsesNameAt rules names user m → Step rows user m
   use_step user m u =
       let f = use_id (graph.are_rows.ids user u.body u.body_is) (within_name u.within) in
-      subst (λ v. Step rows user v) (place_is_one f.place u.place_is) f.among
+      subst (λ v. Step rows user v) (position_is_one f.position u.position_is) f.among
 
   pub steps_within : AreStepsWithin rows
   steps_within =
       record {
         within = λ n m step. let u = step_use n m step in
-            let lt = place_below Fold u.place_is in let c = graph.are_rows.count in omega (arith, lt, c);
+            let lt = position_below Fold u.position_is in let c = graph.are_rows.count in omega (arith, lt, c);
       }
 
   -- a step to a rule's name is a use of the rule
@@ -242,7 +243,7 @@ module _ (rules : List Rule) (given : Option (List ℕ)) (names : List (List ℕ
   step_uses user id lt step =
       let u = step_use user id step in
       let is : id_of rules u.name ≡ id = ⊎_elim (λ low. low.1)
-      (λ high. absurd (let le = high.0 in omega (arith, lt, le))) (id_at u.place_is) in
+      (λ high. absurd (let le = high.0 in omega (arith, lt, le))) (id_at u.position_is) in
       record { body = u.body; name = u.name; body_is = u.body_is; within = u.within; id_is = is }
 
   pub record StepFor (user id : ℕ) : Type 0 where
@@ -254,7 +255,7 @@ module _ (rules : List Rule) (given : Option (List ℕ)) (names : List (List ℕ
       → Within body (e.Name name) → StepFor user (id_of rules name)
   uses_for user body name at within =
       let f = use_id (graph.are_rows.ids user body at) (within_name within) in
-      record { target = f.id; step = f.among; is = id_at f.place }
+      record { target = f.id; step = f.among; is = id_at f.position }
 
   pub uses_step : (user id : ℕ) → id < count → Uses rules user id → Step rows user id
   uses_step user id lt u =
@@ -286,25 +287,25 @@ module _ (rules : List Rule) (given : Option (List ℕ)) (names : List (List ℕ
       old.is in
       record {
         id = id_of rules u.name;
-        is = id_at u.place_is;
+        is = id_at u.position_is;
         reachable = by_name (subst (λ v. Reachable rules judged_rule_id v) same old.reachable) u.body_is u.within;
       }
 
   pub record ReachedBy (id : ℕ) : Type 0 where
-    pub place : ℕ
-    pub is : IsIdAt count place id
-    pub reaches : Reaches rows judged place
+    pub position : ℕ
+    pub is : IsIdAt count position id
+    pub reaches : Reaches rows judged position
 
   pub reached_by : (id : ℕ) → Reachable rules judged_rule_id id → ReachedBy id
-  reached_by id judged_rule = record { place = judged; is = judged_at; reaches = start }
+  reached_by id judged_rule = record { position = judged; is = judged_at; reaches = start }
   reached_by id (by_name {id = user} {body = body} {name = name} r at within) =
       let old = reached_by user r in
       let lt = body_below rules user body at in
-      let same : old.place ≡ user = ⊎_elim (λ low. sym low.1)
+      let same : old.position ≡ user = ⊎_elim (λ low. sym low.1)
       (λ high. absurd (let is = high.1 in omega (arith, lt, is))) old.is in
       let s = uses_for user body name at within in
       record {
-        place = s.target;
+        position = s.target;
         is = s.is;
         reaches = further (subst (λ v. Reaches rows judged v) same
             old.reaches) s.step;

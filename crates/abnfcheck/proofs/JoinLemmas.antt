@@ -95,9 +95,9 @@ abbrev added : {E : Type 0} → Option ℕ → Rules E → Rule E → Rules E
 added None table rule = record { names = table.names; rules = table.rules ++ rule ∷ [] }
 added (Some id) table rule = table
 
--- a place is found where some element passes
-pub place_found : {A : Type 0} (p : A → Bool) (xs : List A) → is_some (position p xs) ≡ list_any p xs
-place_found {A} p xs = there (nat_lt (position_or_len p xs) (length xs)) (position_or_len p xs) ∙ below xs
+-- a position is found where some element passes
+pub position_found : {A : Type 0} (p : A → Bool) (xs : List A) → is_some (position p xs) ≡ list_any p xs
+position_found {A} p xs = there (nat_lt (position_or_len p xs) (length xs)) (position_or_len p xs) ∙ below xs
   where
     there : (b : Bool) (k : ℕ) → is_some (cond b (Some k) None) ≡ b
     there true k = refl
@@ -189,7 +189,7 @@ module _ {E : Type 0} (file : Rules E) (rule : Rule E) where
       ≡ added (find_in (with_core file xs) rule.name) (with_core file xs) rule
   core_push xs =
       let there : (list_any like file.rules || list_any like xs) ≡ is_some (find_in (with_core file xs) rule.name) =
-      sym (place_found like (file.rules ++ left_alone file xs) ∙ any_of_all xs) in
+      sym (position_found like (file.rules ++ left_alone file xs) ∙ any_of_all xs) in
       ap (λ l. record { names = file.names; rules = file.rules ++ l }) (left_push xs)
       ∙ ap (λ l. record { names = file.names; rules = l })
       (sym (append_assoc file.rules (left_alone file xs) (unless file.names rule (list_any like file.rules

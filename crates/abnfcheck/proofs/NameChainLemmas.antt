@@ -7,19 +7,19 @@ use Rattle.fixpoint.specs.StepRows.{Step}
 use Rattle.ruletable.specs.Rules.{Rules, find_in, names_of, same_name}
 use Rattle.ruletable.specs.declared.table.NameCase.TheVariants.{Fold}
 use Rattle.rulenames.proofs.IsAddedLemmas.{found_in}
-use Rattle.rulenames.proofs.IsPlaceLemmas.{place_below, place_of}
+use Rattle.rulenames.proofs.IsPositionLemmas.{position_below, position_of}
 use Rattle.fixpoint.specs.Distances.{Distance, Steps, no_step, one_more}
 use Rattle.fixpoint.specs.ShortChains.{Back, ChainTo, IsChainIfReached, at_start, after}
 use Rattle.abnfread.specs.Element.{Rule}
 use Rattle.abnfcheck.specs.NameChains.{IsChainAt, IsFirstUser, IsNameChain, ReachesBy, UseChain, UseDistance, names_at}
 use Rattle.abnfcheck.specs.NameChains.{after_user, judged_alone, no_use, one_use}
 use Rattle.abnfcheck.specs.NameIds.{IsGraph, IsJudged, UsesNameAt, all_names}
-use Rattle.abnfcheck.proofs.GraphLemmas.{place_is_one, step_use, use_step}
+use Rattle.abnfcheck.proofs.GraphLemmas.{position_is_one, step_use, use_step}
 
 judged_is_one : (given : Option (List ℕ)) (names : List (List ℕ)) (i j : ℕ) → IsJudged given names i
     → IsJudged given names j → i ≡ j
 judged_is_one None names i j g h = g ∙ sym h
-judged_is_one (Some name) names i j g h = place_is_one g h
+judged_is_one (Some name) names i j g h = position_is_one g h
 
 -- Uses as steps of rows, and back.
 module _ (rules : List Rule) (names rows : List (List ℕ)) (s : ℕ)
@@ -156,11 +156,11 @@ pub judged_below : (rules : List Rule) (given : Option (List ℕ)) (names rows :
     (name : List ℕ) → IsGraph rules given names rows judged → position (same_name Fold name) names ≡ Some p
     → judged < length rows
 judged_below rules given names rows judged p name g is =
-    let some = place_below Fold (place_of Fold name names p is) in
+    let some = position_below Fold (position_of Fold name names p is) in
     let c = g.are_rows.count in
     let lt = by given g.is_judged some in
     omega (arith, c, lt)
   where
     by : (given : Option (List ℕ)) → IsJudged given names judged → p < length names → judged < length names
     by None e some = omega (arith, e, some)
-    by (Some other) q some = place_below Fold q
+    by (Some other) q some = position_below Fold q

@@ -15,8 +15,8 @@ use Rattle.ruletable.specs.Rules as table
 use Rattle.ruletable.specs.declared.table.NameCase.TheVariants.{Fold}
 use Rattle.fixpoint.specs.StepRows.{row_at}
 use Rattle.rulenames.specs.FirstUses.{news}
-use Rattle.rulenames.specs.NameUses.{IsPlace, here, there, AreIdsOf, IsScanned}
-use Rattle.rulenames.proofs.IsPlaceLemmas.{place_append}
+use Rattle.rulenames.specs.NameUses.{IsPosition, here, there, AreIdsOf, IsScanned}
+use Rattle.rulenames.proofs.IsPositionLemmas.{position_append}
 use Rattle.rulenames.proofs.IsScannedLemmas.{ids_more, scan_grows, used_next as next_uses}
 use Rattle.abnfread.specs.declared.elem.Elem.{Elem}
 use Rattle.abnfread.specs.Element.{Element, Rule, bodies, id_of}
@@ -30,13 +30,14 @@ rest_id : (c k m id : ℕ) → IsIdAt c m id → IsIdAt (suc c) (suc m) (id + 1)
 rest_id c k m id (inl (lt, is)) = inl (omega (arith, lt), omega (arith, is))
 rest_id c k m id (inr (le, is)) = inr (omega (arith, le), omega (arith, is))
 
-pub place_id : (rules : List Rule) (more : List (List ℕ)) {name : List ℕ} {m : ℕ}
-    → IsPlace Fold name (rule_names rules ++ more) m → IsIdAt (length rules) m (id_of rules name)
-place_id [] more p = inr (omega arith, refl)
-place_id (rule ∷ rules) more {name = name} (here is) = inl (omega arith, ap (λ b. cond b 0 (id_of rules name + 1)) is)
-place_id (rule ∷ rules) more {name = name} (there {i = i} other p) =
+pub position_id : (rules : List Rule) (more : List (List ℕ)) {name : List ℕ} {m : ℕ}
+    → IsPosition Fold name (rule_names rules ++ more) m → IsIdAt (length rules) m (id_of rules name)
+position_id [] more p = inr (omega arith, refl)
+position_id (rule ∷ rules) more {name = name} (here is) = inl
+    (omega arith, ap (λ b. cond b 0 (id_of rules name + 1)) is)
+position_id (rule ∷ rules) more {name = name} (there {i = i} other p) =
     subst (λ v. IsIdAt (suc (length rules)) (suc i) v) (sym (ap (λ b. cond b 0 (id_of rules name + 1)) other))
-    (rest_id (length rules) 0 i (id_of rules name) (place_id rules more p))
+    (rest_id (length rules) 0 i (id_of rules name) (position_id rules more p))
 
 first_id : (rules : List Rule) → IsIdAt (length rules) 0 0
 first_id [] = inr (omega arith, refl)
@@ -46,12 +47,12 @@ pub judged_id : (given : Option (List ℕ)) (rules : List Rule) (more : List (Li
     → IsJudged given (rule_names rules ++ more) judged →
     IsIdAt (length rules) judged (judged_in given rules)
 judged_id None rules more judged is = subst (λ v. IsIdAt (length rules) v 0) (sym is) (first_id rules)
-judged_id (Some name) rules more judged p = place_id rules more p
+judged_id (Some name) rules more judged p = position_id rules more p
 
 pub judged_append : (given : Option (List ℕ)) (xs ys : List (List ℕ)) (judged : ℕ) → IsJudged given xs judged
     → IsJudged given (xs ++ ys) judged
 judged_append None xs ys judged is = is
-judged_append (Some name) xs ys judged p = place_append Fold ys p
+judged_append (Some name) xs ys judged p = position_append Fold ys p
 
 -- the elements and names of a table's rules
 pub body_shown : (rules : List (table.Rule Elem)) (id : ℕ) (el : Elem) → slice_get (map (λ rule. rule.body) rules) id

@@ -24,10 +24,10 @@ first_id rules name =
     step true k = refl
     step false k = omega arith
 
--- a place, or the length where there is none
-place_or : (b : Bool) (k n : ℕ) → (b ≡ false → k ≡ n) → unwrap_or (cond b (Some k) None) n ≡ k
-place_or true k n h = refl
-place_or false k n h = sym (h refl)
+-- a position, or the length where there is none
+position_or : (b : Bool) (k n : ℕ) → (b ≡ false → k ≡ n) → unwrap_or (cond b (Some k) None) n ≡ k
+position_or true k n h = refl
+position_or false k n h = sym (h refl)
 
 pub id_found : (rules : table.Rules Elem) (name : List ℕ) (found : Option ℕ) (count : ℕ) → rules.names ≡ Fold
     → found ≡ find_in rules name → count ≡ length rules.rules →
@@ -35,7 +35,7 @@ pub id_found : (rules : table.Rules Elem) (name : List ℕ) (found : Option ℕ)
 id_found rules name found count folds is all =
     let first = position_or_len (λ rule. same_name Fold name rule.name) rules.rules in
     let most : first ≤ length rules.rules = prefix_len-le-length _ rules.rules in
-    rw (is, all, folds) (place_or (nat_lt first (length rules.rules)) first (length rules.rules)
+    rw (is, all, folds) (position_or (nat_lt first (length rules.rules)) first (length rules.rules)
     (λ past. grind (arith, nat_tests)) ∙ sym (first_id rules.rules name))
 
 -- the body of a name stands at its id

@@ -20,7 +20,8 @@ use Rattle.abnfcheck.specs.Derivable.{later, no_more, one_more, RuleDerives}
 use Rattle.abnfcheck.specs.declared.aim.Aim.{Aim}
 use Rattle.abnfcheck.specs.declared.aim.Aim.TheVariants.{Empty, Letters}
 use Rattle.abnfcheck.specs.RuleMarks.{AreMarksFor, AreNullMarks, AreProductive, IsAim, IsTestOf, Yields, need_if}
-use Rattle.abnfcheck.specs.RuleMarks.{need_of_turns, need_of_repeat, need_of_id, Asks, asks, IsNeedOf, of_met, of_unmet}
+use Rattle.abnfcheck.specs.RuleMarks.{need_of_iterations, need_of_repeat, need_of_id, Asks, asks, IsNeedOf, of_met}
+use Rattle.abnfcheck.specs.RuleMarks.{of_unmet}
 use Rattle.abnfcheck.specs.RuleMarks.{of_concat, of_alt, of_rep, of_name, AskAll, ask_none, ask_more, HaveBodyNeeds}
 use Rattle.abnfcheck.proofs.GraphLemmas.{body_below, body_there}
 use Rattle.abnfcheck.proofs.RuleIdLemmas.{body_at_id}
@@ -95,9 +96,9 @@ module _ (has : ℕ → Bool) (rules : List Rule) (aim : Aim) where
         → IsNeedOf has rules aim needs (need_of_repeat a b m) (e.Rep a b el)
     repeat_need a b m el asked = by (leb a 0) refl
       where
-        no_turn : (b : Option ℕ) → a ≤ 0 → Yields has rules aim (e.Rep a b el)
-        no_turn None le = record { word = []; asked = aim_nil aim; derives = der.rep {k = 0} le tt no_more }
-        no_turn (Some most) le = record {
+        no_iteration : (b : Option ℕ) → a ≤ 0 → Yields has rules aim (e.Rep a b el)
+        no_iteration None le = record { word = []; asked = aim_nil aim; derives = der.rep {k = 0} le tt no_more }
+        no_iteration (Some most) le = record {
           word = [];
           asked = aim_nil aim;
           derives = der.rep {k = 0} le (omega arith) no_more;
@@ -108,17 +109,17 @@ module _ (has : ℕ → Bool) (rules : List Rule) (aim : Aim) where
         test most true le some = of_rep some (leb-true a most le) asked
         test most false le some = of_unmet (λ y. both_ways false refl (sym le ∙ le-leb a most (not_reversed y.derives)))
 
-        turns : (b : Option ℕ) → 0 < a → IsNeedOf has rules aim needs (need_of_turns a b m) (e.Rep a b el)
-        turns None some = of_rep some tt asked
-        turns (Some most) some = test most (leb a most) refl some
+        iterations : (b : Option ℕ) → 0 < a → IsNeedOf has rules aim needs (need_of_iterations a b m) (e.Rep a b el)
+        iterations None some = of_rep some tt asked
+        iterations (Some most) some = test most (leb a most) refl some
 
         more_than : leb a 0 ≡ false → 0 < a
         more_than few = ⊎_elim (λ lt. lt) (λ le. absurd (let yes = le-leb a 0 le in cc (yes, few))) (cases_lt 0 a)
 
-        by : (c : Bool) → leb a 0 ≡ c → IsNeedOf has rules aim needs (cond c (All []) (need_of_turns a b m))
+        by : (c : Bool) → leb a 0 ≡ c → IsNeedOf has rules aim needs (cond c (All []) (need_of_iterations a b m))
             (e.Rep a b el)
-        by true le = of_met (no_turn b (leb-true a 0 le))
-        by false few = turns b (more_than few)
+        by true le = of_met (no_iteration b (leb-true a 0 le))
+        by false few = iterations b (more_than few)
 
     name_is_rule : {n w : List ℕ} → Derives has rules (e.Name n) w → id_of rules n < length rules
     name_is_rule (der.name {n = n} {e = body} found d) = body_below rules (id_of rules n) body

@@ -4,14 +4,14 @@ use Rattle.std.specs.Prelude.{option_to_list}
 use Rattle.fixpoint.specs.StepRows.{row_at}
 use Rattle.ruletable.specs.declared.table.NameCase.TheVariants.{Fold}
 use Rattle.rulenames.specs.FirstUses.{news}
-use Rattle.rulenames.specs.NameUses.{IsPlace, AreIdsOf}
+use Rattle.rulenames.specs.NameUses.{IsPosition, AreIdsOf}
 use Rattle.abnfread.specs.Element.{Element, Name, Rule, bodies}
 use Rattle.abnfcheck.specs.AbnfGrammar.{Within}
 use Rattle.abnfcheck.specs.AbnfUses.{names_in, names_used, rule_names}
 
--- the id of a name by its place: the number of rules stands for a name without a rule
+-- the id of a name by its position: the number of rules stands for a name without a rule
 abbrev pub IsIdAt : ℕ → ℕ → ℕ → Type 0
-IsIdAt count place id = ((place < count) × (id ≡ place)) ⊎ ((count ≤ place) × (id ≡ count))
+IsIdAt count position id = ((position < count) × (id ≡ position)) ⊎ ((count ≤ position) × (id ≡ count))
 
 -- of each of the first rules the ids of the names in its body
 pub record AreRowsTo (rules : List Rule) (names : List (List ℕ)) (rows : List (List ℕ)) (count : ℕ) : Type 0 where
@@ -26,10 +26,10 @@ pub record AreRows (rules : List Rule) (names : List (List ℕ)) (rows : List (L
       → AreIdsOf Fold names (names_in body) (row_at rows id)
   pub others : (id : ℕ) → length rules ≤ id → row_at rows id ≡ []
 
--- the place of the given name, or the first
+-- the position of the given name, or the first
 abbrev pub IsJudged : Option (List ℕ) → List (List ℕ) → ℕ → Type 0
 IsJudged None names judged = judged ≡ 0
-IsJudged (Some name) names judged = IsPlace Fold name names judged
+IsJudged (Some name) names judged = IsPosition Fold name names judged
 
 -- the names of the rules, and then those that no rule has, by first use; a name given for the judged rule is a use
 -- before all others
@@ -37,14 +37,14 @@ abbrev pub all_names : List Rule → Option (List ℕ) → List (List ℕ)
 all_names rules given = rule_names rules ++ news Fold (rule_names rules) (option_to_list given ++ names_used rules)
 
 -- the body of the rule with the first id has a name that stands at the second position of a list
-pub record UsesNameAt (rules : List Rule) (names : List (List ℕ)) (user place : ℕ) : Type 0 where
+pub record UsesNameAt (rules : List Rule) (names : List (List ℕ)) (user position : ℕ) : Type 0 where
   pub body : Element
   pub name : List ℕ
   pub body_is : slice_get (bodies rules) user ≡ Some body
   pub within : Within body (Name name)
-  pub place_is : IsPlace Fold name names place
+  pub position_is : IsPosition Fold name names position
 
--- the names by id, of each rule the ids of the names in its body, and the place of the given name
+-- the names by id, of each rule the ids of the names in its body, and the position of the given name
 pub record IsGraph (rules : List Rule) (given : Option (List ℕ)) (names : List (List ℕ)) (rows : List (List ℕ))
     (judged : ℕ) : Type 0 where
   pub all : names ≡ all_names rules given

@@ -48,13 +48,13 @@ AreMarksFor aim rules marks = (has : ℕ → Bool) → IsTestOf aim has → (id 
 abbrev pub need_if : Bool → Demand
 need_if met = if met then All [] else One []
 
--- a turn is asked for, and reversed bounds allow none
-abbrev pub need_of_turns : ℕ → Option ℕ → ℕ → Demand
-need_of_turns least None m = All (m ∷ [])
-need_of_turns least (Some most) m = if leb least most then All (m ∷ []) else One []
+-- an iteration is asked for, and reversed bounds allow none
+abbrev pub need_of_iterations : ℕ → Option ℕ → ℕ → Demand
+need_of_iterations least None m = All (m ∷ [])
+need_of_iterations least (Some most) m = if leb least most then All (m ∷ []) else One []
 
 abbrev pub need_of_repeat : ℕ → Option ℕ → ℕ → Demand
-need_of_repeat least most m = if leb least 0 then All [] else need_of_turns least most m
+need_of_repeat least most m = if leb least 0 then All [] else need_of_iterations least most m
 
 -- a rule, or none
 abbrev pub need_of_id : ℕ → ℕ → Demand

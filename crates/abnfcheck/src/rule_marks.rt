@@ -82,7 +82,7 @@ fn range_yields(aim: Aim, low: u32, high: u32) -> bool
     }
 }
 
-// Returns the need of a repetition: none if it may have no turn, else its operand. Reversed bounds are never met.
+// Returns the need of a repetition: none if it may have no iteration, else its operand. Reversed bounds are never met.
 fn repeat_need(
     alloc: Global,
     least: u32,

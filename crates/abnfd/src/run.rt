@@ -6,7 +6,7 @@ ghost use Rattle.abnfd.specs.CompareWords.{IsAbnfdApp};
 ghost use Rattle.clap.specs.Words.{fault_of, found_of, matches_of, rows_of};
 ghost use Rattle.cli.specs.Parsing.{WordsState};
 ghost use Rattle.toolrun.specs.Plan.{IsReportedAnd};
-ghost use Rattle.toolrun.specs.Right.{Comes};
+ghost use Rattle.toolrun.specs.Right.{RunIsRight};
 ghost use Rattle.toolrun.specs.Status.{code_of};
 ghost use Rattle.toolrun.specs.Stopped.{Performs};
 ghost use Rattle.toolrun.specs.Stream.{no_input, passed};
@@ -37,7 +37,7 @@ fn write_answer<O: Sink>(answer: &ComparisonAnswer, out: &mut O) -> Result<Stop,
 fn end_compared<O: Sink, E: Sink>(report: &Report, out: &mut O, err: &mut E) -> Status
     requires out_is_fresh { O.failed out.old ≡ false }
     requires err_is_fresh { E.failed err.old ≡ false }
-    ensures right { Comes (IsWholeReport report.now.reported.items report.now.answer.text.items
+    ensures right { RunIsRight (IsWholeReport report.now.reported.items report.now.answer.text.items
         report.now.answer.status)
         no_input (passed O.contents O.failed out.old out.new) (passed E.contents E.failed err.old err.new)
         (code_of result) }
@@ -53,7 +53,7 @@ fn end_compared<O: Sink, E: Sink>(report: &Report, out: &mut O, err: &mut E) -> 
 fn end_missing<O: Sink, E: Sink>(reported: &[u8], out: &mut O, err: &mut E) -> Status
     requires out_is_fresh { O.failed out.old ≡ false }
     requires err_is_fresh { E.failed err.old ≡ false }
-    ensures right { Comes (IsReportedAnd reported.now (Stop.Quiet Status.Fault)) no_input
+    ensures right { RunIsRight (IsReportedAnd reported.now (Stop.Quiet Status.Fault)) no_input
         (passed O.contents O.failed out.old out.new) (passed E.contents E.failed err.old err.new) (code_of result) }
 {
     if write_whole(err, reported).is_err() {
@@ -66,7 +66,7 @@ fn end_missing<O: Sink, E: Sink>(reported: &[u8], out: &mut O, err: &mut E) -> S
 fn end_unread<O: Sink, E: Sink>(why: UnreadFile, out: &mut O, err: &mut E) -> Status
     requires out_is_fresh { O.failed out.old ≡ false }
     requires err_is_fresh { E.failed err.old ≡ false }
-    ensures right { Comes (IsReportedAnd (missing_text why) (missing_stop why)) no_input
+    ensures right { RunIsRight (IsReportedAnd (missing_text why) (missing_stop why)) no_input
         (passed O.contents O.failed out.old out.new) (passed E.contents E.failed err.old err.new) (code_of result) }
 {
     match why {
@@ -86,7 +86,7 @@ fn compare_read<O: Sink, E: Sink>(
 ) -> Status
     requires out_is_fresh { O.failed out.old ≡ false }
     requires err_is_fresh { E.failed err.old ≡ false }
-    ensures right { Comes (FilesCompared settings.now.letters (option_copied settings.now.old_rule)
+    ensures right { RunIsRight (FilesCompared settings.now.letters (option_copied settings.now.old_rule)
         (option_copied settings.now.new_rule)) no_input (passed O.contents O.failed out.old out.new)
         (passed E.contents E.failed err.old err.new) (code_of result) }
 {
@@ -105,7 +105,7 @@ fn compare_asked<R: Files + AllocGlobal, O: Sink, E: Sink>(
 ) -> Status
     requires out_is_fresh { O.failed out.old ≡ false }
     requires err_is_fresh { E.failed err.old ≡ false }
-    ensures right { Comes (CompareAnswers (rows_of (found_of matches.now))) no_input
+    ensures right { RunIsRight (CompareAnswers (rows_of (found_of matches.now))) no_input
         (passed O.contents O.failed out.old out.new) (passed E.contents E.failed err.old err.new) (code_of result) }
 {
     let settings = settings_of(matches);
@@ -138,10 +138,10 @@ pub(crate) fn abnfd_main<R: Files + AllocGlobal, O: Sink, E: Sink>(
     requires out_is_fresh { O.failed out.old ≡ false }
     requires err_is_fresh { E.failed err.old ≡ false }
     ensures words { (app : _) × IsAbnfdApp app × (fault_of app (map string_bytes words.now) ≢ [] →
-        Comes (WordsState (fault_of app (map string_bytes words.now))) no_input
+        RunIsRight (WordsState (fault_of app (map string_bytes words.now))) no_input
         (passed O.contents O.failed out.old out.new) (passed E.contents E.failed err.old err.new) (code_of result)) }
     ensures right { (app : _) × IsAbnfdApp app × (fault_of app (map string_bytes words.now) ≡ [] →
-        Comes (CompareAnswers (matches_of app (map string_bytes words.now))) no_input
+        RunIsRight (CompareAnswers (matches_of app (map string_bytes words.now))) no_input
         (passed O.contents O.failed out.old out.new) (passed E.contents E.failed err.old err.new) (code_of result)) }
 {
     match parse_words(rt.alloc(), words) {

@@ -23,11 +23,11 @@ use Rattle.abnfread.proofs.AbnfViabilityLemmas.{runs-begins, stops-begins}
 use Rattle.abnfread.proofs.SaysKindLemmas.{one-word}
 use Rattle.abnfexplain.specs.declared.abnf_stand.OpenBracket.{OpenBracket}
 use Rattle.abnfexplain.specs.declared.abnf_stand.Form.{Form}
-use Rattle.abnfexplain.specs.declared.abnf_stand.Place.{Place}
+use Rattle.abnfexplain.specs.declared.abnf_stand.Position.{Position}
 use Rattle.abnfexplain.specs.declared.abnf_stand.Stand.{Stand}
 use Rattle.abnfexplain.specs.declared.abnf_stand.Stand.TheVariants as stands
 use Rattle.abnfexplain.specs.AbnfExpected.{CanStand}
-use Rattle.abnfexplain.specs.AbnfPlaces.{brackets_of, place_allows}
+use Rattle.abnfexplain.specs.AbnfPositions.{brackets_of, position_allows}
 use Rattle.abnfexplain.specs.AbnfStands.{allows_marked, allows_first, allows_later, allows_read, innermost}
 use Rattle.abnfexplain.specs.AbnfStands.{after_marked, brackets_after}
 use Rattle.abnfexplain.proofs.AbnfStandLemmas.{kind_said, stand_of, open_of, Comes, step-comes}
@@ -124,18 +124,18 @@ none-there : (b : Bool) (s : Stand) (bs : List OpenBracket) (x : Option Config) 
 none-there b s bs None h e = refl
 none-there b s bs (Some d) h e = absurd (let no : true ≡ false = sym h.0 ∙ e in cc)
 
--- the configuration stands at that place
-pub record StandsAt (c : Config) (place : Place) : Type 0 where
-  pub stand : stand_of c ≡ place.stand
-  pub brackets : open_of c ≡ brackets_of place
+-- the configuration stands at that position
+pub record StandsAt (c : Config) (position : Position) : Type 0 where
+  pub stand : stand_of c ≡ position.stand
+  pub brackets : open_of c ≡ brackets_of position
 
 -- the test says which tokens can stand after the configuration
 abbrev pub TestsForms : Config → (Form → Bool) → Type 0
 TestsForms c can = (k : AbnfKind) (g f : Bool) → allows_marked (stand_of c) (innermost (open_of c)) k g f
     ≡ can (record { kind = k; gap = g; first = f })
 
-pub place-tests : (c : Config) (place : Place) → StandsAt c place → TestsForms c (place_allows place)
-place-tests c place at k g f = rw (at.stand, at.brackets) refl
+pub position-tests : (c : Config) (position : Position) → StandsAt c position → TestsForms c (position_allows position)
+position-tests c position at k g f = rw (at.stand, at.brackets) refl
 
 module _ (c : Config) (can : Form → Bool) (same-test : TestsForms c can) where
   pub goes-on : (s : Said) (g f : Bool) → can (record { kind = kind_said s; gap = g; first = f }) ≡ true

@@ -22,12 +22,13 @@ use Rattle.ruletable.specs.declared.fault.ReadFault.{ReadFault}
 use Rattle.ruletable.specs.declared.fault.ReadFault.TheVariants as faults
 use Rattle.abnfexplain.specs.declared.abnf_decide.Refused.{Refused}
 use Rattle.abnfexplain.specs.declared.abnf_stand.Form.{Form}
-use Rattle.abnfexplain.specs.declared.abnf_stand.Place.{Place}
+use Rattle.abnfexplain.specs.declared.abnf_stand.Position.{Position}
 use Rattle.abnfexplain.specs.AbnfDecisions.{first_marked, IsTokenOf, ReportsForms, IsRefused, NoneDecides}
 use Rattle.abnfexplain.specs.AbnfExpected.{CanStand, phrases}
-use Rattle.abnfexplain.specs.AbnfExplained.{indent, line_fact, is_later_name, name_fact, token_place, token_facts, Why}
+use Rattle.abnfexplain.specs.AbnfExplained.{indent, line_fact, is_later_name, name_fact, token_position, token_facts}
+use Rattle.abnfexplain.specs.AbnfExplained.{Why}
 use Rattle.abnfexplain.specs.AbnfExplained.{hopeless, too_deep, too_large}
-use Rattle.abnfexplain.specs.AbnfPlaces.{place_allows}
+use Rattle.abnfexplain.specs.AbnfPositions.{position_allows}
 use Rattle.abnfexplain.specs.AbnfStands.{defines}
 
 -- pieces, one after the other
@@ -93,35 +94,35 @@ module _ (text : List ℕ) (lies : Lies text) where
       sym (h.holds).origin ∙ ap (option_map marked_of) e in
       token-within text h.all 0 (marked_of o) lies h.are_tokens (first-get h.number h.all (marked_of o) first)
 
-module _ (place : Place) (ms : List Marked) (i : ℕ) (h : ReportsForms place ms i) where
-  by-test : (form : Form) (b : Bool) → place_allows place form ≡ b → CanStand ms i form
-      → place_allows place form ≡ true
+module _ (position : Position) (ms : List Marked) (i : ℕ) (h : ReportsForms position ms i) where
+  by-test : (form : Form) (b : Bool) → position_allows position form ≡ b → CanStand ms i form
+      → position_allows position form ≡ true
   by-test form true e s = e
   by-test form false e s = absurd (h.other form e s)
 
-  -- what the place says can stand there
-  place-reports : {ws : List (List ℕ)} → AreAllReported (λ k. place_allows place k ≡ true) phrases ws
+  -- what the position says can stand there
+  position-reports : {ws : List (List ℕ)} → AreAllReported (λ k. position_allows position k ≡ true) phrases ws
       → AreAllReported (CanStand ms i) phrases ws
-  place-reports t = reported-same h.stand (λ k s. by-test k (place_allows place k) refl s) t
+  position-reports t = reported-same h.stand (λ k s. by-test k (position_allows position k) refl s) t
 
 module _ (text : List ℕ) (within : length text ≤ MAX_GRAMMAR) where
   pub hopeless-why : (r : Refused) (reported : List (List ℕ)) (why : List ℕ)
       → IsTokenOf text (marked_of r.token) (IsRefused r) → AreAllReported
-      (λ k. place_allows r.place k ≡ true) phrases reported
-      → why ≡ token_place text (marked_of r.token) ++ (codes "expected " ++ (listed reported ++ (codes "\n"
+      (λ k. position_allows r.position k ≡ true) phrases reported
+      → why ≡ token_position text (marked_of r.token) ++ (codes "expected " ++ (listed reported ++ (codes "\n"
       ++ token_facts text (option_map marked_of r.origin) (option_map marked_of r.before) (marked_of r.token))))
       → Why text why
   hopeless-why r reported why h reports e =
       let d = h.holds in
       rw (e, d.origin, d.before)
-      (hopeless within h.are_tokens h.there d.hopeless (place-reports r.place h.all h.number d.reports reports))
+      (hopeless within h.are_tokens h.there d.hopeless (position-reports r.position h.all h.number d.reports reports))
 
   pub deep-why : (m : Marked) (why : List ℕ) → IsTokenOf text m (λ us i. IsOver us i × (is_bracket m ≡ true))
-      → why ≡ token_place text m ++ codes "200 brackets are open before it\n" → Why text why
+      → why ≡ token_position text m ++ codes "200 brackets are open before it\n" → Why text why
   deep-why m why h e = rw e (too_deep within h.are_tokens h.there h.holds.0 h.holds.1)
 
   pub large-why : (m : Marked) (why : List ℕ) → IsTokenOf text m (λ us i. IsOver us i × (is_bracket m ≡ false))
-      → why ≡ token_place text m ++ codes "above 4294967295\n" → Why text why
+      → why ≡ token_position text m ++ codes "above 4294967295\n" → Why text why
   large-why m why h e = rw e (too_large within h.are_tokens h.there h.holds.0 h.holds.1)
 
 -- a fault of what is not too long is that of a token

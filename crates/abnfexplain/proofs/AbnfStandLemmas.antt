@@ -65,7 +65,7 @@ open-count (named ds n p) = refl
 open-count (body h o bs es l) = open-levels o
 open-count (done ds) = refl
 
--- the machine's step is there where the test passes, and comes to that place
+-- the machine's step is there where the test passes, and comes to that position
 abbrev pub Comes : Bool → Stand → List OpenBracket → Option Config → Type 0
 Comes b s bs None = b ≡ false
 Comes b s bs (Some d) = (b ≡ true) × (stand_of d ≡ s) × (open_of d ≡ bs)

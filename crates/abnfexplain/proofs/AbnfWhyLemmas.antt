@@ -16,7 +16,7 @@ use Rattle.abnfread.proofs.AbnfFaultLemmas.{marked-one}
 use Rattle.abnfread.proofs.HasTakenLemmas.{within-take}
 use Rattle.abnfexplain.specs.AbnfDecisions.{first_marked, last_marked}
 use Rattle.abnfexplain.specs.AbnfExpected.{CanStand, phrases}
-use Rattle.abnfexplain.specs.AbnfExplained.{Why, too_long, hopeless, too_deep, too_large, Explains, token_place}
+use Rattle.abnfexplain.specs.AbnfExplained.{Why, too_long, hopeless, too_deep, too_large, Explains, token_position}
 use Rattle.abnfexplain.specs.AbnfExplained.{token_facts}
 
 abbrev Decides : List Marked → ℕ → Type 0
@@ -60,7 +60,7 @@ not-bracket text all others i j m n are are' at at' h k is isnt =
     true≢false (sym is ∙ ap is_bracket one.tokens ∙ isnt)
 
 abbrev reported_lines : List ℕ → List Marked → ℕ → Marked → List (List ℕ) → List ℕ
-reported_lines text all i m reported = token_place text m ++ (codes "expected " ++ (listed reported ++ (codes "\n"
+reported_lines text all i m reported = token_position text m ++ (codes "expected " ++ (listed reported ++ (codes "\n"
     ++ token_facts text (first_marked (take i all)) (last_marked (take i all)) m)))
 
 one-why : (text a b : List ℕ) → Why text a → Why text b → a ≡ b
@@ -94,11 +94,11 @@ one-why text a b (too_large {all = all} {i = i} {m = m} w are at h is)
 one-why text a b (too_deep {all = all} {i = i} {m = m} w are at h is)
     (too_deep {all = others} {i = j} {m = n} v are' at' k so) =
     let one = one-token text all others i j m n are are' at at' (inr h) (inr k) in
-    ap (λ (x : Marked). token_place text x ++ codes "200 brackets are open before it\n") one.tokens
+    ap (λ (x : Marked). token_position text x ++ codes "200 brackets are open before it\n") one.tokens
 one-why text a b (too_large {all = all} {i = i} {m = m} w are at h is)
     (too_large {all = others} {i = j} {m = n} v are' at' k so) =
     let one = one-token text all others i j m n are are' at at' (inr h) (inr k) in
-    ap (λ (x : Marked). token_place text x ++ codes "above 4294967295\n") one.tokens
+    ap (λ (x : Marked). token_position text x ++ codes "above 4294967295\n") one.tokens
 one-why text a b (too_deep {all = all} {i = i} {m = m} w are at h is)
     (too_large {all = others} {i = j} {m = n} v are' at' k isnt) =
     absurd (not-bracket text all others i j m n are are' at at' h k is isnt)

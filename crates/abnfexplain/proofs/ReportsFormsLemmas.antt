@@ -27,14 +27,14 @@ use Rattle.abnfexplain.proofs.AbnfStandLemmas.{stand_of, open_of}
 use Rattle.abnfexplain.proofs.AbnfCanStandLemmas.{can-stand, cannot-stand}
 
 -- the position of a kind among those that begin a repetition
-abbrev item_place : AbnfKind → ℕ
-item_place kinds.Text = 1
-item_place kinds.Num = 2
-item_place kinds.Prose = 3
-item_place kinds.LParen = 4
-item_place kinds.LBrack = 5
-item_place kinds.Repeat = 6
-item_place _ = 0
+abbrev item_position : AbnfKind → ℕ
+item_position kinds.Text = 1
+item_position kinds.Num = 2
+item_position kinds.Prose = 3
+item_position kinds.LParen = 4
+item_position kinds.LBrack = 5
+item_position kinds.Repeat = 6
+item_position _ = 0
 
 abbrev MeantAt : Stand → Option OpenBracket → Form → Type 0
 MeantAt s top form = IsMeant (allows s top) phrases form
@@ -78,8 +78,8 @@ fresh-meant top kinds.RParen g e = let no : false ≡ true = e in cc
 fresh-meant top kinds.RBrack g e = let no : false ≡ true = e in cc
 fresh-meant top kinds.Bad g e = let no : false ≡ true = e in cc
 fresh-meant top kinds.End g e = let no : false ≡ true = e in cc
-fresh-meant top k true e = means-at _ phrases (later true k) 0 (item_place k) refl refl refl refl refl
-fresh-meant top k false e = means-at _ phrases (later false k) 0 (7 + item_place k) refl refl refl refl refl
+fresh-meant top k true e = means-at _ phrases (later true k) 0 (item_position k) refl refl refl refl refl
+fresh-meant top k false e = means-at _ phrases (later false k) 0 (7 + item_position k) refl refl refl refl refl
 
 awaits-meant : (top : Option OpenBracket) (k : AbnfKind) → is_inner k ≡ true → MeantAt stands.Awaits top (later false k)
 awaits-meant top kinds.Is e = let no : false ≡ true = e in cc
@@ -90,7 +90,7 @@ awaits-meant top kinds.RBrack e = let no : false ≡ true = e in cc
 awaits-meant top kinds.Repeat e = let no : false ≡ true = e in cc
 awaits-meant top kinds.Bad e = let no : false ≡ true = e in cc
 awaits-meant top kinds.End e = let no : false ≡ true = e in cc
-awaits-meant top k e = means-at _ phrases (later false k) 2 (item_place k) refl refl refl refl refl
+awaits-meant top k e = means-at _ phrases (later false k) 2 (item_position k) refl refl refl refl refl
 
 read-meant : (top : Option OpenBracket) (k : AbnfKind) (g : Bool) → allows_read top k g ≡ true
     → MeantAt stands.Read top (later g k)
@@ -112,7 +112,7 @@ read-meant (Some b) kinds.End g e = let no : false ≡ true = e in cc
 read-meant top kinds.Is true e = let no : false ≡ true = e in cc
 read-meant top kinds.Adds true e = let no : false ≡ true = e in cc
 read-meant top kinds.Bad true e = let no : false ≡ true = e in cc
-read-meant top k true e = means-at _ phrases (later true k) 1 (item_place k) refl refl refl refl refl
+read-meant top k true e = means-at _ phrases (later true k) 1 (item_position k) refl refl refl refl refl
 read-meant top k false e = let no : false ≡ true = e in cc
 
 later-meant : (s : Stand) (top : Option OpenBracket) (k : AbnfKind) (g : Bool) → allows_marked s top k g false ≡ true

@@ -28,29 +28,30 @@ use Rattle.abnfread.proofs.OpenBracketLemmas.{step-opens, deeper-next, levels-wi
 use Rattle.abnfread.proofs.SaysKindLemmas.{one-word, said-there, marked-said}
 use Rattle.abnfexplain.specs.declared.abnf_decide.Refused.{Refused}
 use Rattle.abnfexplain.specs.declared.abnf_stand.Form.{Form}
-use Rattle.abnfexplain.specs.declared.abnf_stand.Place.{Place}
+use Rattle.abnfexplain.specs.declared.abnf_stand.Position.{Position}
 use Rattle.abnfexplain.specs.declared.abnf_stand.Stand.TheVariants.{Start}
 use Rattle.abnfexplain.specs.AbnfDecisions.{first_marked, last_marked, IsTokenOf, IsRefused, NoneDecides}
-use Rattle.abnfexplain.specs.AbnfPlaces.{brackets_of, place_allows, IsPlaceAt}
+use Rattle.abnfexplain.specs.AbnfPositions.{brackets_of, position_allows, IsPositionAt}
 use Rattle.abnfexplain.specs.AbnfStands.{next_stand, brackets_after, innermost}
-use Rattle.abnfexplain.proofs.AbnfCanStandLemmas.{StandsAt, TestsForms, Onward, place-tests, goes-on, stops-there}
+use Rattle.abnfexplain.proofs.AbnfCanStandLemmas.{StandsAt, TestsForms, Onward, position-tests, goes-on, stops-there}
 use Rattle.abnfexplain.proofs.AbnfCanStandLemmas.{can-stand, cannot-stand}
 use Rattle.abnfexplain.proofs.AbnfCanStandLemmas.{said-kind, bad-nowhere}
 use Rattle.abnfexplain.proofs.AbnfStandLemmas.{open-count}
 
--- the machine took what the tokens so far say, and stands at the place; the first of them and the last
-pub record IsTaken (text : List ℕ) (left : List Marked → Type 0) (place : Place) (origin before : Option MarkedToken)
+-- the machine took what the tokens so far say, and stands at the position; the first of them and the last
+pub record IsTaken (text : List ℕ) (left : List Marked → Type 0) (position : Position)
+    (origin before : Option MarkedToken)
     (ms : List Marked) : Type 0 where
   pub config : Config
   pub taken : HasTaken text left config ms
-  pub stands : StandsAt config place
+  pub stands : StandsAt config position
   pub origin_is : option_map marked_of origin ≡ first_marked ms
   pub before_is : option_map marked_of before ≡ last_marked ms
 
 -- before the first token
-pub none-taken : (text : List ℕ) (left : List Marked → Type 0) (place : Place) → HasTaken text left start []
-    → IsPlaceAt place Start [] → IsTaken text left place None None []
-none-taken text left place h at = record {
+pub none-taken : (text : List ℕ) (left : List Marked → Type 0) (position : Position) → HasTaken text left start []
+    → IsPositionAt position Start [] → IsTaken text left position None None []
+none-taken text left position h at = record {
   config = start;
   taken = h;
   stands = record { stand = sym at.stand; brackets = sym at.brackets };
@@ -94,8 +95,8 @@ large-no_bracket g f says_lparen h = absurd (h tt)
 large-no_bracket g f says_lbrack h = absurd (h tt)
 large-no_bracket g f _ h = refl
 
-module _ {text : List ℕ} {left : List Marked → Type 0} {place : Place} {origin before : Option MarkedToken}
-    {ms : List Marked} (t : IsTaken text left place origin before ms) (k : AbnfKind) (z : List ℕ) (p : Span)
+module _ {text : List ℕ} {left : List Marked → Type 0} {position : Position} {origin before : Option MarkedToken}
+    {ms : List Marked} (t : IsTaken text left position origin before ms) (k : AbnfKind) (z : List ℕ) (p : Span)
     (g f : Bool)
     (others : List Marked) (whole : AreMarked text (ms ++ marked (tok k z p) g f ∷ others)) where
   abbrev h : HasTaken text left t.config ms
@@ -122,32 +123,32 @@ module _ {text : List ℕ} {left : List Marked → Type 0} {place : Place} {orig
   viable-so_far : Viable ms
   viable-so_far = lemmas.viable-run Says Grammar step start runs-begins stops-begins one-word t.config h.say h.reached
 
-  form-tests : TestsForms t.config (place_allows place)
-  form-tests = place-tests t.config place t.stands
+  form-tests : TestsForms t.config (position_allows position)
+  form-tests = position-tests t.config position t.stands
 
   -- no such token can stand there
-  pub refused-there : (r : Refused) → r.place ≡ place → r.origin ≡ origin → r.before ≡ before
-      → place_allows place form ≡ false → IsTokenOf text here (IsRefused r)
+  pub refused-there : (r : Refused) → r.position ≡ position → r.origin ≡ origin → r.before ≡ before
+      → position_allows position form ≡ false → IsTokenOf text here (IsRefused r)
   refused-there r at first last e = there-is (IsRefused r) (record {
     hopeless = lemmas.hopeless-at Viable AreWithin ms here others viable-so_far within-here
         (lemmas.not-viable Says Grammar step start runs-begins stops-begins one-word t.config h.say h.reached here
-        (stops-there t.config (place_allows place) form-tests k z p g f e));
+        (stops-there t.config (position_allows position) form-tests k z p g f e));
     reports = rw at (record {
-      stand = λ other does. can-stand t.config (place_allows place) form-tests h.say h.reached other does
+      stand = λ other does. can-stand t.config (position_allows position) form-tests h.say h.reached other does
           (here ∷ others);
-      other = λ other not. cannot-stand t.config (place_allows place) form-tests h.say h.reached other not
+      other = λ other not. cannot-stand t.config (position_allows position) form-tests h.say h.reached other not
           (here ∷ others);
     });
     origin = rw (first, take-append_seam ms (here ∷ others)) t.origin_is;
     before = rw (last, take-append_seam ms (here ∷ others)) t.before_is;
   })
 
-  module _ (does : place_allows place form ≡ true) where
+  module _ (does : position_allows position form ≡ true) where
     no-bad : k ≡ kinds.Bad → ⊥
     no-bad e =
-        let bad : place_allows place (record { kind = kinds.Bad; gap = g; first = f }) ≡ true =
-        ap (λ (j : AbnfKind). place_allows place (record { kind = j; gap = g; first = f })) (sym e) ∙ does in
-        let none = bad-nowhere place.stand (innermost (brackets_of place)) g f in
+        let bad : position_allows position (record { kind = kinds.Bad; gap = g; first = f }) ≡ true =
+        ap (λ (j : AbnfKind). position_allows position (record { kind = j; gap = g; first = f })) (sym e) ∙ does in
+        let none = bad-nowhere position.stand (innermost (brackets_of position)) g f in
         (let no : true ≡ false = sym bad ∙ none in cc)
 
     -- what it says
@@ -158,9 +159,9 @@ module _ {text : List ℕ} {left : List Marked → Type 0} {place : Place} {orig
     said = said-here.0
 
     step-onward : Onward t.config g f said
-    step-onward = goes-on t.config (place_allows place) form-tests said g f
+    step-onward = goes-on t.config (position_allows position) form-tests said g f
         (let kind = said-kind said-here.1 in
-        ap (λ (j : AbnfKind). place_allows place (record { kind = j; gap = g; first = f })) kind ∙ does)
+        ap (λ (j : AbnfKind). position_allows position (record { kind = j; gap = g; first = f })) kind ∙ does)
 
     over-there : (AreWithin (ms ++ here ∷ []) → ⊥) → IsOver (ms ++ here ∷ others) (length ms)
     over-there over =
@@ -179,7 +180,8 @@ module _ {text : List ℕ} {left : List Marked → Type 0} {place : Place} {orig
       large-no_bracket g f said-here.1 (large said said-here.1),
     )
 
-    module _ (next : Place) (at : IsPlaceAt next (next_stand form) (brackets_after k (brackets_of place))) where
+    module _ (next : Position)
+        (at : IsPositionAt next (next_stand form) (brackets_after k (brackets_of position))) where
       next-stands : StandsAt step-onward.config next
       next-stands =
           let kind = said-kind said-here.1 in
@@ -224,8 +226,9 @@ module _ {text : List ℕ} {left : List Marked → Type 0} {place : Place} {orig
       }
 
 -- no token is left
-pub none-decide : {text : List ℕ} {left : List Marked → Type 0} {place : Place} {origin before : Option MarkedToken}
-    {ms : List Marked} → IsTaken text left place origin before ms → left [] → NoneDecides text
+pub none-decide : {text : List ℕ} {left : List Marked → Type 0} {position : Position}
+    {origin before : Option MarkedToken}
+    {ms : List Marked} → IsTaken text left position origin before ms → left [] → NoneDecides text
 none-decide {text} {ms = ms} t none = λ all are i decides.
     let h = t.taken in
     let every : AreMarked text ms = (let a = h.before [] none in simp append-nil at a) in

@@ -8,9 +8,9 @@ use Rattle.abnfexplain.specs.declared.abnf_decide.Decision.{Decision}
 use Rattle.abnfexplain.specs.declared.abnf_decide.Decision.TheVariants.{Hopeless, TooDeep, TooLarge}
 use Rattle.abnfexplain.specs.declared.abnf_decide.Refused.{Refused}
 use Rattle.abnfexplain.specs.declared.abnf_stand.Form.{Form}
-use Rattle.abnfexplain.specs.declared.abnf_stand.Place.{Place}
+use Rattle.abnfexplain.specs.declared.abnf_stand.Position.{Position}
 use Rattle.abnfexplain.specs.AbnfExpected.{CanStand}
-use Rattle.abnfexplain.specs.AbnfPlaces.{place_allows}
+use Rattle.abnfexplain.specs.AbnfPositions.{position_allows}
 
 abbrev pub first_marked : List Marked → Option Marked
 first_marked [] = None
@@ -29,15 +29,15 @@ pub record IsTokenOf (text : List ℕ) (m : Marked) (Holds : List Marked → ℕ
   pub there : slice_get all number ≡ Some m
   pub holds : Holds all number
 
--- the place says which tokens can stand where token i does
-pub record ReportsForms (place : Place) (ms : List Marked) (i : ℕ) : Type 0 where
-  pub stand : (form : Form) → place_allows place form ≡ true → CanStand ms i form
-  pub other : (form : Form) → place_allows place form ≡ false → CanStand ms i form → ⊥
+-- the position says which tokens can stand where token i does
+pub record ReportsForms (position : Position) (ms : List Marked) (i : ℕ) : Type 0 where
+  pub stand : (form : Form) → position_allows position form ≡ true → CanStand ms i form
+  pub other : (form : Form) → position_allows position form ≡ false → CanStand ms i form → ⊥
 
 -- with that token the tokens begin no grammar, and what is known of those before it
 pub record IsRefused (r : Refused) (ms : List Marked) (i : ℕ) : Type 0 where
   pub hopeless : IsHopeless ms i
-  pub reports : ReportsForms r.place ms i
+  pub reports : ReportsForms r.position ms i
   pub origin : option_map marked_of r.origin ≡ first_marked (take i ms)
   pub before : option_map marked_of r.before ≡ last_marked (take i ms)
 

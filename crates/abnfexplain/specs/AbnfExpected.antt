@@ -1,4 +1,4 @@
--- What can stand at a place of a grammar's text, and the phrases for it.
+-- What can stand at a position of a grammar's text, and the phrases for it.
 use Rattle.std.specs.Prelude.{◌≡◌, ℕ, Bool, true, false, List, [], ◌∷◌, ◌++◌, map, take, codes}
 use Rattle.diagnostics.specs.ReportedPhrases.{Phrase}
 use Rattle.lexer.specs.TokenLists.{Tok, kind_of}

@@ -7,7 +7,7 @@ use Rattle.lexer.specs.GrammarLimits.{max_grammar}
 use Rattle.diagnostics.specs.FirstBytes.{Row, row, fact_line, first_reported}
 use Rattle.diagnostics.specs.LinesAround.{bytes_before}
 use Rattle.diagnostics.specs.PhraseLists.{listed}
-use Rattle.diagnostics.specs.Pictures.{place_reported}
+use Rattle.diagnostics.specs.Pictures.{position_reported}
 use Rattle.diagnostics.specs.ReportedPhrases.{AreAllReported}
 use Rattle.abnfread.specs.declared.kind.AbnfKind.TheVariants.{Name, Bad, End}
 use Rattle.abnfread.specs.AbnfReading.{is_bracket}
@@ -22,9 +22,9 @@ use Rattle.abnfexplain.specs.AbnfMistakes.{shown_mistake}
 use Rattle.abnfexplain.specs.AbnfStands.{defines}
 
 -- what stands before what is reported of a token: its position, but for the end
-abbrev pub token_place : List ℕ → Marked → List ℕ
-token_place text (marked (tok End z p) g f) = codes "  at the end of the text: "
-token_place text (marked (tok _ z p) g f) = place_reported Lf text p.start
+abbrev pub token_position : List ℕ → Marked → List ℕ
+token_position text (marked (tok End z p) g f) = codes "  at the end of the text: "
+token_position text (marked (tok _ z p) g f) = position_reported Lf text p.start
 
 -- what the first bytes of what begins no token show
 abbrev pub bad_rows : List Row
@@ -89,16 +89,16 @@ pub data Why (text : List ℕ) : List ℕ → Type 0 where
   hopeless : {all : List Marked} {i : ℕ} {m : Marked} {reported : List (List ℕ)} → length text ≤ max_grammar
       → AreMarked text all → slice_get all i ≡ Some m → IsHopeless all i
       → AreAllReported (CanStand all i) phrases reported →
-      Why text (token_place text m ++ (codes "expected " ++ (listed reported ++ (codes "\n"
+      Why text (token_position text m ++ (codes "expected " ++ (listed reported ++ (codes "\n"
       ++ token_facts text (first_marked (take i all)) (last_marked (take i all)) m))))
   -- that bracket is one too many of those open at once
   too_deep : {all : List Marked} {i : ℕ} {m : Marked} → length text ≤ max_grammar → AreMarked text all
       → slice_get all i ≡ Some m → IsOver all i → is_bracket m ≡ true →
-      Why text (token_place text m ++ codes "200 brackets are open before it\n")
+      Why text (token_position text m ++ codes "200 brackets are open before it\n")
   -- that number is over its limit
   too_large : {all : List Marked} {i : ℕ} {m : Marked} → length text ≤ max_grammar → AreMarked text all
       → slice_get all i ≡ Some m → IsOver all i → is_bracket m ≡ false →
-      Why text (token_place text m ++ codes "above 4294967295\n")
+      Why text (token_position text m ++ codes "above 4294967295\n")
 
 -- the lines after the message of a fault: none after that of a failed allocation
 abbrev pub Explains : List ℕ → ReadFault → List ℕ → Type 0

@@ -4,8 +4,8 @@ use Rattle.abnfread.specs.AbnfKinds.{ends_list}
 use Rattle.abnfread.specs.AbnfSlices.{White, First}
 use Rattle.abnfread.specs.declared.kind.AbnfKind.{AbnfKind}
 use Rattle.abnfread.specs.declared.kind.AbnfKind.TheVariants.{Name, Is, Adds, Prose, Num, Repeat}
-use Rattle.diagnostics.specs.ExplainedNotes.{ArePlaces, IsNoteExplained}
-use Rattle.diagnostics.specs.declared.noteplaces.places.Places.{Places}
+use Rattle.diagnostics.specs.ExplainedNotes.{ArePositions, IsNoteExplained}
+use Rattle.diagnostics.specs.declared.noteplaces.positions.Positions.{Positions}
 use Rattle.diagnostics.specs.declared.noteplaces.sign.Sign.{Sign}
 use Rattle.diagnostics.specs.declared.noteplaces.sign.Sign.TheVariants as signs
 use Rattle.ruletable.specs.Notes.{Said}
@@ -22,9 +22,9 @@ sign_of Num = signs.Number
 sign_of Repeat = signs.Repeats
 sign_of _ = signs.Other
 
--- the places of a text's definitions
-abbrev pub AreAbnfPlaces : List ℕ → Places → Type 0
-AreAbnfPlaces text = ArePlaces White First ends_list sign_of Lf Fold text
+-- the positions of a text's definitions
+abbrev pub AreAbnfPositions : List ℕ → Positions → Type 0
+AreAbnfPositions text = ArePositions White First ends_list sign_of Lf Fold text
 
 -- the lines after a note, where that name is given for the judged rule
 abbrev pub ExplainsNote : List ℕ → Option (List ℕ) → Said → List ℕ → Type 0

@@ -2,7 +2,7 @@ pub mod AbnfDecisions
 pub mod AbnfExpected
 pub mod AbnfExplained
 pub mod AbnfPhraseRows
-pub mod AbnfPlaces
+pub mod AbnfPositions
 pub mod AbnfStands
 pub mod ChainLines
 pub mod LargeRuns

@@ -4,7 +4,7 @@ ghost use Rattle.lexer.specs.TokenLists.{Tok};
 ghost use Rattle.abnfread.specs.MarkedTokens.{AreTokens};
 ghost use Rattle.abnfexplain.specs.AbnfDecisions.{Decides, NoneDecides};
 
-use crate::abnf_stand::{Form, Place};
+use crate::abnf_stand::{Form, Position};
 use crate::large::is_large;
 use abnfread::{AbnfKind, MarkedToken, abnf_tokens};
 use lexer::MAX_OPEN;
@@ -15,7 +15,7 @@ use std::alloc::Global;
 #[derive(Drop)]
 pub(crate) struct Refused<'a> {
     /// The position before the token.
-    pub(crate) place: Place,
+    pub(crate) position: Position,
     /// The token.
     pub(crate) token: MarkedToken<'a>,
     /// The text's first token, if this is another one.
@@ -52,14 +52,14 @@ pub(crate) fn deciding_token(alloc: Global, text: &[u8]) -> Result<Option<Decisi
     requires { (ts : List (Tok AbnfKind)) × AreTokens text.now ts }
     ensures { IfOk result (λ o. MatchOption o (NoneDecides text.now) (λ d. Decides text.now d)) }
 {
-    let mut place = Place::start(alloc);
+    let mut position = Position::start(alloc);
     let mut origin = None;
     let mut before = None;
     for token in abnf_tokens(text) {
         let form = form_of(token);
-        if !place.allows(form) {
+        if !position.allows(form) {
             return Ok(Some(Decision::Hopeless(Refused {
-                place,
+                position,
                 token,
                 origin,
                 before,
@@ -68,8 +68,8 @@ pub(crate) fn deciding_token(alloc: Global, text: &[u8]) -> Result<Option<Decisi
         if is_large(token.token) {
             return Ok(Some(Decision::TooLarge(token)));
         }
-        place.advance(form)?;
-        if place.brackets.len() > MAX_OPEN {
+        position.advance(form)?;
+        if position.brackets.len() > MAX_OPEN {
             return Ok(Some(Decision::TooDeep(token)));
         }
         origin = Some(origin.unwrap_or(token));

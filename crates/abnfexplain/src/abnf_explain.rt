@@ -10,20 +10,20 @@ ghost use Rattle.abnfread.specs.AbnfReading.{IsFaultOf};
 ghost use Rattle.abnfread.specs.MarkedTokens.{AreTokens, marked_of};
 ghost use Rattle.abnfexplain.specs.AbnfDecisions.{NoneDecides};
 ghost use Rattle.abnfexplain.specs.AbnfExpected.{phrases};
-ghost use Rattle.abnfexplain.specs.AbnfExplained.{bad_rows, token_place, bad_fact, indent, line_fact, name_fact};
+ghost use Rattle.abnfexplain.specs.AbnfExplained.{bad_rows, token_position, bad_fact, indent, line_fact, name_fact};
 ghost use Rattle.abnfexplain.specs.AbnfExplained.{is_later_name as later_name, other_facts, token_facts};
 ghost use Rattle.abnfexplain.specs.AbnfExplained.{Why, Explains};
-ghost use Rattle.abnfexplain.specs.AbnfPlaces.{place_allows};
+ghost use Rattle.abnfexplain.specs.AbnfPositions.{position_allows};
 ghost use Rattle.abnfexplain.specs.AbnfStands.{defines as defining};
 ghost use Rattle.abnfread.specs.declared.marks.MarkedToken.{MarkedToken as Marks};
 
 use crate::abnf_decide::{Decision, Refused, deciding_token};
 use crate::abnf_mistakes::shown_mistake;
 use crate::abnf_phrases::reported_phrases;
-use crate::abnf_stand::Place;
+use crate::abnf_stand::Position;
 use abnfread::{AbnfKind, MarkedToken};
 use diagnostics::{
-    Fact, facts, line_around, push_fact, push_line, push_number, push_phrases, push_place,
+    Fact, facts, line_around, push_fact, push_line, push_number, push_phrases, push_position,
 };
 use lexer::tokens_make_up;
 use ruletable::{LineRule, Memory, ReadFault};
@@ -50,16 +50,16 @@ fn bad_facts() -> &'static [Fact]
 }
 
 // Adds where a token stands.
-fn push_token_place(out: &mut Vec<u8>, text: &[u8], token: MarkedToken<'_>) -> Result<(), Memory>
+fn push_token_position(out: &mut Vec<u8>, text: &[u8], token: MarkedToken<'_>) -> Result<(), Memory>
     requires { token.token.span.start ≤ length text.now }
-    ensures { OnOk result (out.new.items ≡ out.old.items ++ token_place text.now (marked_of token.entry)) }
+    ensures { OnOk result (out.new.items ≡ out.old.items ++ token_position text.now (marked_of token.entry)) }
 {
     match token.token.kind {
         AbnfKind::End => {
             out.extend_from_slice(b"  at the end of the text: ")?;
             Ok(())
         }
-        _ => push_place(out, text, token.token.span.start, LineRule::Lf),
+        _ => push_position(out, text, token.token.span.start, LineRule::Lf),
     }
 }
 
@@ -156,12 +156,12 @@ fn push_name_fact(
 }
 
 // Adds what can stand there.
-fn push_expected(alloc: Global, out: &mut Vec<u8>, place: &Place) -> Result<(), Memory>
+fn push_expected(alloc: Global, out: &mut Vec<u8>, position: &Position) -> Result<(), Memory>
     ensures { OnOk result ((reported : List (List ℕ)) × AreAllReported
-        (λ k. place_allows place.now k ≡ true) phrases reported
+        (λ k. position_allows position.now k ≡ true) phrases reported
         × (out.new.items ≡ out.old.items ++ listed reported)) }
 {
-    let reported = reported_phrases(alloc, place)?;
+    let reported = reported_phrases(alloc, position)?;
     push_phrases(out, reported.as_slice())?;
     Ok(())
 }
@@ -209,16 +209,16 @@ fn hopeless_lines(alloc: Global, text: &[u8], refused: &Refused<'_>) -> Result<V
     requires first { (o : Marks) → refused.now.origin ≡ Some o → o.token.span.start ≤ length text.now }
     requires within { refused.now.token.token.span.start ≤ length text.now }
     ensures { IfOk result (λ v. (reported : List (List ℕ)) × AreAllReported
-        (λ k. place_allows refused.now.place k ≡ true) phrases
-        reported × (v.items ≡ token_place text.now (marked_of refused.now.token)
+        (λ k. position_allows refused.now.position k ≡ true) phrases
+        reported × (v.items ≡ token_position text.now (marked_of refused.now.token)
         ++ (codes "expected " ++ (listed reported
         ++ (codes "\n" ++ token_facts text.now (option_map marked_of refused.now.origin)
         (option_map marked_of refused.now.before) (marked_of refused.now.token)))))) }
 {
     let mut out = Vec::new(alloc);
-    push_token_place(&mut out, text, refused.token)?;
+    push_token_position(&mut out, text, refused.token)?;
     out.extend_from_slice(b"expected ")?;
-    push_expected(alloc, &mut out, &refused.place)?;
+    push_expected(alloc, &mut out, &refused.position)?;
     out.extend_from_slice(b"\n")?;
     push_token_facts(
         &mut out,
@@ -238,10 +238,10 @@ fn limit_lines(
     reported: &[u8],
 ) -> Result<Vec<u8>, Memory>
     requires { token.token.span.start ≤ length text.now }
-    ensures { IfOk result (λ v. v.items ≡ token_place text.now (marked_of token.entry) ++ reported.now) }
+    ensures { IfOk result (λ v. v.items ≡ token_position text.now (marked_of token.entry) ++ reported.now) }
 {
     let mut out = Vec::new(alloc);
-    push_token_place(&mut out, text, token)?;
+    push_token_position(&mut out, text, token)?;
     out.extend_from_slice(reported)?;
     Ok(out)
 }

@@ -4,9 +4,9 @@ ghost use Rattle.std.specs.List.{list_all, list_any};
 ghost use Rattle.diagnostics.specs.ReportedPhrases.{AreAllReported, reports};
 ghost use Rattle.abnfexplain.specs.AbnfExpected.{phrases};
 ghost use Rattle.abnfexplain.specs.AbnfPhraseRows.{phrase_of};
-ghost use Rattle.abnfexplain.specs.AbnfPlaces.{place_allows};
+ghost use Rattle.abnfexplain.specs.AbnfPositions.{position_allows};
 
-use crate::abnf_stand::{Form, Place};
+use crate::abnf_stand::{Form, Position};
 use abnfread::AbnfKind;
 use ruletable::Memory;
 use std::alloc::Global;
@@ -298,32 +298,32 @@ static PHRASES: [Phrase; 10] = [
     },
 ];
 
-fn allows_all(place: &Place, forms: &[Form]) -> bool
-    ensures { result ≡ list_all (place_allows place.now) forms.now }
+fn allows_all(position: &Position, forms: &[Form]) -> bool
+    ensures { result ≡ list_all (position_allows position.now) forms.now }
 {
     for form in forms {
-        if !place.allows(*form) {
+        if !position.allows(*form) {
             return false;
         }
     }
     true
 }
 
-fn allows_any(place: &Place, forms: &[Form]) -> bool
-    ensures { result ≡ list_any (place_allows place.now) forms.now }
+fn allows_any(position: &Position, forms: &[Form]) -> bool
+    ensures { result ≡ list_any (position_allows position.now) forms.now }
 {
     for form in forms {
-        if place.allows(*form) {
+        if position.allows(*form) {
             return true;
         }
     }
     false
 }
 
-fn is_reported(place: &Place, phrase: &Phrase) -> bool
-    ensures { result ≡ reports (place_allows place.now) (phrase_of phrase.now) }
+fn is_reported(position: &Position, phrase: &Phrase) -> bool
+    ensures { result ≡ reports (position_allows position.now) (phrase_of phrase.now) }
 {
-    allows_all(place, phrase.forms) && !allows_any(place, phrase.bars)
+    allows_all(position, phrase.forms) && !allows_any(position, phrase.bars)
 }
 
 fn all_phrases() -> &'static [Phrase]
@@ -333,13 +333,17 @@ fn all_phrases() -> &'static [Phrase]
 }
 
 // The words of the phrases of a table that are reported.
-fn reported_of(alloc: Global, place: &Place, table: &[Phrase]) -> Result<Vec<&'static [u8]>, Memory>
-    ensures { IfOk result (λ v. AreAllReported (λ k. place_allows place.now k ≡ true) (map phrase_of table.now)
+fn reported_of(
+    alloc: Global,
+    position: &Position,
+    table: &[Phrase],
+) -> Result<Vec<&'static [u8]>, Memory>
+    ensures { IfOk result (λ v. AreAllReported (λ k. position_allows position.now k ≡ true) (map phrase_of table.now)
         (map (λ w. w.now) v.items)) }
 {
     let mut reported = Vec::new(alloc);
     for phrase in table {
-        if is_reported(place, phrase) {
+        if is_reported(position, phrase) {
             reported.push(phrase.words)?;
         }
     }
@@ -350,9 +354,12 @@ fn reported_of(alloc: Global, place: &Place, table: &[Phrase]) -> Result<Vec<&'s
 ///
 /// # Errors
 /// `Memory` if an allocation fails.
-pub(crate) fn reported_phrases(alloc: Global, place: &Place) -> Result<Vec<&'static [u8]>, Memory>
-    ensures { IfOk result (λ v. AreAllReported (λ k. place_allows place.now k ≡ true) phrases
+pub(crate) fn reported_phrases(
+    alloc: Global,
+    position: &Position,
+) -> Result<Vec<&'static [u8]>, Memory>
+    ensures { IfOk result (λ v. AreAllReported (λ k. position_allows position.now k ≡ true) phrases
         (map (λ w. w.now) v.items)) }
 {
-    reported_of(alloc, place, all_phrases())
+    reported_of(alloc, position, all_phrases())
 }

@@ -117,20 +117,20 @@ pub(crate) fn stand_after(form: Form) -> Stand
 
 /// A position between two tokens: the state of a pushdown machine that recognizes prefixes of grammars.
 #[derive(Drop)]
-pub(crate) struct Place {
+pub(crate) struct Position {
     /// The kind of token before it.
     pub(crate) stand: Stand,
     /// The brackets that are open, the innermost last.
     pub(crate) brackets: Vec<OpenBracket>,
 }
 
-impl Place {
-    ghost use Rattle.abnfexplain.specs.AbnfPlaces.{brackets_of, place_allows, IsPlaceAt};
+impl Position {
+    ghost use Rattle.abnfexplain.specs.AbnfPositions.{brackets_of, position_allows, IsPositionAt};
 
-    pub(crate) fn start(alloc: Global) -> Place
-        ensures { IsPlaceAt result Stand.Start [] }
+    pub(crate) fn start(alloc: Global) -> Position
+        ensures { IsPositionAt result Stand.Start [] }
     {
-        Place {
+        Position {
             stand: Stand::Start,
             brackets: Vec::new(alloc),
         }
@@ -138,7 +138,7 @@ impl Place {
 
     /// Returns whether such a token can stand here.
     pub(crate) fn allows(&self, form: Form) -> bool
-        ensures { result ≡ place_allows self.now form }
+        ensures { result ≡ position_allows self.now form }
     {
         allows_form(self.stand, self.brackets.last().copied(), form)
     }
@@ -148,7 +148,8 @@ impl Place {
     /// # Errors
     /// `Memory` if an allocation fails.
     pub(crate) fn advance(&mut self, form: Form) -> Result<(), Memory>
-        ensures { OnOk result (IsPlaceAt self.new (next_stand form) (brackets_after form.kind (brackets_of self.old))) }
+        ensures { OnOk result
+            (IsPositionAt self.new (next_stand form) (brackets_after form.kind (brackets_of self.old))) }
     {
         match form.kind {
             AbnfKind::LParen => self.brackets.push(OpenBracket::Paren)?,

@@ -1,10 +1,10 @@
 //! Explanations of notes.
 ghost use Rattle.std.specs.Prelude.{◌≡◌, ℕ, List, Option, IfOk, option_copied};
 ghost use Rattle.ruletable.specs.Notes.{Said, said_of};
-ghost use Rattle.abnfexplain.specs.AbnfNoteLines.{AreAbnfPlaces, ExplainsNote, sign_of as the_sign};
+ghost use Rattle.abnfexplain.specs.AbnfNoteLines.{AreAbnfPositions, ExplainsNote, sign_of as the_sign};
 
 use abnfread::AbnfKind;
-use diagnostics::{Places, Sign, Signs, explain_note, places_of};
+use diagnostics::{Positions, Sign, Signs, explain_note, positions_of};
 use lexer::one_list;
 use ruletable::{LineRule, Memory, NameCase, Note};
 use std::alloc::Global;
@@ -32,10 +32,10 @@ impl Signs<AbnfKind> for AbnfSigns {
 ///
 /// # Errors
 /// `Memory` if an allocation fails.
-pub fn abnf_places(alloc: Global, text: &[u8]) -> Result<Places, Memory>
-    ensures { IfOk result (λ places. AreAbnfPlaces text.now places) }
+pub fn abnf_positions(alloc: Global, text: &[u8]) -> Result<Positions, Memory>
+    ensures { IfOk result (λ positions. AreAbnfPositions text.now positions) }
 {
-    places_of::<AbnfKind, AbnfSigns>(alloc, text, LineRule::Lf, NameCase::Fold)
+    positions_of::<AbnfKind, AbnfSigns>(alloc, text, LineRule::Lf, NameCase::Fold)
 }
 
 /// Returns the lines that explain a note on a grammar. A name may be given for the start rule.
@@ -49,14 +49,14 @@ pub fn abnf_places(alloc: Global, text: &[u8]) -> Result<Places, Memory>
 /// `Memory` if an allocation fails.
 pub fn explain_abnf_note(
     alloc: Global,
-    places: &Places,
+    positions: &Positions,
     start: Option<&str>,
     note: &Note,
 ) -> Result<Vec<u8>, Memory>
-    ensures { IfOk result (λ why. (text : List ℕ) → AreAbnfPlaces text places.now
+    ensures { IfOk result (λ why. (text : List ℕ) → AreAbnfPositions text positions.now
         → ExplainsNote text (option_copied start.entry) (said_of note.now) why.items) }
 {
-    explain_note(alloc, places, start, note)
+    explain_note(alloc, positions, start, note)
 }
 
 /// Says that at most one text explains a note on the grammar of a text.

@@ -3,7 +3,7 @@ ghost use Rattle.std.specs.Prelude.{◌≡◌, IfSome, false, option_copied};
 ghost use Rattle.abnfcheck.specs.AbnfGrammar.{IsSoundGrammar};
 ghost use Rattle.abnfg.specs.ListAnswers.{JudgedReply, OpenedStates, TextStates};
 ghost use Rattle.abnfread.specs.AbnfViews.{rules_of};
-ghost use Rattle.toolrun.specs.Right.{Comes};
+ghost use Rattle.toolrun.specs.Right.{RunIsRight};
 ghost use Rattle.toolrun.specs.Status.{code_of};
 ghost use Rattle.toolrun.specs.Stop.{unread};
 ghost use Rattle.toolrun.specs.Stopped.{Fulfils};
@@ -81,7 +81,7 @@ fn list_opened<O: Sink, E: Sink>(
     requires sound { IfSome opened.judged (λ id. IsSoundGrammar (record { rules = opened.rules.rules; judged = id })) }
     requires out_is_fresh { O.failed out.old ≡ false }
     requires err_is_fresh { E.failed err.old ≡ false }
-    ensures right { Comes (OpenedStates settings.now opened.diagnostics.items (rules_of opened.rules.rules)
+    ensures right { RunIsRight (OpenedStates settings.now opened.diagnostics.items (rules_of opened.rules.rules)
         opened.judged) no_input (passed O.contents O.failed out.old out.new)
         (passed E.contents E.failed err.old err.new) (code_of result) }
 {
@@ -103,7 +103,7 @@ pub(crate) fn list_text<O: Sink, E: Sink>(
 ) -> Status
     requires out_is_fresh { O.failed out.old ≡ false }
     requires err_is_fresh { E.failed err.old ≡ false }
-    ensures right { Comes (TextStates text.now settings.now) no_input
+    ensures right { RunIsRight (TextStates text.now settings.now) no_input
         (passed O.contents O.failed out.old out.new) (passed E.contents E.failed err.old err.new) (code_of result) }
 {
     let opening = opening_settings(settings.rule);

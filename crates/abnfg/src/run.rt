@@ -4,7 +4,7 @@ ghost use Rattle.abnfg.specs.ListAnswers.{ListAnswers};
 ghost use Rattle.abnfg.specs.ListWords.{IsAbnfgApp};
 ghost use Rattle.clap.specs.Words.{fault_of, found_of, matches_of, rows_of};
 ghost use Rattle.cli.specs.Parsing.{WordsState};
-ghost use Rattle.toolrun.specs.Right.{Comes};
+ghost use Rattle.toolrun.specs.Right.{RunIsRight};
 ghost use Rattle.toolrun.specs.Status.{code_of};
 ghost use Rattle.toolrun.specs.Stream.{no_input, passed};
 
@@ -26,7 +26,7 @@ fn list_asked<R: Files + AllocGlobal, O: Sink, E: Sink>(
 ) -> Status
     requires out_is_fresh { O.failed out.old ≡ false }
     requires err_is_fresh { E.failed err.old ≡ false }
-    ensures right { Comes (ListAnswers (rows_of (found_of matches.now))) no_input
+    ensures right { RunIsRight (ListAnswers (rows_of (found_of matches.now))) no_input
         (passed O.contents O.failed out.old out.new) (passed E.contents E.failed err.old err.new) (code_of result) }
 {
     let settings = settings_of(matches);
@@ -63,10 +63,10 @@ pub(crate) fn abnfg_main<R: Files + AllocGlobal, O: Sink, E: Sink>(
     requires out_is_fresh { O.failed out.old ≡ false }
     requires err_is_fresh { E.failed err.old ≡ false }
     ensures words { (app : _) × IsAbnfgApp app × (fault_of app (map string_bytes words.now) ≢ [] →
-        Comes (WordsState (fault_of app (map string_bytes words.now))) no_input
+        RunIsRight (WordsState (fault_of app (map string_bytes words.now))) no_input
         (passed O.contents O.failed out.old out.new) (passed E.contents E.failed err.old err.new) (code_of result)) }
     ensures right { (app : _) × IsAbnfgApp app × (fault_of app (map string_bytes words.now) ≡ [] →
-        Comes (ListAnswers (matches_of app (map string_bytes words.now))) no_input
+        RunIsRight (ListAnswers (matches_of app (map string_bytes words.now))) no_input
         (passed O.contents O.failed out.old out.new) (passed E.contents E.failed err.old err.new) (code_of result)) }
 {
     match parse_words(rt.alloc(), words) {

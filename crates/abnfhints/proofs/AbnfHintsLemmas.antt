@@ -7,10 +7,10 @@ use Rattle.abnfread.specs.AbnfSlices.{White, First}
 use Rattle.abnfread.specs.Element.{Rule}
 use Rattle.abnfread.specs.declared.kind.AbnfKind.{AbnfKind}
 use Rattle.abnfcheck.proofs.AbnfNotesLemmas.{those_same}
-use Rattle.abnfexplain.specs.AbnfNoteLines.{AreAbnfPlaces, sign_of}
+use Rattle.abnfexplain.specs.AbnfNoteLines.{AreAbnfPositions, sign_of}
 use Rattle.diagnostics.specs.BodyMentions.{MentionedAt, mentioned_at, mentions_in}
 use Rattle.diagnostics.specs.DefinitionHeads.{DefinedAt, defined_at, definitions_in, sign_at}
-use Rattle.diagnostics.specs.declared.noteplaces.places.Places.{Places}
+use Rattle.diagnostics.specs.declared.noteplaces.positions.Positions.{Positions}
 use Rattle.ruletable.specs.declared.lines.LineRule.TheVariants.{Lf}
 use Rattle.abnfhints.specs.AbnfHints.{AreAbnfHints, AreHintsBy, DerivesNothing, IsReportedOfJudged, no_rule, no_line}
 use Rattle.abnfhints.specs.AbnfHints.{some_line, reported_first, barren_reported, reversed_reported}
@@ -53,15 +53,15 @@ module _ (has : ℕ → Bool) (rules : List Rule) (count : ℕ) (judged : Option
       (mentions_in Lf text None (map (sign_at sign_of) ts)) a) same h.are_hints)
       g.are_hints
 
-  -- the hints by the places of a text
-  pub hints_by_places : (text hints : List ℕ) (places : Places) → AreAbnfPlaces text places
-      → AreHintsBy has rules count judged end (map defined_at places.heads.items)
-      (map mentioned_at places.mentions.items) hints → AreAbnfHints has rules count judged end text hints
-  hints_by_places text hints places are by = record {
+  -- the hints by the positions of a text
+  pub hints_by_positions : (text hints : List ℕ) (positions : Positions) → AreAbnfPositions text positions
+      → AreHintsBy has rules count judged end (map defined_at positions.heads.items)
+      (map mentioned_at positions.mentions.items) hints → AreAbnfHints has rules count judged end text hints
+  hints_by_positions text hints positions are by = record {
     tokens = are.tokens;
     are_tokens = are.are_tokens;
     are_hints = subst (λ v. AreHintsBy has rules count judged end v
         (mentions_in Lf text None (map (sign_at sign_of) are.tokens)) hints) are.heads_are
-        (subst (λ v. AreHintsBy has rules count judged end (map defined_at places.heads.items) v hints)
+        (subst (λ v. AreHintsBy has rules count judged end (map defined_at positions.heads.items) v hints)
         are.mentions_are by);
   }

@@ -13,7 +13,7 @@ ghost use Rattle.rulenames.specs.IdMarks.{AreMarks};
 use crate::hinted::Hinted;
 use crate::hints::MAX_HINTS;
 use crate::marks::{Marks, is_marked};
-use diagnostics::{Places, explain_note, push_cut, push_more};
+use diagnostics::{Positions, explain_note, push_cut, push_more};
 use ruletable::{Memory, NameCase, Note, NoteKind};
 use std::alloc::Global;
 
@@ -51,28 +51,33 @@ pub(crate) fn barren_names<'a>(
 }
 
 // Returns the line that reports where a rule is first defined.
-fn first_definition(alloc: Global, places: &Places, name: &[u8]) -> Result<Vec<u8>, Memory>
-    requires { places.now.names ≡ NameCase.Fold }
-    ensures { IfOk result (λ why. why.items ≡ defined_line NameCase.Fold (map defined_at places.now.heads.items)
+fn first_definition(alloc: Global, positions: &Positions, name: &[u8]) -> Result<Vec<u8>, Memory>
+    requires { positions.now.names ≡ NameCase.Fold }
+    ensures { IfOk result (λ why. why.items ≡ defined_line NameCase.Fold (map defined_at positions.now.heads.items)
         name.now) }
 {
     let note = Note {
         kind: NoteKind::Unused,
         name: Vec::from_slice(alloc, name)?,
     };
-    explain_note(alloc, places, None, &note)
+    explain_note(alloc, positions, None, &note)
 }
 
 // Adds what is reported of a rule that derives nothing.
-fn push_barren(alloc: Global, out: &mut Vec<u8>, places: &Places, name: &[u8]) -> Result<(), Memory>
-    requires { places.now.names ≡ NameCase.Fold }
-    ensures { OnOk result (out.new.items ≡ out.old.items ++ barren_reported (map defined_at places.now.heads.items)
+fn push_barren(
+    alloc: Global,
+    out: &mut Vec<u8>,
+    positions: &Positions,
+    name: &[u8],
+) -> Result<(), Memory>
+    requires { positions.now.names ≡ NameCase.Fold }
+    ensures { OnOk result (out.new.items ≡ out.old.items ++ barren_reported (map defined_at positions.now.heads.items)
         name.now) }
 {
     out.extend_from_slice(b"rule '")?;
     push_cut(out, name)?;
     out.extend_from_slice(b"' derives nothing\n")?;
-    let line = first_definition(alloc, places, name)?;
+    let line = first_definition(alloc, positions, name)?;
     out.extend_from_slice(&line)?;
     Ok(())
 }
@@ -81,15 +86,15 @@ fn push_barren(alloc: Global, out: &mut Vec<u8>, places: &Places, name: &[u8]) -
 fn push_each_barren(
     alloc: Global,
     out: &mut Vec<u8>,
-    places: &Places,
+    positions: &Positions,
     names: &[&[u8]],
 ) -> Result<(), Memory>
-    requires { places.now.names ≡ NameCase.Fold }
+    requires { positions.now.names ≡ NameCase.Fold }
     ensures { OnOk result (out.new.items ≡ out.old.items ++ flat_map (barren_reported (map defined_at
-        places.now.heads.items)) (map (λ name. name.now) names.now)) }
+        positions.now.heads.items)) (map (λ name. name.now) names.now)) }
 {
     for name in names {
-        push_barren(alloc, out, places, name)?;
+        push_barren(alloc, out, positions, name)?;
     }
     Ok(())
 }
@@ -100,15 +105,15 @@ fn push_each_barren(
 pub(crate) fn push_all_barren(
     alloc: Global,
     out: &mut Vec<u8>,
-    places: &Places,
+    positions: &Positions,
     names: &[&[u8]],
 ) -> Result<(), Memory>
-    requires { places.now.names ≡ NameCase.Fold }
+    requires { positions.now.names ≡ NameCase.Fold }
     ensures { OnOk result (out.new.items ≡ out.old.items ++ reported_first (barren_reported (map defined_at
-        places.now.heads.items)) (map (λ name. name.now) names.now)) }
+        positions.now.heads.items)) (map (λ name. name.now) names.now)) }
 {
     let shown = names.len().min(MAX_HINTS);
-    push_each_barren(alloc, out, places, &names[..shown])?;
+    push_each_barren(alloc, out, positions, &names[..shown])?;
     push_more(out, names.len() - shown)?;
     Ok(())
 }

@@ -2,7 +2,7 @@
 
 use crate::line_end::LineEnd;
 use abnfread::Elem;
-use diagnostics::Places;
+use diagnostics::Positions;
 use letters::Alphabet;
 use ruletable::RuleTable;
 
@@ -10,7 +10,7 @@ use ruletable::RuleTable;
 #[derive(Clone, Copy)]
 pub struct Hinted<'a> {
     /// Where its text defines its rules, and what their bodies mention.
-    pub places: &'a Places,
+    pub positions: &'a Positions,
     /// The rules of the file, then the core rules that it leaves alone.
     pub rules: &'a RuleTable<Elem>,
     /// How many of them are rules of the file.

@@ -1,6 +1,6 @@
 //! Hints on grammars.
 ghost use Rattle.std.specs.Prelude.{◌≡◌, ℕ, Bool, List, Option, IfOk};
-ghost use Rattle.abnfexplain.specs.AbnfNoteLines.{AreAbnfPlaces};
+ghost use Rattle.abnfexplain.specs.AbnfNoteLines.{AreAbnfPositions};
 ghost use Rattle.abnfhints.specs.AbnfHints.{AreAbnfHints};
 ghost use Rattle.abnfhints.specs.declared.line_end.LineEnd.{LineEnd};
 ghost use Rattle.abnfread.specs.AbnfViews.{rules_of};
@@ -34,17 +34,17 @@ pub const MAX_HINTS: usize = 16;
 /// `Memory` if an allocation fails.
 pub fn abnf_hints(alloc: Global, hinted: &Hinted<'_>) -> Result<Vec<u8>, Memory>
     requires rules { hinted.now.rules.now.names ≡ NameCase.Fold }
-    requires places { hinted.now.places.now.names ≡ NameCase.Fold }
-    ensures { IfOk result (λ hints. (text : List ℕ) → AreAbnfPlaces text hinted.now.places.now
+    requires positions { hinted.now.positions.now.names ≡ NameCase.Fold }
+    ensures { IfOk result (λ hints. (text : List ℕ) → AreAbnfPositions text hinted.now.positions.now
         → AreAbnfHints (has hinted.now.letters) (rules_of hinted.now.rules.now) hinted.now.count hinted.now.judged
         hinted.now.end text hints.items) }
 {
     let marks = marks_of(alloc, hinted)?;
     let barren = barren_names(alloc, hinted, &marks)?;
-    let reversed = reversed_among(alloc, &hinted.places.mentions)?;
+    let reversed = reversed_among(alloc, &hinted.positions.mentions)?;
     let mut out = Vec::new(alloc);
-    push_all_barren(alloc, &mut out, hinted.places, &barren)?;
-    push_all_reversed(&mut out, hinted.places, &reversed)?;
+    push_all_barren(alloc, &mut out, hinted.positions, &barren)?;
+    push_all_reversed(&mut out, hinted.positions, &reversed)?;
     push_judged(alloc, &mut out, hinted, &marks)?;
     Ok(out)
 }

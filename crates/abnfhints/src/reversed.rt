@@ -13,7 +13,7 @@ ghost use Rattle.diagnostics.specs.DefinitionHeads.{defined_at};
 
 use crate::hints::MAX_HINTS;
 use crate::numbers::{is_reversed, is_reversed_repeat};
-use diagnostics::{Head, Mention, MentionKind, Places, push_cut, push_more, push_number};
+use diagnostics::{Head, Mention, MentionKind, Positions, push_cut, push_more, push_number};
 use ruletable::Memory;
 use std::alloc::Global;
 
@@ -44,35 +44,35 @@ pub(crate) fn reversed_among(alloc: Global, mentions: &[Mention]) -> Result<Vec<
     Ok(found)
 }
 
-// Returns the head of the definition at a place.
-fn head_at(heads: &[Head], place: usize) -> Option<&Head>
-    ensures { option_map (λ h. defined_at h.now) result ≡ find (λ d. d.start == place) (map defined_at heads.now) }
+// Returns the head of the definition at a position.
+fn head_at(heads: &[Head], position: usize) -> Option<&Head>
+    ensures { option_map (λ h. defined_at h.now) result ≡ find (λ d. d.start == position) (map defined_at heads.now) }
 {
     for head in heads {
-        if head.start == place {
+        if head.start == position {
             return Some(head);
         }
     }
     None
 }
 
-// Returns the name at the head of the definition at a place, or none if there is none.
-fn name_at(heads: &[Head], place: usize) -> &[u8]
-    ensures { result.now ≡ name_of_head (find (λ d. d.start == place) (map defined_at heads.now)) }
+// Returns the name at the head of the definition at a position, or none if there is none.
+fn name_at(heads: &[Head], position: usize) -> &[u8]
+    ensures { result.now ≡ name_of_head (find (λ d. d.start == position) (map defined_at heads.now)) }
 {
-    match head_at(heads, place) {
+    match head_at(heads, position) {
         Some(head) => head.name.as_slice(),
         None => b"",
     }
 }
 
 // Adds what is reported of reversed numbers.
-fn push_reversed(out: &mut Vec<u8>, places: &Places, mention: &Mention) -> Result<(), Memory>
-    ensures { OnOk result (out.new.items ≡ out.old.items ++ reversed_reported (map defined_at places.now.heads.items)
+fn push_reversed(out: &mut Vec<u8>, positions: &Positions, mention: &Mention) -> Result<(), Memory>
+    ensures { OnOk result (out.new.items ≡ out.old.items ++ reversed_reported (map defined_at positions.now.heads.items)
         (mentioned_at mention.now)) }
 {
     out.extend_from_slice(b"reversed numbers in rule '")?;
-    push_cut(out, name_at(&places.heads, mention.within))?;
+    push_cut(out, name_at(&positions.heads, mention.within))?;
     out.extend_from_slice(b"'\n  line ")?;
     push_number(out, mention.line)?;
     out.extend_from_slice(b": ")?;
@@ -84,14 +84,14 @@ fn push_reversed(out: &mut Vec<u8>, places: &Places, mention: &Mention) -> Resul
 // Adds what is reported of each of these.
 fn push_each_reversed(
     out: &mut Vec<u8>,
-    places: &Places,
+    positions: &Positions,
     mentions: &[&Mention],
 ) -> Result<(), Memory>
     ensures { OnOk result (out.new.items ≡ out.old.items ++ flat_map (reversed_reported (map defined_at
-        places.now.heads.items)) (map (λ m. mentioned_at m.now) mentions.now)) }
+        positions.now.heads.items)) (map (λ m. mentioned_at m.now) mentions.now)) }
 {
     for mention in mentions {
-        push_reversed(out, places, mention)?;
+        push_reversed(out, positions, mention)?;
     }
     Ok(())
 }
@@ -101,14 +101,14 @@ fn push_each_reversed(
 /// `Memory` if an allocation fails.
 pub(crate) fn push_all_reversed(
     out: &mut Vec<u8>,
-    places: &Places,
+    positions: &Positions,
     mentions: &[&Mention],
 ) -> Result<(), Memory>
     ensures { OnOk result (out.new.items ≡ out.old.items ++ reported_first (reversed_reported (map defined_at
-        places.now.heads.items)) (map (λ m. mentioned_at m.now) mentions.now)) }
+        positions.now.heads.items)) (map (λ m. mentioned_at m.now) mentions.now)) }
 {
     let shown = mentions.len().min(MAX_HINTS);
-    push_each_reversed(out, places, &mentions[..shown])?;
+    push_each_reversed(out, positions, &mentions[..shown])?;
     push_more(out, mentions.len() - shown)?;
     Ok(())
 }

@@ -6,7 +6,7 @@ ghost use Rattle.abnfrun.specs.AbnfAnswers.{AbnfStates};
 ghost use Rattle.clap.specs.Words.{fault_of, matches_of};
 ghost use Rattle.cli.specs.Jobs.{JobStates};
 ghost use Rattle.cli.specs.Parsing.{WordsState};
-ghost use Rattle.toolrun.specs.Right.{Comes};
+ghost use Rattle.toolrun.specs.Right.{RunIsRight};
 ghost use Rattle.toolrun.specs.Status.{code_of};
 ghost use Rattle.toolrun.specs.Stream.{no_input, passed};
 
@@ -35,10 +35,10 @@ pub(crate) fn abnfi_main<R: Files + AllocGlobal, I: Source, O: BufferedSink, E: 
     requires err_is_fresh { E.failed err.old ≡ false }
     ensures words { (app : _) × IsAbnfiApp app × (fault_of app (map string_bytes words.now) ≢ [] →
         Keeps (I.remaining reader.old) (I.remaining reader.new) ×
-        Comes (WordsState (fault_of app (map string_bytes words.now))) no_input
+        RunIsRight (WordsState (fault_of app (map string_bytes words.now))) no_input
         (passed O.contents O.failed out.old out.new) (passed E.contents E.failed err.old err.new) (code_of result)) }
     ensures right { (app : _) × IsAbnfiApp app × (fault_of app (map string_bytes words.now) ≡ [] →
-        Comes (JobStates AsksAbnfi AbnfStates (matches_of app (map string_bytes words.now)))
+        RunIsRight (JobStates AsksAbnfi AbnfStates (matches_of app (map string_bytes words.now)))
         (passed I.remaining I.failed reader.old reader.new) (passed O.contents O.failed out.old out.new)
         (passed E.contents E.failed err.old err.new) (code_of result)) }
 {

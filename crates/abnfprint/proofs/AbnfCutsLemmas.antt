@@ -47,7 +47,7 @@ pub data Cuts : Option ℕ → Bool → List ℕ → List Word → Type 0 where
 pub says-like : {k : AbnfKind} {z : List ℕ} {w : Said} → ((p : Span) → SaysKind k z p w) → (p : Span) → SaysLike k z p w
 says-like f p = record { said = _; same = same_said; says = f p }
 
--- the tokens after the place n, where the text t begins, and the words that they say
+-- the tokens after the position n, where the text t begins, and the words that they say
 pub record Placed (text : List ℕ) (n : ℕ) (t : List ℕ) (ws : List Word) : Type 0 where
   pub tokens : List (Tok AbnfKind)
   pub are_tokens : lexing.AreTokens White First ends_list (length text) t tokens
@@ -76,7 +76,7 @@ end-placed text front t n e w =
         white = w;
         first = at_end;
         cut = refl;
-        place = omega arith;
+        position = omega arith;
         size = omega arith;
       }) refl;
       words = word (not (length front == n)) false words.End ∷ [];
@@ -100,7 +100,7 @@ next-placed text front t u s r n {k} {w} {ws} whole white first e h y rest =
         white = white;
         first = first;
         cut = e;
-        place = omega (arith, length-append front t);
+        position = omega (arith, length-append front t);
         size = refl;
       }) h rest.are_tokens;
       words = word (not (length front == n)) (is_first text (Some 0) (tok k s span)) here.said ∷ rest.words;

@@ -8,7 +8,7 @@ use Rattle.abnfread.specs.AbnfWords.{Word, word, Slash}
 use Rattle.abnfread.specs.Element.{Element, Elements, Text, Values, Range, Concat, Alt, Rep, Opt, Name, Prose, none}
 use Rattle.abnfread.specs.Element.{more}
 use Rattle.abnfprint.specs.CanonicalAbnf.{wraps}
-use Rattle.abnfprint.specs.declared.place.Context.TheVariants.{Alternative, Member, Repeated}
+use Rattle.abnfprint.specs.declared.position.Context.TheVariants.{Alternative, Member, Repeated}
 use Rattle.abnfprint.specs.FormedAbnf.{IsFormed, AreFormed, AreMany}
 use Rattle.abnfprint.proofs.AbnfListedLemmas.{wrapped, within, listed, listed_members, listed_alternatives, leads-at}
 use Rattle.abnfprint.proofs.AbnfListedLemmas.{leads-gap, leads-no_gap}
@@ -19,7 +19,7 @@ pub record SpellsOne (s r : List Word) (x : Element) : Type 0 where
   pub same : concatenation parts ≡ x
   pub spelled : Parts s r parts
 
--- what an element's words spell at each place: a repeated operand, a member, an alternative, a body
+-- what an element's words spell at each position: a repeated operand, a member, an alternative, a body
 pub record Fits (operand member alternative body : Bool → List Word → List Word) (x : Element) : Type 0 where
   pub element : (g : Bool) (ws : List Word) → OneElement (operand g ws) ws x
   pub repetition : (g : Bool) (ws : List Word) → Repetition (member g ws) ws x

@@ -30,8 +30,8 @@ use Rattle.abnfread.specs.Numerals.{says_values, last_number, more_numbers, List
 use Rattle.abnfread.proofs.NumeralLemmas.{run-part, heads-equal, tails-equal}
 use Rattle.abnfread.proofs.SaysKindLemmas.{one-word}
 use Rattle.abnfprint.specs.CanonicalAbnf.{wraps}
-use Rattle.abnfprint.specs.declared.place.Context.{Context}
-use Rattle.abnfprint.specs.declared.place.Context.TheVariants.{Alternative, Member, Repeated}
+use Rattle.abnfprint.specs.declared.position.Context.{Context}
+use Rattle.abnfprint.specs.declared.position.Context.TheVariants.{Alternative, Member, Repeated}
 use Rattle.abnfprint.specs.FormedAbnf.{IsName, named, IsFormed, AreFormed, IsSome}
 use Rattle.abnfprint.proofs.AbnfSpelledLemmas.{IsFull}
 

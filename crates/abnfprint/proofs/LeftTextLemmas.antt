@@ -11,7 +11,7 @@ use Rattle.abnfread.specs.Element.{Elements}
 use Rattle.abnfread.specs.AbnfViews.{element_of, elements_of, rule_of}
 use Rattle.abnfprint.specs.CanonicalAbnf.{around, wraps, text_of, joined, more_joined, definition_text, grammar_text}
 use Rattle.abnfprint.specs.CanonicalAbnf.{hexadecimal, values_text, dotted}
-use Rattle.abnfprint.specs.declared.place.Context.{Context}
+use Rattle.abnfprint.specs.declared.position.Context.{Context}
 
 -- what is left of members or alternatives, from one on
 abbrev pub left_of : Context → List ℕ → ℕ → Elements → List ℕ

@@ -7,7 +7,7 @@ use Rattle.abnfread.specs.AbnfWords.{Word}
 use Rattle.abnfread.specs.Element.{Element, Elements, Text, Values, Range, Concat, Alt, Rep, Opt, Name, Prose, none}
 use Rattle.abnfread.specs.Element.{more, Rule}
 use Rattle.abnfprint.specs.CanonicalAbnf.{wraps}
-use Rattle.abnfprint.specs.declared.place.Context.TheVariants.{Alternative, Member, Repeated}
+use Rattle.abnfprint.specs.declared.position.Context.TheVariants.{Alternative, Member, Repeated}
 use Rattle.abnfprint.specs.FormedAbnf.{IsFormed, AreFormed}
 use Rattle.abnfprint.proofs.AbnfListedLemmas.{within, listed, listed_members, listed_alternatives, listed_more}
 use Rattle.abnfprint.proofs.AbnfListedLemmas.{listed_rules}

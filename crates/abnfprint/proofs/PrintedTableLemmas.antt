@@ -19,7 +19,7 @@ use Rattle.abnfread.specs.Element.{Element, Elements, Text, Values, Alt, Name, n
 use Rattle.abnfread.specs.Element.{body_of}
 use Rattle.abnfread.specs.Element.{Definition}
 use Rattle.abnfprint.specs.AbnfReadBack.{file_rules, SameButSpans}
-use Rattle.abnfprint.specs.declared.place.Context.TheVariants.{Alternative}
+use Rattle.abnfprint.specs.declared.position.Context.TheVariants.{Alternative}
 use Rattle.abnfprint.specs.FormedAbnf.{IsName, named, IsFormed, AreFormed, AreFormedRules, AreMany, IsSome}
 use Rattle.abnfprint.proofs.AbnfSpelledLemmas.{IsFull}
 use Rattle.abnfprint.proofs.FormedAbnfLemmas.{nest, nest_all, alternation-nest, alternation-formed, IsFit, AreFit}

@@ -11,7 +11,7 @@ use Rattle.abnfread.specs.Element.{Element, Elements, Text, Values, Range, Conca
 use Rattle.abnfread.specs.Element.{more, Rule}
 use Rattle.abnfread.proofs.AbnfFirstLemmas.{letter-digit}
 use Rattle.abnfprint.specs.CanonicalAbnf.{wraps, around, repeat_text, text_of, joined, more_joined, grammar_text}
-use Rattle.abnfprint.specs.declared.place.Context.TheVariants.{Alternative, Member, Repeated}
+use Rattle.abnfprint.specs.declared.position.Context.TheVariants.{Alternative, Member, Repeated}
 use Rattle.abnfprint.specs.FormedAbnf.{IsName, named, IsFormed, AreFormed, AreFormedRules, AreMany}
 use Rattle.abnfprint.proofs.AbnfCutsLemmas.{Cuts, nothing, blanked}
 use Rattle.abnfprint.proofs.AbnfListedLemmas.{nowhere, within, listed, listed_members, listed_alternatives, listed_more}

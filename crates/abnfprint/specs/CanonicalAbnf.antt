@@ -7,8 +7,8 @@ use Rattle.std.specs.Int.Digits.{digits_of}
 use Rattle.std.specs.List.{flat_map}
 use Rattle.abnfread.specs.Element.{Element, Elements, Text, Values, Range, Concat, Alt, Rep, Opt, Name, Prose, none}
 use Rattle.abnfread.specs.Element.{more, Rule}
-use Rattle.abnfprint.specs.declared.place.Context.{Context}
-use Rattle.abnfprint.specs.declared.place.Context.TheVariants.{Alternative, Member, Repeated}
+use Rattle.abnfprint.specs.declared.position.Context.{Context}
+use Rattle.abnfprint.specs.declared.position.Context.TheVariants.{Alternative, Member, Repeated}
 
 -- how tightly an element holds together
 abbrev pub rank : Element → ℕ

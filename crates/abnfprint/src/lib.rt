@@ -1,7 +1,7 @@
 //! Writes the canonical text of grammars in ABNF (RFC 5234, RFC 7405).
 #![tactic(auto)]
 
-mod place;
+mod position;
 mod print;
 mod terminal;
 

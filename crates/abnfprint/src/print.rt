@@ -7,20 +7,20 @@ ghost use Rattle.abnfread.specs.AbnfViews.{element_of, elements_of, rules_of};
 ghost use Rattle.abnfprint.specs.AbnfReadBack.{IsRead, ReadsAs, ReadsFormed, ReadBack, SpansUnseen, PrintsItself};
 ghost use Rattle.abnfprint.specs.CanonicalAbnf as canon;
 
-use crate::place::{Context, is_wrapped};
+use crate::position::{Context, is_wrapped};
 use crate::terminal::{print_prose, print_range, print_repeat, print_text, print_values};
 use abnfread::{Abnf, Elem};
 use ruletable::{Sink, WriteFault, write_pieces, write_whole};
 
 // An element within another, in parentheses where it needs them.
 #[cycle(printing)]
-fn print_at<W: Sink>(e: &Elem, place: Context, w: &mut W) -> Result<(), WriteFault>
+fn print_at<W: Sink>(e: &Elem, position: Context, w: &mut W) -> Result<(), WriteFault>
     requires { W.failed w.old ≡ false }
     ensures bytes { Writes (W.contents w.old) (W.contents w.new)
-        (canon.around (canon.wraps place (element_of e.now)) (canon.text_of (element_of e.now))) result }
+        (canon.around (canon.wraps position (element_of e.now)) (canon.text_of (element_of e.now))) result }
     ensures flag { Flags (W.failed w.old) (W.failed w.new) result }
 {
-    if is_wrapped(e, place) {
+    if is_wrapped(e, position) {
         print_between(b"(", e, b")", w)
     } else {
         print_elem(e, w)
@@ -95,9 +95,14 @@ fn print_elem<W: Sink>(e: &Elem, w: &mut W) -> Result<(), WriteFault>
 
 // Members or alternatives, with a mark between each two.
 #[cycle(printing)]
-fn print_all<W: Sink>(es: &[Elem], place: Context, mark: &[u8], w: &mut W) -> Result<(), WriteFault>
+fn print_all<W: Sink>(
+    es: &[Elem],
+    position: Context,
+    mark: &[u8],
+    w: &mut W,
+) -> Result<(), WriteFault>
     requires { W.failed w.old ≡ false }
-    ensures bytes { Writes (W.contents w.old) (W.contents w.new) (canon.joined place mark.now (elements_of es.now))
+    ensures bytes { Writes (W.contents w.old) (W.contents w.new) (canon.joined position mark.now (elements_of es.now))
         result }
     ensures flag { Flags (W.failed w.old) (W.failed w.new) result }
 {
@@ -106,7 +111,7 @@ fn print_all<W: Sink>(es: &[Elem], place: Context, mark: &[u8], w: &mut W) -> Re
             Ok(()) => {}
             Err(fault) => return Err(fault),
         }
-        match print_at(e, place, w) {
+        match print_at(e, position, w) {
             Ok(()) => {}
             Err(fault) => return Err(fault),
         }

@@ -40,7 +40,7 @@ abbrev Decides : (List Marked → ℕ → Marked → Type 0) → Type 0
 Decides D = (ms : List Marked) (i : ℕ) (m : Marked) → D ms i m → IsHopeless ms i ⊎ IsOver ms i
 
 -- two tokens of a text that decide are one
-record OnePlace (text : List ℕ) (a b : ℕ) (D E : List Marked → ℕ → Marked → Type 0) : Type 0 where
+record OnePosition (text : List ℕ) (a b : ℕ) (D E : List Marked → ℕ → Marked → Type 0) : Type 0 where
   all : List Marked
   number : ℕ
   token : Marked
@@ -48,9 +48,9 @@ record OnePlace (text : List ℕ) (a b : ℕ) (D E : List Marked → ℕ → Mar
   second : E all number token
   lines : a ≡ b
 
-one-place : (text : List ℕ) (a b : ℕ) (D E : List Marked → ℕ → Marked → Type 0) → Decides D → Decides E
-    → IsDecidedAt text a D → IsDecidedAt text b E → OnePlace text a b D E
-one-place text a b D E f g h k =
+one-position : (text : List ℕ) (a b : ℕ) (D E : List Marked → ℕ → Marked → Type 0) → Decides D → Decides E
+    → IsDecidedAt text a D → IsDecidedAt text b E → OnePosition text a b D E
+one-position text a b D E f g h k =
     let all : k.all ≡ h.all = marked-one text k.all h.all k.are_tokens h.are_tokens in
     let there : E h.all k.number k.token = (let d = k.decides in rw all at d) in
     let number : k.number ≡ h.number = lemmas.one-deciding Viable AreWithin (lemmas.viable-take Says Grammar)
@@ -78,28 +78,29 @@ large-decides ms i m h = inr h.0
 
 module _ (text : List ℕ) (a b : ℕ) where
   both-syntax : IsDecidedAt text a IsSyntax → IsDecidedAt text b IsSyntax → a ≡ b
-  both-syntax h k = (one-place text a b IsSyntax IsSyntax syntax-decides syntax-decides h k).lines
+  both-syntax h k = (one-position text a b IsSyntax IsSyntax syntax-decides syntax-decides h k).lines
 
   both-deep : IsDecidedAt text a IsTooDeep → IsDecidedAt text b IsTooDeep → a ≡ b
-  both-deep h k = (one-place text a b IsTooDeep IsTooDeep deep-decides deep-decides h k).lines
+  both-deep h k = (one-position text a b IsTooDeep IsTooDeep deep-decides deep-decides h k).lines
 
   both-large : IsDecidedAt text a IsTooLarge → IsDecidedAt text b IsTooLarge → a ≡ b
-  both-large h k = (one-place text a b IsTooLarge IsTooLarge large-decides large-decides h k).lines
+  both-large h k = (one-position text a b IsTooLarge IsTooLarge large-decides large-decides h k).lines
 
   not-over : (ms : List Marked) (i : ℕ) → IsHopeless ms i → IsOver ms i → ⊥
   not-over ms i h k = lemmas.not-both Viable AreWithin (lemmas.viable-take Says Grammar) within-take ms i h k
 
   syntax-deep : IsDecidedAt text a IsSyntax → IsDecidedAt text b IsTooDeep → ⊥
-  syntax-deep h k = let p = one-place text a b IsSyntax IsTooDeep syntax-decides deep-decides h k in let d = p.second in
+  syntax-deep h k = let p = one-position text a b IsSyntax IsTooDeep syntax-decides deep-decides h k in let d = p.second
+      in
       not-over p.all p.number p.first d.0
 
   syntax-large : IsDecidedAt text a IsSyntax → IsDecidedAt text b IsTooLarge → ⊥
-  syntax-large h k = let p = one-place text a b IsSyntax IsTooLarge syntax-decides large-decides h k in let d =
+  syntax-large h k = let p = one-position text a b IsSyntax IsTooLarge syntax-decides large-decides h k in let d =
       p.second in not-over p.all p.number p.first d.0
 
   deep-large : IsDecidedAt text a IsTooDeep → IsDecidedAt text b IsTooLarge → ⊥
   deep-large h k =
-      let p = one-place text a b IsTooDeep IsTooLarge deep-decides large-decides h k in
+      let p = one-position text a b IsTooDeep IsTooLarge deep-decides large-decides h k in
       let d : is_bracket p.token ≡ true = (let x = p.first in x.1) in
       let e : is_bracket p.token ≡ false = (let x = p.second in x.1) in
       cc

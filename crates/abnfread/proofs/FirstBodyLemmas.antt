@@ -20,12 +20,12 @@ use Rattle.abnfread.proofs.AbnfMachineLemmas.{append_assoc}
 use Rattle.abnfread.proofs.CoreRuleLemmas.{found-in}
 use Rattle.abnfread.proofs.ElementListLemmas.{elements_of-push}
 
-abbrev places : List ℕ → List Rule → Option ℕ
-places n rules = position (λ (rule : Rule). same_name Fold n rule.name) rules
+abbrev positions : List ℕ → List Rule → Option ℕ
+positions n rules = position (λ (rule : Rule). same_name Fold n rule.name) rules
 
-core-place : (core : table.Rules Elem) (n : List ℕ) (o : Option ℕ) → IsCoreTable core → find_in core n ≡ o
-    → places n core_list ≡ o
-core-place core n o c h = sym (found-in core n c.names ∙ ap (places n) c.listed) ∙ h
+core-position : (core : table.Rules Elem) (n : List ℕ) (o : Option ℕ) → IsCoreTable core → find_in core n ≡ o
+    → positions n core_list ≡ o
+core-position core n o c h = sym (found-in core n c.names ∙ ap (positions n) c.listed) ∙ h
 
 abbrev body_by : List Element → Option ℕ → Option Element
 body_by es o = elim o [ None ↦ None | Some id ↦ slice_get es id ]
@@ -64,17 +64,17 @@ module _ (p : Rule → Bool) (found : List Rule → Option Element) (none : foun
     found-there [] = none
     found-there (rule ∷ rules) = step rule rules ∙ next-there rule rules (p rule) refl (found-there rules)
 
-body-there : (n : List ℕ) (rules : List Rule) → body_of rules n ≡ body_by (bodies rules) (places n rules)
+body-there : (n : List ℕ) (rules : List Rule) → body_of rules n ≡ body_by (bodies rules) (positions n rules)
 body-there n = found-there (λ rule. same_name Fold n rule.name) (λ rules. body_of rules n) refl (λ rule rules. refl)
 
 core-body : (core : table.Rules Elem) (n : List ℕ) (o : Option ℕ) → IsCoreTable core → find_in core n ≡ o
     → body_of core_list n ≡ body_by core_bodies o
-core-body core n o c h = body-there n core_list ∙ ap (body_by core_bodies) (core-place core n o c h)
+core-body core n o c h = body-there n core_list ∙ ap (body_by core_bodies) (core-position core n o c h)
 
 pub core-within : (core : table.Rules Elem) (n : List ℕ) (id : ℕ) → IsCoreTable core → find_in core n ≡ Some id
     → id < 16
 core-within core n id c h = (position-Some (λ (rule : Rule). same_name Fold n rule.name) core_list id
-    (record { name = []; body = Prose []; span = nowhere }) (core-place core n (Some id) c h)).0
+    (record { name = []; body = Prose []; span = nowhere }) (core-position core n (Some id) c h)).0
 
 module _ (d : CodeDefinition) where
   abbrev name_of : List ℕ

@@ -56,7 +56,7 @@ margin-at : (text a : List ℕ) (x : Tok AbnfKind) (r : List ℕ) → Next White
     → NoPiece Piece a → indent_at text (start_of x) ≡ indent_at text (length text - length a)
 margin-at text a x r h w d =
     let same : h.token ≡ a = white-unique (first-dark h.first) d h.white w in
-    let p = h.place in
+    let p = h.position in
     let n = ap length same in
     let start : start_of x ≡ length text - length a = omega arith in
     ap (indent_at text) start

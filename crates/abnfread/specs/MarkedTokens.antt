@@ -23,7 +23,7 @@ indent_from n (b ∷ bs) = indent_from (indented n b) bs
 
 -- how many spaces and tabs stand before the position on its line, if nothing else does
 abbrev pub indent_at : List ℕ → ℕ → Option ℕ
-indent_at text place = indent_from (Some 0) (take place text)
+indent_at text position = indent_from (Some 0) (take position text)
 
 -- the spaces and tabs of the first line that holds more than these and a comment: it is the line of the first token
 abbrev pub margin : List ℕ → List (Tok AbnfKind) → Option ℕ

@@ -9,12 +9,12 @@ fn is_space(b: u8) -> bool
 }
 
 // Returns how many spaces and tabs stand before the position on its line, if nothing else does.
-pub(crate) fn indent_at(text: &[u8], place: usize) -> Option<usize>
-    requires { place ≤ length text.now }
-    ensures { result ≡ indent_of text.now place }
+pub(crate) fn indent_at(text: &[u8], position: usize) -> Option<usize>
+    requires { position ≤ length text.now }
+    ensures { result ≡ indent_of text.now position }
 {
     let mut size = 0;
-    let mut rest = &text[..place];
+    let mut rest = &text[..position];
     while let Some((last, front)) = rest.split_last() {
         if *last == b'\n' {
             return Some(size);

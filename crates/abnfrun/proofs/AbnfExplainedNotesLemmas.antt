@@ -20,7 +20,7 @@ use Rattle.abnfrun.specs.AbnfNoted.{all_rules}
 use Rattle.abnfrun.specs.AbnfExplainedNotes.{AreAllRules, ExplainsAbnfNote, IsReachAfter, IsReachLine}
 use Rattle.abnfrun.proofs.AllRulesLemmas.{all_same}
 
--- the lines of places are one text
+-- the lines of positions are one text
 abbrev LinesAreOne : Type 0
 LinesAreOne = (text : List ℕ) (start : Option (List ℕ)) (note : Said) (a b : List ℕ) → ExplainsNote text start note a
     → ExplainsNote text start note b → a ≡ b

@@ -24,7 +24,7 @@ use Rattle.abnfrun.specs.AbnfReply.{AnswersFor, RefusalFor, form_of, printed_rul
 use Rattle.abnfrun.proofs.IsAnswerOnLemmas.{FurthestIsOne}
 use Rattle.abnfrun.proofs.IsAnswerToLemmas.{TextIsOne, one_answer}
 use Rattle.linejudge.specs.declared.answers.Answer.{Answer}
-use Rattle.linejudge.specs.InputLines.{Lines, LinesEnd, place_taken}
+use Rattle.linejudge.specs.InputLines.{Lines, LinesEnd, position_taken}
 use Rattle.linejudge.specs.LineRefusals.{SameButWhy}
 use Rattle.linejudge.proofs.LineRunLemmas.{same_but_why}
 use Rattle.linejudge.proofs.LinesReplyLemmas.{one_plain}
@@ -70,7 +70,8 @@ module _ (settings : AbnfSettings) (input : Input) where
   abbrev pub PlainOf : List Definition → Reply → Type 0
   PlainOf definitions reply = steps.Replies
       (Lines (AnswersFor (all_rules definitions) (judged_of definitions (rule_given settings)) settings)
-      (form_of settings) input) (LinesEnd (form_of settings) input) (place_taken (form_of settings).limit input) reply
+      (form_of settings) input) (LinesEnd (form_of settings) input)
+      (position_taken (form_of settings).limit input) reply
 
   pub one_run : AnswersAreOne settings → (definitions : List Definition) (a b : Reply) → PlainOf definitions a
       → PlainOf definitions b → a.status ≢ 5 → b.status ≢ 5 → a ≡ b
@@ -102,9 +103,10 @@ module _ (settings : AbnfSettings) (input : Input) where
     is_itself notes reply is =
         (reply, is, record { out = refl; status = refl; taken = refl; err = λ unasked. refl })
 
-    parts_of_states : (notes : List ℕ) (reply : Reply) → AbnfStates text settings input notes reply → reply.status ≢ 5
+    suffixes_of_states : (notes : List ℕ) (reply : Reply) → AbnfStates text settings input notes reply
+        → reply.status ≢ 5
         → IsAlmost notes reply
-    parts_of_states notes reply (refused fault why f m reported) ample = is_itself notes reply (inl (record {
+    suffixes_of_states notes reply (refused fault why f m reported) ample = is_itself notes reply (inl (record {
       fault = fault;
       is_fault = f;
       other = m;
@@ -113,20 +115,20 @@ module _ (settings : AbnfSettings) (input : Input) where
       none = refl;
       reported = refl;
     }))
-    parts_of_states notes reply (unexplained fault f m asked) ample = absurd (ample refl)
-    parts_of_states notes reply (noted ds said reported r are reports bad mode) ample =
+    suffixes_of_states notes reply (unexplained fault f m asked) ample = absurd (ample refl)
+    suffixes_of_states notes reply (noted ds said reported r are reports bad mode) ample =
         is_itself notes reply (inr (record {
           definitions = ds;
           reads = r;
           states = is_noted said reported are reports bad mode;
         }))
-    parts_of_states notes reply (checked ds said reported r are reports fine mode) ample =
+    suffixes_of_states notes reply (checked ds said reported r are reports fine mode) ample =
         is_itself notes reply (inr (record {
           definitions = ds;
           reads = r;
           states = is_checked said reported are reports fine mode;
         }))
-    parts_of_states notes reply (judges ds said reported stated r are reports fine mode run) ample =
+    suffixes_of_states notes reply (judges ds said reported stated r are reports fine mode run) ample =
         let rules = all_rules ds in
         let judged = judged_of ds (rule_given settings) in
         let plain = same_but_why (AnswersFor rules judged settings) settings.explain (RefusalFor rules judged settings)
@@ -139,17 +141,17 @@ module _ (settings : AbnfSettings) (input : Input) where
           }),
           plain.2,
         )
-    parts_of_states notes reply (cut_notes ds said reported r are cut mode) ample = absurd (ample refl)
-    parts_of_states notes reply (again ds said reported r are reports some mode) ample =
+    suffixes_of_states notes reply (cut_notes ds said reported r are cut mode) ample = absurd (ample refl)
+    suffixes_of_states notes reply (again ds said reported r are reports some mode) ample =
         is_itself notes reply (inr (record {
           definitions = ds;
           reads = r;
           states = is_again said reported are reports some mode;
         }))
-    parts_of_states notes reply (cut_again ds said reported r are cut mode) ample = absurd (ample refl)
-    parts_of_states notes reply (printed ds r are mode) ample =
+    suffixes_of_states notes reply (cut_again ds said reported r are cut mode) ample = absurd (ample refl)
+    suffixes_of_states notes reply (printed ds r are mode) ample =
         is_itself notes reply (inr (record { definitions = ds; reads = r; states = is_printed are mode }))
-    parts_of_states notes reply (no_memory within) ample = absurd (ample refl)
+    suffixes_of_states notes reply (no_memory within) ample = absurd (ample refl)
 
     one_of_text : ExplanationsAreOne → NotesAreOne → HintsAreOne → AnswersAreOne settings
         → (notes others : List ℕ) (a b : Reply) → IsStated notes a → IsStated others b → a.status ≢ 5
@@ -189,8 +191,8 @@ pub one_statement : ExplanationsAreOne → NotesAreOne → HintsAreOne → TextI
     AbnfStates text settings input notes a → AbnfStates text settings input others b → a.status ≢ 5 → b.status ≢ 5
     → (notes ≡ others) × SameButWhy settings.explain a b
 one_statement explained reported hints one furthest text settings input notes others a b g h m n =
-    let p = parts_of_states settings input text notes a g m in
-    let q = parts_of_states settings input text others b h n in
+    let p = suffixes_of_states settings input text notes a g m in
+    let q = suffixes_of_states settings input text others b h n in
     let same = one_of_text settings input text explained reported hints
     (λ rules judged line. one_answer one furthest settings.options.letters rules judged line
     settings.options.viable) notes others p.0 q.0 p.1 q.1 (λ e. m (p.2.status ∙ e)) (λ e. n (q.2.status ∙ e)) in

@@ -1,4 +1,4 @@
--- The hints on the grammar of a text are one text, and those that the code finds by its places.
+-- The hints on the grammar of a text are one text, and those that the code finds by its positions.
 -- Serves: one_statement_of_abnf, run_abnf (right)
 use Rattle.std.proofs.Common.{◌≡◌, ◌+◌, ◌<◌, ℕ, Bool, true, false, cond, nat_lt, List, length, Option, Some, None}
 use Rattle.std.proofs.Common.{refl, sym, ◌∙◌, ap, subst, arith}

@@ -35,9 +35,9 @@ module _ (settings : AbnfSettings) (input : Input) (text : List ℕ) where
   is_itself : (reply : Reply) → IsBare reply → IsBarely reply
   is_itself reply is = (reply, is, record { out = refl; status = refl; taken = refl; err = λ asked. refl })
 
-  bare_parts : (notes : List ℕ) (reply : Reply) → AbnfStates text settings input notes reply → reply.status ≢ 5
+  bare_suffixes : (notes : List ℕ) (reply : Reply) → AbnfStates text settings input notes reply → reply.status ≢ 5
       → IsBarely reply
-  bare_parts notes reply (refused fault why f m reported) ample = (
+  bare_suffixes notes reply (refused fault why f m reported) ample = (
     refusal fault [],
     inl (record {
       fault = fault;
@@ -50,12 +50,12 @@ module _ (settings : AbnfSettings) (input : Input) (text : List ℕ) where
     }),
     record { out = refl; status = refl; taken = refl; err = λ asked. absurd (cc) },
   )
-  bare_parts notes reply (unexplained fault f m asked) ample = absurd (ample refl)
-  bare_parts notes reply (noted ds said reported r are reports bad mode) ample =
+  bare_suffixes notes reply (unexplained fault f m asked) ample = absurd (ample refl)
+  bare_suffixes notes reply (noted ds said reported r are reports bad mode) ample =
       is_itself reply (inr (record { definitions = ds; reads = r; states = is_noted said [] are refl bad mode }))
-  bare_parts notes reply (checked ds said reported r are reports fine mode) ample =
+  bare_suffixes notes reply (checked ds said reported r are reports fine mode) ample =
       is_itself reply (inr (record { definitions = ds; reads = r; states = is_checked said [] are refl fine mode }))
-  bare_parts notes reply (judges ds said reported stated r are reports fine mode run) ample =
+  bare_suffixes notes reply (judges ds said reported stated r are reports fine mode run) ample =
       let rules = all_rules ds in
       let judged = judged_of ds (rule_given settings) in
       let plain = same_but_why (AnswersFor rules judged settings) settings.explain (RefusalFor rules judged settings)
@@ -73,13 +73,13 @@ module _ (settings : AbnfSettings) (input : Input) (text : List ℕ) where
           err = λ asked. absurd (cc);
         },
       )
-  bare_parts notes reply (cut_notes ds said reported r are cut mode) ample = absurd (ample refl)
-  bare_parts notes reply (again ds said reported r are reports some mode) ample =
+  bare_suffixes notes reply (cut_notes ds said reported r are cut mode) ample = absurd (ample refl)
+  bare_suffixes notes reply (again ds said reported r are reports some mode) ample =
       is_itself reply (inr (record { definitions = ds; reads = r; states = is_again said [] are refl some mode }))
-  bare_parts notes reply (cut_again ds said reported r are cut mode) ample = absurd (ample refl)
-  bare_parts notes reply (printed ds r are mode) ample =
+  bare_suffixes notes reply (cut_again ds said reported r are cut mode) ample = absurd (ample refl)
+  bare_suffixes notes reply (printed ds r are mode) ample =
       is_itself reply (inr (record { definitions = ds; reads = r; states = is_printed are mode }))
-  bare_parts notes reply (no_memory within) ample = absurd (ample refl)
+  bare_suffixes notes reply (no_memory within) ample = absurd (ample refl)
 
   one_bare : AnswersAreOne settings → (a b : Reply) → IsBare a → IsBare b → a.status ≢ 5 → b.status ≢ 5 → a ≡ b
   one_bare one a b g h m n =
@@ -100,8 +100,8 @@ pub no_answer_changes : TextIsOne → FurthestIsOne → (text : List ℕ) (setti
     → AbnfStates text (explained_by asked settings) input others b → a.status ≢ 5 → b.status ≢ 5
     → SameButWhy true a b
 no_answer_changes one furthest text settings asked input notes others a b g h m n =
-    let p = bare_parts settings input text notes a g m in
-    let q = bare_parts (explained_by asked settings) input text others b h n in
+    let p = bare_suffixes settings input text notes a g m in
+    let q = bare_suffixes (explained_by asked settings) input text others b h n in
     let same : p.0 ≡ q.0 = one_bare settings input text
     (λ rules judged line. one_answer one furthest settings.options.letters rules judged line
     settings.options.viable) p.0 q.0 p.1 q.1 (λ e. m (p.2.status ∙ e)) (λ e. n (q.2.status ∙ e)) in

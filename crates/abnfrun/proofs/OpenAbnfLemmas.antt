@@ -23,11 +23,11 @@ use Rattle.linejudge.specs.InputLines.{
   none,
   one_more,
   at_front,
-  position_after,
+  next_position,
   is_over,
 }
 use Rattle.linejudge.specs.InputLines.{kept_line, kept_size, printed_last, printed_line, refused_by, status_after}
-use Rattle.linejudge.specs.InputLines.{place_taken}
+use Rattle.linejudge.specs.InputLines.{position_taken}
 use Rattle.linejudge.specs.LineRefusals.{LinesReply, ReportsLine, count_untold, none_reported, one_reported}
 use Rattle.linejudge.specs.declared.answers.Answer.{Answer}
 use Rattle.linejudge.specs.declared.answers.Answer.TheVariants.{Yes, No, NoAfter}
@@ -66,7 +66,7 @@ module _ (Reported : List ℕ → Answer → Type 0) (asked : Bool) (Refusal : L
   alone = record { bytes = line ++ form.end ∷ []; fault = false }
 
   abbrev after : LinePosition
-  after = position_after at_front (length line + 1) said
+  after = next_position at_front (length line + 1) said
 
   abbrev judged : List ℕ
   judged = kept_line form line
@@ -94,10 +94,10 @@ module _ (Reported : List ℕ → Answer → Type 0) (asked : Bool) (Refusal : L
   all_is_taken : length (line ++ form.end ∷ []) ≡ length line + 1
   all_is_taken = length-append line (form.end ∷ [])
 
-  nothing_is_left : drop after.place (line ++ form.end ∷ []) ≡ []
-  nothing_is_left = drop_all after.place (line ++ form.end ∷ []) (omega (arith, all_is_taken))
+  nothing_is_left : drop after.position (line ++ form.end ∷ []) ≡ []
+  nothing_is_left = drop_all after.position (line ++ form.end ∷ []) (omega (arith, all_is_taken))
 
-  one_line_taken : length line + 1 ≡ place_taken form.limit alone after
+  one_line_taken : length line + 1 ≡ position_taken form.limit alone after
   one_line_taken = omega (arith, all_is_taken)
 
   pub one_line_replies : HasNoEnd form.end line → length judged ≤ kept_size form form.limit → Reported judged said

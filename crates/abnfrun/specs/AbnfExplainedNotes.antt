@@ -10,11 +10,11 @@ use Rattle.abnfread.specs.AbnfViews.{rules_of}
 use Rattle.abnfread.specs.Element.{Definition}
 use Rattle.abnfread.specs.declared.elem.Elem.{Elem}
 use Rattle.abnfcheck.specs.NameChains.{AreNameChains, IsNameChain}
-use Rattle.abnfexplain.specs.AbnfNoteLines.{AreAbnfPlaces, ExplainsNote}
+use Rattle.abnfexplain.specs.AbnfNoteLines.{AreAbnfPositions, ExplainsNote}
 use Rattle.abnfexplain.specs.ChainLines.{chain_reported}
 use Rattle.abnfprint.specs.AbnfReadBack.{file_rules}
 use Rattle.abnfrun.specs.AbnfNoted.{all_rules}
-use Rattle.abnfrun.specs.declared.abnf_places.AbnfPlaces.{AbnfPlaces}
+use Rattle.abnfrun.specs.declared.abnf_positions.AbnfPositions.{AbnfPositions}
 
 -- the line of the chain to a name, where that name is given for the judged rule
 pub record IsReachLine (text : List ℕ) (start : Option (List ℕ)) (name line : List ℕ) : Type 0 where
@@ -46,11 +46,11 @@ pub record AreAllRules (text : List ℕ) (rules : table.Rules Elem) (count : ℕ
   pub all : rules_of rules ≡ all_rules definitions
   pub counted : count ≡ length (file_rules definitions)
 
--- the code's places are those of a text, with the chains from its judged rule, and its rules
-pub record AreNotePlaces (text : List ℕ) (start : Option (List ℕ)) (found : AbnfPlaces) : Type 0 where
+-- the code's positions are those of a text, with the chains from its judged rule, and its rules
+pub record AreNotePositions (text : List ℕ) (start : Option (List ℕ)) (found : AbnfPositions) : Type 0 where
   pub definitions : List Definition
   pub reads : Reads text definitions
-  pub places : AreAbnfPlaces text found.places
+  pub positions : AreAbnfPositions text found.positions
   pub chains : AreNameChains (all_rules definitions) start found.chains
   pub all : rules_of found.all.rules ≡ all_rules definitions
   pub counted : found.all.count ≡ length (file_rules definitions)

@@ -6,7 +6,7 @@ use Rattle.abnfread.specs.Element.{Definition}
 use Rattle.abnfrun.specs.AbnfNoted.{all_rules, judged_of, AreNotesOn, IsRefusedFor, rule_given}
 use Rattle.abnfrun.specs.AbnfReply.{IsAnswerTo, form_of, judged_size}
 use Rattle.abnfrun.specs.OpenJudge.{OpenJudge}
-use Rattle.linejudge.specs.InputLines.{at_front, position_after, kept_line, printed_last, printed_line, refused_by}
+use Rattle.linejudge.specs.InputLines.{at_front, next_position, kept_line, printed_last, printed_line, refused_by}
 use Rattle.linejudge.specs.InputLines.{status_after}
 use Rattle.linejudge.specs.LineRefusals.{ReportsLine}
 use Rattle.linejudge.specs.declared.answers.Answer.{Answer}
@@ -52,7 +52,7 @@ judged_line settings = kept_line (form_of settings)
 abbrev pub answer_alone : AbnfSettings → List ℕ → Answer → List ℕ → Reply
 answer_alone settings line said reported = record {
   out = printed_line (form_of settings) 1 (judged_line settings line) said
-      ++ printed_last (form_of settings).printed (position_after at_front (length line + 1) said);
+      ++ printed_last (form_of settings).printed (next_position at_front (length line + 1) said);
   err = reported;
   status = code_of (status_after (refused_by said));
   taken = length line + 1;

@@ -7,16 +7,16 @@ ghost use Rattle.abnfread.specs.AbnfViews.{rules_of};
 ghost use Rattle.abnfprint.specs.CanonicalAbnf.{grammar_text};
 ghost use Rattle.abnfrun.specs.AbnfAnswers.{AbnfStates};
 ghost use Rattle.abnfcheck.specs.AbnfGrammar.{IsSoundGrammar};
-ghost use Rattle.abnfrun.specs.AbnfExplainedNotes.{AreAllRules, AreNotePlaces, ExplainsAbnfNote};
+ghost use Rattle.abnfrun.specs.AbnfExplainedNotes.{AreAllRules, AreNotePositions, ExplainsAbnfNote};
 ghost use Rattle.abnfrun.specs.AbnfTextHints.{AreTextHints};
 ghost use Rattle.abnfrun.specs.AbnfLanguage.{IsChecked, IsPrintable, IsReadAs};
 ghost use Rattle.abnfrun.specs.AbnfNoted.{AreRedefinitions};
 ghost use Rattle.abnfrun.specs.AbnfReply.{JudgeReply};
 
-use crate::abnf_places::AbnfPlaces;
+use crate::abnf_positions::AbnfPositions;
 use crate::hints::hints_of;
 use crate::line_judge::{LineJudge, Work, explainer_of, line_form, lines_have_answers, lowered};
-use crate::note_places::{explain_reached, note_places};
+use crate::note_positions::{explain_reached, note_positions};
 use crate::options::{AbnfOptions, AbnfSettings};
 use abnfcheck::{AllRules, JudgedAbnf, SoundAbnf, judge_abnf};
 use abnfexplain::explain_abnf_fault;
@@ -54,7 +54,7 @@ impl Language for AbnfLanguage {
 
     type Sound = SoundAbnf;
 
-    type Places = AbnfPlaces;
+    type Positions = AbnfPositions;
 
     ghost states = { AbnfStates };
 
@@ -62,7 +62,7 @@ impl Language for AbnfLanguage {
 
     ghost explains = { Explains };
 
-    ghost are_places = { AreNotePlaces };
+    ghost are_positions = { AreNotePositions };
 
     ghost explains_note = { ExplainsAbnfNote };
 
@@ -72,7 +72,7 @@ impl Language for AbnfLanguage {
 
     ghost are_rules = { λ text all. AreAllRules text all.rules all.count };
 
-    ghost held = { λ places. places.all };
+    ghost held = { λ positions. positions.all };
 
     ghost is_checked = { λ text start notes all judged. IsChecked text start notes all.rules judged };
 
@@ -94,34 +94,34 @@ impl Language for AbnfLanguage {
         explain_abnf_fault(alloc, text, fault)
     }
 
-    fn places(
+    fn positions(
         alloc: Global,
         text: &[u8],
         rules: AllRules,
         start: Option<&str>,
-    ) -> Result<AbnfPlaces, Memory> {
-        note_places(alloc, text, rules, start)
+    ) -> Result<AbnfPositions, Memory> {
+        note_positions(alloc, text, rules, start)
     }
 
-    fn into_rules(places: AbnfPlaces) -> AllRules {
-        places.all
+    fn into_rules(positions: AbnfPositions) -> AllRules {
+        positions.all
     }
 
     fn explain_note(
         alloc: Global,
-        places: &AbnfPlaces,
+        positions: &AbnfPositions,
         start: Option<&str>,
         note: &Note,
     ) -> Result<Vec<u8>, Memory> {
-        explain_reached(alloc, places, start, note)
+        explain_reached(alloc, positions, start, note)
     }
 
     fn hints(
         alloc: Global,
-        places: &AbnfPlaces,
+        positions: &AbnfPositions,
         settings: &AbnfSettings<'_>,
     ) -> Result<Vec<u8>, Memory> {
-        hints_of(alloc, places, settings)
+        hints_of(alloc, positions, settings)
     }
 
     fn check(

@@ -56,7 +56,7 @@ use toolrun::{Status, run_tool};
 ///   explanation of the grammar, the fault's line comes before it, without its explanation, or the first notes do, the
 ///   last perhaps without its own.
 /// - If an allocation fails in the explanation of a line, `line K: no` and `  not explained: out of memory` stand in
-///   its place, and nothing after it is explained. All answers and the status are those without explanations.
+///   its position, and nothing after it is explained. All answers and the status are those without explanations.
 pub fn run_abnf<R: Source, O: Sink, E: Sink>(
     alloc: Global,
     grammar: &[u8],

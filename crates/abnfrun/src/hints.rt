@@ -2,10 +2,10 @@
 ghost use Rattle.std.specs.Prelude.{◌≡◌, ◌<◌, ℕ, List, length, IfOk, option_copied};
 ghost use Rattle.abnfcheck.specs.AbnfNotes.{judged_in};
 ghost use Rattle.abnfread.specs.AbnfViews.{rules_of};
-ghost use Rattle.abnfrun.specs.AbnfExplainedNotes.{AreNotePlaces};
+ghost use Rattle.abnfrun.specs.AbnfExplainedNotes.{AreNotePositions};
 ghost use Rattle.abnfrun.specs.AbnfTextHints.{AreTextHints, end_for, hinted_rule, id_of_rule};
 
-use crate::abnf_places::AbnfPlaces;
+use crate::abnf_positions::AbnfPositions;
 use crate::options::AbnfSettings;
 use abnfhints::{Hinted, LineEnd, abnf_hints};
 use abnfread::Elem;
@@ -47,18 +47,18 @@ fn line_end(nul: bool) -> LineEnd
 /// fails.
 pub(crate) fn hints_of(
     alloc: Global,
-    places: &AbnfPlaces,
+    positions: &AbnfPositions,
     settings: &AbnfSettings<'_>,
 ) -> Result<Vec<u8>, Memory>
-    ensures { IfOk result (λ reported. (text : List ℕ) → AreNotePlaces text
-        (option_copied settings.now.start) places.now
+    ensures { IfOk result (λ reported. (text : List ℕ) → AreNotePositions text
+        (option_copied settings.now.start) positions.now
         → AreTextHints text settings.now reported.items) }
 {
-    let judged = hinted_id(&places.all.rules, settings)?;
+    let judged = hinted_id(&positions.all.rules, settings)?;
     let hinted = Hinted {
-        places: &places.places,
-        rules: &places.all.rules,
-        count: places.all.count,
+        positions: &positions.positions,
+        rules: &positions.all.rules,
+        count: positions.all.count,
         judged,
         letters: settings.options.letters,
         end: line_end(settings.options.nul),

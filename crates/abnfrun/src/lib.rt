@@ -2,19 +2,19 @@
 #![tactic(auto)]
 
 mod abnf_language;
-mod abnf_places;
+mod abnf_positions;
 mod abnf_run;
 mod engines;
 mod hints;
 mod laws;
 mod line_judge;
-mod note_places;
+mod note_positions;
 mod open_law;
 mod opened;
 mod options;
 
 pub use abnf_language::AbnfLanguage;
-pub use abnf_places::AbnfPlaces;
+pub use abnf_positions::AbnfPositions;
 pub use abnf_run::run_abnf;
 pub use feed::{Broken, Source, SourceOf};
 pub use laws::{explanations_change_no_answer, one_reply_of_abnf, one_statement_of_abnf};

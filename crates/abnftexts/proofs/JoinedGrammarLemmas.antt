@@ -9,12 +9,12 @@ use Rattle.std.specs.Prelude.{Result, Ok, Err, IfOk, OnOk, slice_get}
 use Rattle.abnftexts.specs.GivenRules.{RuleGiven, fates_of, text_rule}
 use Rattle.abnftexts.specs.declared.join.fate.Fate.{Fate}
 use Rattle.abnftexts.specs.declared.join.given.GivenRule.{GivenRule}
-use Rattle.abnftexts.specs.JoinedGrammar.{GrammarJoined, fate_reported, has_stayed, numbered_place, ordered_rules}
+use Rattle.abnftexts.specs.JoinedGrammar.{GrammarJoined, fate_reported, has_stayed, numbered_position, ordered_rules}
 use Rattle.abnftexts.specs.JoinedGrammar.{printed_after, rule_printed}
 use Rattle.abnftexts.specs.JoinedGrammar.{rules_listed, standing}
 use Rattle.abnftexts.specs.JoinedViews.{IsGatheredJoined, IsStandingJoined}
 use Rattle.abnftexts.specs.RulesGathered.{RuleLines, lines_placed}
-use Rattle.abnftexts.specs.declared.gathered.RulePlace.{RulePlace}
+use Rattle.abnftexts.specs.declared.gathered.RulePosition.{RulePosition}
 use Rattle.abnftexts.proofs.RulesTakenLemmas.{one-after}
 
 -- what stands of rows that are seen otherwise
@@ -28,65 +28,73 @@ standing-seen f (fate ∷ fates) (x ∷ xs) = elim (cases_Bool (has_stayed fate)
 ]
 
 -- the row at a position, seen otherwise
-pub place-there : (places : List RulePlace) (n : ℕ) (place : RulePlace) → true ≡ ltb n (length places)
-    → place ≡ get_or places n place → slice_get (map lines_placed places) n ≡ Some (lines_placed place)
-place-there places n place low is =
-    slice_get-map lines_placed places n
-    ∙ ap (λ (o : Option RulePlace). option_map lines_placed o)
-    (slice_get-get_or places n place (ltb-true n (length places) (sym low)) ∙ ap Some (sym is))
+pub position-there : (positions : List RulePosition) (n : ℕ) (position : RulePosition) → true ≡ ltb n (length positions)
+    → position ≡ get_or positions n position → slice_get (map lines_placed positions) n ≡ Some (lines_placed position)
+position-there positions n position low is =
+    slice_get-map lines_placed positions n
+    ∙ ap (λ (o : Option RulePosition). option_map lines_placed o)
+    (slice_get-get_or positions n position (ltb-true n (length positions) (sym low)) ∙ ap Some (sym is))
 
-pub no_place-there : (places : List RulePlace) (n : ℕ) → false ≡ ltb n (length places)
-    → slice_get (map lines_placed places) n ≡ None
-no_place-there places n high =
-    slice_get-map lines_placed places n
-    ∙ ap (λ (o : Option RulePlace). option_map lines_placed o)
-    (slice_get_past places n (grind (arith, high)))
+pub no_position-there : (positions : List RulePosition) (n : ℕ) → false ≡ ltb n (length positions)
+    → slice_get (map lines_placed positions) n ≡ None
+no_position-there positions n high =
+    slice_get-map lines_placed positions n
+    ∙ ap (λ (o : Option RulePosition). option_map lines_placed o)
+    (slice_get_past positions n (grind (arith, high)))
 
-module _ (places : List RuleLines) (order : List ℕ) (i : ℕ) where
-  pub place-printed : (before after : Option RuleLines) (place : RuleLines) (old new all : List ℕ) → i < length order
-      → slice_get places (get_or order i 0) ≡ Some place → after ≡ Some place
-      → new ≡ old ++ rule_printed before place
-      → old ++ printed_after before (ordered_rules places (drop i order)) ≡ all
-      → new ++ printed_after after (ordered_rules places (drop (i + 1) order)) ≡ all
-  place-printed before after place old new all lt is last more h =
-      let rows = ordered_rules places (drop (i + 1) order) in
-      let rest = printed_after (Some place) rows in
-      let front : ordered_rules places (drop i order) ≡ ordered_rules places (get_or order i 0 ∷ drop (i + 1) order) =
-      ap (λ (ns : List ℕ). ordered_rules places ns) (one-after order i 0 lt) in
-      let here : ordered_rules places (get_or order i 0 ∷ drop (i + 1) order) ≡ place ∷ rows = rw is refl in
-      let step : printed_after before (ordered_rules places (drop i order)) ≡ rule_printed before place ++ rest =
+module _ (positions : List RuleLines) (order : List ℕ) (i : ℕ) where
+  pub position-printed : (before after : Option RuleLines) (position : RuleLines) (old new all : List ℕ)
+      → i < length order
+      → slice_get positions (get_or order i 0) ≡ Some position → after ≡ Some position
+      → new ≡ old ++ rule_printed before position
+      → old ++ printed_after before (ordered_rules positions (drop i order)) ≡ all
+      → new ++ printed_after after (ordered_rules positions (drop (i + 1) order)) ≡ all
+  position-printed before after position old new all lt is last more h =
+      let rows = ordered_rules positions (drop (i + 1) order) in
+      let rest = printed_after (Some position) rows in
+      let front : ordered_rules positions (drop i order)
+      ≡ ordered_rules positions (get_or order i 0 ∷ drop (i + 1) order) =
+      ap (λ (ns : List ℕ). ordered_rules positions ns) (one-after order i 0 lt) in
+      let here : ordered_rules positions (get_or order i 0 ∷ drop (i + 1) order) ≡ position ∷ rows = rw is refl in
+      let step : printed_after before (ordered_rules positions (drop i order)) ≡ rule_printed before position ++ rest =
       ap (λ (ps : List RuleLines). printed_after before ps) (front ∙ here) in
       ap (λ (o : Option RuleLines). new ++ printed_after o rows) last
-      ∙ ap (λ (z : List ℕ). z ++ rest) more ∙ append_assoc old (rule_printed before place) rest
+      ∙ ap (λ (z : List ℕ). z ++ rest) more ∙ append_assoc old (rule_printed before position) rest
       ∙ ap (λ (z : List ℕ). old ++ z) (sym step) ∙ h
 
-  pub no_place-printed : (before after : Option RuleLines) (old new all : List ℕ) → i < length order
-      → slice_get places (get_or order i 0) ≡ None → after ≡ before → new ≡ old
-      → old ++ printed_after before (ordered_rules places (drop i order)) ≡ all
-      → new ++ printed_after after (ordered_rules places (drop (i + 1) order)) ≡ all
-  no_place-printed before after old new all lt is last same h =
-      let rows = ordered_rules places (drop (i + 1) order) in
-      let front : ordered_rules places (drop i order) ≡ ordered_rules places (get_or order i 0 ∷ drop (i + 1) order) =
-      ap (λ (ns : List ℕ). ordered_rules places ns) (one-after order i 0 lt) in
-      let here : ordered_rules places (get_or order i 0 ∷ drop (i + 1) order) ≡ rows = rw is refl in
+  pub no_position-printed : (before after : Option RuleLines) (old new all : List ℕ) → i < length order
+      → slice_get positions (get_or order i 0) ≡ None → after ≡ before → new ≡ old
+      → old ++ printed_after before (ordered_rules positions (drop i order)) ≡ all
+      → new ++ printed_after after (ordered_rules positions (drop (i + 1) order)) ≡ all
+  no_position-printed before after old new all lt is last same h =
+      let rows = ordered_rules positions (drop (i + 1) order) in
+      let front : ordered_rules positions (drop i order)
+      ≡ ordered_rules positions (get_or order i 0 ∷ drop (i + 1) order) =
+      ap (λ (ns : List ℕ). ordered_rules positions ns) (one-after order i 0 lt) in
+      let here : ordered_rules positions (get_or order i 0 ∷ drop (i + 1) order) ≡ rows = rw is refl in
       ap (λ (o : Option RuleLines). new ++ printed_after o rows) last
       ∙ ap (λ (z : List ℕ). z ++ printed_after before rows) same
       ∙ ap (λ (ps : List RuleLines). old ++ printed_after before ps) (sym (front ∙ here)) ∙ h
 
 -- what stands of what was gathered is joined
-pub gathered-all : (places sp : List RulePlace) (rules sr : List GivenRule) (reported listed : List ℕ)
+pub gathered-all : (positions sp : List RulePosition) (rules sr : List GivenRule) (reported listed : List ℕ)
     (fates : List Fate)
     (joined : GrammarJoined) → fates ≡ fates_of (map text_rule rules)
-    → listed ≡ rules_listed (map lines_placed places) (map text_rule rules) fates
-    → sp ≡ standing fates places → sr ≡ standing fates rules
+    → listed ≡ rules_listed (map lines_placed positions) (map text_rule rules) fates
+    → sp ≡ standing fates positions → sr ≡ standing fates rules
     → IsStandingJoined (map lines_placed sp) (map text_rule sr) reported listed joined
-    → IsGatheredJoined (record { places = map lines_placed places; rules = map text_rule rules; reported = reported })
+    → IsGatheredJoined (record {
+      positions = map lines_placed positions;
+      rules = map text_rule rules;
+      reported =
+          reported;
+    })
     joined
-gathered-all places sp rules sr reported listed fates joined are list stand_places stand_rules h =
-    let rows : List RuleLines = map lines_placed places in
+gathered-all positions sp rules sr reported listed fates joined are list stand_positions stand_rules h =
+    let rows : List RuleLines = map lines_placed positions in
     let given : List RuleGiven = map text_rule rules in
     let a : map lines_placed sp ≡ standing (fates_of given) rows =
-    ap (λ (xs : List RulePlace). map lines_placed xs) stand_places ∙ standing-seen lines_placed fates places
+    ap (λ (xs : List RulePosition). map lines_placed xs) stand_positions ∙ standing-seen lines_placed fates positions
     ∙ ap (λ (fs : List Fate). standing fs rows) are in
     let b : map text_rule sr ≡ standing (fates_of given) given =
     ap (λ (xs : List GivenRule). map text_rule xs) stand_rules ∙ standing-seen text_rule fates rules
@@ -109,10 +117,12 @@ ok-more P Q (Ok x) more h = more x h
 ok-more P Q (Err e) more h = tt
 
 -- what becomes of a rule, where a word and the position of another one say it
-pub fate-reported : {T E : Type 0} (r : Result T E) (places : List RuleLines) (fate : Fate) (n : ℕ)
-    (word old middle new : List ℕ) → fate_reported places fate ≡ word ++ numbered_place places n → middle ≡ old ++ word
-    → OnOk r (new ≡ middle ++ numbered_place places n) → OnOk r (new ≡ old ++ fate_reported places fate)
-fate-reported (Ok x) places fate n word old middle new is mid h =
-    h ∙ ap (λ (z : List ℕ). z ++ numbered_place places n) mid ∙ append_assoc old word (numbered_place places n)
+pub fate-reported : {T E : Type 0} (r : Result T E) (positions : List RuleLines) (fate : Fate) (n : ℕ)
+    (word old middle new : List ℕ) → fate_reported positions fate ≡ word ++ numbered_position positions n → middle
+    ≡ old ++ word
+    → OnOk r (new ≡ middle ++ numbered_position positions n) → OnOk r (new ≡ old ++ fate_reported positions fate)
+fate-reported (Ok x) positions fate n word old middle new is mid h =
+    h ∙ ap (λ (z : List ℕ). z ++ numbered_position positions n) mid
+    ∙ append_assoc old word (numbered_position positions n)
     ∙ ap (λ (z : List ℕ). old ++ z) (sym is)
-fate-reported (Err e) places fate n word old middle new is mid h = tt
+fate-reported (Err e) positions fate n word old middle new is mid h = tt

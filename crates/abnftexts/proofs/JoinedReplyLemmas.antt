@@ -9,7 +9,8 @@ use Rattle.toolrun.specs.Input.{Input}
 use Rattle.toolrun.specs.Reply.{Reply}
 use Rattle.abnftexts.specs.JoinRun.{IsWrittenAs, JoinStates, JoinedReply, a_list, as_it_is, canonical, canonical_of}
 use Rattle.abnftexts.specs.JoinRun.{joined_status, joins, no_memory, no_room, nothing, text_written, too_long, writes}
-use Rattle.abnftexts.specs.JoinedGrammar.{AreTextsJoined, GrammarJoined, UsesPrinted, gathered_joined, standing_places}
+use Rattle.abnftexts.specs.JoinedGrammar.{AreTextsJoined, GrammarJoined, UsesPrinted, gathered_joined}
+use Rattle.abnftexts.specs.JoinedGrammar.{standing_positions}
 use Rattle.abnftexts.specs.JoinedGrammar.{standing_rules}
 use Rattle.abnftexts.specs.NamedRules.{AreRenamed}
 use Rattle.abnftexts.specs.RulesGathered.{NamedText, RulesGathered}
@@ -27,8 +28,8 @@ module _ (one : OneReading) where
       let named : AreRenamed y.given x.gathered =
       subst (λ (g : RulesGathered). AreRenamed g x.gathered) given x.names in
       let same : x.gathered ≡ y.gathered = naming-same one named y.names in
-      let here : UsesPrinted (standing_places y.gathered) (standing_rules y.gathered) x.uses =
-      subst (λ (g : RulesGathered). UsesPrinted (standing_places g) (standing_rules g) x.uses) same x.are_uses in
+      let here : UsesPrinted (standing_positions y.gathered) (standing_rules y.gathered) x.uses =
+      subst (λ (g : RulesGathered). UsesPrinted (standing_positions g) (standing_rules g) x.uses) same x.are_uses in
       let uses : x.uses ≡ y.uses = uses-same one here y.are_uses in
       x.is ∙ ap (λ (g : RulesGathered). gathered_joined g x.uses) same
       ∙ ap (λ (us : List UsedName). gathered_joined y.gathered us) uses ∙ sym y.is

@@ -166,7 +166,7 @@ nothing-spelled m (tok k z p ∷ []) (last_one h e) (say_more y more) g =
     let none : (not true && begins_rule m (indent_at [] p.start)) ≡ true = rw e at first in
     cc
 nothing-spelled m (tok k z p ∷ ts) (one_more h e others) (say_more y more) g =
-    no_token-first (empty-length h.token (let q = h.place in omega arith)) h.first e
+    no_token-first (empty-length h.token (let q = h.position in omega arith)) h.first e
 
 -- a text without bytes reads as nothing
 pub nothing-reads : {ds : List Definition} → Reads [] ds → ⊥

@@ -71,10 +71,10 @@ say-moved {a} b n (tok k z p ∷ ts) l (say_more (says h) more) =
     (kind-moved (length a) h)) (say-moved b p.end ts l more)
 
 -- the tokens of t, the end of the text, from that position on say these words
-pub record ReportsAfter (text : List ℕ) (place : ℕ) (t : List ℕ) (ws : List Word) : Type 0 where
+pub record ReportsAfter (text : List ℕ) (position : ℕ) (t : List ℕ) (ws : List Word) : Type 0 where
   pub tokens : List (Tok AbnfKind)
   pub are_tokens : lexing.AreTokens White First ends_list (length text) t tokens
-  pub say : SayAll (marks text (Some 0) place tokens) ws
+  pub say : SayAll (marks text (Some 0) position tokens) ws
 
 gap-after : (n m j : ℕ) → j < n → not (n + m == j) ≡ true
 gap-after n m j lt = grind (arith, nat_tests)
@@ -116,11 +116,11 @@ stands-some no_text h = elim h [ ]
 stands-some (some_text l) h = l
 
 -- the words of a text but its end, and what it says where words follow it
-pub record ReportsFirst (text : List ℕ) (place : ℕ) (t : List ℕ) (ws others : List Word) : Type 0 where
+pub record ReportsFirst (text : List ℕ) (position : ℕ) (t : List ℕ) (ws others : List Word) : Type 0 where
   pub front : List Word
   pub gap : Bool
   pub whole : ws ≡ front ++ word gap false End ∷ []
-  pub reports : ReportsAfter text place t (front ++ others)
+  pub reports : ReportsAfter text position t (front ++ others)
 
 pub first-same : (a b : List ℕ) (k : AbnfKind) (z : List ℕ) (p : Span) → p.start ≤ length a
     → is_first (a ++ b) (Some 0) (tok k z p) ≡ is_first a (Some 0) (tok k z p)
@@ -165,9 +165,9 @@ reports-first a b {t} others n l e (one_more {r = r} {x = tok k z p} h goes more
     let longest = first-said goes o.says_it h.first in
     let line = stands-some (white-line (some_text l) h.white) longest.stands in
     let after = stands-line line longest.stands in
-    let size : p.end + length r ≡ length a = (let x = ap length h.cut in let y = h.place in let v = h.size in
+    let size : p.end + length r ≡ length a = (let x = ap length h.cut in let y = h.position in let v = h.size in
     omega (arith, length-append z r)) in
-    let within : p.start ≤ length a = (let y = h.place in omega arith) in
+    let within : p.start ≤ length a = (let y = h.position in omega arith) in
     let rest = reports-first a b others p.end after size more says_more f in
     let reported = rest.reports in
     let gap = not (p.start == n) in

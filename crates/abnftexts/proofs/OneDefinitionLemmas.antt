@@ -148,12 +148,12 @@ module _ (b : ℕ) (rest : List ℕ) (later : Later (indented (Some 0) b) rest) 
   token-later : (front token : List ℕ) (n : ℕ) {k : AbnfKind} {r : List ℕ} → whole ≡ front ++ token → 1 ≤ n
       → n + length token ≡ length whole → Stands k token r → k ≡ kinds.Name
       → begins_rule (Some 0) (indent_at whole n) ≡ false
-  token-later front token zero e le place s name_is = absurd (omega arith)
-  token-later front [] (suc n) e le place s name_is = absurd (nothing-stands s)
+  token-later front token zero e le position s name_is = absurd (omega arith)
+  token-later front [] (suc n) e le position s name_is = absurd (nothing-stands s)
     where
       nothing-stands : {k : AbnfKind} {r : List ℕ} → Stands k [] r → ⊥
       nothing-stands s = elim s [ ]
-  token-later front (c ∷ v) (suc n) {r = r} e le place s name_is =
+  token-later front (c ∷ v) (suc n) {r = r} e le position s name_is =
       let size = ap length e in
       let there : drop n rest ≡ c ∷ v =
       (let at : length front ≡ suc n = omega (arith, length-append front (c ∷ v)) in
@@ -178,10 +178,10 @@ module _ (b : ℕ) (rest : List ℕ) (later : Later (indented (Some 0) b) rest) 
       let next_is : whole ≡ (before ++ z) ++ r = whole_is ∙ ap (λ (v : List ℕ). before ++ v) h.cut
       ∙ sym (append_assoc before z r) in
       let le_before : 1 ≤ length before = omega (arith, length-append front white.front) in
-      let start : 1 ≤ p.start = (let size = ap length whole_is in let place = h.place in
+      let start : 1 ≤ p.start = (let size = ap length whole_is in let position = h.position in
       omega (arith, length-append before h.token)) in
       let le_next : 1 ≤ length (before ++ z) = omega (arith, length-append before z) in
-      let none = token-later before h.token p.start whole_is start h.place longest.stands in
+      let none = token-later before h.token p.start whole_is start h.position longest.stands in
       each_next
       (not-first o (λ e. and-none (not (ends_list k)) (begins_rule (Some 0) (indent_at whole p.start)) (none e)))
       (all-later (before ++ z) p.end next_is le_next more says_more)

@@ -5,10 +5,10 @@ use Rattle.lexer.specs.TokenLists.{Tok}
 use Rattle.abnfread.specs.declared.kind.AbnfKind.{AbnfKind}
 use Rattle.abnfblocks.specs.TextLines.{NumberedLine}
 use Rattle.abnftexts.specs.GivenRules.{RuleGiven}
-use Rattle.abnftexts.specs.NamedRules.{AreLinesNamed, AreRenamed, ArePlacesNamed, AreRulesNamed, IsLineNamed}
-use Rattle.abnftexts.specs.NamedRules.{IsPlaceNamed, IsRuleNamed, SpellsNamed, bare_line, comment_of, is_named}
-use Rattle.abnftexts.specs.NamedRules.{next_line, no_lines, no_more_places, no_more_rules, one_place, one_rule}
-use Rattle.abnftexts.specs.NamedRules.{places_end, read_again}
+use Rattle.abnftexts.specs.NamedRules.{AreLinesNamed, AreRenamed, ArePositionsNamed, AreRulesNamed, IsLineNamed}
+use Rattle.abnftexts.specs.NamedRules.{IsPositionNamed, IsRuleNamed, SpellsNamed, bare_line, comment_of, is_named}
+use Rattle.abnftexts.specs.NamedRules.{next_line, no_lines, no_more_positions, no_more_rules, one_position, one_rule}
+use Rattle.abnftexts.specs.NamedRules.{positions_end, read_again}
 use Rattle.abnftexts.specs.NamedRules.{rules_end, same_rule, stays, tokens_named, with_prose}
 use Rattle.abnftexts.specs.RulesGathered.{RuleLines, RulesGathered}
 use Rattle.abnftexts.specs.TextRules.{SpellRule, given_by}
@@ -39,59 +39,61 @@ module _ (one : OneReading) where
           ap₂ (λ (n r : List ℕ). n ++ (codes "\n" ++ r)) same rest.1,
         )
 
-    place-same : {rule : RuleGiven} {place a b : RuleLines} → IsPlaceNamed known rule place a
-        → IsPlaceNamed known rule place b → a ≡ b
-    place-same {place = place} (is_named x some s) (is_named y other r) =
+    position-same : {rule : RuleGiven} {position a b : RuleLines} → IsPositionNamed known rule position a
+        → IsPositionNamed known rule position b → a ≡ b
+    position-same {position = position} (is_named x some s) (is_named y other r) =
         let same = lines-same x y in
         ap₂ (λ (comments text : List ℕ). record {
-          name = place.name;
-          margin = place.margin;
-          lines = place.lines;
-          blanks = place.blanks;
+          name = position.name;
+          margin = position.margin;
+          lines = position.lines;
+          blanks = position.blanks;
           comments = comments;
           text = text;
         }) same.0 same.1
-    place-same {rule} (is_named x some s) (stays y none) =
+    position-same {rule} (is_named x some s) (stays y none) =
         let same = lines-same x y in
         absurd (none (λ e. some (same.0 ∙ e)) (subst (SpellsNamed rule) same.1 s))
-    place-same {rule} (stays x none) (is_named y some s) =
+    position-same {rule} (stays x none) (is_named y some s) =
         let same = lines-same y x in
         absurd (none (λ e. some (same.0 ∙ e)) (subst (SpellsNamed rule) same.1 s))
-    place-same (stays x none) (stays y other) = refl
+    position-same (stays x none) (stays y other) = refl
 
-    places-same : {rules : List RuleGiven} {places a b : List RuleLines} → ArePlacesNamed known rules places a
-        → ArePlacesNamed known rules places b → a ≡ b
-    places-same rules_end rules_end = refl
-    places-same rules_end places_end = refl
-    places-same places_end rules_end = refl
-    places-same places_end places_end = refl
-    places-same (one_place x h) (one_place y k) = ap₂ (λ p ps. p ∷ ps) (place-same x y) (places-same h k)
+    positions-same : {rules : List RuleGiven} {positions a b : List RuleLines}
+        → ArePositionsNamed known rules positions a
+        → ArePositionsNamed known rules positions b → a ≡ b
+    positions-same rules_end rules_end = refl
+    positions-same rules_end positions_end = refl
+    positions-same positions_end rules_end = refl
+    positions-same positions_end positions_end = refl
+    positions-same (one_position x h) (one_position y k) = ap₂ (λ p ps. p ∷ ps) (position-same x y) (positions-same h k)
 
-  rule-same : {place : RuleLines} {rule a b : RuleGiven} → IsRuleNamed place rule a → IsRuleNamed place rule b → a ≡ b
+  rule-same : {position : RuleLines} {rule a b : RuleGiven} → IsRuleNamed position rule a → IsRuleNamed position rule b
+      → a ≡ b
   rule-same (same_rule e) (same_rule f) = refl
   rule-same (same_rule e) (read_again n s) = absurd (n e)
   rule-same (read_again n s) (same_rule e) = absurd (n e)
   rule-same {rule = rule} (read_again n s) (read_again m r) = ap (with_prose rule.is_prose) (spelled-same s r)
 
-  rules-same : {places : List RuleLines} {rules a b : List RuleGiven} → AreRulesNamed places rules a
-      → AreRulesNamed places rules b → a ≡ b
-  rules-same no_more_places no_more_places = refl
-  rules-same no_more_places no_more_rules = refl
-  rules-same no_more_rules no_more_places = refl
+  rules-same : {positions : List RuleLines} {rules a b : List RuleGiven} → AreRulesNamed positions rules a
+      → AreRulesNamed positions rules b → a ≡ b
+  rules-same no_more_positions no_more_positions = refl
+  rules-same no_more_positions no_more_rules = refl
+  rules-same no_more_rules no_more_positions = refl
   rules-same no_more_rules no_more_rules = refl
   rules-same (one_rule x h) (one_rule y k) = ap₂ (λ r rs. r ∷ rs) (rule-same x y) (rules-same h k)
 
   pub naming-same : {given a b : RulesGathered} → AreRenamed given a → AreRenamed given b → a ≡ b
   naming-same {given} {a} {b} x y =
-      let places : a.places ≡ b.places = places-same x.places y.places in
-      let here : AreRulesNamed b.places given.rules a.rules =
-      subst (λ (ps : List RuleLines). AreRulesNamed ps given.rules a.rules) places x.rules in
+      let positions : a.positions ≡ b.positions = positions-same x.positions y.positions in
+      let here : AreRulesNamed b.positions given.rules a.rules =
+      subst (λ (ps : List RuleLines). AreRulesNamed ps given.rules a.rules) positions x.rules in
       let rules : a.rules ≡ b.rules = rules-same here y.rules in
       let reported : a.reported ≡ b.reported = x.reported ∙ sym y.reported in
-      all-same a b places rules reported
+      all-same a b positions rules reported
     where
-      all-same : (a b : RulesGathered) → a.places ≡ b.places → a.rules ≡ b.rules → a.reported ≡ b.reported → a ≡ b
-      all-same a b places rules reported =
-          ap (λ (ps : List RuleLines). record { places = ps; rules = a.rules; reported = a.reported }) places
-          ∙ ap (λ (rs : List RuleGiven). record { places = b.places; rules = rs; reported = a.reported }) rules
-          ∙ ap (λ (t : List ℕ). record { places = b.places; rules = b.rules; reported = t }) reported
+      all-same : (a b : RulesGathered) → a.positions ≡ b.positions → a.rules ≡ b.rules → a.reported ≡ b.reported → a ≡ b
+      all-same a b positions rules reported =
+          ap (λ (ps : List RuleLines). record { positions = ps; rules = a.rules; reported = a.reported }) positions
+          ∙ ap (λ (rs : List RuleGiven). record { positions = b.positions; rules = rs; reported = a.reported }) rules
+          ∙ ap (λ (t : List ℕ). record { positions = b.positions; rules = b.rules; reported = t }) reported

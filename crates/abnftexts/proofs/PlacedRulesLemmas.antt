@@ -21,16 +21,16 @@ use Rattle.abnftexts.proofs.OwnLinesLemmas.{OwnLines, cut-lines, first-margin, o
 use Rattle.abnftexts.proofs.RuleTextLemmas.{rule-one, rule-text, text-spells}
 
 -- a rule with its lines, as texts give it: they are written without the margin
-pub record IsPlaced (place : RuleLines) (given : RuleGiven) : Type 0 where
-  pub own : OwnLines place.margin place.lines
-  pub none : place.comments ≡ []
-  pub text : place.text ≡ lines_text place.margin place.lines
-  pub spells : SpellRule place.text given
+pub record IsPlaced (position : RuleLines) (given : RuleGiven) : Type 0 where
+  pub own : OwnLines position.margin position.lines
+  pub none : position.comments ≡ []
+  pub text : position.text ≡ lines_text position.margin position.lines
+  pub spells : SpellRule position.text given
 
 pub data ArePlaced : List RuleLines → List RuleGiven → Type 0 where
   none_placed : ArePlaced [] []
-  next_placed : {place : RuleLines} {given : RuleGiven} {places : List RuleLines} {rules : List RuleGiven}
-      → IsPlaced place given → ArePlaced places rules → ArePlaced (place ∷ places) (given ∷ rules)
+  next_placed : {position : RuleLines} {given : RuleGiven} {positions : List RuleLines} {rules : List RuleGiven}
+      → IsPlaced position given → ArePlaced positions rules → ArePlaced (position ∷ positions) (given ∷ rules)
 
 placed-both : {ps qs : List RuleLines} {rs ss : List RuleGiven} → ArePlaced ps rs → ArePlaced qs ss
     → ArePlaced (ps ++ qs) (rs ++ ss)
@@ -38,7 +38,7 @@ placed-both none_placed k = k
 placed-both (next_placed is h) k = next_placed is (placed-both h k)
 
 abbrev Placed : RulesGathered → Type 0
-Placed g = ArePlaced g.places g.rules
+Placed g = ArePlaced g.positions g.rules
 
 -- the lines alone spell one definition
 pub record ReadAlone (lines : List NumberedLine) : Type 0 where
@@ -100,6 +100,6 @@ text-placed : (text : NamedText) {g : RulesGathered} → GivesText text g → Pl
 text-placed text x =
     found-placed x.gives (found-alone (kept-clear (after_mark text.bytes) x.keeps) x.are_found refl)
 
-pub texts-placed : {texts : List NamedText} {g : RulesGathered} → GiveTexts texts g → ArePlaced g.places g.rules
+pub texts-placed : {texts : List NamedText} {g : RulesGathered} → GiveTexts texts g → ArePlaced g.positions g.rules
 texts-placed no_texts = none_placed
 texts-placed (next_text {text} x h) = placed-both (text-placed text x) (texts-placed h)

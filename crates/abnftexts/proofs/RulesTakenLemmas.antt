@@ -18,8 +18,8 @@ use Rattle.abnftexts.specs.RulesGathered.{RuleLines, RulesGathered, NamedText, b
 use Rattle.abnftexts.specs.RulesGathered.{none_given, one_rule, reported_alone}
 use Rattle.abnftexts.specs.TakenRules.{TakesFound, TakesMore, TakesRule}
 use Rattle.abnftexts.specs.TextRules.{GivesFound, GivesText, GiveTexts, SpellRule, given_by, next_rule, next_text}
-use Rattle.abnftexts.specs.TextRules.{no_rule, no_texts, none_found, place_in}
-use Rattle.abnftexts.specs.TextPlaces.{not_abnf_reported}
+use Rattle.abnftexts.specs.TextRules.{no_rule, no_texts, none_found, position_in}
+use Rattle.abnftexts.specs.TextPositions.{not_abnf_reported}
 use Rattle.abnftexts.specs.ShownTexts.{AreShown, IsShown, next_shown, none_shown}
 use Rattle.abnftexts.specs.declared.gathered.ShownText.{ShownText}
 use Rattle.abnftexts.specs.declared.gathered.SourceText.{SourceText}
@@ -37,18 +37,18 @@ one-after {A} xs i d lt =
 pub both-assoc : (a b c : RulesGathered) → both_given (both_given a b) c ≡ both_given a (both_given b c)
 both-assoc a b c =
     rw (
-      append_assoc a.places b.places c.places,
+      append_assoc a.positions b.positions c.positions,
       append_assoc a.rules b.rules c.rules,
       append_assoc a.reported b.reported c.reported,
     ) refl
 
 pub both-none : (a : RulesGathered) → both_given a none_given ≡ a
-both-none a = rw (append-nil a.places, append-nil a.rules, append-nil a.reported) refl
+both-none a = rw (append-nil a.positions, append-nil a.rules, append-nil a.reported) refl
 
 -- something is reported, and all else is as it was
 with-reported : (g : RulesGathered) (reported more : List ℕ) → reported ≡ g.reported ++ more
-    → record { places = g.places; rules = g.rules; reported = reported } ≡ both_given g (reported_alone more)
-with-reported g reported more e = rw (e, append-nil g.places, append-nil g.rules) refl
+    → record { positions = g.positions; rules = g.rules; reported = reported } ≡ both_given g (reported_alone more)
+with-reported g reported more e = rw (e, append-nil g.positions, append-nil g.rules) refl
 
 -- nothing is taken
 none-taken : (Gives : RulesGathered → Type 0) (g : RulesGathered) → Gives none_given → TakesMore Gives g g
@@ -63,8 +63,8 @@ more-taken One Other Both g h end join one other =
     other.2 ∙ ap (λ (x : RulesGathered). both_given x other.0) one.2 ∙ both-assoc g one.0 other.0 in
     (both_given one.0 other.0, join one.0 other.0 one.1 other.1, e)
 
-abbrev place_with : List ℕ → ℕ → List NumberedLine → ℕ → List ℕ → List ℕ → RuleLines
-place_with name margin lines blanks comments text = record {
+abbrev position_with : List ℕ → ℕ → List NumberedLine → ℕ → List ℕ → List ℕ → RuleLines
+position_with name margin lines blanks comments text = record {
   name = name;
   margin = margin;
   lines = lines;
@@ -73,23 +73,23 @@ place_with name margin lines blanks comments text = record {
   text = text;
 }
 
-place-same : (name : List ℕ) (m n : ℕ) (xs ys : List NumberedLine) (k l : ℕ) (comments text : List ℕ) → m ≡ n
+position-same : (name : List ℕ) (m n : ℕ) (xs ys : List NumberedLine) (k l : ℕ) (comments text : List ℕ) → m ≡ n
     → xs ≡ ys → k ≡ l → comments ≡ [] → text ≡ lines_text n ys
-    → place_with name m xs k comments text ≡ place_with name n ys l [] (lines_text n ys)
-place-same name m n xs ys k l comments text e f g h t = rw (e, f, g, h, t) refl
+    → position_with name m xs k comments text ≡ position_with name n ys l [] (lines_text n ys)
+position-same name m n xs ys k l comments text e f g h t = rw (e, f, g, h, t) refl
 
-pub place-made : (name : List ℕ) (rest own after : List TextLine) (count margin blanks : ℕ) (lines : List TextLine)
+pub position-made : (name : List ℕ) (rest own after : List TextLine) (count margin blanks : ℕ) (lines : List TextLine)
     (comments text : List ℕ) → own ≡ take count rest → after ≡ drop count rest
     → margin ≡ margin_at (map numbered own) → lines ≡ own → blanks ≡ blanks_first (map numbered after)
     → comments ≡ [] → text ≡ lines_text margin (map numbered own)
-    → place_with name margin (map numbered lines) blanks comments text ≡ place_in name (map numbered rest) count
-place-made name rest own after count margin blanks lines comments text front back cut same empty none all =
+    → position_with name margin (map numbered lines) blanks comments text ≡ position_in name (map numbered rest) count
+position-made name rest own after count margin blanks lines comments text front back cut same empty none all =
     let own_is : map numbered own ≡ take count (map numbered rest) =
     ap (λ (xs : List TextLine). map numbered xs) front ∙ sym (take-map numbered count rest) in
     let after_is : map numbered after ≡ drop count (map numbered rest) =
     ap (λ (xs : List TextLine). map numbered xs) back ∙ sym (drop-map numbered count rest) in
     let margin_is = cut ∙ ap (λ (xs : List NumberedLine). margin_at xs) own_is in
-    place-same name _ _ _ _ _ _ comments text margin_is (ap (λ (xs : List TextLine). map numbered xs) same ∙ own_is)
+    position-same name _ _ _ _ _ _ comments text margin_is (ap (λ (xs : List TextLine). map numbered xs) same ∙ own_is)
     (empty ∙ ap (λ (xs : List NumberedLine). blanks_first xs) after_is) none
     (all ∙ ap (λ (xs : List NumberedLine). lines_text margin xs) own_is
     ∙ ap (λ (m : ℕ). lines_text m (take count (map numbered rest))) margin_is)
@@ -112,7 +112,7 @@ module _ (name : List ℕ) (kept : List NumberedLine) (all : List RuleSearch) (i
       subst (λ (x : RuleSearch). IsReadAlone kept x) is (each-at (IsReadAlone kept) all i d alone lt) in
       let spells : SpellRule (lines_text (margin_at (take count (drop first kept))) (take count (drop first kept)))
       (given_by own.definition) = record { definition = own.definition; reads = own.reads; is = refl } in
-      let one : RulesGathered = one_rule (place_in name (drop first kept) count) (given_by own.definition) in
+      let one : RulesGathered = one_rule (position_in name (drop first kept) count) (given_by own.definition) in
       let taken : TakesRule name (drop first kept) count g h =
       subst (λ (xs : List NumberedLine). TakesRule name xs count g h) rows takes in
       subst (λ (xs : List RuleSearch). TakesMore (GivesFound name kept xs) g end) (sym here)
@@ -124,7 +124,7 @@ module _ (name : List ℕ) (kept : List NumberedLine) (all : List RuleSearch) (i
       (reported : List ℕ) (end : RulesGathered) → i < length all → get_or all i d ≡ found.NotAbnf first count fault
       → lines ≡ take count (drop first kept) → reported ≡ g.reported ++ not_abnf_reported name lines fault
       → TakesMore (GivesFound name kept (drop (i + 1) all))
-      (record { places = g.places; rules = g.rules; reported = reported }) end
+      (record { positions = g.positions; rules = g.rules; reported = reported }) end
       → TakesMore (GivesFound name kept (drop i all)) g end
   no_rule-more first count fault lines g reported end lt is rows e more =
       let own = take count (drop first kept) in
@@ -134,7 +134,7 @@ module _ (name : List ℕ) (kept : List NumberedLine) (all : List RuleSearch) (i
       let same : reported ≡ g.reported ++ not_abnf_reported name own fault =
       e ∙ ap (λ (xs : List NumberedLine). g.reported ++ not_abnf_reported name xs fault) rows in
       let one : RulesGathered = reported_alone (not_abnf_reported name own fault) in
-      let h : RulesGathered = record { places = g.places; rules = g.rules; reported = reported } in
+      let h : RulesGathered = record { positions = g.positions; rules = g.rules; reported = reported } in
       subst (λ (xs : List RuleSearch). TakesMore (GivesFound name kept xs) g end) (sym here)
       (more-taken (λ x. x ≡ one) (GivesFound name kept others)
       (GivesFound name kept (found.NotAbnf first count fault ∷ others)) g h end

@@ -23,9 +23,9 @@ use Rattle.abnftexts.specs.JoinedGrammar.{goes_after_it, printed_after, rule_pri
 use Rattle.abnfblocks.specs.LinkedLines.{EndsLine, lf, after_byte}
 use Rattle.abnftexts.specs.LinkedTexts.{SpellsAtMargin, moved_definition}
 use Rattle.abnftexts.specs.RulesGathered.{NamedText, RuleLines}
-use Rattle.abnftexts.specs.SpelledRules.{AreSpelled, no_rules, next_rule, joined_places, joined_rules}
+use Rattle.abnftexts.specs.SpelledRules.{AreSpelled, no_rules, next_rule, joined_positions, joined_rules}
 use Rattle.abnftexts.specs.SpelledRules.{as_written, unplaced}
-use Rattle.abnftexts.specs.TextPlaces.{place_shown}
+use Rattle.abnftexts.specs.TextPositions.{position_shown}
 use Rattle.abnftexts.specs.TextRules.{given_by}
 use Rattle.abnftexts.proofs.ClearLinesLemmas.{AreInside}
 use Rattle.abnftexts.proofs.EachLemmas.{each_none, each_next, each-both}
@@ -82,8 +82,8 @@ inside-decimal : (n : ℕ) → AreInside (decimal n)
 unfolding digits
 inside-decimal n = inside-digits 64 10 false n [] each_none
 
-inside-place : (name : List ℕ) (n : ℕ) → AreInside (place_shown name n)
-inside-place name n = each-both (inside-shown name) (each_next refl (inside-decimal n))
+inside-position : (name : List ℕ) (n : ℕ) → AreInside (position_shown name n)
+inside-position name n = each-both (inside-shown name) (each_next refl (inside-decimal n))
 
 run-inside : {bytes : List ℕ} (r : List ℕ) → AreInside bytes → Run is_inside (bytes ++ r) r
 run-inside r each_none = none
@@ -100,12 +100,12 @@ pub record SpellsLike (text : List ℕ) (alone : List Definition) : Type 0 where
 comment-white : (bytes : List ℕ) → AreInside bytes → White (59 ∷ (bytes ++ 10 ∷ [])) []
 comment-white bytes h = piece (comment (run-inside (10 ∷ []) h) refl) (piece (blank refl) no_more)
 
-after-comment : (place : RuleLines) {text : List ℕ} {ds : List Definition} → SpellsAtMargin text ds → EndsLine text
-    → SpellsLike (comment_before place ++ text) ds
-after-comment place {text} {ds} h l =
-    let shown = 32 ∷ place_shown place.name (first_number place) in
+after-comment : (position : RuleLines) {text : List ℕ} {ds : List Definition} → SpellsAtMargin text ds → EndsLine text
+    → SpellsLike (comment_before position ++ text) ds
+after-comment position {text} {ds} h l =
+    let shown = 32 ∷ position_shown position.name (first_number position) in
     let here : List ℕ = 59 ∷ (shown ++ 10 ∷ []) in
-    let white = comment-white shown (each_next refl (inside-place place.name (first_number place))) in
+    let white = comment-white shown (each_next refl (inside-position position.name (first_number position))) in
     record {
       definitions = map (moved_definition (length here)) ds;
       spells = spells-after (line-after (59 ∷ shown) lf) white h;
@@ -125,12 +125,12 @@ after-empty (suc n) {ds = ds} h l =
       line = after_byte rest.line;
     }
 
-after-gap : (before : Option RuleLines) (place : RuleLines) {text : List ℕ} {ds : List Definition}
-    → SpellsAtMargin text ds → EndsLine text → SpellsLike (gap_before before place ++ text) ds
-after-gap None place h l = after-comment place h l
-after-gap (Some before) place h l = elim (cases_Bool (goes_after_it before place)) [
+after-gap : (before : Option RuleLines) (position : RuleLines) {text : List ℕ} {ds : List Definition}
+    → SpellsAtMargin text ds → EndsLine text → SpellsLike (gap_before before position ++ text) ds
+after-gap None position h l = after-comment position h l
+after-gap (Some before) position h l = elim (cases_Bool (goes_after_it before position)) [
   | inl e ↦ rw e (after-empty before.blanks h l)
-  | inr e ↦ rw e (after-comment place h l)
+  | inr e ↦ rw e (after-comment position h l)
 ]
 
 after-comments : {comments text : List ℕ} {ds : List Definition} → AreComments comments → SpellsAtMargin text ds
@@ -151,13 +151,13 @@ after-comments {text = text} (a_comment {rest = others} bytes inside further) h 
 like-like : {text : List ℕ} {ds es : List Definition} → SpellsLike text ds → SameUnplaced ds es → SpellsLike text es
 like-like x same = record { definitions = x.definitions; spells = x.spells; same = x.same ∙ same; line = x.line }
 
-row-spells : (before : Option RuleLines) (place : RuleLines) {given : RuleGiven} (is : IsWritten place given)
-    → SpellsLike (rule_printed before place) (is.spells.definition ∷ [])
-row-spells before place is =
+row-spells : (before : Option RuleLines) (position : RuleLines) {given : RuleGiven} (is : IsWritten position given)
+    → SpellsLike (rule_printed before position) (is.spells.definition ∷ [])
+row-spells before position is =
     let spells = is.spells in
     let t = is.first in
     let row = after-comments is.comments (text-spells t.is_letter t.letter spells.reads) is.line in
-    like-like (after-gap before place row.spells row.line) row.same
+    like-like (after-gap before position row.spells row.line) row.same
 
 linked-like : {a b : List ℕ} {first second : List Definition} → SpellsLike a first → SpellsLike b second
     → SpellsLike (a ++ b) (first ++ second)
@@ -172,70 +172,71 @@ linked-like {a} {b} {first} {second} x y = record {
 }
 
 -- what is printed of rules
-pub record RowsSpell (before : Option RuleLines) (places : List RuleLines) (rules : List RuleGiven) : Type 0 where
+pub record RowsSpell (before : Option RuleLines) (positions : List RuleLines) (rules : List RuleGiven) : Type 0 where
   pub alone : List Definition
-  pub are : AreSpelled places rules alone
+  pub are : AreSpelled positions rules alone
   pub given : map given_by alone ≡ map as_written rules
-  pub like : SpellsLike (printed_after before places) alone
+  pub like : SpellsLike (printed_after before positions) alone
 
-pub rows-spell : (before : Option RuleLines) (place : RuleLines) {places : List RuleLines} {rules : List RuleGiven}
-    → AreWritten (place ∷ places) rules → RowsSpell before (place ∷ places) rules
-rows-spell before place (next_written is none_written) =
-    let like = row-spells before place is in
+pub rows-spell : (before : Option RuleLines)
+    (position : RuleLines) {positions : List RuleLines} {rules : List RuleGiven}
+    → AreWritten (position ∷ positions) rules → RowsSpell before (position ∷ positions) rules
+rows-spell before position (next_written is none_written) =
+    let like = row-spells before position is in
     let spells = is.spells in
     record {
       alone = spells.definition ∷ [];
       are = next_rule spells no_rules;
       given = ap (λ (r : RuleGiven). r ∷ []) (sym spells.is);
-      like = (let e = append-nil (rule_printed before place) in rw e like);
+      like = (let e = append-nil (rule_printed before position) in rw e like);
     }
-rows-spell before place (next_written {given} is (next_written {place = next} theirs h)) =
-    let rest = rows-spell (Some place) next (next_written theirs h) in
+rows-spell before position (next_written {given} is (next_written {position = next} theirs h)) =
+    let rest = rows-spell (Some position) next (next_written theirs h) in
     let spells = is.spells in
     record {
       alone = spells.definition ∷ rest.alone;
       are = next_rule spells rest.are;
       given = ap (λ (r : RuleGiven). r ∷ map given_by rest.alone) (sym spells.is)
           ∙ ap (λ (z : List RuleGiven). as_written given ∷ z) rest.given;
-      like = linked-like (row-spells before place is) rest.like;
+      like = linked-like (row-spells before position is) rest.like;
     }
 
 -- what is written for the rules that are printed
 joined-written : {texts : List NamedText} {j : GrammarJoined} (a : AreTextsJoined texts j)
-    → AreWritten (joined_places a.gathered) (joined_rules a.gathered)
+    → AreWritten (joined_positions a.gathered) (joined_rules a.gathered)
 joined-written a =
     let g = a.gathered in
     let names = a.names in
     written-ordered (joined_order (standing_rules g)) (written-standing (fates_of g.rules)
-    (named-written (texts-placed a.gives) names.places names.rules))
+    (named-written (texts-placed a.gives) names.positions names.rules))
 
 -- nothing is printed, or what is printed spells rules
-data PrintedSpells (places : List RuleLines) (rules : List RuleGiven) : Type 0 where
-  nothing_printed : printed_after None places ≡ [] → PrintedSpells places rules
-  rows : RowsSpell None places rules → PrintedSpells places rules
+data PrintedSpells (positions : List RuleLines) (rules : List RuleGiven) : Type 0 where
+  nothing_printed : printed_after None positions ≡ [] → PrintedSpells positions rules
+  rows : RowsSpell None positions rules → PrintedSpells positions rules
 
-printed-spells : {places : List RuleLines} {rules : List RuleGiven} → AreWritten places rules
-    → PrintedSpells places rules
+printed-spells : {positions : List RuleLines} {rules : List RuleGiven} → AreWritten positions rules
+    → PrintedSpells positions rules
 printed-spells none_written = nothing_printed refl
-printed-spells (next_written {place} is h) = rows (rows-spell None place (next_written is h))
+printed-spells (next_written {position} is h) = rows (rows-spell None position (next_written is h))
 
-some-reads : {places : List RuleLines} {rules : List RuleGiven} {text : List ℕ} → PrintedSpells places rules
-    → text ≡ printed_after None places → text ≢ [] → length text ≤ MAX_GRAMMAR
+some-reads : {positions : List RuleLines} {rules : List RuleGiven} {text : List ℕ} → PrintedSpells positions rules
+    → text ≡ printed_after None positions → text ≢ [] → length text ≤ MAX_GRAMMAR
     → (definitions : List Definition) × Reads text definitions
 some-reads (nothing_printed n) e some le = absurd (some (e ∙ n))
 some-reads (rows r) e some le = let like = r.like in (like.definitions, rw e (spells-reads like.spells (rw e at le)))
 
-text-alone : {places : List RuleLines} {rules : List RuleGiven} {text : List ℕ} {definitions : List Definition}
-    → PrintedSpells places rules → text ≡ printed_after None places → Reads text definitions
-    → (alone : List Definition) × AreSpelled places rules alone × SameUnplaced definitions alone
+text-alone : {positions : List RuleLines} {rules : List RuleGiven} {text : List ℕ} {definitions : List Definition}
+    → PrintedSpells positions rules → text ≡ printed_after None positions → Reads text definitions
+    → (alone : List Definition) × AreSpelled positions rules alone × SameUnplaced definitions alone
     × (map given_by definitions ≡ map as_written rules)
 text-alone {definitions = definitions} (nothing_printed n) e h =
     absurd (nothing-reads (subst (λ (t : List ℕ). Reads t definitions) (e ∙ n) h))
-text-alone {places} {definitions = definitions} (rows r) e h =
+text-alone {positions} {definitions = definitions} (rows r) e h =
     let like = r.like in
-    let here : Reads (printed_after None places) definitions =
+    let here : Reads (printed_after None positions) definitions =
     subst (λ (t : List ℕ). Reads t definitions) e h in
-    let same = one-reading (printed_after None places) definitions like.definitions here
+    let same = one-reading (printed_after None positions) definitions like.definitions here
     (spells-reads like.spells here.size) in
     let unplaced_same = ap (map unplaced) same ∙ like.same in
     (r.alone, r.are, unplaced_same, all-given definitions r.alone unplaced_same ∙ r.given)
@@ -247,7 +248,7 @@ joined-reads a some le =
 
 pub joined-alone : {texts : List NamedText} {j : GrammarJoined} {definitions : List Definition}
     (a : AreTextsJoined texts j) → Reads j.grammar definitions
-    → (alone : List Definition) × AreSpelled (joined_places a.gathered) (joined_rules a.gathered) alone
+    → (alone : List Definition) × AreSpelled (joined_positions a.gathered) (joined_rules a.gathered) alone
     × SameUnplaced definitions alone × (map given_by definitions ≡ map as_written (joined_rules a.gathered))
 joined-alone a h = text-alone (printed-spells (joined-written a)) (ap (λ (x : GrammarJoined). x.grammar) a.is) h
 

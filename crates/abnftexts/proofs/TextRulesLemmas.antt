@@ -19,9 +19,9 @@ use Rattle.abnfblocks.specs.TextLines.{NumberedLine}
 use Rattle.abnfblocks.specs.FoundRules.{AreFound}
 use Rattle.abnfblocks.specs.declared.found.RuleSearch.{RuleSearch}
 use Rattle.abnftexts.specs.RulesGathered.{NamedText, RuleLines, RulesGathered, both_given, one_rule, reported_alone}
-use Rattle.abnftexts.specs.TextPlaces.{not_abnf_reported}
+use Rattle.abnftexts.specs.TextPositions.{not_abnf_reported}
 use Rattle.abnftexts.specs.TextRules.{GivesFound, GivesText, GiveTexts, given_by, next_rule, next_text, no_rule}
-use Rattle.abnftexts.specs.TextRules.{no_texts, none_found, place_in}
+use Rattle.abnftexts.specs.TextRules.{no_texts, none_found, position_in}
 use Rattle.abnftexts.specs.UsedNames.{AreRuleUses, AreNameUses, UsedName, next_uses, no_rules, used_at}
 
 both-same : (a b c d : RulesGathered) → a ≡ b → c ≡ d → both_given a c ≡ both_given b d
@@ -49,7 +49,7 @@ module _ (one : OneReading) where
         one.definitions _ (x.definition ∷ []) (y.definition ∷ []) x.reads y.reads in
         let same : x.definition ≡ y.definition = cc in
         let rules : r ≡ s = x.is ∙ ap given_by same ∙ sym y.is in
-        both-same _ _ _ _ (ap (λ (g : RuleGiven). one_rule (place_in name (drop first kept) count) g) rules)
+        both-same _ _ _ _ (ap (λ (g : RuleGiven). one_rule (position_in name (drop first kept) count) g) rules)
         (found-same h k)
     found-same {kept} (no_rule {first} {count} {fault} h) (no_rule k) =
         ap (λ (x : RulesGathered). both_given (reported_alone (not_abnf_reported name
@@ -71,16 +71,17 @@ module _ (one : OneReading) where
   texts-same no_texts no_texts = refl
   texts-same (next_text x h) (next_text y k) = both-same _ _ _ _ (text-same _ _ _ x y) (texts-same h k)
 
-  rule-uses : (place : RuleLines) (a b : List UsedName) → AreRuleUses place a → AreRuleUses place b → a ≡ b
-  rule-uses place a b x y =
-      let text = place.text in
+  rule-uses : (position : RuleLines) (a b : List UsedName) → AreRuleUses position a → AreRuleUses position b → a ≡ b
+  rule-uses position a b x y =
+      let text = position.text in
       let signs : List (Tok AbnfKind) → List SignAt = λ ts. map (sign_at sign_of) ts in
       x.are
-      ∙ ap (λ (ts : List (Tok AbnfKind)). flat_map (used_at place) (mentions_in Lf text None (signs ts)))
+      ∙ ap (λ (ts : List (Tok AbnfKind)). flat_map (used_at position) (mentions_in Lf text None (signs ts)))
       (one.tokens text x.tokens y.tokens x.are_tokens y.are_tokens) ∙ sym y.are
 
-  pub uses-same : {places : List RuleLines} {a b : List UsedName} → AreNameUses places a → AreNameUses places b → a ≡ b
+  pub uses-same : {positions : List RuleLines} {a b : List UsedName} → AreNameUses positions a → AreNameUses positions b
+      → a ≡ b
   uses-same no_rules no_rules = refl
-  uses-same (next_uses {place} {here} {after} x h) (next_uses {here = other} y k) =
-      ap (λ (us : List UsedName). us ++ after) (rule-uses place here other x y)
+  uses-same (next_uses {position} {here} {after} x h) (next_uses {here = other} y k) =
+      ap (λ (us : List UsedName). us ++ after) (rule-uses position here other x y)
       ∙ ap (λ (us : List UsedName). other ++ us) (uses-same h k)

@@ -11,7 +11,7 @@ use Rattle.std.specs.List.{enumerate_from, flat_map, list_any, position_or_len}
 use Rattle.std.specs.Option.{is_some}
 use Rattle.std.specs.Prelude.{position, slice_get}
 use Rattle.diagnostics.specs.BodyMentions.{MentionedAt, mentioned_at}
-use Rattle.diagnostics.specs.declared.noteplaces.places.Places.{Places}
+use Rattle.diagnostics.specs.declared.noteplaces.positions.Positions.{Positions}
 use Rattle.ruletable.specs.Rules as table
 use Rattle.ruletable.specs.Rules.{same_name}
 use Rattle.ruletable.specs.declared.table.NameCase.{NameCase}
@@ -21,7 +21,7 @@ use Rattle.abnfread.specs.AbnfViews.{rule_of}
 use Rattle.abnfread.specs.CoreRules.{core_names}
 use Rattle.abnfread.specs.Element.{Rule}
 use Rattle.abnfread.specs.declared.elem.Elem.{Elem}
-use Rattle.abnfexplain.specs.AbnfNoteLines.{AreAbnfPlaces}
+use Rattle.abnfexplain.specs.AbnfNoteLines.{AreAbnfPositions}
 use Rattle.diagnostics.specs.NumberLists.{numbers_for}
 use Rattle.abnftexts.specs.GivenRules.{RuleGiven, text_rule}
 use Rattle.abnftexts.specs.JoinedGrammar.{ordered_rules}
@@ -203,62 +203,64 @@ known-more rules uses n x old new lt e known more =
     )
 
 -- the uses of a rule
-pub uses-added : (place : RuleLines) (text : List ℕ) (places : Places) (mentions : List MentionedAt)
-    (old new : List UsedName) → AreAbnfPlaces text places → text ≡ place.text
-    → mentions ≡ map mentioned_at places.mentions.items
-    → new ≡ old ++ flat_map (used_at place) mentions → AddsUses place old new
-uses-added place text places mentions old new are same all more =
-    let here : AreAbnfPlaces place.text places =
-    subst (λ (t : List ℕ). AreAbnfPlaces t places) same are in (
-      flat_map (used_at place) mentions,
+pub uses-added : (position : RuleLines) (text : List ℕ) (positions : Positions) (mentions : List MentionedAt)
+    (old new : List UsedName) → AreAbnfPositions text positions → text ≡ position.text
+    → mentions ≡ map mentioned_at positions.mentions.items
+    → new ≡ old ++ flat_map (used_at position) mentions → AddsUses position old new
+uses-added position text positions mentions old new are same all more =
+    let here : AreAbnfPositions position.text positions =
+    subst (λ (t : List ℕ). AreAbnfPositions t positions) same are in (
+      flat_map (used_at position) mentions,
       record {
         tokens = here.tokens;
         are_tokens = here.are_tokens;
-        are = ap (λ (ms : List MentionedAt). flat_map (used_at place) ms) (all ∙ here.mentions_are);
+        are = ap (λ (ms : List MentionedAt). flat_map (used_at position) ms) (all ∙ here.mentions_are);
       },
       more,
     )
 
-module _ (places : List RuleLines) (order : List ℕ) (i : ℕ) where
-  pub place-used : (place : RuleLines) (old new more : List UsedName) → i < length order
-      → slice_get places (get_or order i 0) ≡ Some place → AddsUses place old new
-      → ((rest : List UsedName) → AreNameUses (ordered_rules places (drop i order)) rest
-      → AreNameUses (ordered_rules places order) (old ++ rest))
-      → AreNameUses (ordered_rules places (drop (i + 1) order)) more
-      → AreNameUses (ordered_rules places order) (new ++ more)
-  place-used place old new more lt is added before rest =
-      let rows = ordered_rules places (drop (i + 1) order) in
-      let front : ordered_rules places (drop i order) ≡ ordered_rules places (get_or order i 0 ∷ drop (i + 1) order) =
-      ap (λ (ns : List ℕ). ordered_rules places ns) (one-after order i 0 lt) in
-      let here : ordered_rules places (get_or order i 0 ∷ drop (i + 1) order) ≡ place ∷ rows = rw is refl in
-      let whole : AreNameUses (ordered_rules places (drop i order)) (added.0 ++ more) =
+module _ (positions : List RuleLines) (order : List ℕ) (i : ℕ) where
+  pub position-used : (position : RuleLines) (old new more : List UsedName) → i < length order
+      → slice_get positions (get_or order i 0) ≡ Some position → AddsUses position old new
+      → ((rest : List UsedName) → AreNameUses (ordered_rules positions (drop i order)) rest
+      → AreNameUses (ordered_rules positions order) (old ++ rest))
+      → AreNameUses (ordered_rules positions (drop (i + 1) order)) more
+      → AreNameUses (ordered_rules positions order) (new ++ more)
+  position-used position old new more lt is added before rest =
+      let rows = ordered_rules positions (drop (i + 1) order) in
+      let front : ordered_rules positions (drop i order)
+      ≡ ordered_rules positions (get_or order i 0 ∷ drop (i + 1) order) =
+      ap (λ (ns : List ℕ). ordered_rules positions ns) (one-after order i 0 lt) in
+      let here : ordered_rules positions (get_or order i 0 ∷ drop (i + 1) order) ≡ position ∷ rows = rw is refl in
+      let whole : AreNameUses (ordered_rules positions (drop i order)) (added.0 ++ more) =
       subst (λ (ps : List RuleLines). AreNameUses ps (added.0 ++ more)) (sym (front ∙ here)) (next_uses added.1 rest) in
-      subst (λ (us : List UsedName). AreNameUses (ordered_rules places order) us)
+      subst (λ (us : List UsedName). AreNameUses (ordered_rules positions order) us)
       (sym (ap (λ (us : List UsedName). us ++ more) added.2 ∙ append_assoc old added.0 more))
       (before (added.0 ++ more) whole)
 
-  pub no_place-used : (old new more : List UsedName) → i < length order
-      → slice_get places (get_or order i 0) ≡ None → new ≡ old
-      → ((rest : List UsedName) → AreNameUses (ordered_rules places (drop i order)) rest
-      → AreNameUses (ordered_rules places order) (old ++ rest))
-      → AreNameUses (ordered_rules places (drop (i + 1) order)) more
-      → AreNameUses (ordered_rules places order) (new ++ more)
-  no_place-used old new more lt is same before rest =
-      let rows = ordered_rules places (drop (i + 1) order) in
-      let front : ordered_rules places (drop i order) ≡ ordered_rules places (get_or order i 0 ∷ drop (i + 1) order) =
-      ap (λ (ns : List ℕ). ordered_rules places ns) (one-after order i 0 lt) in
-      let here : ordered_rules places (get_or order i 0 ∷ drop (i + 1) order) ≡ rows = rw is refl in
-      subst (λ (us : List UsedName). AreNameUses (ordered_rules places order) (us ++ more)) (sym same)
+  pub no_position-used : (old new more : List UsedName) → i < length order
+      → slice_get positions (get_or order i 0) ≡ None → new ≡ old
+      → ((rest : List UsedName) → AreNameUses (ordered_rules positions (drop i order)) rest
+      → AreNameUses (ordered_rules positions order) (old ++ rest))
+      → AreNameUses (ordered_rules positions (drop (i + 1) order)) more
+      → AreNameUses (ordered_rules positions order) (new ++ more)
+  no_position-used old new more lt is same before rest =
+      let rows = ordered_rules positions (drop (i + 1) order) in
+      let front : ordered_rules positions (drop i order)
+      ≡ ordered_rules positions (get_or order i 0 ∷ drop (i + 1) order) =
+      ap (λ (ns : List ℕ). ordered_rules positions ns) (one-after order i 0 lt) in
+      let here : ordered_rules positions (get_or order i 0 ∷ drop (i + 1) order) ≡ rows = rw is refl in
+      subst (λ (us : List UsedName). AreNameUses (ordered_rules positions order) (us ++ more)) (sym same)
       (before more (subst (λ (ps : List RuleLines). AreNameUses ps more) (sym (front ∙ here)) rest))
 
   pub uses-done : (old : List UsedName) → length order ≤ i
-      → ((rest : List UsedName) → AreNameUses (ordered_rules places (drop i order)) rest
-      → AreNameUses (ordered_rules places order) (old ++ rest)) → AreNameUses (ordered_rules places order) old
+      → ((rest : List UsedName) → AreNameUses (ordered_rules positions (drop i order)) rest
+      → AreNameUses (ordered_rules positions order) (old ++ rest)) → AreNameUses (ordered_rules positions order) old
   uses-done old le before =
-      let none : AreNameUses (ordered_rules places (drop i order)) [] =
-      subst (λ (ns : List ℕ). AreNameUses (ordered_rules places ns) []) (sym (at_drop_all (λ xs. xs) order i le))
+      let none : AreNameUses (ordered_rules positions (drop i order)) [] =
+      subst (λ (ns : List ℕ). AreNameUses (ordered_rules positions ns) []) (sym (at_drop_all (λ xs. xs) order i le))
       no_rules in
-      subst (λ (us : List UsedName). AreNameUses (ordered_rules places order) us) (append-nil old) (before [] none)
+      subst (λ (us : List UsedName). AreNameUses (ordered_rules positions order) us) (append-nil old) (before [] none)
 
 -- four pieces, one after another
 pub four-after : (out a b c d one two three four : List ℕ) → one ≡ out ++ a → two ≡ one ++ b → three ≡ two ++ c

@@ -10,9 +10,10 @@ use Rattle.abnfblocks.specs.TextLines.{NumberedLine}
 use Rattle.abnftexts.specs.GivenRules.{RuleGiven}
 use Rattle.abnftexts.specs.JoinedGrammar.{has_stayed, standing}
 use Rattle.abnfblocks.specs.LinkedLines.{EndsLine, lf, after_byte}
-use Rattle.abnftexts.specs.NamedRules.{AreLinesNamed, no_lines, next_line, ArePlacesNamed, rules_end, places_end}
-use Rattle.abnftexts.specs.NamedRules.{one_place, IsPlaceNamed, is_named, stays, IsRuleNamed, same_rule, read_again}
-use Rattle.abnftexts.specs.NamedRules.{AreRulesNamed, no_more_places, no_more_rules, one_rule, bare_line, with_prose}
+use Rattle.abnftexts.specs.NamedRules.{AreLinesNamed, no_lines, next_line, ArePositionsNamed, rules_end, positions_end}
+use Rattle.abnftexts.specs.NamedRules.{one_position, IsPositionNamed, is_named, stays, IsRuleNamed, same_rule}
+use Rattle.abnftexts.specs.NamedRules.{read_again}
+use Rattle.abnftexts.specs.NamedRules.{AreRulesNamed, no_more_positions, no_more_rules, one_rule, bare_line, with_prose}
 use Rattle.abnftexts.specs.RulesGathered.{RuleLines}
 use Rattle.abnftexts.specs.SpelledRules.{as_written}
 use Rattle.abnftexts.specs.TextRules.{SpellRule}
@@ -29,16 +30,16 @@ pub data AreComments : List ℕ → Type 0 where
       → AreComments ((59 ∷ (bytes ++ 10 ∷ [])) ++ rest)
 
 -- what is written for a rule: comments, and a text that begins with a letter, ends with LF, and spells it
-pub record IsWritten (place : RuleLines) (given : RuleGiven) : Type 0 where
-  pub comments : AreComments place.comments
-  pub first : LetterFirst place.text
-  pub line : EndsLine place.text
-  pub spells : SpellRule place.text (as_written given)
+pub record IsWritten (position : RuleLines) (given : RuleGiven) : Type 0 where
+  pub comments : AreComments position.comments
+  pub first : LetterFirst position.text
+  pub line : EndsLine position.text
+  pub spells : SpellRule position.text (as_written given)
 
 pub data AreWritten : List RuleLines → List RuleGiven → Type 0 where
   none_written : AreWritten [] []
-  next_written : {place : RuleLines} {given : RuleGiven} {places : List RuleLines} {rules : List RuleGiven}
-      → IsWritten place given → AreWritten places rules → AreWritten (place ∷ places) (given ∷ rules)
+  next_written : {position : RuleLines} {given : RuleGiven} {positions : List RuleLines} {rules : List RuleGiven}
+      → IsWritten position given → AreWritten positions rules → AreWritten (position ∷ positions) (given ∷ rules)
 
 -- a rule that a text spells, whatever is said of prose
 spells-written : {text : List ℕ} {given : RuleGiven} (rule : RuleGiven) → SpellRule text given
@@ -49,8 +50,8 @@ spells-written rule spells e = record {
   is = e ∙ ap as_written spells.is;
 }
 
-placed-written : {place : RuleLines} {given : RuleGiven} → IsPlaced place given → IsWritten place given
-placed-written {place} {given} is =
+placed-written : {position : RuleLines} {given : RuleGiven} → IsPlaced position given → IsWritten position given
+placed-written {position} {given} is =
     let t = rule-text is.own in record {
       comments = subst AreComments (sym is.none) no_comments;
       first = record { first = t.first; tail = t.tail; is_letter = is.text ∙ t.whole; letter = t.letter };
@@ -79,8 +80,8 @@ module _ {known : List ℕ → Bool} {own : List ℕ} {m : ℕ} where
       ]
 
 -- a rule with its names is written so
-rule-written : {known : List ℕ → Bool} {place new : RuleLines} {rule named : RuleGiven} → IsPlaced place rule
-    → IsPlaceNamed known rule place new → IsRuleNamed new rule named → IsWritten new named
+rule-written : {known : List ℕ → Bool} {position new : RuleLines} {rule named : RuleGiven} → IsPlaced position rule
+    → IsPositionNamed known rule position new → IsRuleNamed new rule named → IsWritten new named
 rule-written is (stays lines none) (same_rule e) = placed-written is
 rule-written is (stays lines none) (read_again n spells) = absurd (n is.none)
 rule-written is (is_named lines some spells) (same_rule e) = absurd (some e)
@@ -94,18 +95,19 @@ rule-written {rule = rule} is (is_named {comments} {text} lines some named) (rea
       spells = spells-written (with_prose rule.is_prose given) spells refl;
     }
 
-pub named-written : {known : List ℕ → Bool} {places new : List RuleLines} {rules named : List RuleGiven}
-    → ArePlaced places rules → ArePlacesNamed known rules places new → AreRulesNamed new rules named
+pub named-written : {known : List ℕ → Bool} {positions new : List RuleLines} {rules named : List RuleGiven}
+    → ArePlaced positions rules → ArePositionsNamed known rules positions new → AreRulesNamed new rules named
     → AreWritten new named
-named-written none_placed rules_end no_more_places = none_written
+named-written none_placed rules_end no_more_positions = none_written
 named-written none_placed rules_end no_more_rules = none_written
-named-written none_placed places_end no_more_places = none_written
-named-written none_placed places_end no_more_rules = none_written
-named-written (next_placed is h) (one_place p ps) (one_rule r rs) =
+named-written none_placed positions_end no_more_positions = none_written
+named-written none_placed positions_end no_more_rules = none_written
+named-written (next_placed is h) (one_position p ps) (one_rule r rs) =
     next_written (rule-written is p r) (named-written h ps rs)
 
-pub written-standing : (fates : List Fate) {places : List RuleLines} {rules : List RuleGiven} → AreWritten places rules
-    → AreWritten (standing fates places) (standing fates rules)
+pub written-standing : (fates : List Fate) {positions : List RuleLines} {rules : List RuleGiven}
+    → AreWritten positions rules
+    → AreWritten (standing fates positions) (standing fates rules)
 written-standing [] none_written = none_written
 written-standing [] (next_written is h) = none_written
 written-standing (fate ∷ fates) none_written = none_written
@@ -117,20 +119,22 @@ written-standing (fate ∷ fates) (next_written is h) = elim (cases_Bool (has_st
 -- the rule with a number, and what is written for it
 data WrittenAt : Option RuleLines → Option RuleGiven → Type 0 where
   none_there : WrittenAt None None
-  some_there : {place : RuleLines} {given : RuleGiven} → IsWritten place given → WrittenAt (Some place) (Some given)
+  some_there : {position : RuleLines} {given : RuleGiven} → IsWritten position given
+      → WrittenAt (Some position) (Some given)
 
-written-at : (n : ℕ) {places : List RuleLines} {rules : List RuleGiven} → AreWritten places rules
-    → WrittenAt (slice_get places n) (slice_get rules n)
+written-at : (n : ℕ) {positions : List RuleLines} {rules : List RuleGiven} → AreWritten positions rules
+    → WrittenAt (slice_get positions n) (slice_get rules n)
 written-at n none_written = none_there
 written-at zero (next_written is h) = some_there is
 written-at (suc n) (next_written is h) = written-at n h
 
-written-cons : {p : Option RuleLines} {r : Option RuleGiven} {places : List RuleLines} {rules : List RuleGiven}
-    → WrittenAt p r → AreWritten places rules → AreWritten (cons_option p places) (cons_option r rules)
+written-cons : {p : Option RuleLines} {r : Option RuleGiven} {positions : List RuleLines} {rules : List RuleGiven}
+    → WrittenAt p r → AreWritten positions rules → AreWritten (cons_option p positions) (cons_option r rules)
 written-cons none_there h = h
 written-cons (some_there is) h = next_written is h
 
-pub written-ordered : (order : List ℕ) {places : List RuleLines} {rules : List RuleGiven} → AreWritten places rules
-    → AreWritten (filter_map (slice_get places) order) (filter_map (slice_get rules) order)
+pub written-ordered : (order : List ℕ) {positions : List RuleLines} {rules : List RuleGiven}
+    → AreWritten positions rules
+    → AreWritten (filter_map (slice_get positions) order) (filter_map (slice_get rules) order)
 written-ordered [] h = none_written
 written-ordered (n ∷ order) h = written-cons (written-at n h) (written-ordered order h)

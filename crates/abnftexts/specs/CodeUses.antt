@@ -17,7 +17,7 @@ name_used u = record { text = u.text.now; line = u.line; name = u.name.items }
 
 -- the uses of that rule follow those so far
 abbrev pub AddsUses : RuleLines → List UsedName → List UsedName → Type 0
-AddsUses place old new = (more : List UsedName) × AreRuleUses place more × (new ≡ old ++ more)
+AddsUses position old new = (more : List UsedName) × AreRuleUses position more × (new ≡ old ++ more)
 
 -- one name more is listed
 abbrev pub ListsMore : List ℕ → Rules (Vec ℕ Global) → Rules (Vec ℕ Global) → Type 0

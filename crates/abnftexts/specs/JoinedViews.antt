@@ -1,7 +1,7 @@
 -- The joined grammar that the code's stands for.
 use Rattle.std.specs.Prelude.{◌≡◌, ℕ, List}
 use Rattle.abnftexts.specs.GivenRules.{RuleGiven}
-use Rattle.abnftexts.specs.JoinedGrammar.{GrammarJoined, UsesPrinted, gathered_joined, joined_of, standing_places}
+use Rattle.abnftexts.specs.JoinedGrammar.{GrammarJoined, UsesPrinted, gathered_joined, joined_of, standing_positions}
 use Rattle.abnftexts.specs.JoinedGrammar.{standing_rules}
 use Rattle.abnftexts.specs.RulesGathered.{RuleLines, RulesGathered}
 use Rattle.abnftexts.specs.UsedNames.{UsedName}
@@ -17,9 +17,9 @@ grammar_joined joined = record {
 
 -- it is that of these rules, which stand; and that of what was gathered
 abbrev pub IsStandingJoined : List RuleLines → List RuleGiven → List ℕ → List ℕ → GrammarJoined → Type 0
-IsStandingJoined places rules reported listed joined = (uses : List UsedName) × UsesPrinted places rules uses
-    × (joined ≡ joined_of places rules uses reported listed)
+IsStandingJoined positions rules reported listed joined = (uses : List UsedName) × UsesPrinted positions rules uses
+    × (joined ≡ joined_of positions rules uses reported listed)
 
 abbrev pub IsGatheredJoined : RulesGathered → GrammarJoined → Type 0
-IsGatheredJoined g joined = (uses : List UsedName) × UsesPrinted (standing_places g) (standing_rules g) uses
+IsGatheredJoined g joined = (uses : List UsedName) × UsesPrinted (standing_positions g) (standing_rules g) uses
     × (joined ≡ gathered_joined g uses)

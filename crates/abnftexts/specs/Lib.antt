@@ -6,7 +6,7 @@ pub mod NamedRules
 pub mod RulesGathered
 pub mod SpelledRules
 pub mod TakenRules
-pub mod TextPlaces
+pub mod TextPositions
 pub mod TextRules
 pub mod UsedNames
 pub mod ListedRules

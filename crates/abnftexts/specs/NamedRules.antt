@@ -67,47 +67,48 @@ pub record SpellsNamed (rule : RuleGiven) (text : List ℕ) : Type 0 where
   pub like : is_same_rule true rule given ≡ true
 
 -- where a rule stands with its names: some line is written otherwise, or none is
-pub data IsPlaceNamed (known : List ℕ → Bool) (rule : RuleGiven) (place : RuleLines) : RuleLines → Type 0 where
-  is_named : {comments text : List ℕ} → AreLinesNamed known rule.name place.margin place.lines comments text
+pub data IsPositionNamed (known : List ℕ → Bool) (rule : RuleGiven) (position : RuleLines) : RuleLines → Type 0 where
+  is_named : {comments text : List ℕ} → AreLinesNamed known rule.name position.margin position.lines comments text
       → comments ≢ [] → SpellsNamed rule text
-      → IsPlaceNamed known rule place (record {
-        name = place.name;
-        margin = place.margin;
-        lines = place.lines;
-        blanks = place.blanks;
+      → IsPositionNamed known rule position (record {
+        name = position.name;
+        margin = position.margin;
+        lines = position.lines;
+        blanks = position.blanks;
         comments = comments;
         text = text;
       })
-  stays : {comments text : List ℕ} → AreLinesNamed known rule.name place.margin place.lines comments text
-      → (comments ≢ [] → SpellsNamed rule text → ⊥) → IsPlaceNamed known rule place place
+  stays : {comments text : List ℕ} → AreLinesNamed known rule.name position.margin position.lines comments text
+      → (comments ≢ [] → SpellsNamed rule text → ⊥) → IsPositionNamed known rule position position
 
--- the rules with their places, and these places with names
-pub data ArePlacesNamed (known : List ℕ → Bool) : List RuleGiven → List RuleLines → List RuleLines → Type 0 where
-  rules_end : {places : List RuleLines} → ArePlacesNamed known [] places []
-  places_end : {rules : List RuleGiven} → ArePlacesNamed known rules [] []
-  one_place : {rule : RuleGiven} {rules : List RuleGiven} {place new : RuleLines} {places others : List RuleLines}
-      → IsPlaceNamed known rule place new → ArePlacesNamed known rules places others
-      → ArePlacesNamed known (rule ∷ rules) (place ∷ places) (new ∷ others)
+-- the rules with their positions, and these positions with names
+pub data ArePositionsNamed (known : List ℕ → Bool) : List RuleGiven → List RuleLines → List RuleLines → Type 0 where
+  rules_end : {positions : List RuleLines} → ArePositionsNamed known [] positions []
+  positions_end : {rules : List RuleGiven} → ArePositionsNamed known rules [] []
+  one_position : {rule : RuleGiven} {rules : List RuleGiven} {position new : RuleLines}
+      {positions others : List RuleLines}
+      → IsPositionNamed known rule position new → ArePositionsNamed known rules positions others
+      → ArePositionsNamed known (rule ∷ rules) (position ∷ positions) (new ∷ others)
 
 -- the rule that a text is read as; its own text wrote it as prose alone, or not
 abbrev pub with_prose : Bool → RuleGiven → RuleGiven
 with_prose is_prose rule = record { adds = rule.adds; name = rule.name; body = rule.body; is_prose = is_prose }
 
 -- a rule is what its text spells, where comments say that a line is written otherwise
-pub data IsRuleNamed (place : RuleLines) (rule : RuleGiven) : RuleGiven → Type 0 where
-  same_rule : place.comments ≡ [] → IsRuleNamed place rule rule
-  read_again : {given : RuleGiven} → place.comments ≢ [] → SpellRule place.text given
-      → IsRuleNamed place rule (with_prose rule.is_prose given)
+pub data IsRuleNamed (position : RuleLines) (rule : RuleGiven) : RuleGiven → Type 0 where
+  same_rule : position.comments ≡ [] → IsRuleNamed position rule rule
+  read_again : {given : RuleGiven} → position.comments ≢ [] → SpellRule position.text given
+      → IsRuleNamed position rule (with_prose rule.is_prose given)
 
 pub data AreRulesNamed : List RuleLines → List RuleGiven → List RuleGiven → Type 0 where
-  no_more_places : {rules : List RuleGiven} → AreRulesNamed [] rules []
-  no_more_rules : {places : List RuleLines} → AreRulesNamed places [] []
-  one_rule : {place : RuleLines} {places : List RuleLines} {rule new : RuleGiven} {rules others : List RuleGiven}
-      → IsRuleNamed place rule new → AreRulesNamed places rules others
-      → AreRulesNamed (place ∷ places) (rule ∷ rules) (new ∷ others)
+  no_more_positions : {rules : List RuleGiven} → AreRulesNamed [] rules []
+  no_more_rules : {positions : List RuleLines} → AreRulesNamed positions [] []
+  one_rule : {position : RuleLines} {positions : List RuleLines} {rule new : RuleGiven} {rules others : List RuleGiven}
+      → IsRuleNamed position rule new → AreRulesNamed positions rules others
+      → AreRulesNamed (position ∷ positions) (rule ∷ rules) (new ∷ others)
 
 -- What was gathered, where names of its rules and of core rules lose angle brackets in all others.
 pub record AreRenamed (given named : RulesGathered) : Type 0 where
-  pub places : ArePlacesNamed (is_known_name given.rules) given.rules given.places named.places
-  pub rules : AreRulesNamed named.places given.rules named.rules
+  pub positions : ArePositionsNamed (is_known_name given.rules) given.rules given.positions named.positions
+  pub rules : AreRulesNamed named.positions given.rules named.rules
   pub reported : named.reported ≡ given.reported

@@ -4,7 +4,7 @@ use Rattle.std.specs.List.{filter_map}
 use Rattle.abnfread.specs.Element.{Definition}
 use Rattle.abnftexts.specs.GivenRules.{RuleGiven}
 use Rattle.abnftexts.specs.JoinedRules.{joined_order}
-use Rattle.abnftexts.specs.JoinedGrammar.{ordered_rules, standing_places, standing_rules}
+use Rattle.abnftexts.specs.JoinedGrammar.{ordered_rules, standing_positions, standing_rules}
 use Rattle.abnftexts.specs.OnlyProse.{only_prose}
 use Rattle.abnftexts.specs.RulesGathered.{RuleLines, RulesGathered}
 use Rattle.abnftexts.specs.TextRules.{SpellRule}
@@ -13,8 +13,8 @@ use Rattle.abnftexts.specs.TextRules.{SpellRule}
 abbrev pub joined_rules : RulesGathered → List RuleGiven
 joined_rules g = filter_map (slice_get (standing_rules g)) (joined_order (standing_rules g))
 
-abbrev pub joined_places : RulesGathered → List RuleLines
-joined_places g = ordered_rules (standing_places g) (joined_order (standing_rules g))
+abbrev pub joined_positions : RulesGathered → List RuleLines
+joined_positions g = ordered_rules (standing_positions g) (joined_order (standing_rules g))
 
 -- a definition, wherever its name stands
 abbrev pub unplaced : Definition → RuleGiven
@@ -32,6 +32,7 @@ as_written rule = record {
 -- The definitions that the texts of rules spell, each rule's read alone, one after another.
 pub data AreSpelled : List RuleLines → List RuleGiven → List Definition → Type 0 where
   no_rules : AreSpelled [] [] []
-  next_rule : {place : RuleLines} {given : RuleGiven} {places : List RuleLines} {rules : List RuleGiven}
-      {others : List Definition} (spells : SpellRule place.text (as_written given)) → AreSpelled places rules others
-      → AreSpelled (place ∷ places) (given ∷ rules) (spells.definition ∷ others)
+  next_rule : {position : RuleLines} {given : RuleGiven} {positions : List RuleLines} {rules : List RuleGiven}
+      {others : List Definition} (spells : SpellRule position.text (as_written given))
+      → AreSpelled positions rules others
+      → AreSpelled (position ∷ positions) (given ∷ rules) (spells.definition ∷ others)

@@ -10,7 +10,7 @@ use Rattle.abnfblocks.specs.declared.found.RuleSearch.{RuleSearch}
 use Rattle.abnftexts.specs.GivenRules.{RuleGiven}
 use Rattle.abnftexts.specs.NamedRules.{SpellsNamed}
 use Rattle.abnftexts.specs.RulesGathered.{RulesGathered, both_given, one_rule}
-use Rattle.abnftexts.specs.TextRules.{GivesFound, SpellRule, given_by, place_in}
+use Rattle.abnftexts.specs.TextRules.{GivesFound, SpellRule, given_by, position_in}
 
 -- what is given for which that holds stands after what was gathered
 abbrev pub TakesMore : (RulesGathered → Type 0) → RulesGathered → RulesGathered → Type 0
@@ -30,7 +30,7 @@ IsNamedOutcome rule text false = SpellsNamed rule text → ⊥
 abbrev pub TakesRule : List ℕ → List NumberedLine → ℕ → RulesGathered → RulesGathered → Type 0
 TakesRule name rest count old new = (d : Definition)
     → Reads (lines_text (margin_at (take count rest)) (take count rest)) (d ∷ [])
-    → new ≡ both_given old (one_rule (place_in name rest count) (given_by d))
+    → new ≡ both_given old (one_rule (position_in name rest count) (given_by d))
 
 -- where the lines are read of a text and that is found, what these give stands there
 abbrev pub TakesFound : List ℕ → List NumberedLine → List RuleSearch → RulesGathered → RulesGathered → Type 0

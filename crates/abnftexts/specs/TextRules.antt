@@ -15,7 +15,7 @@ use Rattle.abnfblocks.specs.declared.found.RuleSearch.{RuleSearch}
 use Rattle.abnfblocks.specs.declared.found.RuleSearch.TheVariants as found
 use Rattle.abnftexts.specs.RulesGathered.{NamedText, RuleLines, RulesGathered, both_given, none_given, one_rule}
 use Rattle.abnftexts.specs.RulesGathered.{reported_alone}
-use Rattle.abnftexts.specs.TextPlaces.{not_abnf_reported}
+use Rattle.abnftexts.specs.TextPositions.{not_abnf_reported}
 
 -- The rule that a definition is, wherever its name stands: what adds to a core rule (RFC 5234, appendix B.1) has that
 -- rule's alternatives before its own.
@@ -34,8 +34,8 @@ pub record SpellRule (text : List ℕ) (given : RuleGiven) : Type 0 where
   pub is : given ≡ given_by definition
 
 -- where the rule stands that has so many of these lines; they are written without the margin
-abbrev pub place_in : List ℕ → List NumberedLine → ℕ → RuleLines
-place_in name rest count = record {
+abbrev pub position_in : List ℕ → List NumberedLine → ℕ → RuleLines
+position_in name rest count = record {
   name = name;
   margin = margin_at (take count rest);
   lines = take count rest;
@@ -52,7 +52,7 @@ pub data GivesFound (name : List ℕ) (kept : List NumberedLine) : List RuleSear
       → SpellRule (lines_text (margin_at (take count (drop first kept))) (take count (drop first kept))) given
       → GivesFound name kept others after
       → GivesFound name kept (found.Rule first count ∷ others)
-      (both_given (one_rule (place_in name (drop first kept) count) given) after)
+      (both_given (one_rule (position_in name (drop first kept) count) given) after)
   no_rule : {first count : ℕ} {fault : ReadFault} {others : List RuleSearch} {after : RulesGathered}
       → GivesFound name kept others after
       → GivesFound name kept (found.NotAbnf first count fault ∷ others)

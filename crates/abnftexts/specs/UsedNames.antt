@@ -14,7 +14,7 @@ use Rattle.abnfread.specs.declared.kind.AbnfKind.{AbnfKind}
 use Rattle.abnfexplain.specs.AbnfNoteLines.{sign_of}
 use Rattle.abnftexts.specs.GivenRules.{RuleGiven}
 use Rattle.abnftexts.specs.RulesGathered.{RuleLines}
-use Rattle.abnftexts.specs.TextPlaces.{number_at, place_shown}
+use Rattle.abnftexts.specs.TextPositions.{number_at, position_shown}
 
 -- a name that a rule uses: the name of the text, the line, and the name as it is spelled there
 pub record UsedName : Type 0 where
@@ -24,23 +24,24 @@ pub record UsedName : Type 0 where
 
 -- the use that a mention in the lines of a rule is, if it is one
 abbrev pub used_at : RuleLines → MentionedAt → List UsedName
-used_at place m = if is_kind Use m.kind then record {
-  text = place.name;
-  line = number_at place.lines m.line;
+used_at position m = if is_kind Use m.kind then record {
+  text = position.name;
+  line = number_at position.lines m.line;
   name = m.text;
 } ∷ [] else []
 
 -- the names that a rule uses, in order: those of the tokens of what is written that stand before no `=` or `=/`
-pub record AreRuleUses (place : RuleLines) (uses : List UsedName) : Type 0 where
+pub record AreRuleUses (position : RuleLines) (uses : List UsedName) : Type 0 where
   pub tokens : List (Tok AbnfKind)
-  pub are_tokens : AreTokens place.text tokens
-  pub are : uses ≡ flat_map (used_at place) (mentions_in Lf place.text None (map (sign_at sign_of) tokens))
+  pub are_tokens : AreTokens position.text tokens
+  pub are : uses ≡ flat_map (used_at position) (mentions_in Lf position.text None (map (sign_at sign_of) tokens))
 
 -- those that rules use, one after another
 pub data AreNameUses : List RuleLines → List UsedName → Type 0 where
   no_rules : AreNameUses [] []
-  next_uses : {place : RuleLines} {places : List RuleLines} {here after : List UsedName} → AreRuleUses place here
-      → AreNameUses places after → AreNameUses (place ∷ places) (here ++ after)
+  next_uses : {position : RuleLines} {positions : List RuleLines} {here after : List UsedName}
+      → AreRuleUses position here
+      → AreNameUses positions after → AreNameUses (position ∷ positions) (here ++ after)
 
 -- a rule has the name, or a core rule (RFC 5234, appendix B.1)
 abbrev pub is_known_name : List RuleGiven → List ℕ → Bool
@@ -53,7 +54,7 @@ reports_undefined rules before u = not (is_known_name rules u.name)
     && not (list_any (λ other. same_name Fold u.name other.name) before)
 
 abbrev pub undefined_line : UsedName → List ℕ
-undefined_line u = place_shown u.text u.line ++ (codes ": '" ++ (u.name ++ codes "' is not defined\n"))
+undefined_line u = position_shown u.text u.line ++ (codes ": '" ++ (u.name ++ codes "' is not defined\n"))
 
 -- the line of a use that reports so
 abbrev pub use_reported : List RuleGiven → List UsedName → UsedName → List ℕ

@@ -25,7 +25,7 @@ pub(crate) struct ShownText<'a> {
 
 /// The position of a rule in a text.
 #[derive(Drop)]
-pub(crate) struct RulePlace<'a> {
+pub(crate) struct RulePosition<'a> {
     /// The name of the text.
     pub(crate) name: &'a [u8],
     /// The margin that is cut off, in bytes.
@@ -44,7 +44,7 @@ pub(crate) struct RulePlace<'a> {
 #[derive(Drop)]
 pub(crate) struct Gathered<'a> {
     /// Of each rule its position.
-    pub(crate) places: Vec<RulePlace<'a>>,
+    pub(crate) positions: Vec<RulePosition<'a>>,
     /// The rules.
     pub(crate) rules: Vec<GivenRule>,
     /// The reports on the error output.

@@ -5,7 +5,7 @@ ghost use Rattle.abnftexts.specs.JoinedGrammar.{AreTextsJoined};
 ghost use Rattle.abnftexts.specs.JoinedViews.{IsGatheredJoined, IsStandingJoined, grammar_joined};
 ghost use Rattle.abnftexts.specs.RulesGathered.{lines_placed, named_text, rules_gathered};
 
-use crate::gathered::{Gathered, RulePlace, SourceText};
+use crate::gathered::{Gathered, RulePosition, SourceText};
 use crate::join::{GivenRule, find_clashes, find_fates, find_order};
 use crate::listed::listed_text;
 use crate::printed::{printed_text, push_clashes, push_none};
@@ -34,21 +34,21 @@ pub struct JoinedTexts {
 // Joins rules that stand, where these are their lines.
 fn join_standing(
     alloc: Global,
-    places: &[RulePlace<'_>],
+    positions: &[RulePosition<'_>],
     rules: &[GivenRule],
     reported: Vec<u8>,
     listed: Vec<u8>,
 ) -> Result<JoinedTexts, Memory>
-    ensures { IfOk result (λ joined. IsStandingJoined (map lines_placed places.now) (map text_rule rules.now)
+    ensures { IfOk result (λ joined. IsStandingJoined (map lines_placed positions.now) (map text_rule rules.now)
         reported.items listed.items (grammar_joined joined)) }
 {
     let is_abnf = reported.is_empty();
     let mut reported = reported;
     let order = find_order(alloc, rules)?;
-    let grammar = printed_text(alloc, places, &order)?;
+    let grammar = printed_text(alloc, positions, &order)?;
     let clashes = find_clashes(alloc, rules)?;
-    push_clashes(&mut reported, places, rules, &clashes)?;
-    let uses = uses_in(alloc, places, &order)?;
+    push_clashes(&mut reported, positions, rules, &clashes)?;
+    let uses = uses_in(alloc, positions, &order)?;
     push_undefined(alloc, &mut reported, rules, &uses)?;
     push_none(&mut reported, rules)?;
     Ok(JoinedTexts {
@@ -64,15 +64,21 @@ fn join_gathered(alloc: Global, gathered: Gathered<'_>) -> Result<JoinedTexts, M
     ensures { IfOk result (λ joined. IsGatheredJoined (rules_gathered gathered.entry) (grammar_joined joined)) }
 {
     let Gathered {
-        places,
+        positions,
         rules,
         reported,
     } = gathered;
     let fates = find_fates(alloc, &rules)?;
-    let listed = listed_text(alloc, &places, &rules, &fates)?;
-    let standing_places = kept_standing(alloc, &fates, places)?;
+    let listed = listed_text(alloc, &positions, &rules, &fates)?;
+    let standing_positions = kept_standing(alloc, &fates, positions)?;
     let standing_rules = kept_standing(alloc, &fates, rules)?;
-    join_standing(alloc, &standing_places, &standing_rules, reported, listed)
+    join_standing(
+        alloc,
+        &standing_positions,
+        &standing_rules,
+        reported,
+        listed,
+    )
 }
 
 /// Returns the grammar that texts make up, one after another, and the reports on them.

@@ -6,7 +6,7 @@ ghost use Rattle.lexer.specs.GrammarLimits.{max_grammar};
 ghost use Rattle.abnftexts.specs.JoinRun.{JoinStates};
 ghost use Rattle.abnftexts.specs.JoinedGrammar.{AreTextsJoined, GrammarJoined};
 ghost use Rattle.abnftexts.specs.RulesGathered.{NamedText};
-ghost use Rattle.abnftexts.specs.SpelledRules.{AreSpelled, as_written, joined_places, joined_rules, unplaced};
+ghost use Rattle.abnftexts.specs.SpelledRules.{AreSpelled, as_written, joined_positions, joined_rules, unplaced};
 ghost use Rattle.abnftexts.specs.TextRules.{given_by};
 ghost use Rattle.toolrun.specs.Input.{Input};
 ghost use Rattle.toolrun.specs.Reply.{Reply};
@@ -45,6 +45,6 @@ pub fn joined_reading()
         → map given_by definitions ≡ map as_written (joined_rules a.gathered) }
     ensures spelled { (texts : List NamedText) (j : GrammarJoined) (definitions : List Definition)
         (a : AreTextsJoined texts j) → Reads j.grammar definitions → (alone : List Definition)
-        × AreSpelled (joined_places a.gathered) (joined_rules a.gathered) alone
+        × AreSpelled (joined_positions a.gathered) (joined_rules a.gathered) alone
         × (map unplaced definitions ≡ map unplaced alone) }
 {}

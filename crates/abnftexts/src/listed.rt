@@ -4,25 +4,25 @@ ghost use Rattle.abnftexts.specs.GivenRules.{text_rule};
 ghost use Rattle.abnftexts.specs.JoinedGrammar.{fate_reported, rule_listed, rules_listed};
 ghost use Rattle.abnftexts.specs.RulesGathered.{lines_placed};
 
-use crate::gathered::RulePlace;
+use crate::gathered::RulePosition;
 use crate::join::{Fate, GivenRule};
-use crate::printed::{push_rule_name, push_rule_place};
+use crate::printed::{push_rule_name, push_rule_position};
 use ruletable::Memory;
 use std::alloc::Global;
 
 // Adds what becomes of a rule.
-fn push_fate(out: &mut Vec<u8>, places: &[RulePlace<'_>], fate: Fate) -> Result<(), Memory>
-    ensures { OnOk result (out.new.items ≡ out.old.items ++ fate_reported (map lines_placed places.now) fate) }
+fn push_fate(out: &mut Vec<u8>, positions: &[RulePosition<'_>], fate: Fate) -> Result<(), Memory>
+    ensures { OnOk result (out.new.items ≡ out.old.items ++ fate_reported (map lines_placed positions.now) fate) }
 {
     match fate {
         Fate::Stands => Ok(out.extend_from_slice(b"stands")?),
         Fate::Again(number) => {
             out.extend_from_slice(b"is given at ")?;
-            push_rule_place(out, places, number)
+            push_rule_position(out, positions, number)
         }
         Fate::Yields(number) => {
             out.extend_from_slice(b"yields to ")?;
-            push_rule_place(out, places, number)
+            push_rule_position(out, positions, number)
         }
     }
 }
@@ -30,19 +30,19 @@ fn push_fate(out: &mut Vec<u8>, places: &[RulePlace<'_>], fate: Fate) -> Result<
 // Adds the line of the rule with that number.
 fn push_listed(
     out: &mut Vec<u8>,
-    places: &[RulePlace<'_>],
+    positions: &[RulePosition<'_>],
     rules: &[GivenRule],
     number: usize,
     fate: Fate,
 ) -> Result<(), Memory>
     ensures { OnOk result (out.new.items ≡ out.old.items
-        ++ rule_listed (map lines_placed places.now) (map text_rule rules.now) number fate) }
+        ++ rule_listed (map lines_placed positions.now) (map text_rule rules.now) number fate) }
 {
-    push_rule_place(out, places, number)?;
+    push_rule_position(out, positions, number)?;
     out.extend_from_slice(b": '")?;
     push_rule_name(out, rules, number)?;
     out.extend_from_slice(b"' ")?;
-    push_fate(out, places, fate)?;
+    push_fate(out, positions, fate)?;
     out.extend_from_slice(b"\n")?;
     Ok(())
 }
@@ -53,16 +53,16 @@ fn push_listed(
 /// `Memory` if an allocation fails.
 pub(crate) fn listed_text(
     alloc: Global,
-    places: &[RulePlace<'_>],
+    positions: &[RulePosition<'_>],
     rules: &[GivenRule],
     fates: &[Fate],
 ) -> Result<Vec<u8>, Memory>
     ensures { IfOk result (λ text. text.items
-        ≡ rules_listed (map lines_placed places.now) (map text_rule rules.now) fates.now) }
+        ≡ rules_listed (map lines_placed positions.now) (map text_rule rules.now) fates.now) }
 {
     let mut out = Vec::new(alloc);
     for number in 0..fates.len() {
-        push_listed(&mut out, places, rules, number, fates[number])?;
+        push_listed(&mut out, positions, rules, number, fates[number])?;
     }
     Ok(out)
 }

@@ -6,7 +6,7 @@ ghost use Rattle.abnfread.specs.AbnfTable.{IsCoreTable};
 ghost use Rattle.abnftexts.specs.CodeUses.{is_defined as knows};
 ghost use Rattle.abnftexts.specs.NamedRules.{AreLinesNamed, IsLineNamed, comment_of, token_named};
 
-use crate::gathered::RulePlace;
+use crate::gathered::RulePosition;
 use crate::join::is_same_folded;
 use crate::undefined::is_known;
 use abnfblocks::margin;
@@ -95,18 +95,18 @@ pub(crate) fn named_lines(
     core: &RuleTable<Elem>,
     names: &RuleTable<Vec<usize>>,
     own: &[u8],
-    place: &RulePlace<'_>,
+    position: &RulePosition<'_>,
 ) -> Result<NamedLines, Memory>
     requires { IsCoreTable core.now }
-    ensures { IfOk result (λ lines. AreLinesNamed (knows names.now) own.now place.now.margin
-        (map numbered place.now.lines.items) lines.comments.items lines.text.items) }
+    ensures { IfOk result (λ lines. AreLinesNamed (knows names.now) own.now position.now.margin
+        (map numbered position.now.lines.items) lines.comments.items lines.text.items) }
 {
     let mut lines = NamedLines {
         comments: Vec::new(alloc),
         text: Vec::new(alloc),
     };
-    for line in &place.lines {
-        let bare = items_after(line.bytes, place.margin.min(margin(line.bytes)));
+    for line in &position.lines {
+        let bare = items_after(line.bytes, position.margin.min(margin(line.bytes)));
         let new = named_line(alloc, core, names, own, bare)?;
         push_line(&mut lines, bare, &new)?;
     }

@@ -4,45 +4,46 @@ ghost use Rattle.std.specs.List.{flat_map};
 ghost use Rattle.abnftexts.specs.GivenRules.{text_rule};
 ghost use Rattle.abnftexts.specs.JoinedGrammar.{clash_reported, comment_before, first_number as first_in, gap_before};
 ghost use Rattle.abnftexts.specs.JoinedGrammar.{goes_after_it};
-ghost use Rattle.abnftexts.specs.JoinedGrammar.{last_number as last_in, none_reported, numbered_name, numbered_place};
+ghost use Rattle.abnftexts.specs.JoinedGrammar.{last_number as last_in, none_reported, numbered_name};
+ghost use Rattle.abnftexts.specs.JoinedGrammar.{numbered_position};
 ghost use Rattle.abnftexts.specs.JoinedGrammar.{ordered_rules, printed_after, rule_printed};
 ghost use Rattle.abnftexts.specs.RulesGathered.{lines_placed};
 
-use crate::gathered::RulePlace;
+use crate::gathered::RulePosition;
 use crate::join::{Clash, GivenRule};
-use crate::reported::{number_at, push_place};
+use crate::reported::{number_at, push_position};
 use ruletable::Memory;
 use std::alloc::Global;
 
 // The number of a rule's first line.
-fn first_number(place: &RulePlace<'_>) -> usize
-    ensures { result ≡ first_in (lines_placed place.now) }
+fn first_number(position: &RulePosition<'_>) -> usize
+    ensures { result ≡ first_in (lines_placed position.now) }
 {
-    number_at(&place.lines, 1)
+    number_at(&position.lines, 1)
 }
 
 // The number of a rule's last line.
-fn last_number(place: &RulePlace<'_>) -> usize
-    ensures { result ≡ last_in (lines_placed place.now) }
+fn last_number(position: &RulePosition<'_>) -> usize
+    ensures { result ≡ last_in (lines_placed position.now) }
 {
-    number_at(&place.lines, place.lines.len())
+    number_at(&position.lines, position.lines.len())
 }
 
 // Returns whether only blank lines stand between a rule and the one before it in its text.
-fn goes_after(before: &RulePlace<'_>, place: &RulePlace<'_>) -> bool
-    ensures { result ≡ goes_after_it (lines_placed before.now) (lines_placed place.now) }
+fn goes_after(before: &RulePosition<'_>, position: &RulePosition<'_>) -> bool
+    ensures { result ≡ goes_after_it (lines_placed before.now) (lines_placed position.now) }
 {
     let last = last_number(before);
-    let first = first_number(place);
-    before.name == place.name && last < first && first - last - 1 == before.blanks
+    let first = first_number(position);
+    before.name == position.name && last < first && first - last - 1 == before.blanks
 }
 
 // Adds a comment that names the position of a rule.
-fn push_comment(out: &mut Vec<u8>, place: &RulePlace<'_>) -> Result<(), Memory>
-    ensures { OnOk result (out.new.items ≡ out.old.items ++ comment_before (lines_placed place.now)) }
+fn push_comment(out: &mut Vec<u8>, position: &RulePosition<'_>) -> Result<(), Memory>
+    ensures { OnOk result (out.new.items ≡ out.old.items ++ comment_before (lines_placed position.now)) }
 {
     out.extend_from_slice(b"; ")?;
-    push_place(out, place.name, first_number(place))?;
+    push_position(out, position.name, first_number(position))?;
     out.extend_from_slice(b"\n")?;
     Ok(())
 }
@@ -60,43 +61,47 @@ fn push_empty(out: &mut Vec<u8>, count: usize) -> Result<(), Memory>
 }
 
 // Adds what stands between a rule and the one that is printed before it.
-fn push_gap(out: &mut Vec<u8>, before: &RulePlace<'_>, place: &RulePlace<'_>) -> Result<(), Memory>
+fn push_gap(
+    out: &mut Vec<u8>,
+    before: &RulePosition<'_>,
+    position: &RulePosition<'_>,
+) -> Result<(), Memory>
     ensures { OnOk result (out.new.items
-        ≡ out.old.items ++ gap_before (Some (lines_placed before.now)) (lines_placed place.now)) }
+        ≡ out.old.items ++ gap_before (Some (lines_placed before.now)) (lines_placed position.now)) }
 {
-    if goes_after(before, place) {
+    if goes_after(before, position) {
         return push_empty(out, before.blanks);
     }
-    push_comment(out, place)
+    push_comment(out, position)
 }
 
 // Adds what stands before a rule.
 fn push_start(
     out: &mut Vec<u8>,
-    before: Option<&RulePlace<'_>>,
-    place: &RulePlace<'_>,
+    before: Option<&RulePosition<'_>>,
+    position: &RulePosition<'_>,
 ) -> Result<(), Memory>
     ensures { OnOk result (out.new.items ≡ out.old.items
-        ++ gap_before (option_map (λ p. lines_placed p.now) before.entry) (lines_placed place.now)) }
+        ++ gap_before (option_map (λ p. lines_placed p.now) before.entry) (lines_placed position.now)) }
 {
     match before {
-        Some(before) => push_gap(out, before, place),
-        None => push_comment(out, place),
+        Some(before) => push_gap(out, before, position),
+        None => push_comment(out, position),
     }
 }
 
 // Adds a rule as it is printed.
 fn push_printed(
     out: &mut Vec<u8>,
-    before: Option<&RulePlace<'_>>,
-    place: &RulePlace<'_>,
+    before: Option<&RulePosition<'_>>,
+    position: &RulePosition<'_>,
 ) -> Result<(), Memory>
     ensures { OnOk result (out.new.items ≡ out.old.items
-        ++ rule_printed (option_map (λ p. lines_placed p.now) before.entry) (lines_placed place.now)) }
+        ++ rule_printed (option_map (λ p. lines_placed p.now) before.entry) (lines_placed position.now)) }
 {
-    push_start(out, before, place)?;
-    out.extend_from_slice(&place.comments)?;
-    out.extend_from_slice(&place.text)?;
+    push_start(out, before, position)?;
+    out.extend_from_slice(&position.comments)?;
+    out.extend_from_slice(&position.text)?;
     Ok(())
 }
 
@@ -106,33 +111,33 @@ fn push_printed(
 /// `Memory` if an allocation fails.
 pub(crate) fn printed_text(
     alloc: Global,
-    places: &[RulePlace<'_>],
+    positions: &[RulePosition<'_>],
     order: &[usize],
 ) -> Result<Vec<u8>, Memory>
     ensures { IfOk result (λ text. text.items
-        ≡ printed_after None (ordered_rules (map lines_placed places.now) order.now)) }
+        ≡ printed_after None (ordered_rules (map lines_placed positions.now) order.now)) }
 {
     let mut out = Vec::new(alloc);
-    let mut before: Option<&RulePlace<'_>> = None;
+    let mut before: Option<&RulePosition<'_>> = None;
     for number in order {
-        if let Some(place) = places.get(*number) {
-            push_printed(&mut out, before, place)?;
-            before = Some(place);
+        if let Some(position) = positions.get(*number) {
+            push_printed(&mut out, before, position)?;
+            before = Some(position);
         }
     }
     Ok(out)
 }
 
 /// Adds the position of the rule with that number.
-pub(crate) fn push_rule_place(
+pub(crate) fn push_rule_position(
     out: &mut Vec<u8>,
-    places: &[RulePlace<'_>],
+    positions: &[RulePosition<'_>],
     number: usize,
 ) -> Result<(), Memory>
-    ensures { OnOk result (out.new.items ≡ out.old.items ++ numbered_place (map lines_placed places.now) number) }
+    ensures { OnOk result (out.new.items ≡ out.old.items ++ numbered_position (map lines_placed positions.now) number) }
 {
-    match places.get(number) {
-        Some(place) => push_place(out, place.name, first_number(place)),
+    match positions.get(number) {
+        Some(position) => push_position(out, position.name, first_number(position)),
         None => Ok(()),
     }
 }
@@ -154,18 +159,18 @@ pub(crate) fn push_rule_name(
 // Adds the report of two definitions of one name.
 fn push_clash(
     out: &mut Vec<u8>,
-    places: &[RulePlace<'_>],
+    positions: &[RulePosition<'_>],
     rules: &[GivenRule],
     clash: Clash,
 ) -> Result<(), Memory>
     ensures { OnOk result (out.new.items ≡ out.old.items
-        ++ clash_reported (map lines_placed places.now) (map text_rule rules.now) clash) }
+        ++ clash_reported (map lines_placed positions.now) (map text_rule rules.now) clash) }
 {
-    push_rule_place(out, places, clash.second)?;
+    push_rule_position(out, positions, clash.second)?;
     out.extend_from_slice(b": '")?;
     push_rule_name(out, rules, clash.second)?;
     out.extend_from_slice(b"' is defined otherwise at ")?;
-    push_rule_place(out, places, clash.first)?;
+    push_rule_position(out, positions, clash.first)?;
     out.extend_from_slice(b"\n")?;
     Ok(())
 }
@@ -173,15 +178,15 @@ fn push_clash(
 /// Adds the reports of definitions of one name.
 pub(crate) fn push_clashes(
     out: &mut Vec<u8>,
-    places: &[RulePlace<'_>],
+    positions: &[RulePosition<'_>],
     rules: &[GivenRule],
     clashes: &[Clash],
 ) -> Result<(), Memory>
     ensures { OnOk result (out.new.items ≡ out.old.items
-        ++ flat_map (clash_reported (map lines_placed places.now) (map text_rule rules.now)) clashes.now) }
+        ++ flat_map (clash_reported (map lines_placed positions.now) (map text_rule rules.now)) clashes.now) }
 {
     for clash in clashes {
-        push_clash(out, places, rules, *clash)?;
+        push_clash(out, positions, rules, *clash)?;
     }
     Ok(())
 }

@@ -3,11 +3,12 @@ ghost use Rattle.std.specs.Prelude.{map, IfOk};
 ghost use Rattle.abnfread.specs.AbnfTable.{IsCoreTable};
 ghost use Rattle.abnftexts.specs.CodeUses.{is_defined as knows};
 ghost use Rattle.abnftexts.specs.GivenRules.{text_rule};
-ghost use Rattle.abnftexts.specs.NamedRules.{AreRenamed, ArePlacesNamed, AreRulesNamed, IsPlaceNamed, IsRuleNamed};
+ghost use Rattle.abnftexts.specs.NamedRules.{AreRenamed, ArePositionsNamed, AreRulesNamed, IsPositionNamed};
+ghost use Rattle.abnftexts.specs.NamedRules.{IsRuleNamed};
 ghost use Rattle.abnftexts.specs.RulesGathered.{lines_placed, rules_gathered};
 ghost use Rattle.abnftexts.specs.TakenRules.{IsNamedOutcome};
 
-use crate::gathered::{Gathered, RulePlace};
+use crate::gathered::{Gathered, RulePosition};
 use crate::join::{GivenRule, Listed, numbers_by_name};
 use crate::named::named_lines;
 use crate::own::read_rule;
@@ -30,69 +31,73 @@ fn spells_named(alloc: Global, rule: &GivenRule, text: &[u8]) -> Result<bool, Me
 }
 
 // Where a rule stands with its names.
-fn named_place<'a>(
+fn named_position<'a>(
     alloc: Global,
     core: &RuleTable<Elem>,
     names: &RuleTable<Vec<usize>>,
     rule: &GivenRule,
-    place: RulePlace<'a>,
-) -> Result<RulePlace<'a>, Memory>
+    position: RulePosition<'a>,
+) -> Result<RulePosition<'a>, Memory>
     requires { IsCoreTable core.now }
-    ensures { IfOk result (λ named. IsPlaceNamed (knows names.now) (text_rule rule.now) (lines_placed place.entry)
+    ensures { IfOk result (λ named. IsPositionNamed (knows names.now) (text_rule rule.now) (lines_placed position.entry)
         (lines_placed named)) }
 {
-    let lines = named_lines(alloc, core, names, &rule.name, &place)?;
+    let lines = named_lines(alloc, core, names, &rule.name, &position)?;
     if lines.comments.is_empty() {
-        return Ok(place);
+        return Ok(position);
     }
     let is_rule = spells_named(alloc, rule, &lines.text)?;
     if !is_rule {
-        return Ok(place);
+        return Ok(position);
     }
-    Ok(RulePlace {
-        name: place.name,
-        margin: place.margin,
-        lines: place.lines,
-        blanks: place.blanks,
+    Ok(RulePosition {
+        name: position.name,
+        margin: position.margin,
+        lines: position.lines,
+        blanks: position.blanks,
         comments: lines.comments,
         text: lines.text,
     })
 }
 
 // Where rules stand with their names.
-fn named_places<'a>(
+fn named_positions<'a>(
     alloc: Global,
     core: &RuleTable<Elem>,
     names: &RuleTable<Vec<usize>>,
     rules: &[GivenRule],
-    places: Vec<RulePlace<'a>>,
-) -> Result<Vec<RulePlace<'a>>, Memory>
+    positions: Vec<RulePosition<'a>>,
+) -> Result<Vec<RulePosition<'a>>, Memory>
     requires { IsCoreTable core.now }
-    ensures { IfOk result (λ named. ArePlacesNamed (knows names.now) (map text_rule rules.now)
-        (map lines_placed places.entry.items) (map lines_placed named.items)) }
+    ensures { IfOk result (λ named. ArePositionsNamed (knows names.now) (map text_rule rules.now)
+        (map lines_placed positions.entry.items) (map lines_placed named.items)) }
 {
     let mut named = Vec::new(alloc);
     let mut left = rules;
-    for place in places {
+    for position in positions {
         let Some((rule, after)) = left.split_first() else {
             break;
         };
         left = after;
-        let it = named_place(alloc, core, names, rule, place)?;
+        let it = named_position(alloc, core, names, rule, position)?;
         named.push(it)?;
     }
     Ok(named)
 }
 
 // A rule with its names.
-fn named_rule(alloc: Global, place: &RulePlace<'_>, rule: GivenRule) -> Result<GivenRule, Memory>
-    ensures { IfOk result (λ named. IsRuleNamed (lines_placed place.now) (text_rule rule) (text_rule named)) }
+fn named_rule(
+    alloc: Global,
+    position: &RulePosition<'_>,
+    rule: GivenRule,
+) -> Result<GivenRule, Memory>
+    ensures { IfOk result (λ named. IsRuleNamed (lines_placed position.now) (text_rule rule) (text_rule named)) }
 {
-    if place.comments.is_empty() {
+    if position.comments.is_empty() {
         return Ok(rule);
     }
     // A text with comments spells a rule.
-    match read_rule(alloc, &place.text)? {
+    match read_rule(alloc, &position.text)? {
         Some(given) => Ok(GivenRule {
             adds: given.adds,
             name: given.name,
@@ -106,19 +111,19 @@ fn named_rule(alloc: Global, place: &RulePlace<'_>, rule: GivenRule) -> Result<G
 // Rules with their names.
 fn named_rules(
     alloc: Global,
-    places: &[RulePlace<'_>],
+    positions: &[RulePosition<'_>],
     rules: Vec<GivenRule>,
 ) -> Result<Vec<GivenRule>, Memory>
-    ensures { IfOk result (λ named. AreRulesNamed (map lines_placed places.now) (map text_rule rules.items)
+    ensures { IfOk result (λ named. AreRulesNamed (map lines_placed positions.now) (map text_rule rules.items)
         (map text_rule named.items)) }
 {
     let mut named = Vec::new(alloc);
     let mut number = 0;
     for rule in rules {
-        let Some(place) = places.get(number) else {
+        let Some(position) = positions.get(number) else {
             break;
         };
-        let it = named_rule(alloc, place, rule)?;
+        let it = named_rule(alloc, position, rule)?;
         named.push(it)?;
         number += 1;
     }
@@ -133,16 +138,16 @@ pub(crate) fn name_rules<'a>(alloc: Global, gathered: Gathered<'a>) -> Result<Ga
     ensures { IfOk result (λ named. AreRenamed (rules_gathered gathered.entry) (rules_gathered named)) }
 {
     let Gathered {
-        places,
+        positions,
         rules,
         reported,
     } = gathered;
     let core = core_rules(alloc)?;
     let names = numbers_by_name(alloc, Listed::Rules, &rules)?;
-    let places = named_places(alloc, &core, &names, &rules, places)?;
-    let rules = named_rules(alloc, &places, rules)?;
+    let positions = named_positions(alloc, &core, &names, &rules, positions)?;
+    let rules = named_rules(alloc, &positions, rules)?;
     Ok(Gathered {
-        places,
+        positions,
         rules,
         reported,
     })

@@ -2,8 +2,8 @@
 ghost use Rattle.std.specs.Prelude.{◌≡◌, ◌++◌, ◌-◌, codes, decimal, map, OnOk};
 ghost use Rattle.abnfblocks.specs.TextLines.{numbered};
 ghost use Rattle.ruletable.specs.Faults.{at_line, fault_text};
-ghost use Rattle.abnftexts.specs.TextPlaces.{number_at as number_there, fault_in as fault_there, place_shown};
-ghost use Rattle.abnftexts.specs.TextPlaces.{not_abnf_reported};
+ghost use Rattle.abnftexts.specs.TextPositions.{number_at as number_there, fault_in as fault_there, position_shown};
+ghost use Rattle.abnftexts.specs.TextPositions.{not_abnf_reported};
 
 use abnfblocks::TextLine;
 use diagnostics::{push_number, push_shown};
@@ -13,8 +13,8 @@ use ruletable::{Memory, ReadFault};
 pub(crate) fn number_at(lines: &[TextLine<'_>], n: usize) -> usize
     ensures { result ≡ number_there (map numbered lines.now) n }
 {
-    let place = n.saturating_sub(1).min(lines.len().saturating_sub(1));
-    match lines.get(place) {
+    let position = n.saturating_sub(1).min(lines.len().saturating_sub(1));
+    match lines.get(position) {
         Some(line) => line.number,
         None => 0,
     }
@@ -43,8 +43,8 @@ fn fault_in(lines: &[TextLine<'_>], fault: ReadFault) -> ReadFault
 }
 
 /// Adds a text's name and a line of it.
-pub(crate) fn push_place(out: &mut Vec<u8>, name: &[u8], line: usize) -> Result<(), Memory>
-    ensures { OnOk result (out.new.items ≡ out.old.items ++ place_shown name.now line) }
+pub(crate) fn push_position(out: &mut Vec<u8>, name: &[u8], line: usize) -> Result<(), Memory>
+    ensures { OnOk result (out.new.items ≡ out.old.items ++ position_shown name.now line) }
 {
     push_shown(out, name)?;
     out.extend_from_slice(b":")?;
@@ -87,7 +87,7 @@ pub(crate) fn push_not_abnf(
 ) -> Result<(), Memory>
     ensures { OnOk result (out.new.items ≡ out.old.items ++ not_abnf_reported name.now (map numbered lines.now) fault) }
 {
-    push_place(out, name, number_at(lines, 1))?;
+    push_position(out, name, number_at(lines, 1))?;
     out.extend_from_slice(b": not ABNF: ")?;
     push_fault(out, fault_in(lines, fault))?;
     Ok(())

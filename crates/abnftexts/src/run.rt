@@ -5,7 +5,7 @@ ghost use Rattle.abnfprint.specs.CanonicalAbnf.{grammar_text};
 ghost use Rattle.abnftexts.specs.JoinRun.{IsWrittenAs, JoinStates, TriedReply, grammar_form, joined_status};
 ghost use Rattle.abnftexts.specs.JoinedViews.{grammar_joined};
 ghost use Rattle.abnftexts.specs.RulesGathered.{named_text};
-ghost use Rattle.toolrun.specs.Right.{Comes};
+ghost use Rattle.toolrun.specs.Right.{RunIsRight};
 ghost use Rattle.toolrun.specs.Status.{code_of};
 ghost use Rattle.toolrun.specs.Stop.{unread};
 ghost use Rattle.toolrun.specs.Stopped.{Performs};
@@ -177,7 +177,7 @@ pub fn run_join<O: Sink, E: Sink>(
 ) -> Status
     requires out_is_fresh { O.failed out.old ≡ false }
     requires err_is_fresh { E.failed err.old ≡ false }
-    ensures right { Comes (JoinStates (map named_text texts.now) form) no_input
+    ensures right { RunIsRight (JoinStates (map named_text texts.now) form) no_input
         (passed O.contents O.failed out.old out.new) (passed E.contents E.failed err.old err.new) (code_of result) }
 {
     let joined = match join_texts(alloc, texts) {

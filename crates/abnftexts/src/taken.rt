@@ -6,9 +6,9 @@ ghost use Rattle.abnfblocks.specs.TextLines.{numbered};
 ghost use Rattle.abnftexts.specs.RulesGathered.{NamedText, both_given, lines_placed, one_rule, rules_gathered};
 ghost use Rattle.abnftexts.specs.ShownTexts.{AreShown, IsShown};
 ghost use Rattle.abnftexts.specs.TakenRules.{TakesFound, TakesMore, TakesRule};
-ghost use Rattle.abnftexts.specs.TextRules.{GivesText, GiveTexts, place_in};
+ghost use Rattle.abnftexts.specs.TextRules.{GivesText, GiveTexts, position_in};
 
-use crate::gathered::{Gathered, RulePlace, ShownText};
+use crate::gathered::{Gathered, RulePosition, ShownText};
 use crate::join::GivenRule;
 use crate::own::read_rule;
 use crate::reported::push_not_abnf;
@@ -20,13 +20,13 @@ use std::alloc::Global;
 // Adds a rule.
 fn push_rule<'a>(
     gathered: &mut Gathered<'a>,
-    place: RulePlace<'a>,
+    position: RulePosition<'a>,
     rule: GivenRule,
 ) -> Result<(), Memory>
     ensures { OnOk result (rules_gathered gathered.new
-        ≡ both_given (rules_gathered gathered.old) (one_rule (lines_placed place.entry) (text_rule rule))) }
+        ≡ both_given (rules_gathered gathered.old) (one_rule (lines_placed position.entry) (text_rule rule))) }
 {
-    gathered.places.push(place)?;
+    gathered.positions.push(position)?;
     gathered.rules.push(rule)?;
     Ok(())
 }
@@ -42,19 +42,19 @@ fn margin_in(lines: &[TextLine<'_>]) -> usize
 }
 
 // Where the rule stands that has so many of these lines.
-fn place_of<'a>(
+fn position_of<'a>(
     alloc: Global,
     name: &'a [u8],
     rest: &[TextLine<'a>],
     count: usize,
-) -> Result<RulePlace<'a>, Memory>
-    ensures { IfOk result (λ place. lines_placed place ≡ place_in name.now (map numbered rest.now) count) }
+) -> Result<RulePosition<'a>, Memory>
+    ensures { IfOk result (λ position. lines_placed position ≡ position_in name.now (map numbered rest.now) count) }
 {
     let own = items_before(rest, count);
     let lines = Vec::from_slice(alloc, own)?;
     let margin = margin_in(own);
     let text = joined_text(alloc, margin, own)?;
-    Ok(RulePlace {
+    Ok(RulePosition {
         name,
         margin,
         lines,
@@ -75,12 +75,12 @@ fn take_rule<'a>(
     ensures { OnOk result (TakesRule name.now (map numbered rest.now) count
         (rules_gathered gathered.old) (rules_gathered gathered.new)) }
 {
-    let place = place_of(alloc, name, rest, count)?;
+    let position = position_of(alloc, name, rest, count)?;
     // Lines that spell a definition have no fault but `Memory`.
-    let Some(rule) = read_rule(alloc, &place.text)? else {
+    let Some(rule) = read_rule(alloc, &position.text)? else {
         return Err(Memory);
     };
-    push_rule(gathered, place, rule)?;
+    push_rule(gathered, position, rule)?;
     Ok(())
 }
 
@@ -140,7 +140,7 @@ pub(crate) fn take_texts<'a>(
         → GiveTexts named (rules_gathered gathered)) }
 {
     let mut gathered = Gathered {
-        places: Vec::new(alloc),
+        positions: Vec::new(alloc),
         rules: Vec::new(alloc),
         reported: Vec::new(alloc),
     };

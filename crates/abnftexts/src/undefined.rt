@@ -7,7 +7,7 @@ ghost use Rattle.abnftexts.specs.CodeUses.{ListsMore, is_defined as knows, is_un
 ghost use Rattle.abnftexts.specs.UsedNames.{undefined_line, undefined_reported};
 
 use crate::join::{GivenRule, Listed, numbers_by_name};
-use crate::reported::push_place;
+use crate::reported::push_position;
 use crate::uses::NameUse;
 use abnfread::{Elem, core_rules};
 use diagnostics::{add_number, numbers_of};
@@ -53,7 +53,7 @@ fn is_reported(
 fn push_line(out: &mut Vec<u8>, it: &NameUse<'_>) -> Result<(), Memory>
     ensures { OnOk result (out.new.items ≡ out.old.items ++ undefined_line (name_used it.now)) }
 {
-    push_place(out, it.text, it.line)?;
+    push_position(out, it.text, it.line)?;
     out.extend_from_slice(b": '")?;
     out.extend_from_slice(&it.name)?;
     out.extend_from_slice(b"' is not defined\n")?;

@@ -7,9 +7,9 @@ ghost use Rattle.abnftexts.specs.CodeUses.{AddsUses, name_used};
 ghost use Rattle.abnftexts.specs.RulesGathered.{lines_placed};
 ghost use Rattle.abnftexts.specs.UsedNames.{AreNameUses, used_at};
 
-use crate::gathered::RulePlace;
+use crate::gathered::RulePosition;
 use crate::reported::number_at;
-use abnfexplain::abnf_places;
+use abnfexplain::abnf_positions;
 use diagnostics::{Mention, MentionKind};
 use ruletable::Memory;
 use std::alloc::Global;
@@ -29,18 +29,18 @@ pub(crate) struct NameUse<'a> {
 fn push_use<'a>(
     alloc: Global,
     uses: &mut Vec<NameUse<'a>>,
-    place: &RulePlace<'a>,
+    position: &RulePosition<'a>,
     mention: &Mention,
 ) -> Result<(), Memory>
     ensures { OnOk result (map name_used uses.new.items
-        ≡ map name_used uses.old.items ++ used_at (lines_placed place.now) (mentioned_at mention.now)) }
+        ≡ map name_used uses.old.items ++ used_at (lines_placed position.now) (mentioned_at mention.now)) }
 {
     match mention.kind {
         MentionKind::Use => {
             let name = Vec::from_slice(alloc, &mention.text)?;
             uses.push(NameUse {
-                text: place.name,
-                line: number_at(&place.lines, mention.line),
+                text: position.name,
+                line: number_at(&position.lines, mention.line),
                 name,
             })?;
             Ok(())
@@ -53,14 +53,14 @@ fn push_use<'a>(
 fn push_mentions<'a>(
     alloc: Global,
     uses: &mut Vec<NameUse<'a>>,
-    place: &RulePlace<'a>,
+    position: &RulePosition<'a>,
     mentions: &[Mention],
 ) -> Result<(), Memory>
     ensures { OnOk result (map name_used uses.new.items ≡ map name_used uses.old.items
-        ++ flat_map (used_at (lines_placed place.now)) (map mentioned_at mentions.now)) }
+        ++ flat_map (used_at (lines_placed position.now)) (map mentioned_at mentions.now)) }
 {
     for mention in mentions {
-        push_use(alloc, uses, place, mention)?;
+        push_use(alloc, uses, position, mention)?;
     }
     Ok(())
 }
@@ -69,13 +69,13 @@ fn push_mentions<'a>(
 fn push_uses<'a>(
     alloc: Global,
     uses: &mut Vec<NameUse<'a>>,
-    place: &RulePlace<'a>,
+    position: &RulePosition<'a>,
 ) -> Result<(), Memory>
-    ensures { OnOk result (AddsUses (lines_placed place.now)
+    ensures { OnOk result (AddsUses (lines_placed position.now)
         (map name_used uses.old.items) (map name_used uses.new.items)) }
 {
-    let found = abnf_places(alloc, &place.text)?;
-    push_mentions(alloc, uses, place, &found.mentions)
+    let found = abnf_positions(alloc, &position.text)?;
+    push_mentions(alloc, uses, position, &found.mentions)
 }
 
 /// Returns the names that the rules with these numbers use, in that order.
@@ -84,16 +84,16 @@ fn push_uses<'a>(
 /// `Memory` if an allocation fails.
 pub(crate) fn uses_in<'a>(
     alloc: Global,
-    places: &[RulePlace<'a>],
+    positions: &[RulePosition<'a>],
     order: &[usize],
 ) -> Result<Vec<NameUse<'a>>, Memory>
-    ensures { IfOk result (λ uses. AreNameUses (ordered_rules (map lines_placed places.now) order.now)
+    ensures { IfOk result (λ uses. AreNameUses (ordered_rules (map lines_placed positions.now) order.now)
         (map name_used uses.items)) }
 {
     let mut uses = Vec::new(alloc);
     for number in order {
-        if let Some(place) = places.get(*number) {
-            push_uses(alloc, &mut uses, place)?;
+        if let Some(position) = positions.get(*number) {
+            push_uses(alloc, &mut uses, position)?;
         }
     }
     Ok(uses)

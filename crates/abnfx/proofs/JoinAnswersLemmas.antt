@@ -7,7 +7,7 @@ use Rattle.clap.specs.declared.error.kind.ErrorKind.TheVariants.{OutOfMemory}
 use Rattle.cli.specs.Jobs.{ReportsOf}
 use Rattle.ruletable.proofs.AppendsLemmas.{Appends-same}
 use Rattle.toolrun.specs.Plan.{IsReportedAnd}
-use Rattle.toolrun.specs.Right.{Comes}
+use Rattle.toolrun.specs.Right.{RunIsRight}
 use Rattle.toolrun.specs.Stream.{Stream, no_input}
 use Rattle.toolrun.specs.declared.stop.Stop.{Stop}
 use Rattle.toolrun.proofs.IsRightLemmas.{reported_stops}
@@ -15,7 +15,7 @@ use Rattle.toolrun.proofs.IsRightLemmas.{reported_stops}
 -- a stop of which nothing is reported before
 pub stop_comes : (stop : Stop) (out err : Stream) (code : ℕ)
     → ReportsOf stop out.old out.new out.failed err.old err.new err.failed code
-    → Comes (IsReportedAnd [] stop) no_input out err code
+    → RunIsRight (IsReportedAnd [] stop) no_input out err code
 stop_comes stop out err code reports =
     reported_stops [] stop (Some []) false false out err err.old code reports.0 (Appends-same err.old) reports.1
 

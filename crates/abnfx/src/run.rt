@@ -6,7 +6,7 @@ ghost use Rattle.abnfx.specs.JoinWords.{AreFlagTexts, abnfx_app, paths_asked};
 ghost use Rattle.clap.specs.Words.{fault_of, found_of, matches_of, rows_of};
 ghost use Rattle.cli.specs.Parsing.{WordsState};
 ghost use Rattle.toolrun.specs.Plan.{IsReportedAnd};
-ghost use Rattle.toolrun.specs.Right.{Comes};
+ghost use Rattle.toolrun.specs.Right.{RunIsRight};
 ghost use Rattle.toolrun.specs.Status.{code_of};
 ghost use Rattle.toolrun.specs.Stream.{no_input, passed};
 
@@ -28,7 +28,7 @@ fn end_reported<O: Sink, E: Sink>(
 ) -> Status
     requires out_is_fresh { O.failed out.old ≡ false }
     requires err_is_fresh { E.failed err.old ≡ false }
-    ensures right { Comes (IsReportedAnd (flat_map (λ p. p.now) pieces.now) (Stop.Quiet status)) no_input
+    ensures right { RunIsRight (IsReportedAnd (flat_map (λ p. p.now) pieces.now) (Stop.Quiet status)) no_input
         (passed O.contents O.failed out.old out.new) (passed E.contents E.failed err.old err.new) (code_of result) }
 {
     if write_pieces(err, pieces).is_err() {
@@ -41,7 +41,7 @@ fn end_reported<O: Sink, E: Sink>(
 fn end_unread<O: Sink, E: Sink>(why: &Unread<'_>, out: &mut O, err: &mut E) -> Status
     requires out_is_fresh { O.failed out.old ≡ false }
     requires err_is_fresh { E.failed err.old ≡ false }
-    ensures right { Comes (IsReportedAnd (unread_text why.now) (unread_stop why.now)) no_input
+    ensures right { RunIsRight (IsReportedAnd (unread_text why.now) (unread_stop why.now)) no_input
         (passed O.contents O.failed out.old out.new) (passed E.contents E.failed err.old err.new) (code_of result) }
 {
     match why {
@@ -71,7 +71,7 @@ fn join_files<R: Files + AllocGlobal, O: Sink, E: Sink>(
 ) -> Status
     requires out_is_fresh { O.failed out.old ≡ false }
     requires err_is_fresh { E.failed err.old ≡ false }
-    ensures right { Comes (FilesJoined (map (λ p. p.now) paths.now) form) no_input
+    ensures right { RunIsRight (FilesJoined (map (λ p. p.now) paths.now) form) no_input
         (passed O.contents O.failed out.old out.new) (passed E.contents E.failed err.old err.new) (code_of result) }
 {
     let texts = match read_texts(rt, paths) {
@@ -88,7 +88,7 @@ fn join_files<R: Files + AllocGlobal, O: Sink, E: Sink>(
 fn end_clash<O: Sink, E: Sink>(out: &mut O, err: &mut E) -> Status
     requires out_is_fresh { O.failed out.old ≡ false }
     requires err_is_fresh { E.failed err.old ≡ false }
-    ensures right { Comes (IsReportedAnd both_forms (Stop.Quiet Status.Refused)) no_input
+    ensures right { RunIsRight (IsReportedAnd both_forms (Stop.Quiet Status.Refused)) no_input
         (passed O.contents O.failed out.old out.new) (passed E.contents E.failed err.old err.new) (code_of result) }
 {
     let reported: [&[u8]; 2] = [
@@ -108,7 +108,7 @@ fn join_named<R: Files + AllocGlobal, O: Sink, E: Sink>(
 ) -> Status
     requires out_is_fresh { O.failed out.old ≡ false }
     requires err_is_fresh { E.failed err.old ≡ false }
-    ensures right { Comes (FilesJoined (paths_asked (rows_of (found_of matches.now))) form) no_input
+    ensures right { RunIsRight (FilesJoined (paths_asked (rows_of (found_of matches.now))) form) no_input
         (passed O.contents O.failed out.old out.new) (passed E.contents E.failed err.old err.new) (code_of result) }
 {
     match matches.get_strs("text") {
@@ -127,7 +127,7 @@ fn join_asked<R: Files + AllocGlobal, O: Sink, E: Sink>(
     requires flags { AreFlagTexts (found_of matches.now) }
     requires out_is_fresh { O.failed out.old ≡ false }
     requires err_is_fresh { E.failed err.old ≡ false }
-    ensures right { Comes (JoinAnswers (rows_of (found_of matches.now))) no_input
+    ensures right { RunIsRight (JoinAnswers (rows_of (found_of matches.now))) no_input
         (passed O.contents O.failed out.old out.new) (passed E.contents E.failed err.old err.new) (code_of result) }
 {
     match form_of(matches) {
@@ -153,10 +153,10 @@ pub(crate) fn abnfx_main<R: Files + AllocGlobal, O: Sink, E: Sink>(
     requires out_is_fresh { O.failed out.old ≡ false }
     requires err_is_fresh { E.failed err.old ≡ false }
     ensures words { fault_of abnfx_app (map string_bytes words.now) ≢ [] →
-        Comes (WordsState (fault_of abnfx_app (map string_bytes words.now))) no_input
+        RunIsRight (WordsState (fault_of abnfx_app (map string_bytes words.now))) no_input
         (passed O.contents O.failed out.old out.new) (passed E.contents E.failed err.old err.new) (code_of result) }
     ensures right { fault_of abnfx_app (map string_bytes words.now) ≡ [] →
-        Comes (JoinAnswers (matches_of abnfx_app (map string_bytes words.now))) no_input
+        RunIsRight (JoinAnswers (matches_of abnfx_app (map string_bytes words.now))) no_input
         (passed O.contents O.failed out.old out.new) (passed E.contents E.failed err.old err.new) (code_of result) }
 {
     match parse_words(rt.alloc(), words) {

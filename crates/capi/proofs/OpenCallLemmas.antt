@@ -18,7 +18,7 @@ use Rattle.ruletable.specs.declared.fault.ReadFault.TheVariants.{Memory}
 use Rattle.toolrun.specs.Explained.{Explained}
 use Rattle.toolrun.specs.declared.settings.Settings.{Settings}
 
--- a place that is closed is empty
+-- a slot that is closed is empty
 pub closed_is_none : {A : Type 0} (held : Option A) (is_open : Bool) → is_open ≡ is_some held → is_open ≡ false
     → held ≡ None
 closed_is_none None is_open right closed = refl
@@ -43,13 +43,13 @@ module _ {HasFault : ReadFault → Type 0} {Why : ReadFault → List ℕ → Typ
   module _ {Open : Type 0} {WhyNoted : Option (List ℕ) → Said → List ℕ → Type 0} {AreHints : List ℕ → Type 0}
       {IsOpen : List Said → Option Open → Type 0} (held : Option Open) (empty : held ≡ None)
       (reported : Result (Vec ℕ Global) E) where
-    -- the fault is reported, and the place stays empty
+    -- the fault is reported, and the slot stays empty
     pub opens_no_text : IsFaultReported HasFault Why settings (text_reported reported) (code_reported reported false)
         → IsOpening HasFault Why WhyNoted AreHints IsOpen settings (text_reported reported) held
         (code_reported reported (is_some held))
     opens_no_text is = rw empty (not_read (text_reported reported) (code_reported reported false) is)
 
-    -- an allocation failed, and the place stays empty
+    -- an allocation failed, and the slot stays empty
     pub opens_nothing : IsErr reported → IsOpening HasFault Why WhyNoted AreHints IsOpen settings
         (text_reported reported) held
         (code_reported reported (is_some held))

@@ -48,20 +48,20 @@ pub data IsOpening {O Open : Type 0} (HasFault : ReadFault → Type 0) (Why : Re
       → IsOpening HasFault Why WhyNoted AreHints IsOpen settings reported None code
 
 -- what C's place holds before and after
-pub record Place (Open : Type 0) : Type 0 where
+pub record Slot (Open : Type 0) : Type 0 where
   pub old : Option Open
   pub new : Option Open
 
--- The text was opened with the settings that C asks for, and put into an empty place; as much of the messages as there
--- is room for was laid into the buffer. Or C asks for no settings, or the place is not empty, and nothing was done.
+-- The text was opened with the settings that C asks for, and put into an empty slot; as much of the messages as there
+-- is room for was laid into the buffer. Or C asks for no settings, or the slot is not empty, and nothing was done.
 -- Opening says what settings make of the text.
 pub data IsOpenCall {O Open : Type 0} (AreMeant : CSettings → O → Type 0)
     (Opening : Settings O → List ℕ → Option Open → ℕ → Type 0) (asked : CSettings)
-    (name : List ℕ) (place : Place Open) (err : Filled) (code : ℕ) : Type 0 where
-  tried : (settings : Settings O) (reported : List ℕ) → place.old ≡ None → IsMeant AreMeant asked name settings
-      → Opening settings reported place.new code → IsLaid reported err
-      → IsOpenCall AreMeant Opening asked name place err code
-  not_asked : IsInvalid asked name → place.new ≡ place.old → IsUntouched err → code ≡ 6
-      → IsOpenCall AreMeant Opening asked name place err code
-  not_empty : IsSome place.old → place.new ≡ place.old → IsUntouched err → code ≡ 6
-      → IsOpenCall AreMeant Opening asked name place err code
+    (name : List ℕ) (slot : Slot Open) (err : Filled) (code : ℕ) : Type 0 where
+  tried : (settings : Settings O) (reported : List ℕ) → slot.old ≡ None → IsMeant AreMeant asked name settings
+      → Opening settings reported slot.new code → IsLaid reported err
+      → IsOpenCall AreMeant Opening asked name slot err code
+  not_asked : IsInvalid asked name → slot.new ≡ slot.old → IsUntouched err → code ≡ 6
+      → IsOpenCall AreMeant Opening asked name slot err code
+  not_empty : IsSome slot.old → slot.new ≡ slot.old → IsUntouched err → code ≡ 6
+      → IsOpenCall AreMeant Opening asked name slot err code

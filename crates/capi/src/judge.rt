@@ -19,25 +19,25 @@ pub struct CJudge {
 }
 
 /// Puts a judge into C's handle.
-pub(crate) fn put_judge(judge: Box<AbnfJudge>, place: &mut CJudge)
-    ensures { place.new.judge.held ≡ Some judge.value }
+pub(crate) fn put_judge(judge: Box<AbnfJudge>, slot: &mut CJudge)
+    ensures { slot.new.judge.held ≡ Some judge.value }
 {
-    *place = CJudge {
+    *slot = CJudge {
         judge: JudgeBox::seal(Loose::of(judge)),
         is_open: true,
     };
 }
 
 /// Takes the judge out of C's handle, where there is one.
-pub(crate) fn take_judge(alloc: Global, place: &mut CJudge) -> Box<AbnfJudge>
-    requires { place.old.is_open ≡ true }
-    ensures judge { place.old.judge.held ≡ Some result.value }
-    ensures none { place.new.judge.held ≡ None }
+pub(crate) fn take_judge(alloc: Global, slot: &mut CJudge) -> Box<AbnfJudge>
+    requires { slot.old.is_open ≡ true }
+    ensures judge { slot.old.judge.held ≡ Some result.value }
+    ensures none { slot.new.judge.held ≡ None }
 {
     let none = CJudge {
         judge: JudgeBox::empty(alloc),
         is_open: false,
     };
-    let CJudge { judge, is_open: _ } = replace(place, none);
+    let CJudge { judge, is_open: _ } = replace(slot, none);
     judge.unseal().into_box()
 }

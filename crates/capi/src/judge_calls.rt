@@ -26,44 +26,44 @@ pub fn abnf_open(
     asked: &CSettings,
     grammar: &[u8],
     name: &[u8],
-    place: &mut CJudge,
+    slot: &mut CJudge,
     err: &mut [u8],
 ) -> CResult
     ensures out { result.out_len ≡ 0 }
     ensures call { IsOpenCall AbnfMeant (λ settings. IsAbnfOpening grammar.now settings) asked.now name.now
-        (record { old = place.old.judge.held; new = place.new.judge.held })
+        (record { old = slot.old.judge.held; new = slot.new.judge.held })
         (record { old = err.old; new = err.new; len = result.err_len }) result.status }
 {
-    if place.is_open {
+    if slot.is_open {
         return nothing_done();
     }
     let Some(settings) = settings_of::<AbnfOptions>(asked, name) else {
         return nothing_done();
     };
-    let reported = open_judge(alloc, grammar, &settings, place);
-    lay_reported(reported, place.is_open, err)
+    let reported = open_judge(alloc, grammar, &settings, slot);
+    lay_reported(reported, slot.is_open, err)
 }
 
 /// Judges a line, which may hold any bytes. A line without the byte that ends lines gets the answer of `run_abnf` for
 /// the grammar and the settings of opening.
-pub fn abnf_judge(alloc: Global, place: &mut CJudge, line: &[u8]) -> CAnswer
-    ensures same { place.new.judge.held ≡ place.old.judge.held }
-    ensures reported { IsJudgeCall line.now result place.old.judge.held }
+pub fn abnf_judge(alloc: Global, slot: &mut CJudge, line: &[u8]) -> CAnswer
+    ensures same { slot.new.judge.held ≡ slot.old.judge.held }
+    ensures reported { IsJudgeCall line.now result slot.old.judge.held }
 {
-    if !place.is_open {
+    if !slot.is_open {
         return without_answer(BAD_SETTINGS);
     }
-    let mut judge = take_judge(alloc, place);
+    let mut judge = take_judge(alloc, slot);
     let reported = judge_line(&mut judge, line);
-    put_judge(judge, place);
+    put_judge(judge, slot);
     reported
 }
 
 /// Frees the judge, if the handle is not empty, and leaves the handle empty.
-pub fn abnf_close(alloc: Global, place: &mut CJudge)
-    ensures { place.new.judge.held ≡ None }
+pub fn abnf_close(alloc: Global, slot: &mut CJudge)
+    ensures { slot.new.judge.held ≡ None }
 {
-    if place.is_open {
-        let _judge = take_judge(alloc, place);
+    if slot.is_open {
+        let _judge = take_judge(alloc, slot);
     }
 }

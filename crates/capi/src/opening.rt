@@ -4,9 +4,9 @@ ghost use Rattle.capi.specs.GrammarOpenings.{IsAbnfOpening, IsPegOpening};
 ghost use Rattle.capi.specs.OpenCall.{code_reported, text_reported};
 
 use crate::judge::{CJudge, put_judge};
-use crate::place::{CRunner, put_runner};
 use crate::reported::text_of_fault;
 use crate::runs::runner_by;
+use crate::slot::{CRunner, put_runner};
 use abnfrun::{AbnfLanguage, AbnfSettings, OpenedAbnf, open_abnf};
 use pegrun::{OpenedPeg, PegLanguage, PegSettings, open_peg};
 use ruletable::Memory;
@@ -18,11 +18,11 @@ pub(crate) fn open_judge(
     alloc: Global,
     grammar: &[u8],
     settings: &AbnfSettings<'_>,
-    place: &mut CJudge,
+    slot: &mut CJudge,
 ) -> Result<Vec<u8>, Memory>
-    requires { place.old.judge.held ≡ None }
-    ensures { IsAbnfOpening grammar.now settings.now (text_reported result) place.new.judge.held
-        (code_reported result (is_some place.new.judge.held)) }
+    requires { slot.old.judge.held ≡ None }
+    ensures { IsAbnfOpening grammar.now settings.now (text_reported result) slot.new.judge.held
+        (code_reported result (is_some slot.new.judge.held)) }
 {
     let OpenedAbnf {
         diagnostics,
@@ -35,7 +35,7 @@ pub(crate) fn open_judge(
     let Some(judge) = judge else {
         return Ok(diagnostics);
     };
-    put_judge(Box::new(alloc, judge)?, place);
+    put_judge(Box::new(alloc, judge)?, slot);
     Ok(diagnostics)
 }
 
@@ -45,11 +45,11 @@ pub(crate) fn open_runner(
     alloc: Global,
     grammar: &[u8],
     settings: &PegSettings<'_>,
-    place: &mut CRunner,
+    slot: &mut CRunner,
 ) -> Result<Vec<u8>, Memory>
-    requires { place.old.runner.held ≡ None }
-    ensures { IsPegOpening grammar.now settings.now (text_reported result) place.new.runner.held
-        (code_reported result (is_some place.new.runner.held)) }
+    requires { slot.old.runner.held ≡ None }
+    ensures { IsPegOpening grammar.now settings.now (text_reported result) slot.new.runner.held
+        (code_reported result (is_some slot.new.runner.held)) }
 {
     let OpenedPeg {
         diagnostics,
@@ -62,6 +62,6 @@ pub(crate) fn open_runner(
     let Some(peg) = runner else {
         return Ok(diagnostics);
     };
-    put_runner(Box::new(alloc, runner_by(peg, settings))?, place);
+    put_runner(Box::new(alloc, runner_by(peg, settings))?, slot);
     Ok(diagnostics)
 }

@@ -8,10 +8,10 @@ ghost use Rattle.capi.specs.RunCall.{IsRunCall};
 use crate::asked::{CSettings, settings_of};
 use crate::calls::hand_out;
 use crate::opening::open_runner;
-use crate::place::{CRunner, put_runner, take_runner};
 use crate::reported::lay_reported;
 use crate::result::{CResult, nothing_done};
 use crate::runs::run_input;
+use crate::slot::{CRunner, put_runner, take_runner};
 use pegrun::PegOptions;
 use std::alloc::Global;
 
@@ -27,22 +27,22 @@ pub fn peg_open(
     asked: &CSettings,
     grammar: &[u8],
     name: &[u8],
-    place: &mut CRunner,
+    slot: &mut CRunner,
     err: &mut [u8],
 ) -> CResult
     ensures out { result.out_len ≡ 0 }
     ensures call { IsOpenCall PegMeant (λ settings. IsPegOpening grammar.now settings) asked.now name.now
-        (record { old = place.old.runner.held; new = place.new.runner.held })
+        (record { old = slot.old.runner.held; new = slot.new.runner.held })
         (record { old = err.old; new = err.new; len = result.err_len }) result.status }
 {
-    if place.is_open {
+    if slot.is_open {
         return nothing_done();
     }
     let Some(settings) = settings_of::<PegOptions>(asked, name) else {
         return nothing_done();
     };
-    let reported = open_runner(alloc, grammar, &settings, place);
-    lay_reported(reported, place.is_open, err)
+    let reported = open_runner(alloc, grammar, &settings, slot);
+    lay_reported(reported, slot.is_open, err)
 }
 
 /// Runs the open grammar on an input, as `run_peg` does with the settings of opening. Lays both outputs into the
@@ -50,29 +50,29 @@ pub fn peg_open(
 /// where no grammar is open.
 pub fn peg_run(
     alloc: Global,
-    place: &mut CRunner,
+    slot: &mut CRunner,
     input: &[u8],
     out: &mut [u8],
     err: &mut [u8],
 ) -> CResult
-    ensures same { place.new.runner.held ≡ place.old.runner.held }
+    ensures same { slot.new.runner.held ≡ slot.old.runner.held }
     ensures ran { IsRunCall input.now (record { old = out.old; new = out.new; len = result.out_len })
-        (record { old = err.old; new = err.new; len = result.err_len }) result.status place.old.runner.held }
+        (record { old = err.old; new = err.new; len = result.err_len }) result.status slot.old.runner.held }
 {
-    if !place.is_open {
+    if !slot.is_open {
         return nothing_done();
     }
-    let mut runner = take_runner(alloc, place);
+    let mut runner = take_runner(alloc, slot);
     let outputs = run_input(alloc, &mut runner, input);
-    put_runner(runner, place);
+    put_runner(runner, slot);
     hand_out(&outputs, out, err)
 }
 
 /// Frees the runner, if the handle is not empty, and leaves the handle empty.
-pub fn peg_close(alloc: Global, place: &mut CRunner)
-    ensures { place.new.runner.held ≡ None }
+pub fn peg_close(alloc: Global, slot: &mut CRunner)
+    ensures { slot.new.runner.held ≡ None }
 {
-    if place.is_open {
-        let _runner = take_runner(alloc, place);
+    if slot.is_open {
+        let _runner = take_runner(alloc, slot);
     }
 }

@@ -41,7 +41,7 @@ abbrev pub lacks_id : List Rule → Text → Bool
 lacks_id [] id = true
 lacks_id (r ∷ rs) id = not (bytes_eq r.id id) && lacks_id rs id
 
--- none but the one at place k has this id
+-- none but the one at position k has this id
 abbrev pub is_only : List Rule → ℕ → Text → Bool
 is_only [] k id = true
 is_only (r ∷ rs) zero id = lacks_id rs id
@@ -140,7 +140,7 @@ is_command c app e plain negates all =
       negates = ap (λ (s : Shape). s.subcommand_negates_reqs) shape ∙ negates;
     }
 
--- the rule r stands at place k, and no other has its id
+-- the rule r stands at position k, and no other has its id
 pub record HasAt (rs : List Rule) (k : ℕ) (r : Rule) : Type 0 where
   pub within : k < length rs
   pub at : (d : Rule) → slice_index_or rs k d ≡ r

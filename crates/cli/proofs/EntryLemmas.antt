@@ -24,7 +24,7 @@ use Rattle.clap.specs.declared.parser.matches.Found.{Found}
 use Rattle.clap.specs.declared.parser.matches.MatchedArg.{MatchedArg}
 use Rattle.clap.proofs.CallerLemmas.{default_present, entry_by_id, same_rules_by_id}
 
--- the command c excludes nothing, and its argument at place k is the only one with its id
+-- the command c excludes nothing, and its argument at position k is the only one with its id
 pub record IsAlone (c : Command) (k : ℕ) (d : Arg) : Type 0 where
   pub plain : IsPlain c
   pub globals : (out-Command c).has_globals ≡ false

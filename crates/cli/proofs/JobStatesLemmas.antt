@@ -15,7 +15,7 @@ use Rattle.ruletable.proofs.AppendsLemmas.{Appends-same}
 use Rattle.toolrun.specs.Input.{Input}
 use Rattle.toolrun.specs.Plan.{IsReportedAnd, stopped}
 use Rattle.toolrun.specs.Reply.{Reply}
-use Rattle.toolrun.specs.Right.{Comes}
+use Rattle.toolrun.specs.Right.{RunIsRight}
 use Rattle.toolrun.specs.Stream.{Stream, no_input}
 use Rattle.toolrun.specs.declared.settings.Settings.{Settings}
 use Rattle.toolrun.specs.declared.status.Status.TheVariants.{Refused}
@@ -27,7 +27,7 @@ use Rattle.toolrun.proofs.IsRightLemmas.{comes_as, reported_stops}
 pub stop_comes : (States : Input → List ℕ → Reply → Type 0) (stop : Stop)
     → ((input : Input) → States input [] (stopped stop)) → (r0 : Option (List ℕ)) (r_was r_failed : Bool)
     (out err : Stream) (code : ℕ) → ReportsOf stop out.old out.new out.failed err.old err.new err.failed code →
-    Comes States (record { old = r0; new = r0; was = r_was; failed = r_failed }) out err code
+    RunIsRight States (record { old = r0; new = r0; was = r_was; failed = r_failed }) out err code
 stop_comes States stop stated r0 r_was r_failed out err code reports =
     comes_as (IsReportedAnd [] stop) States (λ input notes reply is. rw (is.0, is.1) (stated input))
     (record { old = r0; new = r0; was = r_was; failed = r_failed }) out err code
@@ -38,8 +38,8 @@ module _ {O : Type 0} (Asks : List Row → O → Type 0) (States : List ℕ → 
   where
     -- a run of the tool
     pub job_comes : (asked : Asked O) → Ask Asks rows asked → (grammar : List ℕ) (reader out err : Stream) (code : ℕ)
-        → Comes (States grammar asked.settings) reader out err code
-        → Comes (JobStates Asks States rows) reader out err code
+        → RunIsRight (States grammar asked.settings) reader out err code
+        → RunIsRight (JobStates Asks States rows) reader out err code
     job_comes asked ask grammar =
         comes_as (States grammar asked.settings) (JobStates Asks States rows)
         (λ input notes reply is. runs grammar asked notes reply ask is)
@@ -50,7 +50,7 @@ module _ {O : Type 0} (Asks : List Row → O → Type 0) (States : List ℕ → 
           ((stop : Stop) → IsStopOf why stop → ReportsOf stop out.old out.new out.failed err.old err.new err.failed
           code)
           →
-          Comes (JobStates Asks States rows)
+          RunIsRight (JobStates Asks States rows)
           (record { old = r0; new = r0; was = r_was; failed = r_failed }) out err code
       unready_comes (unready.Words error) kinds none (inl memory) reports =
           stop_comes (JobStates Asks States rows) NoMemory (λ input. no_memory) r0 r_was r_failed out err code
@@ -66,7 +66,7 @@ module _ {O : Type 0} (Asks : List Row → O → Type 0) (States : List ℕ → 
 -- words with some fault
 module _ (out err : Stream) (code : ℕ) where
   abbrev Words : Kinds → Type 0
-  Words kinds = Comes (WordsState kinds) no_input out err code
+  Words kinds = RunIsRight (WordsState kinds) no_input out err code
 
   abbrev Reports : Stop → Type 0
   Reports stop = ReportsOf stop out.old out.new out.failed err.old err.new err.failed code
@@ -75,13 +75,13 @@ module _ (out err : Stream) (code : ℕ) where
   without_room kinds = stop_comes (WordsState kinds) NoMemory (λ input. has_no_room) (Some []) false false out err code
 
   pub fault_said : (kind : ErrorKind) (text : List ℕ) → IsNoHelp kind
-      → Comes (IsReportedAnd text (Quiet Refused)) no_input out err code → Words (kind ∷ [])
+      → RunIsRight (IsReportedAnd text (Quiet Refused)) no_input out err code → Words (kind ∷ [])
   fault_said kind text no_help =
       comes_as (IsReportedAnd text (Quiet Refused)) (WordsState (kind ∷ []))
       (λ input notes reply is. rw (is.0, is.1) (says_fault kind text (inl refl) no_help)) no_input out err code
 
   pub help_shown : (kind : ErrorKind) (text : List ℕ) → (IsNoHelp kind → ⊥)
-      → Comes (IsTextAlone text) no_input out err code → Words (kind ∷ [])
+      → RunIsRight (IsTextAlone text) no_input out err code → Words (kind ∷ [])
   help_shown kind text help =
       comes_as (IsTextAlone text) (WordsState (kind ∷ []))
       (λ input notes reply is. rw (is.0, is.1) (shows_help kind text (inl refl) help)) no_input out err code

@@ -6,7 +6,7 @@ ghost use Rattle.cli.specs.Inputs.{InputlessStates};
 ghost use Rattle.cli.specs.Jobs.{ReportsOf};
 ghost use Rattle.cli.specs.Parsing.{IsTextAlone, WordsState};
 ghost use Rattle.toolrun.specs.Plan.{IsReportedAnd};
-ghost use Rattle.toolrun.specs.Right.{Comes};
+ghost use Rattle.toolrun.specs.Right.{RunIsRight};
 ghost use Rattle.toolrun.specs.Status.{code_of};
 ghost use Rattle.toolrun.specs.Stream.{no_input, passed};
 
@@ -28,7 +28,7 @@ const UNASKED: &str = "FILE is read only with -m run";
 fn report_fault<O: Sink, E: Sink>(text: &str, status: Status, out: &mut O, err: &mut E) -> Status
     requires out_is_fresh { O.failed out.old ≡ false }
     requires err_is_fresh { E.failed err.old ≡ false }
-    ensures right { Comes (IsReportedAnd text.now (Stop.Quiet status)) no_input
+    ensures right { RunIsRight (IsReportedAnd text.now (Stop.Quiet status)) no_input
         (passed O.contents O.failed out.old out.new) (passed E.contents E.failed err.old err.new) (code_of result) }
 {
     if write_whole(err, text.as_bytes()).is_err() {
@@ -42,7 +42,7 @@ fn report_fault<O: Sink, E: Sink>(text: &str, status: Status, out: &mut O, err: 
 fn show_help<O: Sink, E: Sink>(text: &str, out: &mut O, err: &mut E) -> Status
     requires out_is_fresh { O.failed out.old ≡ false }
     requires err_is_fresh { E.failed err.old ≡ false }
-    ensures right { Comes (IsTextAlone text.now) no_input
+    ensures right { RunIsRight (IsTextAlone text.now) no_input
         (passed O.contents O.failed out.old out.new) (passed E.contents E.failed err.old err.new) (code_of result) }
 {
     match write_whole(out, text.as_bytes()) {
@@ -61,7 +61,7 @@ pub fn end_unparsed<O: Sink, E: Sink>(
 ) -> Status
     requires out_is_fresh { O.failed out.old ≡ false }
     requires err_is_fresh { E.failed err.old ≡ false }
-    ensures right { Comes (WordsState (kind_of error.now ∷ [])) no_input
+    ensures right { RunIsRight (WordsState (kind_of error.now ∷ [])) no_input
         (passed O.contents O.failed out.old out.new) (passed E.contents E.failed err.old err.new) (code_of result) }
     ensures stopped { kind_of error.now ≡ ErrorKind.OutOfMemory → ReportsOf Stop.NoMemory (O.contents out.old)
         (O.contents out.new) (O.failed out.new) (E.contents err.old) (E.contents err.new) (E.failed err.new)
@@ -101,7 +101,7 @@ fn end_error<O: Sink, E: Sink>(
 ) -> Status
     requires out_is_fresh { O.failed out.old ≡ false }
     requires err_is_fresh { E.failed err.old ≡ false }
-    ensures { (kind : Kind) → IfOk error (λ e. kind_of e ≡ kind) → Comes (WordsState (kind ∷ [])) no_input
+    ensures { (kind : Kind) → IfOk error (λ e. kind_of e ≡ kind) → RunIsRight (WordsState (kind ∷ [])) no_input
         (passed O.contents O.failed out.old out.new) (passed E.contents E.failed err.old err.new) (code_of result) }
 {
     match error {
@@ -120,7 +120,7 @@ pub fn refuse_invalid_utf8<O: Sink, E: Sink>(
 ) -> Status
     requires out_is_fresh { O.failed out.old ≡ false }
     requires err_is_fresh { E.failed err.old ≡ false }
-    ensures refused { Comes (WordsState (ErrorKind.ValueValidation ∷ [])) no_input
+    ensures refused { RunIsRight (WordsState (ErrorKind.ValueValidation ∷ [])) no_input
         (passed O.contents O.failed out.old out.new) (passed E.contents E.failed err.old err.new) (code_of result) }
 {
     let error = error_of(command, ErrorKind::ValueValidation, INVALID_UTF8);
@@ -155,7 +155,7 @@ pub(crate) fn end_inputless<O: Sink, E: Sink>(
 ) -> Status
     requires out_is_fresh { O.failed out.old ≡ false }
     requires err_is_fresh { E.failed err.old ≡ false }
-    ensures { Comes (InputlessStates why.entry) no_input (passed O.contents O.failed out.old out.new)
+    ensures { RunIsRight (InputlessStates why.entry) no_input (passed O.contents O.failed out.old out.new)
         (passed E.contents E.failed err.old err.new) (code_of result) }
 {
     match why {

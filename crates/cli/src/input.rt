@@ -3,7 +3,7 @@ ghost use Rattle.std.specs.Prelude.{◌≡◌, IfErr, IfOk, false, map, string_b
 ghost use Rattle.clap.specs.Words.{App};
 ghost use Rattle.cli.specs.Inputs.{InputlessStates, IsInputOf, file_of, rest_of};
 ghost use Rattle.cli.specs.declared.input.Inputless.{Inputless as Why};
-ghost use Rattle.toolrun.specs.Right.{Comes};
+ghost use Rattle.toolrun.specs.Right.{RunIsRight};
 ghost use Rattle.toolrun.specs.Status.{code_of};
 ghost use Rattle.toolrun.specs.Stream.{no_input, passed};
 
@@ -115,7 +115,7 @@ pub fn open_source<P: Program, R: Files + AllocGlobal, S: Read + Drop, O: Sink, 
     ensures ready { IfOk result (λ source. (⟦<SourceOf<BufReader<Input<S, R::File>>> as Source>⟧.failed source ≡ false)
         × (⟦<SourceOf<BufReader<Input<S, R::File>>> as Source>⟧.ended source ≡ false)
         × (out.new ≡ out.old) × (err.new ≡ err.old)) }
-    ensures ended { IfErr result (λ status. (why : Why) × Comes (InputlessStates why) no_input
+    ensures ended { IfErr result (λ status. (why : Why) × RunIsRight (InputlessStates why) no_input
         (passed O.contents O.failed out.old out.new) (passed E.contents E.failed err.old err.new) (code_of status)) }
 {
     let input = match open_input::<P, R, S>(rt, words, standard) {

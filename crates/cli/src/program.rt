@@ -7,7 +7,7 @@ ghost use Rattle.cli.specs.Asked.{AreWhole};
 ghost use Rattle.cli.specs.Parsing.{IsParsedBy, Parses};
 ghost use Rattle.toolrun.specs.Input.{Input};
 ghost use Rattle.toolrun.specs.Reply.{Reply};
-ghost use Rattle.toolrun.specs.Right.{Comes};
+ghost use Rattle.toolrun.specs.Right.{RunIsRight};
 ghost use Rattle.toolrun.specs.Status.{code_of};
 ghost use Rattle.toolrun.specs.Stream.{passed};
 ghost use Rattle.toolrun.specs.declared.settings.Settings.{Settings as AllSettings};
@@ -59,7 +59,7 @@ pub trait Program {
         requires reader_is_open { I.ended reader.old ≡ false }
         requires out_is_fresh { O.failed out.old ≡ false }
         requires err_is_fresh { E.failed err.old ≡ false }
-        ensures right { Comes (states grammar.now settings.now) (passed I.remaining I.failed reader.old reader.new)
+        ensures right { RunIsRight (states grammar.now settings.now) (passed I.remaining I.failed reader.old reader.new)
             (passed O.contents O.failed out.old out.new) (passed E.contents E.failed err.old err.new)
             (code_of result) };
 

@@ -4,7 +4,7 @@ ghost use Rattle.clap.specs.Words.{App, Kinds, fault_of, matches_of};
 ghost use Rattle.cli.specs.Asked.{Ask};
 ghost use Rattle.cli.specs.Jobs.{IsStopOf, ReportsOf};
 ghost use Rattle.cli.specs.Parsing.{IsUnready, WordsState};
-ghost use Rattle.toolrun.specs.Right.{Comes};
+ghost use Rattle.toolrun.specs.Right.{RunIsRight};
 ghost use Rattle.toolrun.specs.Status.{code_of};
 ghost use Rattle.toolrun.specs.Stream.{no_input, passed};
 
@@ -84,7 +84,7 @@ pub fn end_unready<O: Sink, E: Sink>(
 ) -> Status
     requires out_is_fresh { O.failed out.old ≡ false }
     requires err_is_fresh { E.failed err.old ≡ false }
-    ensures words { (kinds : Kinds) → IsUnready kinds why.now → kinds ≢ [] → Comes (WordsState kinds) no_input
+    ensures words { (kinds : Kinds) → IsUnready kinds why.now → kinds ≢ [] → RunIsRight (WordsState kinds) no_input
         (passed O.contents O.failed out.old out.new) (passed E.contents E.failed err.old err.new) (code_of result) }
     ensures stopped { (stop : _) → IsStopOf why.now stop → ReportsOf stop (O.contents out.old) (O.contents out.new)
         (O.failed out.new) (E.contents err.old) (E.contents err.new) (E.failed err.new) (code_of result) }

@@ -4,7 +4,7 @@ ghost use Rattle.std.specs.Io.KnownBytes.{Keeps};
 ghost use Rattle.clap.specs.Words.{App, fault_of, matches_of};
 ghost use Rattle.cli.specs.Jobs.{JobStates};
 ghost use Rattle.cli.specs.Parsing.{WordsState};
-ghost use Rattle.toolrun.specs.Right.{Comes};
+ghost use Rattle.toolrun.specs.Right.{RunIsRight};
 ghost use Rattle.toolrun.specs.Status.{code_of};
 ghost use Rattle.toolrun.specs.Stream.{no_input, passed};
 
@@ -37,10 +37,10 @@ pub fn tool_main<P: Program, R: Files + AllocGlobal, I: Source, O: BufferedSink,
     requires err_is_fresh { E.failed err.old ≡ false }
     ensures words { (app : App) × P.is_app app × (fault_of app (map string_bytes words.now) ≢ [] →
         Keeps (I.remaining reader.old) (I.remaining reader.new) ×
-        Comes (WordsState (fault_of app (map string_bytes words.now))) no_input
+        RunIsRight (WordsState (fault_of app (map string_bytes words.now))) no_input
         (passed O.contents O.failed out.old out.new) (passed E.contents E.failed err.old err.new) (code_of result)) }
     ensures right { (app : App) × P.is_app app × (fault_of app (map string_bytes words.now) ≡ [] →
-        Comes (JobStates P.asks P.states (matches_of app (map string_bytes words.now)))
+        RunIsRight (JobStates P.asks P.states (matches_of app (map string_bytes words.now)))
         (passed I.remaining I.failed reader.old reader.new) (passed O.contents O.failed out.old out.new)
         (passed E.contents E.failed err.old err.new) (code_of result)) }
 {

@@ -7,12 +7,12 @@ use Rattle.ruletable.specs.Notes.{Said}
 use Rattle.ruletable.specs.declared.lines.LineRule.{LineRule}
 use Rattle.ruletable.specs.declared.table.NameCase.{NameCase}
 use Rattle.diagnostics.specs.DefinitionHeads.{DefinedAt, definitions_in, sign_at}
-use Rattle.diagnostics.specs.ExplainedNotes.{ArePlaces, IsNoteExplained, AreNoteLines, AreReportedBy}
+use Rattle.diagnostics.specs.ExplainedNotes.{ArePositions, IsNoteExplained, AreNoteLines, AreReportedBy}
 use Rattle.diagnostics.specs.FirstMentions.{rule_named, uses_of}
 use Rattle.diagnostics.specs.MentionLines.{lines_mentioned, mention_lines_by, mention_lines_of}
 use Rattle.diagnostics.specs.UseLines.{AreLinesAfter, lines_by}
 use Rattle.diagnostics.specs.declared.noteplaces.mentions.MentionKind.{MentionKind}
-use Rattle.diagnostics.specs.declared.noteplaces.places.Places.{Places}
+use Rattle.diagnostics.specs.declared.noteplaces.positions.Positions.{Positions}
 use Rattle.diagnostics.specs.declared.noteplaces.sign.Sign.{Sign}
 use Rattle.diagnostics.proofs.FirstMentionLemmas.{first-one}
 
@@ -26,17 +26,18 @@ after-one names definitions mentions start note a b g h =
 
 module _ {K : Type 0} (White : List ℕ → List ℕ → Type 0) (First : K → List ℕ → List ℕ → Type 0) (is_end : K → Bool)
     (sign_of : K → Sign) (rule : LineRule) (names : NameCase) (text : List ℕ) where
-  pub places-explain : (places : Places) (start : Option (List ℕ)) (note : Said) (why : List ℕ)
-      → ArePlaces White First is_end sign_of rule names text places → AreReportedBy places start note why
+  pub positions-explain : (positions : Positions) (start : Option (List ℕ)) (note : Said) (why : List ℕ)
+      → ArePositions White First is_end sign_of rule names text positions → AreReportedBy positions start note why
       → IsNoteExplained White First is_end sign_of rule names text start note why
-  places-explain places start note why are by = record {
+  positions-explain positions start note why are by = record {
     tokens = are.tokens;
     are_tokens = are.are_tokens;
     are = subst (λ (c : NameCase). AreLinesAfter c (definitions_in rule text (map (sign_at sign_of) are.tokens))
         (mentions_in rule text None (map (sign_at sign_of) are.tokens)) start note why) are.names_are
-        (subst (λ ms. AreLinesAfter places.names (definitions_in rule text (map (sign_at sign_of) are.tokens)) ms start
+        (subst (λ ms. AreLinesAfter positions.names
+        (definitions_in rule text (map (sign_at sign_of) are.tokens)) ms start
         note why) are.mentions_are
-        (subst (λ ds. AreLinesAfter places.names ds (map mentioned_at places.mentions.items) start note why)
+        (subst (λ ds. AreLinesAfter positions.names ds (map mentioned_at positions.mentions.items) start note why)
         are.heads_are by));
   }
 
@@ -53,13 +54,14 @@ module _ {K : Type 0} (White : List ℕ → List ℕ → Type 0) (First : K → 
       (one g.tokens h.tokens g.are_tokens h.are_tokens) g.are) h.are
 
   -- the lines of mentions that the positions report are those of the tokens
-  pub places-mention : (places : Places) (kind : MentionKind) (name : List ℕ)
-      (are : ArePlaces White First is_end sign_of rule names text places)
-      → mention_lines_by places kind name ≡ lines_mentioned rule names text (map (sign_at sign_of) are.tokens) kind name
-  places-mention places kind name are =
-      ap (λ ds. mention_lines_of kind (rule_named places.names ds name) (map mentioned_at places.mentions.items))
+  pub positions-mention : (positions : Positions) (kind : MentionKind) (name : List ℕ)
+      (are : ArePositions White First is_end sign_of rule names text positions)
+      → mention_lines_by positions kind name
+      ≡ lines_mentioned rule names text (map (sign_at sign_of) are.tokens) kind name
+  positions-mention positions kind name are =
+      ap (λ ds. mention_lines_of kind (rule_named positions.names ds name) (map mentioned_at positions.mentions.items))
       are.heads_are
-      ∙ ap (λ ms. mention_lines_of kind (rule_named places.names
+      ∙ ap (λ ms. mention_lines_of kind (rule_named positions.names
       (definitions_in rule text (map (sign_at sign_of) are.tokens)) name) ms) are.mentions_are
       ∙ ap (λ (c : NameCase). mention_lines_of kind (rule_named c
       (definitions_in rule text (map (sign_at sign_of) are.tokens)) name)

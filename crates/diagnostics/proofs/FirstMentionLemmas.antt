@@ -27,7 +27,7 @@ module _ (names : NameCase) (definitions : List DefinedAt) where
     -- one that is after the first mention
     after-first : (o : RuleMention) (h : IsFirstMention names definitions ms o)
         → ((r : DefinedAt) → stands-in m ≡ Some r → o.rule.start < r.start) → (k : ℕ) (n : MentionedAt) (r : DefinedAt)
-        → slice_get (m ∷ ms) k ≡ Some n → stands-in n ≡ Some r → Earlier o.rule (suc h.place) r k
+        → slice_get (m ∷ ms) k ≡ Some n → stands-in n ≡ Some r → Earlier o.rule (suc h.position) r k
     after-first o h less zero n r at stands =
         let same : m ≡ n = cc at in
         inl (less r (ap stands-in same ∙ stands))
@@ -38,7 +38,7 @@ module _ (names : NameCase) (definitions : List DefinedAt) where
         → ((r : DefinedAt) → stands-in m ≡ Some r → o.rule.start < r.start)
         → IsFirstMention names definitions (m ∷ ms) o
     first-after o h less = record {
-      place = suc h.place;
+      position = suc h.position;
       there = h.there;
       stands = h.stands;
       first = after-first o h less;
@@ -61,7 +61,7 @@ module _ (names : NameCase) (definitions : List DefinedAt) where
           (cases_order own.start r.start)
 
       first-here : IsFirstMention names definitions (m ∷ ms) (record { rule = own; mention = m })
-      first-here = record { place = 0; there = refl; stands = is; first = before-all }
+      first-here = record { position = 0; there = refl; stands = is; first = before-all }
 
     not-before : (own : DefinedAt) (o : RuleMention) → own.start ≤ o.rule.start
         → IsFirstMention names definitions ms o → (k : ℕ) (n : MentionedAt) (r : DefinedAt)
@@ -108,11 +108,11 @@ module _ (names : NameCase) (definitions : List DefinedAt) where
 
   -- and no other
   module _ (ms : List MentionedAt) where
-    same-place : (a b : RuleMention) (h : IsFirstMention names definitions ms a)
-        (g : IsFirstMention names definitions ms b) → h.place ≡ g.place
-    same-place a b h g =
-        let one = h.first g.place b.mention b.rule g.there g.stands in
-        let two = g.first h.place a.mention a.rule h.there h.stands in
+    same-position : (a b : RuleMention) (h : IsFirstMention names definitions ms a)
+        (g : IsFirstMention names definitions ms b) → h.position ≡ g.position
+    same-position a b h g =
+        let one = h.first g.position b.mention b.rule g.there g.stands in
+        let two = g.first h.position a.mention a.rule h.there h.stands in
         ⊎_elim (λ lt. ⊎_elim (λ gt. absurd (omega (arith, lt, gt)))
         (λ e. absurd (let same = e.0 in omega (arith, lt, same))) two)
         (λ d. ⊎_elim (λ gt. absurd (let same = d.0 in omega (arith, gt, same)))
@@ -125,7 +125,8 @@ module _ (names : NameCase) (definitions : List DefinedAt) where
     mention-one : (a b : RuleMention) → IsFirstMention names definitions ms a
         → IsFirstMention names definitions ms b → a ≡ b
     mention-one a b h g =
-        let found : Some a.mention ≡ Some b.mention = sym h.there ∙ ap (slice_get ms) (same-place a b h g) ∙ g.there in
+        let found : Some a.mention ≡ Some b.mention = sym h.there ∙ ap (slice_get ms) (same-position a b h g)
+        ∙ g.there in
         let mention : a.mention ≡ b.mention = cc found in
         let rules : Some a.rule ≡ Some b.rule = sym h.stands ∙ ap stands-in mention ∙ g.stands in
         let rule : a.rule ≡ b.rule = cc rules in
@@ -134,6 +135,6 @@ module _ (names : NameCase) (definitions : List DefinedAt) where
     pub first-one : (a b : Option RuleMention) → IsFirstIfAny names definitions ms a
         → IsFirstIfAny names definitions ms b → a ≡ b
     first-one None None h g = refl
-    first-one None (Some b) h g = absurd (h g.place b.mention b.rule g.there g.stands)
-    first-one (Some a) None h g = absurd (g h.place a.mention a.rule h.there h.stands)
+    first-one None (Some b) h g = absurd (h g.position b.mention b.rule g.there g.stands)
+    first-one (Some a) None h g = absurd (g h.position a.mention a.rule h.there h.stands)
     first-one (Some a) (Some b) h g = ap Some (mention-one a b h g)

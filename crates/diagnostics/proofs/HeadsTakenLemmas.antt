@@ -33,7 +33,7 @@ module _ {K : Type 0} (White : List ℕ → List ℕ → Type 0) (First : K → 
   abbrev pub among : List (Tok K) → List DefinedAt
   among ts = definitions_in rule text (map (sign_at sign_of) ts)
 
-  -- the definitions so far and those that are left are the text's, and the line of a place before these is known
+  -- the definitions so far and those that are left are the text's, and the line of a position before these is known
   pub record HasTaken (left : List (Tok K) → Type 0) (before : Option SignAt) (at line : ℕ) (found : List DefinedAt)
       : Type 0 where
     pub rest : List (Tok K)

@@ -1,5 +1,5 @@
 -- The tokens of a list that a loop has not taken.
--- Serves: places_by
+-- Serves: positions_by
 use Rattle.std.proofs.Common.{◌≡◌, ℕ, suc, ◌+◌, ◌≤◌, ◌<◌, List, [], ◌∷◌, length, map, get_or, drop, refl, sym, ap, ◌∙◌}
 use Rattle.std.proofs.Common.{add-one}
 use Rattle.std.proofs.Math.ListN.{drop_of_length-le}

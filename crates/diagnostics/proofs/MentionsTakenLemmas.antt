@@ -1,5 +1,5 @@
 -- What the tokens so far mention.
--- Serves: places_of
+-- Serves: positions_of
 use Rattle.std.proofs.Common.{◌≡◌, ℕ, ◌≤◌, Bool, All, Option, Some, None, List, [], ◌∷◌, ◌++◌, length, map, refl}
 use Rattle.std.proofs.Common.{sym, ap, subst, ◌∙◌, append_assoc, append-nil, arith}
 use Rattle.std.specs.Prelude.{option_map}
@@ -19,7 +19,8 @@ module _ {K : Type 0} (White : List ℕ → List ℕ → Type 0) (First : K → 
   abbrev pub among : Option ℕ → List (Tok K) → List MentionedAt
   among within ts = mentions_in rule text within (map (sign_at sign_of) ts)
 
-  -- what the tokens so far mention and what those that are left do is all, and the line of a place before them is known
+  -- what the tokens so far mention and what those that are left do is all, and the line of a position before them is
+  -- known
   pub record HasMentioned (left : List (Tok K) → Type 0) (before : Option SignAt) (within : Option ℕ) (at line : ℕ)
       (found : List MentionedAt) : Type 0 where
     pub rest : List (Tok K)
@@ -162,10 +163,10 @@ module _ {K : Type 0} (White : List ℕ → List ℕ → Type 0) (First : K → 
           let same : o.name_token ≡ s = (let f : Some o.name_token ≡ Some s = sym o.there ∙ some in cc) in
           let begun : begun_by s.sign (sign_of (kind_of t)) ≡ Some adds =
           sym (ap (λ (x : SignAt). begun_by x.sign (sign_of (kind_of t))) same) ∙ o.opened in
-          let place : start ≡ s.start = o.start_is ∙ ap (λ (x : SignAt). x.start) same in
+          let position : start ≡ s.start = o.start_is ∙ ap (λ (x : SignAt). x.start) same in
           subst (λ ms. HasMentioned next (Some (sign_at sign_of t)) (Some start) s.start to ms) (append-nil found)
           (next-mentioned to [] (Some start) e (sym (ap (λ b. mention_unless b within to s) begun))
-          (ap Some place ∙ sym (ap (λ b. body_after b within s) begun)))
+          (ap Some position ∙ sym (ap (λ b. body_after b within s) begun)))
 
   last-none : (within : Option ℕ) (last : Option (Tok K)) → among within (joined last []) ≡ []
   last-none within None = refl

@@ -1,5 +1,5 @@
 -- Lists of numbers by name, one number more; and what has the positions of what passes.
--- Serves: places_of, explain_note, mention_lines, add_number, numbers_of; find_fates, find_order of abnftexts
+-- Serves: positions_of, explain_note, mention_lines, add_number, numbers_of; find_fates, find_order of abnftexts
 use Rattle.std.proofs.Common.{◌≡◌, ℕ, zero, suc, ◌+◌, ◌<◌, Bool, true, false, cond, Option, Some, None, List, [], ◌∷◌}
 use Rattle.std.proofs.Common.{◌++◌, length, map, get_or, take, position, refl, sym, ap, ◌∙◌, arith, append_assoc}
 use Rattle.std.proofs.Common.{append-nil, Vec, Global, nat_lt, if◌then◌else◌, add-one}
@@ -189,17 +189,17 @@ module _ {A : Type 0} (p : A → Bool) where
   more-first true n a b c h = ap (λ (l : List ℕ). n ∷ l) h
   more-first false n a b c h = h
 
-  pub positions-more : (n : ℕ) (xs : List A) (i m : ℕ) (d : A) → i < length xs → m ≡ n + i
+  pub indexes-more : (n : ℕ) (xs : List A) (i m : ℕ) (d : A) → i < length xs → m ≡ n + i
       → positions_from n p (take (suc i) xs)
       ≡ positions_from n p (take i xs) ++ (if p (get_or xs i d) then m ∷ [] else [])
-  positions-more n [] i m d lt is = absurd (omega (arith, lt))
-  positions-more n (x ∷ xs) zero m d lt is =
+  indexes-more n [] i m d lt is = absurd (omega (arith, lt))
+  indexes-more n (x ∷ xs) zero m d lt is =
       let same : n ≡ m = omega (arith, is) in
       ap (λ (k : ℕ). if p x then k ∷ [] else []) same
-  positions-more n (x ∷ xs) (suc i) m d lt is =
+  indexes-more n (x ∷ xs) (suc i) m d lt is =
       more-first (p x) n (positions_from (suc n) p (take (suc i) xs)) (positions_from (suc n) p (take i xs))
       (if p (get_or xs i d) then m ∷ [] else [])
-      (positions-more (suc n) xs i m d (omega (arith, lt)) (omega (arith, is)))
+      (indexes-more (suc n) xs i m d (omega (arith, lt)) (omega (arith, is)))
 
   there-next : (front xs : List A) (x : A) → slice_get (front ++ x ∷ xs) (length front) ≡ Some x
   there-next [] xs x = refl
@@ -265,14 +265,14 @@ module _ {A : Type 0} (xs : List A) where
   item-got k (Some x) h = sym (got-there k x.now h.0 h.1)
 
   -- one position more
-  pub items-more : (positions : List ℕ) (i : ℕ) (o : Option A) → i < length positions
-      → slice_get xs (get_or positions i 0) ≡ o
-      → items_at xs (take (i + 1) positions) ≡ items_at xs (take i positions) ++ option_to_list o
-  items-more positions i o lt there =
-      ap (items_at xs) (take_more positions i 0 lt)
-      ∙ flat_map-append (λ n. option_to_list (slice_get xs n)) (take i positions) (get_or positions i 0 ∷ [])
-      ∙ ap (λ (l : List A). items_at xs (take i positions) ++ l)
-      (append-nil (option_to_list (slice_get xs (get_or positions i 0))) ∙ ap option_to_list there)
+  pub items-more : (indexes : List ℕ) (i : ℕ) (o : Option A) → i < length indexes
+      → slice_get xs (get_or indexes i 0) ≡ o
+      → items_at xs (take (i + 1) indexes) ≡ items_at xs (take i indexes) ++ option_to_list o
+  items-more indexes i o lt there =
+      ap (items_at xs) (take_more indexes i 0 lt)
+      ∙ flat_map-append (λ n. option_to_list (slice_get xs n)) (take i indexes) (get_or indexes i 0 ∷ [])
+      ∙ ap (λ (l : List A). items_at xs (take i indexes) ++ l)
+      (append-nil (option_to_list (slice_get xs (get_or indexes i 0))) ∙ ap option_to_list there)
 
 pub map-twice : {A B : Type 0} (f : A → B) (o : Option (Bor A))
     → option_map (λ x. f x.now) o ≡ option_map f (option_map (λ x. x.now) o)
@@ -281,9 +281,9 @@ map-twice f (Some x) = refl
 
 -- those that positions select, as contracts see them
 pub picked-mapped : {A B : Type 0} (f : A → B) (p : B → Bool) (q : A → Bool) → ((x : A) → q x ≡ p (f x))
-    → (xs : List A) (positions : List ℕ) (found : List (Bor A)) → map (λ x. x.now) found ≡ items_at xs positions
-    → positions ≡ positions_from 0 q xs → map (λ x. f x.now) found ≡ filter p (map f xs)
-picked-mapped f p q agree xs positions found e is =
+    → (xs : List A) (indexes : List ℕ) (found : List (Bor A)) → map (λ x. x.now) found ≡ items_at xs indexes
+    → indexes ≡ positions_from 0 q xs → map (λ x. f x.now) found ≡ filter p (map f xs)
+picked-mapped f p q agree xs indexes found e is =
     sym (map-map f (λ x. x.now) found)
     ∙ ap (map f) (e ∙ ap (items_at xs) is ∙ items-pass q [] xs ∙ filter_agree q (λ x. p (f x)) agree xs)
     ∙ filter-mapped f p xs
@@ -297,7 +297,7 @@ module _ {A : Type 0} (passes : List ℕ → A → Bool) (xs : List A) where
   lists-more old new i x lt is so_far more = λ name.
       more name ∙ ap (λ (l : List ℕ). l ++ (if passes name x then i ∷ [] else [])) (so_far name)
       ∙ ap (λ (y : A). positions_from 0 (passes name) (take i xs) ++ (if passes name y then i ∷ [] else [])) is
-      ∙ sym (positions-more (passes name) 0 xs i i x lt (omega arith))
+      ∙ sym (indexes-more (passes name) 0 xs i i x lt (omega arith))
       ∙ ap (λ (k : ℕ). positions_from 0 (passes name) (take k xs)) (sym (add-one i))
 
   -- none of them

@@ -1,4 +1,4 @@
--- The phrases that are reported of a place are one list.
+-- The phrases that are reported of a position are one list.
 -- Serves: one_explanation, one_explanation_of_abnf
 use Rattle.std.proofs.Common.{◌≡◌, ℕ, List, ◌∷◌, refl, ap}
 use Rattle.diagnostics.specs.ReportedPhrases.{Phrase, AreAllReported, reported_none, reported_more, reported_not}

@@ -73,18 +73,18 @@ module _ {K : Type 0} where
     pub means : Contains phrase.kinds k
 
   -- that of a row, at a position among its kinds
-  module _ (can : K → Bool) (phrases : List (Phrase K)) (k : K) (row place : ℕ) where
+  module _ (can : K → Bool) (phrases : List (Phrase K)) (k : K) (row position : ℕ) where
     abbrev phrase_at : Phrase K
     phrase_at = slice_index_or phrases row (record { words = []; kinds = []; bars = [] })
 
     pub means-at : nat_lt row (length phrases) ≡ true → slice_index_or phrases row phrase_at ≡ phrase_at
-        → reports can phrase_at ≡ true → nat_lt place (length (phrase_at).kinds) ≡ true
-        → slice_index_or (phrase_at).kinds place k ≡ k → IsMeant can phrases k
+        → reports can phrase_at ≡ true → nat_lt position (length (phrase_at).kinds) ≡ true
+        → slice_index_or (phrase_at).kinds position k ≡ k → IsMeant can phrases k
     means-at there e does inside e' = record {
       phrase = phrase_at;
       there = (row, ltb-true row (length phrases) there, e);
       reported = does;
-      means = (place, ltb-true place (length (phrase_at).kinds) inside, e');
+      means = (position, ltb-true position (length (phrase_at).kinds) inside, e');
     }
 
   pub report-all : (can : K → Bool) (phrases : List (Phrase K)) {reported : List (List ℕ)}

@@ -1,5 +1,5 @@
 -- Definitions start where tokens do, each after the one before it.
--- Serves: places_of, explain_note
+-- Serves: positions_of, explain_note
 use Rattle.std.proofs.Common.{◌≡◌, ℕ, zero, suc, ◌+◌, ◌<◌, ◌≤◌, Bool, true, false, cond, Option, Some, None, List, []}
 use Rattle.std.proofs.Common.{◌∷◌, ◌++◌, ◌==◌, ◌||◌, length, map, get_or, refl, sym, ap, ◌∙◌, subst, arith, ⊎_elim}
 use Rattle.std.specs.Prelude.{slice_get}
@@ -26,11 +26,11 @@ module _ {K : Type 0} (White : List ℕ → List ℕ → Type 0) (First : K → 
       → n + length t ≤ total → Rises n (map start_of ts)
   tokens-rise {total} {t} (last_one {x = x} h e) n le =
       let shorter = end-shorter (white _ _ h.white).part in
-      let there = h.place in
+      let there = h.position in
       (omega (arith, shorter, there, le), tt)
   tokens-rise {total} {t} (one_more {x = x} h e more) n le =
       let shorter = end-shorter (white _ _ h.white).part in
-      let there = h.place in
+      let there = h.position in
       let part = less (kind_of x) _ _ e h.first in
       (omega (arith, shorter, there, le), tokens-rise more (suc (start_of x)) (omega (arith, there, part)))
 

@@ -10,8 +10,8 @@ use Rattle.diagnostics.specs.declared.noteplaces.mentions.MentionKind.TheVariant
 use Rattle.diagnostics.specs.declared.noteplaces.sign.Sign.{Sign}
 use Rattle.diagnostics.specs.declared.noteplaces.sign.Sign.TheVariants.{Name, Prose, Repeats, Number, Literal}
 
--- a name that is used, prose, the mark of a repetition, numbers or a text in quotes: its text, its line, the place of
--- the definition in whose body it stands, and which it is
+-- a name that is used, prose, the mark of a repetition, numbers or a text in quotes: its text, its line, the position
+-- of the definition in whose body it stands, and which it is
 pub record MentionedAt : Type 0 where
   pub text : List ℕ
   pub line : ℕ
@@ -54,7 +54,7 @@ abbrev pub body_after : Option Bool → Option ℕ → SignAt → Option ℕ
 body_after None within t = within
 body_after (Some adds) within t = Some t.start
 
--- What the tokens of a text mention, in order, after a definition at that place: each name without the sign of a
+-- What the tokens of a text mention, in order, after a definition at that position: each name without the sign of a
 -- definition right after it, prose, the marks of repetitions, numbers and literals.
 abbrev pub mentions_in : LineRule → List ℕ → Option ℕ → List SignAt → List MentionedAt
 mentions_in rule text within [] = []

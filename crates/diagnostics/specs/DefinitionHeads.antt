@@ -21,7 +21,7 @@ sign_at sign_of t = record { sign = sign_of (kind_of t); slice = slice_of t; sta
 abbrev pub signed_at : Signed → SignAt
 signed_at s = record { sign = s.sign; slice = s.slice.now; start = s.start }
 
--- a definition: its name as it is spelled, the line and the place of that, and whether it adds to a rule
+-- a definition: its name as it is spelled, the line and the position of that, and whether it adds to a rule
 pub record DefinedAt : Type 0 where
   pub name : List ℕ
   pub line : ℕ
@@ -38,7 +38,7 @@ begun_by Name Defines = Some false
 begun_by Name Adds = Some true
 begun_by _ _ = None
 
--- that definition, of a name on a line, at a place
+-- that definition, of a name on a line, at a position
 abbrev pub definition_of : Option Bool → List ℕ → ℕ → ℕ → List DefinedAt
 definition_of None name line start = []
 definition_of (Some adds) name line start =

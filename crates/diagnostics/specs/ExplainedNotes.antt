@@ -7,7 +7,7 @@ use Rattle.ruletable.specs.declared.table.NameCase.{NameCase}
 use Rattle.diagnostics.specs.BodyMentions.{mentioned_at, mentions_in}
 use Rattle.diagnostics.specs.DefinitionHeads.{SignAt, defined_at, definitions_in, sign_at}
 use Rattle.diagnostics.specs.UseLines.{AreLinesAfter}
-use Rattle.diagnostics.specs.declared.noteplaces.places.Places.{Places}
+use Rattle.diagnostics.specs.declared.noteplaces.positions.Positions.{Positions}
 use Rattle.diagnostics.specs.declared.noteplaces.sign.Sign.{Sign}
 
 -- the lines after a note on the grammar of these tokens of a text, where that name is given for the start rule
@@ -16,19 +16,19 @@ AreNoteLines rule names text signs =
     AreLinesAfter names (definitions_in rule text signs) (mentions_in rule text None signs)
 
 -- the lines that such positions report
-abbrev pub AreReportedBy : Places → Option (List ℕ) → Said → List ℕ → Type 0
-AreReportedBy places =
-    AreLinesAfter places.names (map defined_at places.heads.items) (map mentioned_at places.mentions.items)
+abbrev pub AreReportedBy : Positions → Option (List ℕ) → Said → List ℕ → Type 0
+AreReportedBy positions =
+    AreLinesAfter positions.names (map defined_at positions.heads.items) (map mentioned_at positions.mentions.items)
 
 module _ {K : Type 0} (White : List ℕ → List ℕ → Type 0) (First : K → List ℕ → List ℕ → Type 0) (is_end : K → Bool)
     (sign_of : K → Sign) (rule : LineRule) (names : NameCase) (text : List ℕ) where
-  -- the places are the text's
-  pub record ArePlaces (places : Places) : Type 0 where
+  -- the positions are the text's
+  pub record ArePositions (positions : Positions) : Type 0 where
     pub tokens : List (Tok K)
     pub are_tokens : AreTokens White First is_end (length text) text tokens
-    pub names_are : places.names ≡ names
-    pub heads_are : map defined_at places.heads.items ≡ definitions_in rule text (map (sign_at sign_of) tokens)
-    pub mentions_are : map mentioned_at places.mentions.items
+    pub names_are : positions.names ≡ names
+    pub heads_are : map defined_at positions.heads.items ≡ definitions_in rule text (map (sign_at sign_of) tokens)
+    pub mentions_are : map mentioned_at positions.mentions.items
         ≡ mentions_in rule text None (map (sign_at sign_of) tokens)
 
   -- the lines explain the note

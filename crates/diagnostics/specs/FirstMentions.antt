@@ -22,9 +22,10 @@ abbrev pub rule_standing : NameCase → List DefinedAt → Option DefinedAt → 
 rule_standing names definitions None = None
 rule_standing names definitions (Some d) = stands_in d (rule_named names definitions d.name)
 
--- the rule in which the definition at a place stands
+-- the rule in which the definition at a position stands
 abbrev pub rule_standing_at : NameCase → List DefinedAt → ℕ → Option DefinedAt
-rule_standing_at names definitions place = rule_standing names definitions (find (λ d. d.start == place) definitions)
+rule_standing_at names definitions position = rule_standing names definitions
+    (find (λ d. d.start == position) definitions)
 
 -- a mention, and the rule in which it stands
 pub record RuleMention : Type 0 where
@@ -36,16 +37,16 @@ abbrev pub NoneStands : NameCase → List DefinedAt → List MentionedAt → Typ
 NoneStands names definitions mentions = (k : ℕ) (m : MentionedAt) (r : DefinedAt) → slice_get mentions k ≡ Some m
     → rule_standing_at names definitions m.within ≡ Some r → ⊥
 
--- The mention at a place stands in a rule. No mention stands in a rule that comes before, and none of that rule stands
--- before it.
+-- The mention at a position stands in a rule. No mention stands in a rule that comes before, and none of that rule
+-- stands before it.
 pub record IsFirstMention (names : NameCase) (definitions : List DefinedAt) (mentions : List MentionedAt)
     (found : RuleMention) : Type 0 where
-  pub place : ℕ
-  pub there : slice_get mentions place ≡ Some found.mention
+  pub position : ℕ
+  pub there : slice_get mentions position ≡ Some found.mention
   pub stands : rule_standing_at names definitions found.mention.within ≡ Some found.rule
   pub first : (k : ℕ) (m : MentionedAt) (r : DefinedAt) → slice_get mentions k ≡ Some m
       → rule_standing_at names definitions m.within ≡ Some r
-      → (found.rule.start < r.start) ⊎ ((found.rule.start ≡ r.start) × (place ≤ k))
+      → (found.rule.start < r.start) ⊎ ((found.rule.start ≡ r.start) × (position ≤ k))
 
 -- one that is the first, or none exactly if none stands in a rule
 abbrev pub IsFirstIfAny : NameCase → List DefinedAt → List MentionedAt → Option RuleMention → Type 0

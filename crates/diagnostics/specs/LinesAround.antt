@@ -1,4 +1,4 @@
--- The line of a place in a text.
+-- The line of a position in a text.
 use Prim.Native.Char.{code}
 use Rattle.std.specs.Prelude.{ℕ, ◌+◌, ◌-◌, ◌==◌, ◌||◌, ◌&&◌, not, Bool, false, List, [], ◌∷◌, take, drop}
 use Rattle.std.specs.Prelude.{if◌then◌else◌}
@@ -25,7 +25,7 @@ line_size rule (b ∷ bytes) = if breaks rule b || ((b == code "\r") && begins_l
 abbrev pub bytes_before : LineRule → List ℕ → ℕ
 bytes_before rule text = suffix_len (λ b. not (breaks rule b)) text
 
--- the line of the place at an offset, without what ends it
+-- the line of the position at an offset, without what ends it
 abbrev pub line_text : LineRule → List ℕ → ℕ → List ℕ
 line_text rule text offset =
     let before = bytes_before rule (take offset text) in

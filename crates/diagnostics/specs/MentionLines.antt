@@ -7,11 +7,11 @@ use Rattle.diagnostics.specs.BodyMentions.{MentionedAt, is_kind, mentioned_at, m
 use Rattle.diagnostics.specs.DefinitionHeads.{DefinedAt, SignAt, defined_at, definitions_in}
 use Rattle.diagnostics.specs.FirstMentions.{rule_named}
 use Rattle.diagnostics.specs.declared.noteplaces.mentions.MentionKind.{MentionKind}
-use Rattle.diagnostics.specs.declared.noteplaces.places.Places.{Places}
+use Rattle.diagnostics.specs.declared.noteplaces.positions.Positions.{Positions}
 
--- the mentions of a kind in the body of the definition at a place
+-- the mentions of a kind in the body of the definition at a position
 abbrev pub mentions_within : MentionKind → ℕ → List MentionedAt → List MentionedAt
-mentions_within kind place mentions = filter (λ m. is_kind kind m.kind && (m.within == place)) mentions
+mentions_within kind position mentions = filter (λ m. is_kind kind m.kind && (m.within == position)) mentions
 
 -- the lines of those in a rule's first definition, if there is one
 abbrev pub mention_lines_of : MentionKind → Option DefinedAt → List MentionedAt → List ℕ
@@ -24,7 +24,7 @@ lines_mentioned rule names text signs kind name =
     mention_lines_of kind (rule_named names (definitions_in rule text signs) name) (mentions_in rule text None signs)
 
 -- the lines that such positions report
-abbrev pub mention_lines_by : Places → MentionKind → List ℕ → List ℕ
-mention_lines_by places kind name =
-    mention_lines_of kind (rule_named places.names (map defined_at places.heads.items) name)
-    (map mentioned_at places.mentions.items)
+abbrev pub mention_lines_by : Positions → MentionKind → List ℕ → List ℕ
+mention_lines_by positions kind name =
+    mention_lines_of kind (rule_named positions.names (map defined_at positions.heads.items) name)
+    (map mentioned_at positions.mentions.items)

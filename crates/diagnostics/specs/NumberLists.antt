@@ -22,4 +22,4 @@ positions_from n passes (x ∷ xs) =
 
 -- what has these positions
 abbrev pub items_at : {A : Type 0} → List A → List ℕ → List A
-items_at xs positions = flat_map (λ k. option_to_list (slice_get xs k)) positions
+items_at xs indexes = flat_map (λ k. option_to_list (slice_get xs k)) indexes

@@ -6,30 +6,30 @@ use Rattle.ruletable.specs.declared.lines.LineRule.{LineRule}
 use Rattle.diagnostics.specs.LinesAround.{bytes_before, line_text}
 use Rattle.diagnostics.specs.ShownBytes.{shown, dots}
 
--- The first of the 72 bytes of the line that are shown: 36 stand before the place, but at the line's ends.
+-- The first of the 72 bytes of the line that are shown: 36 stand before the position, but at the line's ends.
 abbrev pub window_start : ℕ → ℕ → ℕ
-window_start size place = min (place - 36) (size - 72)
+window_start size position = min (position - 36) (size - 72)
 
--- what is shown before the place: the bytes that begin the window, after dots where it is not the line's start
+-- what is shown before the position: the bytes that begin the window, after dots where it is not the line's start
 abbrev pub left_part : List ℕ → ℕ → List ℕ
-left_part line place =
-    let start = window_start (length line) place in
-    dots (nat_lt 0 start) ++ shown (take (place - start) (drop start line))
+left_part line position =
+    let start = window_start (length line) position in
+    dots (nat_lt 0 start) ++ shown (take (position - start) (drop start line))
 
--- what is shown from the place on
+-- what is shown from the position on
 abbrev pub right_part : List ℕ → ℕ → List ℕ
-right_part line place =
-    let end = window_start (length line) place + 72 in
-    shown (take (end - place) (drop place line)) ++ dots (nat_lt end (length line))
+right_part line position =
+    let end = window_start (length line) position + 72 in
+    shown (take (end - position) (drop position line)) ++ dots (nat_lt end (length line))
 
 -- both lines, after two spaces
 abbrev pub picture : List ℕ → ℕ → List ℕ
-picture line place =
-    codes "  " ++ (left_part line place ++ (right_part line place
-    ++ (codes "\n  " ++ (replicate (length (left_part line place)) (code " ") ++ codes "^\n"))))
+picture line position =
+    codes "  " ++ (left_part line position ++ (right_part line position
+    ++ (codes "\n  " ++ (replicate (length (left_part line position)) (code " ") ++ codes "^\n"))))
 
--- the place at an offset of a text: its picture, and its column, which counts bytes from 1
-abbrev pub place_reported : LineRule → List ℕ → ℕ → List ℕ
-place_reported rule text offset =
+-- the position at an offset of a text: its picture, and its column, which counts bytes from 1
+abbrev pub position_reported : LineRule → List ℕ → ℕ → List ℕ
+position_reported rule text offset =
     let before = bytes_before rule (take offset text) in
     picture (line_text rule text offset) before ++ (codes "  column " ++ (decimal (before + 1) ++ codes ": "))

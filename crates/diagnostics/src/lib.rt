@@ -5,10 +5,10 @@ mod noteplaces;
 mod picture;
 
 pub use noteplaces::{
-    Head, Mention, MentionKind, Places, Sign, Signs, add_number, explain_note, first_mention,
-    mention_lines, numbers_of, places_of, push_more,
+    Head, Mention, MentionKind, Positions, Sign, Signs, add_number, explain_note, first_mention,
+    mention_lines, numbers_of, positions_of, push_more,
 };
 pub use picture::{
     Fact, LineAround, find_fact, is_utf16, line_around, point_facts, push_cut, push_fact,
-    push_line, push_number, push_phrases, push_picture, push_place, push_shown,
+    push_line, push_number, push_phrases, push_picture, push_position, push_shown,
 };

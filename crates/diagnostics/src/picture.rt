@@ -8,7 +8,7 @@ mod phrase_list;
 mod shown;
 
 pub use around::{LineAround, line_around};
-pub use caret::{MAX_SHOWN, push_picture, push_place};
+pub use caret::{MAX_SHOWN, push_picture, push_position};
 pub use code_points::{is_utf16, point_facts};
 pub use facts::{Fact, find_fact, push_fact, push_line};
 pub use phrase_list::push_phrases;

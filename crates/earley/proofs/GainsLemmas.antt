@@ -3,8 +3,8 @@
 use Rattle.std.proofs.Common.{◌≡◌, ◌⊎◌, inl, inr, ⊎_elim, ℕ, List, [], Some, slice_get, slice_index_or, refl, sym, ◌∙◌}
 use Rattle.std.proofs.Common.{subst}
 use Rattle.earley.specs.RowSets.{Rows, HasAt, AddsAt}
-use Rattle.flatgrammar.specs.Blocks.{dot}
-use Rattle.flatgrammar.specs.declared.block.DottedRule.{DottedRule}
+use Rattle.flatgrammar.specs.ItemClosures.{dot}
+use Rattle.flatgrammar.specs.declared.closure.DottedRule.{DottedRule}
 use Rattle.flatgrammar.specs.declared.flat_item.Item.{Item}
 use Rattle.earley.specs.RowItems.{IsRowItem, Gains}
 use Rattle.earley.proofs.RowItemsLemmas.{contains_or}
@@ -63,35 +63,35 @@ gains_more dots P Q old new to cases p = record {
   within = p.within;
 }
 
--- the numbers that one place got
+-- the numbers that one dotted rule got
 pub gains_at : (dots : List DottedRule) (p : ℕ) (P : ℕ → Type 0) (old new : Rows) → AddsAt p P old new
     → Gains dots (λ a. (slice_get dots p ≡ Some (dot a.node a.step)) × P a.origin) old new
 gains_at dots p P old new adds = record {
   count = adds.count;
-  all = λ a h. record { place = p; is = h.0; has = (adds.all p a.origin).1 (inr (refl, h.1)) };
-  only = λ a h. ⊎_elim (λ g. inl (record { place = h.place; is = h.is; has = g }))
+  all = λ a h. record { position = p; is = h.0; has = (adds.all p a.origin).1 (inr (refl, h.1)) };
+  only = λ a h. ⊎_elim (λ g. inl (record { position = h.position; is = h.is; has = g }))
       (λ g. inr (subst (λ v. slice_get dots v ≡ Some (dot a.node a.step)) g.0 h.is, g.1))
-      ((adds.all h.place a.origin).0 h.has);
-  kept = λ a h. record { place = h.place; is = h.is; has = (adds.all h.place a.origin).1 (inl h.has) };
-  still = λ a h. record { place = h.place; is = h.is; has = (adds.pending h.place a.origin).1 (inl h.has) };
-  fresh = λ a h. ⊎_elim (λ g. inl (record { place = h.place; is = h.is; has = g })) (λ g. new_or a h g.0 g.1)
-      ((adds.all h.place a.origin).0 h.has);
-  within = λ a h. ⊎_elim (λ g. inl (record { place = h.place; is = h.is; has = g }))
-      (λ g. inr (record { place = h.place; is = h.is; has = (adds.all h.place a.origin).1 (inr (g.0, g.1)) }))
-      ((adds.pending h.place a.origin).0 h.has);
+      ((adds.all h.position a.origin).0 h.has);
+  kept = λ a h. record { position = h.position; is = h.is; has = (adds.all h.position a.origin).1 (inl h.has) };
+  still = λ a h. record { position = h.position; is = h.is; has = (adds.pending h.position a.origin).1 (inl h.has) };
+  fresh = λ a h. ⊎_elim (λ g. inl (record { position = h.position; is = h.is; has = g })) (λ g. new_or a h g.0 g.1)
+      ((adds.all h.position a.origin).0 h.has);
+  within = λ a h. ⊎_elim (λ g. inl (record { position = h.position; is = h.is; has = g }))
+      (λ g. inr (record { position = h.position; is = h.is; has = (adds.all h.position a.origin).1 (inr (g.0, g.1)) }))
+      ((adds.pending h.position a.origin).0 h.has);
 }
   where
-    new_or : (a : Item) (h : IsRowItem dots new.all a) → h.place ≡ p → P a.origin
+    new_or : (a : Item) (h : IsRowItem dots new.all a) → h.position ≡ p → P a.origin
         → IsRowItem dots old.all a ⊎ IsRowItem dots new.pending a
     new_or a h same has = ⊎_elim
         (λ there. inl (record {
-          place = h.place;
+          position = h.position;
           is = h.is;
           has = subst (λ v. HasAt old.all v a.origin) (sym same) there;
         }))
         (λ none. inr (record {
-          place = h.place;
+          position = h.position;
           is = h.is;
-          has = (adds.pending h.place a.origin).1 (inr (same, has, none));
+          has = (adds.pending h.position a.origin).1 (inr (same, has, none));
         }))
         (contains_or (slice_index_or old.all p []) a.origin)

@@ -5,17 +5,17 @@ use Rattle.std.proofs.Common.{slice_get, slice_index_or, Some, None, Contains, r
 use Rattle.std.proofs.lemmas.Bool.{cases_lt}
 use Rattle.earley.specs.RowSets.{Rows, HasAt, AddsAt}
 use Rattle.earleyitems.specs.ItemSets.{IsAdvanced, waiting_in}
-use Rattle.flatgrammar.specs.Blocks.{dot}
-use Rattle.flatgrammar.specs.Places.{In}
-use Rattle.flatgrammar.specs.declared.block.DottedRule.{DottedRule}
+use Rattle.flatgrammar.specs.ItemClosures.{dot}
+use Rattle.flatgrammar.specs.Positions.{In}
+use Rattle.flatgrammar.specs.declared.closure.DottedRule.{DottedRule}
 use Rattle.flatgrammar.specs.declared.flat_item.Item.{Item}
 use Rattle.flatgrammar.specs.declared.tables.Tables as code_flat
-use Rattle.earley.specs.PlaceTables.{AreSteps, AreCallsTo}
+use Rattle.earley.specs.DotTables.{AreSteps, AreCallsTo}
 use Rattle.earley.specs.RowCharts.{row_views}
 use Rattle.earley.specs.RowIndexes.{rows_at, AreIndexed, IsAfterIn, IsAfterLast, IsAfterOwn, IsAfterSome}
 use Rattle.earley.specs.RowItems.{row_items, Gains, IsRowItem, IsAfterCall, IsCompletedBy}
-use Rattle.earley.specs.declared.place_table.Call.{Call}
-use Rattle.earley.specs.declared.place_table.DottedActions.{DottedActions}
+use Rattle.earley.specs.declared.dot_table.Call.{Call}
+use Rattle.earley.specs.declared.dot_table.DottedActions.{DottedActions}
 use Rattle.earley.specs.declared.row_index.FilledSets.{FilledSets}
 use Rattle.earley.specs.declared.row_sets.KeptRows.{KeptRows}
 use Rattle.earley.proofs.GainsLemmas.{gains_none, gains_both, gains_as, gains_more, gains_at}
@@ -23,7 +23,7 @@ use Rattle.earley.proofs.RowItemsLemmas.{none_contains}
 use Rattle.earley.proofs.RowStepLemmas.{front_cases, front_old, front_new, get_index, get_no_index}
 use Rattle.earley.proofs.RowStepLemmas.{none_advanced, called_advanced, advanced_called}
 
--- the place's own sets
+-- the dotted rule's own sets
 module _ (dots : List DottedRule) (call : Call) (own : List (List ℕ)) (row : List ℕ) (old new : Rows) where
   pub own_added : (mine both : List ℕ) → slice_get own call.from ≡ Some mine
       → ((k : ℕ) → Contains both k ↔ (Contains row k × Contains mine k))
@@ -112,8 +112,9 @@ module _ (dots : List DottedRule) (call : Call) (sets : List KeptRows) (row : Li
       })
       gains
 
--- the rest, where the place's own sets are done
-module _ (dots : List DottedRule) (places : ℕ) (filled : FilledSets) (are : AreIndexed places filled) (call : Call)
+-- the rest, where the dotted rule's own sets are done
+module _ (dots : List DottedRule) (positions : ℕ) (filled : FilledSets) (are : AreIndexed positions filled)
+    (call : Call)
     (row : List ℕ) where
   abbrev count : ℕ
   count = length filled.sets.items
@@ -167,7 +168,7 @@ module _ (dots : List DottedRule) (places : ℕ) (filled : FilledSets) (are : Ar
       rest_covered new gains covered = gains_more dots (IsAfterLast dots call filled.sets.items both count)
           (IsAfterIn dots call filled.sets.items row count) old new (λ a h. after_in a h.after)
           (λ a h. ⊎_elim (λ g. inr (gains.kept a (own a (is_own a h g))))
-          (λ g. inr (record { place = call.after; is = h.after.0; has = covered a.origin g }))
+          (λ g. inr (record { position = call.after; is = h.after.0; has = covered a.origin g }))
           (are.united call.from h.origin a.origin h.after.1))
           gains
 
@@ -239,32 +240,32 @@ waits_at dots [] o = sym (no_row_items dots)
 waits_at dots (s ∷ sets) zero = refl
 waits_at dots (s ∷ sets) (suc o) = waits_at dots sets o
 
--- the calls of a root complete it
+-- the calls of a target complete it
 module _ (flat : code_flat.Tables) (dots : List DottedRule) (steps : List DottedActions)
-    (are : AreSteps flat dots steps) (root : ℕ)
+    (are : AreSteps flat dots steps) (target : ℕ)
     (sets : List KeptRows) (row : List ℕ) (below : ℕ) (old : Rows) where
-  pub some_completed : (calls : List Call) → AreCallsTo steps root calls → (new : Rows)
+  pub some_completed : (calls : List Call) → AreCallsTo steps target calls → (new : Rows)
       → Gains dots (IsAfterSome dots calls sets row below) old new
-      → Gains dots (IsCompletedBy flat (row_views dots sets) root row below) old new
+      → Gains dots (IsCompletedBy flat (row_views dots sets) target row below) old new
   some_completed calls ones new gains = gains_as dots (IsAfterSome dots calls sets row below)
-      (IsCompletedBy flat (row_views dots sets) root row below) old new
+      (IsCompletedBy flat (row_views dots sets) target row below) old new
       (λ a h. let f = h.after in record {
         origin = f.origin;
         has = f.has;
         under = f.under;
-        advanced = subst (λ v. IsAdvanced flat root v a) (sym (waits_at dots sets f.origin))
-            (called_advanced flat dots steps are root (rows_at sets f.origin) calls ones a h.call h.stands f.after);
+        advanced = subst (λ v. IsAdvanced flat target v a) (sym (waits_at dots sets f.origin))
+            (called_advanced flat dots steps are target (rows_at sets f.origin) calls ones a h.call h.stands f.after);
       })
-      (λ a h. let g = advanced_called flat dots steps are root (rows_at sets h.origin) calls ones a
-      (subst (λ v. IsAdvanced flat root v a) (waits_at dots sets h.origin) h.advanced) in record {
+      (λ a h. let g = advanced_called flat dots steps are target (rows_at sets h.origin) calls ones a
+      (subst (λ v. IsAdvanced flat target v a) (waits_at dots sets h.origin) h.advanced) in record {
         call = g.0;
         stands = g.1;
         after = record { origin = h.origin; has = h.has; under = h.under; after = g.2 };
       })
       gains
 
-  pub none_completed : length flat.nodes.items ≤ root
-      → Gains dots (IsCompletedBy flat (row_views dots sets) root row below) old old
-  none_completed le = gains_none dots (IsCompletedBy flat (row_views dots sets) root row below) old
-      (λ a h. absurd (none_advanced flat dots steps are root (rows_at sets h.origin) a le
-      (subst (λ v. IsAdvanced flat root v a) (waits_at dots sets h.origin) h.advanced)))
+  pub none_completed : length flat.nodes.items ≤ target
+      → Gains dots (IsCompletedBy flat (row_views dots sets) target row below) old old
+  none_completed le = gains_none dots (IsCompletedBy flat (row_views dots sets) target row below) old
+      (λ a h. absurd (none_advanced flat dots steps are target (rows_at sets h.origin) a le
+      (subst (λ v. IsAdvanced flat target v a) (waits_at dots sets h.origin) h.advanced)))

@@ -1,27 +1,28 @@
 -- The verdict on a line by the sets of a chart.
 -- Serves: viable
 use Rattle.std.proofs.Common.{◌≡◌, ℕ, ◌<◌, ◌≤◌, List, [], ◌∷◌, length, refl, arith}
-use Rattle.flatgrammar.specs.Flat.{Flat, Place}
+use Rattle.flatgrammar.specs.Flat.{Flat, Dot}
 use Rattle.flatgrammar.specs.FlatVerdicts.{DerivesLine, IsFlatVerdict}
 use Rattle.flatgrammar.specs.Holds.{HasItem}
-use Rattle.flatgrammar.specs.Places.{In, now}
+use Rattle.flatgrammar.specs.Positions.{In, now}
 use Rattle.flatgrammar.specs.declared.verdict.Verdict.TheVariants.{No}
 use Rattle.earleyitems.specs.ChartSets.{set_at, IsSet}
 
-some_item : (flat : Flat) (x : List ℕ) (j : ℕ) (set : List (Place × ℕ)) → IsSet flat x j set → 0 < length set
+some_item : (flat : Flat) (x : List ℕ) (j : ℕ) (set : List (Dot × ℕ)) → IsSet flat x j set → 0 < length set
     → HasItem flat x j
 some_item flat x j [] is some = absurd (omega (arith, some))
-some_item flat x j (a ∷ set) is some = record { place = a.0; origin = a.1; held = is.held a.0 a.1 (now refl) }
+some_item flat x j (a ∷ set) is some = record { position = a.0; origin = a.1; held = is.held a.0 a.1 (now refl) }
 
-in_none : (a : Place × ℕ) (set : List (Place × ℕ)) → In a set → length set ≡ 0 → ⊥
+in_none : (a : Dot × ℕ) (set : List (Dot × ℕ)) → In a set → length set ≡ 0 → ⊥
 in_none a [] h none = elim h [ ]
 in_none a (b ∷ set) h none = omega (arith, none)
 
-no_item : (flat : Flat) (x : List ℕ) (j : ℕ) (set : List (Place × ℕ)) → IsSet flat x j set → length set ≡ 0
+no_item : (flat : Flat) (x : List ℕ) (j : ℕ) (set : List (Dot × ℕ)) → IsSet flat x j set → length set ≡ 0
     → HasItem flat x j → ⊥
-no_item flat x j set is none item = in_none (item.place, item.origin) set (is.all item.place item.origin item.held) none
+no_item flat x j set is none item = in_none (item.position, item.origin) set
+    (is.all item.position item.origin item.held) none
 
-pub is_no : (flat : Flat) (x : List ℕ) (sets : List (List (Place × ℕ))) (end n : ℕ)
+pub is_no : (flat : Flat) (x : List ℕ) (sets : List (List (Dot × ℕ))) (end n : ℕ)
     → ((j : ℕ) → IsSet flat x j (set_at sets j)) → length x ≡ end → (DerivesLine flat x → ⊥) → n ≤ end
     → (0 < n → 0 < length (set_at sets n)) → ((m : ℕ) → n < m → m ≤ end → length (set_at sets m) ≡ 0)
     → IsFlatVerdict flat x (No n)

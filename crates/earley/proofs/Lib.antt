@@ -1,7 +1,7 @@
 pub mod GainsLemmas
 pub mod IsAfterInLemmas
 pub mod IsFlatVerdictLemmas
-pub mod PlaceTableLemmas
+pub mod DotTableLemmas
 pub mod RowChartLemmas
 pub mod RowIndexesLemmas
 pub mod RowItemsLemmas

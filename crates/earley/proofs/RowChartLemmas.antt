@@ -11,8 +11,8 @@ use Rattle.flatgrammar.proofs.CallOfLemmas.{get_map}
 use Rattle.flatgrammar.specs.Flat.{at}
 use Rattle.flatgrammar.specs.Holds.{Holds}
 use Rattle.flatgrammar.specs.NodeSteps.{flat_of}
-use Rattle.flatgrammar.specs.TableViews.{GiveRoots}
-use Rattle.flatgrammar.specs.declared.block.DottedRule.{DottedRule}
+use Rattle.flatgrammar.specs.TableViews.{GiveTargets}
+use Rattle.flatgrammar.specs.declared.closure.DottedRule.{DottedRule}
 use Rattle.flatgrammar.specs.declared.flat_item.Item.{Item}
 use Rattle.flatgrammar.specs.declared.tables.Tables as code_flat
 use Rattle.earley.specs.RowCharts.{row_views, rows_chart, IsSizedChart}
@@ -22,17 +22,17 @@ use Rattle.earley.specs.declared.row_sets.RowChart.{RowChart}
 use Rattle.earley.proofs.RowItemsLemmas.{row_item_in, in_row_item}
 
 -- the last set decides
-pub row_answer : (flat : code_flat.Tables) → GiveRoots (flat_of flat) flat.roots.items
+pub row_answer : (flat : code_flat.Tables) → GiveTargets (flat_of flat) flat.targets.items
     → (x : List ℕ) (dots : List DottedRule)
     (sets : List KeptRows) (kept : KeptRows) (n : ℕ) → IsBuilt flat x (row_views dots sets)
     → slice_get (row_views dots sets) n ≡ Some (row_items dots kept.rows.items)
-    → IsRowItem dots kept.rows.items (record { node = flat.whole; step = 1; origin = 0 })
-    ↔ Holds (flat_of flat) x n (at flat.whole 1) 0
-row_answer flat roots x dots sets kept n built there =
-    let exact = built_exact flat roots x (row_views dots sets) built n (row_items dots kept.rows.items) there in
-    let whole : Item = record { node = flat.whole; step = 1; origin = 0 } in (
+    → IsRowItem dots kept.rows.items (record { node = flat.start; step = 1; origin = 0 })
+    ↔ Holds (flat_of flat) x n (at flat.start 1) 0
+row_answer flat targets x dots sets kept n built there =
+    let exact = built_exact flat targets x (row_views dots sets) built n (row_items dots kept.rows.items) there in
+    let whole : Item = record { node = flat.start; step = 1; origin = 0 } in (
       (λ h. exact.held whole (row_item_in dots kept.rows.items whole h)),
-      (λ h. in_row_item dots kept.rows.items whole (exact.all (at flat.whole 1) 0 h)),
+      (λ h. in_row_item dots kept.rows.items whole (exact.all (at flat.start 1) 0 h)),
     )
 
 -- sizes

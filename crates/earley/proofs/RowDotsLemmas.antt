@@ -8,10 +8,10 @@ use Rattle.std.proofs.lemmas.Option.{slice_get-get_or}
 use Rattle.earley.specs.RowSets.{HasSome}
 use Rattle.flatgrammar.proofs.CallOfLemmas.{get_below, get_map, some_same}
 use Rattle.flatgrammar.proofs.InLemmas.{at_end, before_end, in_left}
-use Rattle.flatgrammar.specs.Blocks.{item_at}
-use Rattle.flatgrammar.specs.Flat.{Place, at}
-use Rattle.flatgrammar.specs.Places.{In}
-use Rattle.flatgrammar.specs.declared.block.DottedRule.{DottedRule}
+use Rattle.flatgrammar.specs.ItemClosures.{item_at}
+use Rattle.flatgrammar.specs.Flat.{Dot, at}
+use Rattle.flatgrammar.specs.Positions.{In}
+use Rattle.flatgrammar.specs.declared.closure.DottedRule.{DottedRule}
 use Rattle.flatgrammar.specs.declared.flat_item.Item.{Item}
 use Rattle.earleyitems.proofs.ChartSetsLemmas.{index_map, index_past}
 use Rattle.earleyitems.proofs.SetDotsLemmas.{in_pairs, pair_in}
@@ -24,25 +24,26 @@ use Rattle.earley.specs.declared.row_sets.RowChart.{RowChart}
 
 module _ (dots : List DottedRule) (rows : List (List ℕ)) (i : ℕ) where
   wider_below : (s : DottedRule) → HasDotBelow dots rows i s → HasDotBelow dots rows (i + 1) s
-  wider_below s h = let lt = h.under in record { place = h.place; under = omega (arith, lt); is = h.is; some = h.some }
+  wider_below s h = let lt = h.under
+      in record { position = h.position; under = omega (arith, lt); is = h.is; some = h.some }
 
-  -- below the place, or there
+  -- below the dotted rule, or there
   there_or_below : (s : DottedRule) (h : HasDotBelow dots rows (i + 1) s) → HasDotBelow dots rows i s
       ⊎ ((slice_get dots i ≡ Some s) × HasSome rows i)
-  there_or_below s h = by (cases_lt h.place i)
+  there_or_below s h = by (cases_lt h.position i)
     where
-      by : (h.place < i) ⊎ (i ≤ h.place) → HasDotBelow dots rows i s
+      by : (h.position < i) ⊎ (i ≤ h.position) → HasDotBelow dots rows i s
           ⊎ ((slice_get dots i ≡ Some s) × HasSome rows i)
-      by (inl less) = inl (record { place = h.place; under = less; is = h.is; some = h.some })
+      by (inl less) = inl (record { position = h.position; under = less; is = h.is; some = h.some })
       by (inr le) =
-          let same : h.place ≡ i = let lt = h.under in omega (arith, lt, le) in
+          let same : h.position ≡ i = let lt = h.under in omega (arith, lt, le) in
           inr (subst (λ v. slice_get dots v ≡ Some s) same h.is, subst (λ v. HasSome rows v) same h.some)
 
   pub dots_more : (d : DottedRule) (old new : List DottedRule) → i < length dots → AreDotsBelow dots rows i old
       → new ≡ old ++ slice_index_or dots i d ∷ [] → HasSome rows i → AreDotsBelow dots rows (i + 1) new
   dots_more d old new lt before is some s = (
     λ h. ⊎_elim (λ g. wider_below s ((before s).0 g)) (λ same. record {
-      place = i;
+      position = i;
       under = omega arith;
       is = slice_get-get_or dots i d lt ∙ ap Some (sym same);
       some = some;
@@ -69,13 +70,13 @@ rows_decide dots rows found are s = (
       record {
         origin = f.some.0;
         stands = pair_in (row_items dots rows) a
-            (row_item_in dots rows a (record { place = f.place; is = f.is; has = f.some.1 }));
+            (row_item_in dots rows a (record { position = f.position; is = f.is; has = f.some.1 }));
       },
   λ h. let f = in_pairs (row_items dots rows) s h.origin h.stands in
       let r = in_row_item dots rows f.item f.stands in
       (are s).1 (record {
-        place = r.place;
-        under = get_below dots r.place r.is;
+        position = r.position;
+        under = get_below dots r.position r.is;
         is = r.is ∙ ap Some f.is;
         some = (f.item.origin, r.has);
       }),
@@ -104,5 +105,5 @@ row_past_dots r j found le none =
     nobody : (s : DottedRule) → In s [] → HasDot [] s
     nobody s h = elim h [ ]
 
-    no_pair : (s : DottedRule) (i : ℕ) → In {A = Place × ℕ} (at s.node s.step, i) [] → In s found
+    no_pair : (s : DottedRule) (i : ℕ) → In {A = Dot × ℕ} (at s.node s.step, i) [] → In s found
     no_pair s i h = elim h [ ]

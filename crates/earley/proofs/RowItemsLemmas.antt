@@ -11,12 +11,12 @@ use Rattle.std.specs.List.{sum_by, AllPairs}
 use Rattle.std.specs.List.Sorted.{IsStrictlyIncreasing}
 use Rattle.std.specs.Prelude.{replicate}
 use Rattle.earley.specs.RowSets.{HasAt}
-use Rattle.earleyitems.proofs.BlockLemmas.{in_right, in_either, different_both}
+use Rattle.earleyitems.proofs.ClosureLemmas.{in_right, in_either, different_both}
 use Rattle.flatgrammar.proofs.CallOfLemmas.{some_same, equal_or}
 use Rattle.flatgrammar.proofs.InLemmas.{in_left}
-use Rattle.flatgrammar.specs.Blocks.{item_at, dot}
-use Rattle.flatgrammar.specs.Places.{In, now, on, AreDifferent}
-use Rattle.flatgrammar.specs.declared.block.DottedRule.{DottedRule}
+use Rattle.flatgrammar.specs.ItemClosures.{item_at, dot}
+use Rattle.flatgrammar.specs.Positions.{In, now, on, AreDifferent}
+use Rattle.flatgrammar.specs.declared.closure.DottedRule.{DottedRule}
 use Rattle.flatgrammar.specs.declared.flat_item.Item.{Item}
 use Rattle.earley.specs.RowItems.{IsRowItem, row_items}
 
@@ -53,7 +53,7 @@ no_number zero p k h = none_contains k h
 no_number (suc n) zero k h = none_contains k h
 no_number (suc n) (suc p) k h = no_number n p k h
 
--- the items of one place
+-- the items of one dotted rule
 number_in : (s : DottedRule) (row : List ℕ) (k : ℕ) → In k row → In (item_at k s) (map (λ n. item_at n s) row)
 number_in s [] k h = elim h [ ]
 number_in s (n ∷ row) k (now same) = now (ap (λ v. item_at v s) same)
@@ -83,13 +83,13 @@ at_row_in (s ∷ dots) (row ∷ rows) (suc p) a is has =
 
 pub row_item_in : (dots : List DottedRule) (rows : List (List ℕ)) (a : Item) → IsRowItem dots rows a
     → In a (row_items dots rows)
-row_item_in dots rows a h = at_row_in dots rows h.place a h.is h.has
+row_item_in dots rows a h = at_row_in dots rows h.position a h.is h.has
 
 here_item : (s : DottedRule) (row : List ℕ) (dots : List DottedRule) (rows : List (List ℕ)) (a : Item)
     → Numbered s row a
     → IsRowItem (s ∷ dots) (row ∷ rows) a
 here_item s row dots rows a f = record {
-  place = zero;
+  position = zero;
   is = ap (λ v. Some (dot v.node v.step)) (sym f.is);
   has = in_contains row a.origin (subst (λ v. In v row) (sym (ap (λ v. v.origin) f.is)) f.stands);
 }
@@ -97,7 +97,7 @@ here_item s row dots rows a f = record {
 there_item : (s : DottedRule) (row : List ℕ) (dots : List DottedRule) (rows : List (List ℕ)) (a : Item)
     → IsRowItem dots rows a
     → IsRowItem (s ∷ dots) (row ∷ rows) a
-there_item s row dots rows a h = record { place = suc h.place; is = h.is; has = h.has }
+there_item s row dots rows a h = record { position = suc h.position; is = h.is; has = h.has }
 
 pub in_row_item : (dots : List DottedRule) (rows : List (List ℕ)) (a : Item) → In a (row_items dots rows)
     → IsRowItem dots rows a
@@ -152,7 +152,7 @@ row_items_different (s ∷ dots) (row ∷ rows) d up =
     (row_items_different dots rows d.1 (λ p. up (suc p)))
     (λ a m r. let f = in_numbers s row a m in let h = in_row_item dots rows a r in
     let same : dot a.node a.step ≡ s = ap (λ v. dot v.node v.step) f.is in
-    d.0 (subst (λ v. In v dots) same (in_dots dots h.place (dot a.node a.step) h.is)))
+    d.0 (subst (λ v. In v dots) same (in_dots dots h.position (dot a.node a.step) h.is)))
 
 same_index : (rows : List (List ℕ)) (i : ℕ) (d e : List ℕ) → i < length rows
     → slice_index_or rows i d ≡ slice_index_or rows i e

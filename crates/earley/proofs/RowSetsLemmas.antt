@@ -115,7 +115,7 @@ module _ (all pending : List (List ℕ)) (queue : List ℕ) (are : AreQueued all
         (λ h. to_other pending p q k wait is_not.1 (⊎_elim (λ old. old) (λ new. absurd (is_not.1 new.0)) h)),
       )
 
--- what a place has already adds nothing
+-- what a dotted rule has already adds nothing
 pub adds_none : (p : ℕ) (Q : ℕ → Type 0) (rows : Rows) → ((k : ℕ) → Q k → HasAt rows.all p k) → AddsAt p Q rows rows
 adds_none p Q rows has = record {
   count = refl;

@@ -16,13 +16,13 @@ use Rattle.earleyitems.specs.ItemSets.{waiting_or}
 use Rattle.earleyitems.specs.Worklist.{IsWork, IsWorked}
 use Rattle.flatgrammar.proofs.CallOfLemmas.{equal_or, get_below}
 use Rattle.flatgrammar.proofs.SliceGetLemmas.{push_cases}
-use Rattle.flatgrammar.specs.Blocks.{dot}
+use Rattle.flatgrammar.specs.ItemClosures.{dot}
 use Rattle.flatgrammar.specs.Flat.{at}
 use Rattle.flatgrammar.specs.Holds.{Holds}
 use Rattle.flatgrammar.specs.NodeSteps.{flat_of}
-use Rattle.flatgrammar.specs.Places.{In, AreDifferent}
-use Rattle.flatgrammar.specs.TableViews.{GiveRoots, AreNulls}
-use Rattle.flatgrammar.specs.declared.block.DottedRule.{DottedRule}
+use Rattle.flatgrammar.specs.Positions.{In, AreDifferent}
+use Rattle.flatgrammar.specs.TableViews.{GiveTargets, AreNulls}
+use Rattle.flatgrammar.specs.declared.closure.DottedRule.{DottedRule}
 use Rattle.flatgrammar.specs.declared.flat_item.Item.{Item}
 use Rattle.flatgrammar.specs.declared.tables.Tables as code_flat
 use Rattle.earley.specs.RowCharts.{row_views, AreSizedRows, IsRowWorklist}
@@ -30,7 +30,7 @@ use Rattle.earley.specs.RowItems.{IsRowItem, row_items, Gains, IsFor}
 use Rattle.earley.specs.declared.row_sets.KeptRows.{KeptRows}
 use Rattle.earley.proofs.RowItemsLemmas.{row_item_in, in_row_item, row_items_different, no_number}
 
-module _ (flat : code_flat.Tables) (roots : GiveRoots (flat_of flat) flat.roots.items)
+module _ (flat : code_flat.Tables) (targets : GiveTargets (flat_of flat) flat.targets.items)
     (nulls : AreNulls (flat_of flat) flat.nulls.items) (x : List ℕ) (sets : List (List Item))
     (earlier : HoldAll (flat_of flat) x sets) where
   abbrev HoldsHere : Item → Type 0
@@ -43,36 +43,37 @@ module _ (flat : code_flat.Tables) (roots : GiveRoots (flat_of flat) flat.roots.
 
   work_holds : (by a : Item) → HoldsHere by → IsWork flat sets by a → HoldsHere a
   work_holds by a h (inl (inl p)) =
-      predicted_holds flat roots x sets [] earlier (none_hold flat roots nulls x sets earlier) by a h p
-  work_holds by a h (inl (inr n)) = passed_holds flat roots nulls x sets earlier by a h n
-  work_holds by a h (inr c) = completed_holds flat roots x sets [] earlier (none_hold flat roots nulls x sets earlier)
+      predicted_holds flat targets x sets [] earlier (none_hold flat targets nulls x sets earlier) by a h p
+  work_holds by a h (inl (inr n)) = passed_holds flat targets nulls x sets earlier by a h n
+  work_holds by a h (inr c) = completed_holds flat targets x sets [] earlier
+      (none_hold flat targets nulls x sets earlier)
       by a h c (λ t. waits_early by.origin (slice_get sets by.origin) refl c.advanced.stands)
 
   module _ (dots : List DottedRule) where
     pub nothing_pending : (old : Rows) → IsRowWorklist flat dots x sets old → ((p k : ℕ) → HasAt old.pending p k → ⊥)
         → (a : Item) → IsRowItem dots old.all a → (b : Item) → IsWork flat sets a b → IsRowItem dots old.all b
     nothing_pending old work none a h b w =
-        ⊎_elim (λ p. absurd (none p.place a.origin p.has)) (λ done. done b w) (work.worked a h)
+        ⊎_elim (λ p. absurd (none p.position a.origin p.has)) (λ done. done b w) (work.worked a h)
 
-    module _ (place : ℕ) (row : List ℕ) (old mid new : Rows) (work : IsRowWorklist flat dots x sets old)
-        (takes : TakesAt place row old mid) where
+    module _ (position : ℕ) (row : List ℕ) (old mid new : Rows) (work : IsRowWorklist flat dots x sets old)
+        (takes : TakesAt position row old mid) where
       pub stands_mid : (a : Item) → IsRowItem dots old.all a → IsRowItem dots mid.all a
       stands_mid a h = record {
-        place = h.place;
+        position = h.position;
         is = h.is;
-        has = subst (λ v. HasAt v h.place a.origin) (sym takes.all) h.has;
+        has = subst (λ v. HasAt v h.position a.origin) (sym takes.all) h.has;
       }
 
       stood_old : (a : Item) → IsRowItem dots mid.all a → IsRowItem dots old.all a
       stood_old a h = record {
-        place = h.place;
+        position = h.position;
         is = h.is;
-        has = subst (λ v. HasAt v h.place a.origin) takes.all h.has;
+        has = subst (λ v. HasAt v h.position a.origin) takes.all h.has;
       }
 
       -- what was pending is taken, or pending still
       taken_or : (a : Item) → IsRowItem dots old.pending a
-          → ((slice_get dots place ≡ Some (dot a.node a.step)) × Contains row a.origin) ⊎ IsRowItem dots
+          → ((slice_get dots position ≡ Some (dot a.node a.step)) × Contains row a.origin) ⊎ IsRowItem dots
           mid.pending a
       taken_or a h = ⊎_elim
           (λ same. inl (
@@ -80,22 +81,22 @@ module _ (flat : code_flat.Tables) (roots : GiveRoots (flat_of flat) flat.roots.
             (takes.taken a.origin).1 (subst (λ v. HasAt old.pending v a.origin) same h.has),
           ))
           (λ other. inr (record {
-            place = h.place;
+            position = h.position;
             is = h.is;
-            has = (takes.rest h.place a.origin).1 (h.has, other);
+            has = (takes.rest h.position a.origin).1 (h.has, other);
           }))
-          (equal_or h.place place)
+          (equal_or h.position position)
 
       was_pending : (a : Item) → IsRowItem dots mid.pending a → IsRowItem dots old.pending a
-      was_pending a h = record { place = h.place; is = h.is; has = ((takes.rest h.place a.origin).0 h.has).0 }
+      was_pending a h = record { position = h.position; is = h.is; has = ((takes.rest h.position a.origin).0 h.has).0 }
 
       -- what is taken stands in the set
-      taken_stands : (a : Item) → slice_get dots place ≡ Some (dot a.node a.step) → Contains row a.origin
+      taken_stands : (a : Item) → slice_get dots position ≡ Some (dot a.node a.step) → Contains row a.origin
           → IsRowItem dots old.all a
       taken_stands a is has =
-          work.within a (record { place = place; is = is; has = (takes.taken a.origin).0 has })
+          work.within a (record { position = position; is = is; has = (takes.taken a.origin).0 has })
 
-      pub worked_on : Gains dots (IsFor dots place row (IsWork flat sets)) mid new
+      pub worked_on : Gains dots (IsFor dots position row (IsWork flat sets)) mid new
           → IsRowWorklist flat dots x sets new
       worked_on gains = record {
         count = gains.count ∙ (ap (λ v. length v) takes.all ∙ work.count);
@@ -136,17 +137,17 @@ module _ (flat : code_flat.Tables) (roots : GiveRoots (flat_of flat) flat.roots.
     }
       where
         nothing : (a : Item) → IsRowItem dots old.all a → ⊥
-        nothing a h = no_number (length dots) h.place a.origin
-            (subst (λ v. HasAt v h.place a.origin) (ap (λ v. v.all) none) h.has)
+        nothing a h = no_number (length dots) h.position a.origin
+            (subst (λ v. HasAt v h.position a.origin) (ap (λ v. v.all) none) h.has)
 
         nothing_waits : (a : Item) → IsRowItem dots old.pending a → ⊥
-        nothing_waits a h = no_number (length dots) h.place a.origin
-            (subst (λ v. HasAt v h.place a.origin) (ap (λ v. v.pending) none) h.has)
+        nothing_waits a h = no_number (length dots) h.position a.origin
+            (subst (λ v. HasAt v h.position a.origin) (ap (λ v. v.pending) none) h.has)
 
         first_item : (a : Item) → IsFirst flat x sets a → HoldsHere a
         first_item a (inl w) = subst (λ v. Holds (flat_of flat) x v (at a.node a.step) a.origin) (sym w.0)
-            (whole_holds flat roots x sets earlier a w.1)
-        first_item a (inr r) = after_holds flat roots x sets earlier a r
+            (whole_holds flat targets x sets earlier a w.1)
+        first_item a (inr r) = after_holds flat targets x sets earlier a r
 
   -- a set that is filled follows those before it
   pub filled_rows : (dots : List DottedRule) (begun full : Rows) (rows : List (List ℕ)) → AreDifferent dots
@@ -157,10 +158,10 @@ module _ (flat : code_flat.Tables) (roots : GiveRoots (flat_of flat) flat.roots.
       → IsBuilt flat x (sets ++ row_items dots rows ∷ [])
   filled_rows dots begun full rows different built is up first keeps work none =
       subst (λ v. IsBuilt flat x (sets ++ row_items dots v ∷ [])) (sym is)
-      (built_more flat roots x sets built (row_items dots full.all) held
+      (built_more flat targets x sets built (row_items dots full.all) held
       (row_items_different dots full.all different (λ p. subst (λ v. IsStrictlyIncreasing (slice_index_or v p [])) is
       (up p)))
-      (worked_closed flat roots nulls x sets earlier (row_items dots full.all) held worked)
+      (worked_closed flat targets nulls x sets earlier (row_items dots full.all) held worked)
       (λ a h. row_item_in dots full.all a (keeps a (first a h))))
     where
       held : Hold (flat_of flat) x (length sets) (row_items dots full.all)

@@ -41,10 +41,10 @@ word_cases first words i = by (nat_le first i) refl
     by false is = inl (word_before first words i (grind (arith, nat_tests)))
 
 -- a word stands outside of the window, or has a number in it
-pub word_place : (at : ℕ) (more : List ℕ) (n : ℕ)
+pub word_position : (at : ℕ) (more : List ℕ) (n : ℕ)
     → ((word_in at more n ≡ 0) × ((n < at) ⊎ (at + length more ≤ n)))
     ⊎ ((m : ℕ) × (m < length more) × (at + m ≡ n) × (word_in at more n ≡ slice_index_or more m 0))
-word_place at more n = by (nat_le at n) refl
+word_position at more n = by (nat_le at n) refl
   where
     within : (b : Bool) → nat_le (at + length more) n ≡ b → at ≤ n
         → ((word_in at more n ≡ 0) × ((n < at) ⊎ (at + length more ≤ n)))
@@ -69,7 +69,7 @@ pub or_each : (old new more : List ℕ) (at : ℕ) → at + length more ≤ leng
     ≡ bit_or (slice_index_or old (at + n) 0) (slice_index_or more n 0))
     → ((n : ℕ) → (n < at) ⊎ (at + length more ≤ n) → slice_index_or new n 0 ≡ slice_index_or old n 0)
     → (n : ℕ) → slice_index_or new n 0 ≡ bit_or (slice_index_or old n 0) (word_in at more n)
-or_each old new more at room done rest n = by (word_place at more n)
+or_each old new more at room done rest n = by (word_position at more n)
   where
     by : ((word_in at more n ≡ 0) × ((n < at) ⊎ (at + length more ≤ n)))
         ⊎ ((m : ℕ) × (m < length more) × (at + m ≡ n) × (word_in at more n ≡ slice_index_or more m 0))
@@ -89,7 +89,7 @@ pub missing_each : (old new more known : List ℕ) (at from : ℕ) → at + leng
     → ((n : ℕ) → (n < at) ⊎ (at + length more ≤ n) → slice_index_or new n 0 ≡ slice_index_or old n 0)
     → (n : ℕ) → slice_index_or new n 0 ≡ bit_or (slice_index_or old n 0)
     (bit_and (word_in at more n) (bit_not w64 (slice_index_or known (n - at + from) 0)))
-missing_each old new more known at from room done rest n = by (word_place at more n)
+missing_each old new more known at from room done rest n = by (word_position at more n)
   where
     other : ℕ
     other = bit_not w64 (slice_index_or known (n - at + from) 0)
@@ -103,14 +103,14 @@ missing_each old new more known at from room done rest n = by (word_place at mor
         (sym (ap (λ w. bit_and w (bit_not w64 (slice_index_or known (n - at + from) 0))) none
         ∙ and_zero_l (bit_not w64 (slice_index_or known (n - at + from) 0))))
     by (inr (m, lt, is, there)) =
-        let place : from + m ≡ n - at + from = omega (arith, is) in
+        let position : from + m ≡ n - at + from = omega (arith, is) in
         ap (λ v. slice_index_or new v 0) (sym is) ∙ done m lt
         ∙ ap (λ v. bit_or (slice_index_or old v 0)
         (bit_and (slice_index_or more m 0) (bit_not w64 (slice_index_or known (from + m) 0)))) is
         ∙ ap (λ w. bit_or (slice_index_or old n 0) (bit_and w (bit_not w64 (slice_index_or known (from + m) 0))))
         (sym there)
         ∙ ap (λ v. bit_or (slice_index_or old n 0)
-        (bit_and (word_in at more n) (bit_not w64 (slice_index_or known v 0)))) place
+        (bit_and (word_in at more n) (bit_not w64 (slice_index_or known v 0)))) position
 
 pub word_set_same : (first : ℕ) (words : List ℕ) (i v : ℕ) → first ≤ i → i < first + length words
     → word_in first (set words (i - first) v) i ≡ v
@@ -180,13 +180,13 @@ missing_in f a g words words' more known fa ga each q = by (nat_le f q) refl (na
     by true is true past =
         let from : f ≤ q = grind (arith, nat_tests) in
         let le : a ≤ q = grind (arith, nat_tests) in
-        let place : (q - f) - (a - f) + (a - g) ≡ q - g = omega (arith, fa, ga, from, le) in
+        let position : (q - f) - (a - f) + (a - g) ≡ q - g = omega (arith, fa, ga, from, le) in
         word_from f words' q from ∙ each (q - f)
         ∙ ap (λ v. bit_or v (bit_and (word_in (a - f) more (q - f)) (bit_not w64 other))) (sym (word_from f words q
         from))
         ∙ ap (λ v. bit_or (word_in f words q) (bit_and v (bit_not w64 other))) (word_moved f a more q fa from)
         ∙ ap (λ v. bit_or (word_in f words q) (bit_and (word_in a more q) (bit_not w64 v)))
-        (ap (λ v. slice_index_or known v 0) place ∙ sym (word_from g known q (omega (arith, ga, le))))
+        (ap (λ v. slice_index_or known v 0) position ∙ sym (word_from g known q (omega (arith, ga, le))))
     by true is false past =
         let from : f ≤ q = grind (arith, nat_tests) in
         let lt : q < a = grind (arith, nat_tests) in

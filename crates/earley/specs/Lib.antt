@@ -1,4 +1,4 @@
-pub mod PlaceTables
+pub mod DotTables
 pub mod RowItems
 pub mod RowCharts
 pub mod RowIndexes

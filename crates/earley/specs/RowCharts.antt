@@ -3,10 +3,10 @@ use Rattle.std.specs.Prelude.{◌≡◌, ◌⊎◌, ℕ, List, map, length, Opti
 use Rattle.earley.specs.RowSets.{Rows}
 use Rattle.earleyitems.specs.ChartSets.{pair}
 use Rattle.earleyitems.specs.Worklist.{IsWork}
-use Rattle.flatgrammar.specs.Flat.{Place, at}
+use Rattle.flatgrammar.specs.Flat.{Dot, at}
 use Rattle.flatgrammar.specs.Holds.{Holds}
 use Rattle.flatgrammar.specs.NodeSteps.{flat_of}
-use Rattle.flatgrammar.specs.declared.block.DottedRule.{DottedRule}
+use Rattle.flatgrammar.specs.declared.closure.DottedRule.{DottedRule}
 use Rattle.flatgrammar.specs.declared.flat_item.Item.{Item}
 use Rattle.flatgrammar.specs.declared.tables.Tables as code_flat
 use Rattle.earley.specs.RowItems.{row_items, IsRowItem}
@@ -18,11 +18,11 @@ abbrev pub row_views : List DottedRule → List KeptRows → List (List Item)
 row_views dots sets = map (λ s. row_items dots s.rows.items) sets
 
 -- the sets of a chart of rows
-abbrev pub rows_chart : RowChart → List (List (Place × ℕ))
+abbrev pub rows_chart : RowChart → List (List (Dot × ℕ))
 rows_chart r = map (λ set. map pair set) (row_views r.table.dots.items r.sets.items)
 
 -- a chart: that of items, or that of rows where there is one
-abbrev pub chart_by : Option RowChart → List (List (Place × ℕ)) → List (List (Place × ℕ))
+abbrev pub chart_by : Option RowChart → List (List (Dot × ℕ)) → List (List (Dot × ℕ))
 chart_by None sparse = sparse
 chart_by (Some rows) sparse = rows_chart rows
 

@@ -2,7 +2,7 @@
 ghost use Rattle.std.specs.Prelude.{◌≡◌, ◌↔◌, ◌*◌, ◌+◌, ◌≤◌, ℕ, List, [], IsTrue, IfOk, OnErr, length, map};
 ghost use Rattle.earleyitems.specs.ChartSets.{set_at, AreDotsOf, IsSet};
 ghost use Rattle.flatgrammar.specs.FlatVerdicts.{DerivesLine};
-ghost use Rattle.flatgrammar.specs.Places.{places};
+ghost use Rattle.flatgrammar.specs.Positions.{positions};
 
 use crate::row_chart::judge_rows;
 use crate::row_dots::row_dots;
@@ -36,10 +36,10 @@ pub struct Chart {
 
 impl Model for Chart {
     ghost use Rattle.std.specs.Prelude.{ℕ, List};
-    ghost use Rattle.flatgrammar.specs.Flat.{Place};
+    ghost use Rattle.flatgrammar.specs.Flat.{Dot};
     ghost use Rattle.earley.specs.RowCharts.{chart_by, IsSizedChart};
 
-    ghost Value = { List (List (Place × ℕ)) };
+    ghost Value = { List (List (Dot × ℕ)) };
 
     ghost view = { λ c. chart_by c.rows c.items };
 
@@ -92,7 +92,7 @@ fn few_items(letters: usize) -> usize {
 }
 
 // Fills the chart anew with the item sets of a line that has many items, and returns whether the flat grammar derives
-// the line. The sets are kept as rows, or item by item if the grammar has too many places.
+// the line. The sets are kept as rows, or item by item if the grammar has too many dotted rules.
 fn judge_many<L: Letter>(chart: &mut Chart, flat: &Flat, line: &[L]) -> Result<bool, Memory>
     requires { length line.now ≤ flat.now.limit }
     ensures sets { IfOk result (λ _. (j : ℕ) → IsSet flat.now (map L.number line.now) j (set_at chart.new j)) }
@@ -121,7 +121,7 @@ fn judge_many<L: Letter>(chart: &mut Chart, flat: &Flat, line: &[L]) -> Result<b
 pub fn judge<L: Letter>(chart: &mut Chart, flat: &Flat, line: &[L]) -> Result<bool, Memory>
     requires { length line.now ≤ flat.now.limit }
     ensures sets { IfOk result (λ _. (j : ℕ) → IsSet flat.now (map L.number line.now) j (set_at chart.new j)) }
-    ensures bound { IfOk result (λ _. (j : ℕ) → length (set_at chart.new j) ≤ places flat.now.nodes * (j + 1)) }
+    ensures bound { IfOk result (λ _. (j : ℕ) → length (set_at chart.new j) ≤ positions flat.now.nodes * (j + 1)) }
     ensures answer { IfOk result (λ yes. IsTrue yes ↔ DerivesLine flat.now (map L.number line.now)) }
     ensures empty { OnErr result (chart.new ≡ []) }
 {

@@ -2,7 +2,7 @@
 #![tactic(auto)]
 
 mod chart;
-mod place_table;
+mod dot_table;
 mod row;
 mod row_chart;
 mod row_dots;

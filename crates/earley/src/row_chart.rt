@@ -5,22 +5,22 @@ ghost use Rattle.earley.specs.RowSets.{HasAt};
 ghost use Rattle.earleyitems.specs.ChartSets.{set_at, IsSet};
 ghost use Rattle.earleyitems.specs.Charts.{IsWhole, IsFirst, IsBuilt};
 ghost use Rattle.earleyitems.specs.ScannedItems.{IsScannedItem};
-ghost use Rattle.flatgrammar.specs.Blocks.{AreExact, dot};
-ghost use Rattle.flatgrammar.specs.Flat.{Place};
+ghost use Rattle.flatgrammar.specs.ItemClosures.{AreExact, dot};
+ghost use Rattle.flatgrammar.specs.Flat.{Dot};
 ghost use Rattle.flatgrammar.specs.Holds.{Holds};
 ghost use Rattle.flatgrammar.specs.NodeSteps.{flat_of};
-ghost use Rattle.earley.specs.PlaceTables.{IsPlaceTable};
+ghost use Rattle.earley.specs.DotTables.{IsDotTable};
 ghost use Rattle.earley.specs.RowCharts.{row_views, rows_chart, AreSizedRows};
 ghost use Rattle.earley.specs.RowIndexes.{AreIndexed};
 ghost use Rattle.earley.specs.RowItems.{Gains, IsFor, IsScannedFor, IsRowItem, row_items};
 
-use crate::place_table::{Call, PlaceTable, place_table};
+use crate::dot_table::{Call, DotTable, dot_table};
 use crate::row_fill::{fill_rows, row_of};
 use crate::row_index::{FilledSets, keep_set, no_sets};
 use crate::row_sets::{KeptRows, RowChart, kept_rows};
-use crate::row_step::{advance_call, predict_root};
+use crate::row_step::{advance_call, predict_target};
 use crate::{BitRow, RowSet};
-use flatgrammar::{DottedRule, Item, Tables, reads, whole_root};
+use flatgrammar::{DottedRule, Item, Tables, reads, start_target};
 use letters::Letter;
 use ruletable::Memory;
 use std::alloc::Global;
@@ -38,77 +38,79 @@ pub(crate) struct JudgedRows {
     pub(crate) yes: bool,
 }
 
-// Scans a symbol for the row of a place.
+// Scans a symbol for the row of a dotted rule.
 fn scan_row(
-    table: &PlaceTable,
+    table: &DotTable,
     value: u32,
     rows: &[BitRow],
-    place: usize,
+    position: usize,
     set: &mut RowSet,
 ) -> Result<(), Memory>
-    requires table { IsPlaceTable table.now }
+    requires table { IsDotTable table.now }
     requires count { length set.old.all ≡ length table.now.dots.items }
-    requires place { place < length table.now.dots.items }
-    ensures { IfOk result (λ done. Gains table.now.dots.items (IsFor table.now.dots.items place
-        (slice_index_or rows.now place []) (IsScannedFor table.now.flat.value value)) set.old set.new) }
+    requires position { position < length table.now.dots.items }
+    ensures { IfOk result (λ done. Gains table.now.dots.items (IsFor table.now.dots.items position
+        (slice_index_or rows.now position []) (IsScannedFor table.now.flat.value value)) set.old set.new) }
 {
-    let at = table.dots[place];
+    let at = table.dots[position];
     let item = Item {
         node: at.node,
         step: at.step,
         origin: 0,
     };
-    let Some(after) = table.steps[place].read else {
+    let Some(after) = table.steps[position].read else {
         return Ok(());
     };
     if reads(&table.flat, item, value) {
-        advance_call(rows, Call { from: place, after }, set)?;
+        advance_call(
+            rows,
+            Call {
+                from: position,
+                after,
+            },
+            set,
+        )?;
         return Ok(());
     }
     Ok(())
 }
 
 // Scans a symbol for the rows of a set.
-fn scan_rows(
-    table: &PlaceTable,
-    value: u32,
-    rows: &[BitRow],
-    set: &mut RowSet,
-) -> Result<(), Memory>
-    requires table { IsPlaceTable table.now }
+fn scan_rows(table: &DotTable, value: u32, rows: &[BitRow], set: &mut RowSet) -> Result<(), Memory>
+    requires table { IsDotTable table.now }
     requires count { length set.old.all ≡ length table.now.dots.items }
     ensures { IfOk result (λ done. Gains table.now.dots.items (IsScannedItem table.now.flat.value value
         (row_items table.now.dots.items rows.now)) set.old set.new) }
 {
-    for place in 0..table.dots.len() {
-        scan_row(table, value, rows, place, set)?;
+    for position in 0..table.dots.len() {
+        scan_row(table, value, rows, position, set)?;
     }
     Ok(())
 }
 
-// Predicts the whole.
-fn start_rows(alloc: Global, table: &PlaceTable, set: &mut RowSet) -> Result<(), Memory>
-    requires table { IsPlaceTable table.now }
+// Predicts the augmented start.
+fn start_rows(alloc: Global, table: &DotTable, set: &mut RowSet) -> Result<(), Memory>
+    requires table { IsDotTable table.now }
     requires count { length set.old.all ≡ length table.now.dots.items }
     ensures { IfOk result (λ done. Gains table.now.dots.items (IsWhole table.now.flat.value) set.old set.new) }
 {
-    let Some(root) = whole_root(&table.flat) else {
+    let Some(target) = start_target(&table.flat) else {
         return Ok(());
     };
     let zero = row_of(alloc, 0)?;
-    predict_root(table, root, &zero, set)?;
+    predict_target(table, target, &zero, set)?;
     Ok(())
 }
 
 // Adds what the next set begins with.
 fn begin_rows<L: Letter>(
     alloc: Global,
-    table: &PlaceTable,
+    table: &DotTable,
     line: &[L],
     sets: &[KeptRows],
     set: &mut RowSet,
 ) -> Result<(), Memory>
-    requires table { IsPlaceTable table.now }
+    requires table { IsDotTable table.now }
     requires count { length set.old.all ≡ length table.now.dots.items }
     requires length { length sets.now ≤ length line.now }
     ensures { IfOk result (λ done. Gains table.now.dots.items (IsFirst table.now.flat.value (map L.number line.now)
@@ -126,11 +128,11 @@ fn begin_rows<L: Letter>(
 // Returns the next set. `Memory` if an allocation fails.
 fn next_set<L: Letter>(
     alloc: Global,
-    table: &PlaceTable,
+    table: &DotTable,
     line: &[L],
     filled: &FilledSets,
 ) -> Result<KeptRows, Memory>
-    requires table { IsPlaceTable table.now }
+    requires table { IsDotTable table.now }
     requires exact { AreExact table.now.flat.value }
     requires indexed { AreIndexed (length table.now.dots.items) filled.now }
     requires length { length filled.now.sets.items ≤ length line.now }
@@ -150,12 +152,8 @@ fn next_set<L: Letter>(
 }
 
 // Returns the sets of a line. `Memory` if an allocation fails.
-fn row_sets<L: Letter>(
-    alloc: Global,
-    table: &PlaceTable,
-    line: &[L],
-) -> Result<Vec<KeptRows>, Memory>
-    requires table { IsPlaceTable table.now }
+fn row_sets<L: Letter>(alloc: Global, table: &DotTable, line: &[L]) -> Result<Vec<KeptRows>, Memory>
+    requires table { IsDotTable table.now }
     requires exact { AreExact table.now.flat.value }
     requires short { length line.now < 2 ^ 63 }
     ensures count { IfOk result (λ sets. length sets.items ≡ length line.now + 1) }
@@ -163,11 +161,11 @@ fn row_sets<L: Letter>(
     ensures built { IfOk result (λ sets. IsBuilt table.now.flat.value (map L.number line.now)
         (row_views table.now.dots.items sets.items)) }
 {
-    let places = table.dots.len();
-    let mut filled = no_sets(alloc, places)?;
+    let positions = table.dots.len();
+    let mut filled = no_sets(alloc, positions)?;
     while filled.sets.len() <= line.len() {
         let kept = next_set(alloc, table, line, &filled)?;
-        keep_set(places, kept, &mut filled)?;
+        keep_set(positions, kept, &mut filled)?;
     }
     let FilledSets {
         sets,
@@ -191,32 +189,32 @@ fn has(row: &BitRow, number: usize) -> bool
     false
 }
 
-// Returns whether the row of a place has a number.
-fn has_number(rows: &[BitRow], place: usize, number: usize) -> bool
-    ensures { IsTrue result ↔ HasAt rows.now place number }
+// Returns whether the row of a dotted rule has a number.
+fn has_number(rows: &[BitRow], position: usize, number: usize) -> bool
+    ensures { IsTrue result ↔ HasAt rows.now position number }
 {
-    match rows.get(place) {
+    match rows.get(position) {
         Some(row) => has(row, number),
         None => false,
     }
 }
 
-// Returns whether an item stands at a place.
+// Returns whether an item stands at a dotted rule.
 fn is_at(at: DottedRule, item: Item) -> bool
     ensures { IsTrue result ↔ ((at.node ≡ item.node) × (at.step ≡ item.step)) }
 {
     at.node == item.node && at.step == item.step
 }
 
-// Returns whether a place is that of an item, and its row has the item's origin.
-fn holds_at(dots: &[DottedRule], rows: &[BitRow], place: usize, item: Item) -> bool
-    requires { place < length dots.now }
-    ensures { IsTrue result ↔ ((slice_get dots.now place ≡ Some (dot item.node item.step))
-        × HasAt rows.now place item.origin) }
+// Returns whether a dotted rule is that of an item, and its row has the item's origin.
+fn holds_at(dots: &[DottedRule], rows: &[BitRow], position: usize, item: Item) -> bool
+    requires { position < length dots.now }
+    ensures { IsTrue result ↔ ((slice_get dots.now position ≡ Some (dot item.node item.step))
+        × HasAt rows.now position item.origin) }
 {
-    let at = dots[place];
+    let at = dots[position];
     if is_at(at, item) {
-        return has_number(rows, place, item.origin);
+        return has_number(rows, position, item.origin);
     }
     false
 }
@@ -225,33 +223,34 @@ fn holds_at(dots: &[DottedRule], rows: &[BitRow], place: usize, item: Item) -> b
 fn has_item(dots: &[DottedRule], rows: &[BitRow], item: Item) -> bool
     ensures { IsTrue result ↔ IsRowItem dots.now rows.now item }
 {
-    for place in 0..dots.len() {
-        if holds_at(dots, rows, place, item) {
+    for position in 0..dots.len() {
+        if holds_at(dots, rows, position, item) {
             return true;
         }
     }
     false
 }
 
-// Judges a line by the table of a grammar: returns its sets, and whether the last holds the whole's end with origin 0.
+// Judges a line by the table of a grammar: returns its sets, and whether the last holds the augmented start's end with
+// origin 0.
 // `Memory` if an allocation fails.
 fn judge_by_table<L: Letter>(
     alloc: Global,
-    table: PlaceTable,
+    table: DotTable,
     line: &[L],
 ) -> Result<JudgedRows, Memory>
-    requires table { IsPlaceTable table }
+    requires table { IsDotTable table }
     requires exact { AreExact table.flat.value }
     requires short { length line.now < 2 ^ 63 }
     ensures sized { IfOk result (λ d. AreSizedRows d.chart.table.dots.items d.chart.sets.items) }
     ensures sets { IfOk result (λ d. (j : ℕ) → IsSet (flat_of table.flat.value) (map L.number line.now) j
         (set_at (rows_chart d.chart) j)) }
     ensures answer { IfOk result (λ d. IsTrue d.yes ↔ Holds (flat_of table.flat.value) (map L.number line.now)
-        (length line.now) (Place.at (flat_of table.flat.value).whole 1) 0) }
+        (length line.now) (Dot.at (flat_of table.flat.value).start 1) 0) }
 {
     let sets = row_sets(alloc, &table, line)?;
     let whole = Item {
-        node: table.flat.whole,
+        node: table.flat.start,
         step: 1,
         origin: 0,
     };
@@ -274,12 +273,12 @@ pub(crate) fn judge_rows<L: Letter>(
         → IsSet (flat_of flat.value) (map L.number line.now) j
         (set_at (rows_chart d.chart) j))) }
     ensures answer { IfOk result (λ reported. IfSome reported (λ d. IsTrue d.yes ↔ Holds (flat_of flat.value)
-        (map L.number line.now) (length line.now) (Place.at (flat_of flat.value).whole 1) 0)) }
+        (map L.number line.now) (length line.now) (Dot.at (flat_of flat.value).start 1) 0)) }
 {
     if line.len() >= LONGEST {
         return Ok(None);
     }
-    let Some(table) = place_table(alloc, flat)? else {
+    let Some(table) = dot_table(alloc, flat)? else {
         return Ok(None);
     };
     let judged = judge_by_table(alloc, table, line)?;

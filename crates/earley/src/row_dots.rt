@@ -18,11 +18,11 @@ fn is_used(row: &BitRow) -> bool
     }
 }
 
-// Returns whether the row of a place has a number.
-fn has_some(rows: &[BitRow], place: usize) -> bool
-    ensures { IsTrue result ↔ HasSome rows.now place }
+// Returns whether the row of a dotted rule has a number.
+fn has_some(rows: &[BitRow], position: usize) -> bool
+    ensures { IsTrue result ↔ HasSome rows.now position }
 {
-    match rows.get(place) {
+    match rows.get(position) {
         Some(row) => is_used(row),
         None => false,
     }
@@ -38,9 +38,9 @@ pub(crate) fn row_dots(
     ensures { IfOk result (λ found. AreDotsBelow dots.now rows.now (length dots.now) found.items) }
 {
     let mut found = Vec::new(alloc);
-    for place in 0..dots.len() {
-        if has_some(rows, place) {
-            found.push(dots[place])?;
+    for position in 0..dots.len() {
+        if has_some(rows, position) {
+            found.push(dots[position])?;
         }
     }
     Ok(found)

@@ -2,15 +2,15 @@
 ghost use Rattle.std.specs.Prelude.{◌≡◌, ◌↔◌, ◌<◌, ◌^◌, ℕ, List, true, IfOk, length, Contains};
 ghost use Rattle.earley.specs.RowSets.{HasAt};
 ghost use Rattle.earleyitems.specs.Closed.{HoldAll};
-ghost use Rattle.flatgrammar.specs.Blocks.{AreExact};
+ghost use Rattle.flatgrammar.specs.ItemClosures.{AreExact};
 ghost use Rattle.flatgrammar.specs.NodeSteps.{flat_of};
 ghost use Rattle.flatgrammar.specs.declared.flat_item.Item as code_item;
-ghost use Rattle.earley.specs.PlaceTables.{IsPlaceTable};
+ghost use Rattle.earley.specs.DotTables.{IsDotTable};
 ghost use Rattle.earley.specs.RowCharts.{row_views, IsRowWorklist};
 ghost use Rattle.earley.specs.RowIndexes.{AreIndexed};
 ghost use Rattle.earley.specs.RowItems.{IsRowItem};
 
-use crate::place_table::PlaceTable;
+use crate::dot_table::DotTable;
 use crate::row_index::FilledSets;
 use crate::row_step::work_row;
 use crate::{BitRow, RowSet};
@@ -29,12 +29,12 @@ pub(crate) fn row_of(alloc: Global, number: usize) -> Result<BitRow, Memory>
 
 /// Works on the pending row of one dotted rule. Returns whether nothing was pending.
 fn work_once(
-    table: &PlaceTable,
+    table: &DotTable,
     filled: &FilledSets,
     here: &BitRow,
     set: &mut RowSet,
 ) -> Result<bool, Memory>
-    requires table { IsPlaceTable table.now }
+    requires table { IsDotTable table.now }
     requires exact { AreExact table.now.flat.value }
     requires indexed { AreIndexed (length table.now.dots.items) filled.now }
     requires here { (k : ℕ) → Contains here.now k ↔ (k ≡ length filled.now.sets.items) }
@@ -51,13 +51,13 @@ fn work_once(
         (row_views table.now.dots.items filled.now.sets.items) set.new) }
     ensures none { IfOk result (λ done. done ≡ true → (p k : ℕ) → HasAt set.new.pending p k → ⊥) }
 {
-    let Some((place, row)) = set.take() else {
+    let Some((position, row)) = set.take() else {
         return Ok(true);
     };
     let Some(_least) = row.next(0) else {
         return Ok(false);
     };
-    work_row(table, filled, place, &row, here, set)?;
+    work_row(table, filled, position, &row, here, set)?;
     Ok(false)
 }
 
@@ -65,11 +65,11 @@ fn work_once(
 /// fails.
 pub(crate) fn fill_rows(
     alloc: Global,
-    table: &PlaceTable,
+    table: &DotTable,
     filled: &FilledSets,
     set: &mut RowSet,
 ) -> Result<(), Memory>
-    requires table { IsPlaceTable table.now }
+    requires table { IsDotTable table.now }
     requires exact { AreExact table.now.flat.value }
     requires indexed { AreIndexed (length table.now.dots.items) filled.now }
     requires number { length filled.now.sets.items < 2 ^ 63 }
@@ -87,8 +87,8 @@ pub(crate) fn fill_rows(
     ensures none { IfOk result (λ done. (p k : ℕ) → HasAt set.new.pending p k → ⊥) }
 {
     let here = row_of(alloc, filled.sets.len())?;
-    // Each turn works on an item that is new, so there are far fewer.
-    for _turn in 0..u64::MAX {
+    // Each iteration works on an item that is new, so there are far fewer.
+    for _iteration in 0..u64::MAX {
         let done = work_once(table, filled, &here, set)?;
         if done {
             return Ok(());

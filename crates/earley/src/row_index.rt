@@ -26,14 +26,14 @@ pub(crate) struct FilledSets {
     pub(crate) union: Vec<BitRow>,
 }
 
-/// Returns no sets, for `places` dotted rules. `Memory` if an allocation fails.
-pub(crate) fn no_sets(alloc: Global, places: usize) -> Result<FilledSets, Memory>
+/// Returns no sets, for `positions` dotted rules. `Memory` if an allocation fails.
+pub(crate) fn no_sets(alloc: Global, positions: usize) -> Result<FilledSets, Memory>
     ensures none { IfOk result (λ filled. filled.sets.items ≡ []) }
-    ensures indexed { IfOk result (λ filled. AreIndexed places filled) }
+    ensures indexed { IfOk result (λ filled. AreIndexed positions filled) }
 {
-    let own = empty_rows(alloc, places)?;
-    let rest = empty_rows(alloc, places)?;
-    let union = empty_rows(alloc, places)?;
+    let own = empty_rows(alloc, positions)?;
+    let rest = empty_rows(alloc, positions)?;
+    let union = empty_rows(alloc, positions)?;
     Ok(FilledSets {
         sets: Vec::new(alloc),
         own,
@@ -59,63 +59,63 @@ fn is_alone(row: &BitRow, number: usize) -> bool
     }
 }
 
-// Makes a number a member of the row of a place.
-fn insert_at(rows: &mut [BitRow], place: usize, number: usize) -> Result<(), Memory>
-    requires place { place < length rows.old }
+// Makes a number a member of the row of a dotted rule.
+fn insert_at(rows: &mut [BitRow], position: usize, number: usize) -> Result<(), Memory>
+    requires position { position < length rows.old }
     requires number { number < 2 ^ 63 }
     ensures count { length rows.new ≡ length rows.old }
     ensures members { IfOk result (λ done. (p x : ℕ) → HasAt rows.new p x
-        ↔ (HasAt rows.old p x ⊎ ((p ≡ place) × (x ≡ number)))) }
+        ↔ (HasAt rows.old p x ⊎ ((p ≡ position) × (x ≡ number)))) }
 {
-    rows[place].insert(number)?;
+    rows[position].insert(number)?;
     Ok(())
 }
 
-// Adds numbers to the row of a place.
-fn join_at(rows: &mut [BitRow], place: usize, found: &BitRow) -> Result<(), Memory>
-    requires { place < length rows.old }
+// Adds numbers to the row of a dotted rule.
+fn join_at(rows: &mut [BitRow], position: usize, found: &BitRow) -> Result<(), Memory>
+    requires { position < length rows.old }
     ensures count { length rows.new ≡ length rows.old }
     ensures members { IfOk result (λ done. (p x : ℕ) → HasAt rows.new p x
-        ↔ (HasAt rows.old p x ⊎ ((p ≡ place) × Contains found.now x))) }
+        ↔ (HasAt rows.old p x ⊎ ((p ≡ position) × Contains found.now x))) }
 {
-    rows[place].join(found)?;
+    rows[position].join(found)?;
     Ok(())
 }
 
-// Notes which kind a set is at a place: by its row there.
+// Notes which kind a set is at a dotted rule: by its row there.
 fn index_row(
     number: usize,
-    place: usize,
+    position: usize,
     row: &BitRow,
     own: &mut [BitRow],
     rest: &mut [BitRow],
     union: &mut [BitRow],
 ) -> Result<(), Memory>
     requires number { number < 2 ^ 63 }
-    requires own { place < length own.old }
-    requires rest { place < length rest.old }
-    requires union { place < length union.old }
+    requires own { position < length own.old }
+    requires rest { position < length rest.old }
+    requires union { position < length union.old }
     ensures own { length own.new ≡ length own.old }
     ensures rest { length rest.new ≡ length rest.old }
     ensures union { length union.new ≡ length union.old }
-    ensures indexes { IfOk result (λ done. Indexes number place row.now own.old rest.old union.old own.new rest.new
+    ensures indexes { IfOk result (λ done. Indexes number position row.now own.old rest.old union.old own.new rest.new
         union.new) }
 {
     if is_alone(row, number) {
-        insert_at(own, place, number)?;
+        insert_at(own, position, number)?;
         return Ok(());
     }
     match row.next(0) {
         Some(_) => {
-            insert_at(rest, place, number)?;
-            join_at(union, place, row)?;
+            insert_at(rest, position, number)?;
+            join_at(union, position, row)?;
             Ok(())
         }
         None => Ok(()),
     }
 }
 
-// Notes which kind a set is at each place: by its rows.
+// Notes which kind a set is at each dotted rule: by its rows.
 fn index_rows(
     number: usize,
     rows: &[BitRow],
@@ -133,20 +133,24 @@ fn index_rows(
     ensures indexes { IfOk result (λ done. AreIndexedBelow number (length rows.now) rows.now own.old rest.old union.old
         own.new rest.new union.new) }
 {
-    for place in 0..rows.len() {
-        index_row(number, place, &rows[place], own, rest, union)?;
+    for position in 0..rows.len() {
+        index_row(number, position, &rows[position], own, rest, union)?;
     }
     Ok(())
 }
 
-/// Appends a filled set to `filled`, and indexes each of its rows. The number `places` of dotted rules is for the
+/// Appends a filled set to `filled`, and indexes each of its rows. The number `positions` of dotted rules is for the
 /// contract alone. `Memory` if an allocation fails.
-pub(crate) fn keep_set(places: usize, kept: KeptRows, filled: &mut FilledSets) -> Result<(), Memory>
-    requires indexed { AreIndexed places filled.old }
-    requires count { length kept.rows.items ≤ places }
+pub(crate) fn keep_set(
+    positions: usize,
+    kept: KeptRows,
+    filled: &mut FilledSets,
+) -> Result<(), Memory>
+    requires indexed { AreIndexed positions filled.old }
+    requires count { length kept.rows.items ≤ positions }
     requires number { length filled.old.sets.items < 2 ^ 63 }
     ensures sets { IfOk result (λ done. filled.new.sets.items ≡ filled.old.sets.items ++ kept ∷ []) }
-    ensures indexed { IfOk result (λ done. AreIndexed places filled.new) }
+    ensures indexed { IfOk result (λ done. AreIndexed positions filled.new) }
 {
     let number = filled.sets.len();
     index_rows(

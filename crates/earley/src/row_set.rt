@@ -35,28 +35,28 @@ impl Model for RowSet {
     ghost invariant = { λ s. AreQueued s.rows.items s.pending.items s.queue.items };
 }
 
-// Puts a place into the queue, unless something is pending there already. `Memory` if an allocation fails.
-fn enqueue(queue: &mut Vec<usize>, pending: &[BitRow], place: usize) -> Result<(), Memory>
-    requires { place < length pending.now }
+// Puts a dotted rule into the queue, unless something is pending there already. `Memory` if an allocation fails.
+fn enqueue(queue: &mut Vec<usize>, pending: &[BitRow], position: usize) -> Result<(), Memory>
+    requires { position < length pending.now }
     ensures kept { (q : ℕ) → Contains queue.old.items q → Contains queue.new.items q }
-    ensures only { (q : ℕ) → Contains queue.new.items q → Contains queue.old.items q ⊎ (q ≡ place) }
-    ensures there { IfOk result (λ done. Contains queue.new.items place ⊎ HasSome pending.now place) }
+    ensures only { (q : ℕ) → Contains queue.new.items q → Contains queue.old.items q ⊎ (q ≡ position) }
+    ensures there { IfOk result (λ done. Contains queue.new.items position ⊎ HasSome pending.now position) }
 {
-    match pending[place].next(0) {
+    match pending[position].next(0) {
         Some(_) => Ok(()),
         None => {
-            queue.push(place)?;
+            queue.push(position)?;
             Ok(())
         }
     }
 }
 
 /// Returns so many empty rows. `Memory` if an allocation fails.
-pub fn empty_rows(alloc: Global, places: usize) -> Result<Vec<BitRow>, Memory>
-    ensures { IfOk result (λ rows. rows.items ≡ replicate places []) }
+pub fn empty_rows(alloc: Global, positions: usize) -> Result<Vec<BitRow>, Memory>
+    ensures { IfOk result (λ rows. rows.items ≡ replicate positions []) }
 {
-    let mut rows = Vec::with_capacity(alloc, places)?;
-    for _place in 0..places {
+    let mut rows = Vec::with_capacity(alloc, positions)?;
+    for _position in 0..positions {
         rows.push(BitRow::new(alloc))?;
     }
     Ok(rows)
@@ -64,11 +64,11 @@ pub fn empty_rows(alloc: Global, places: usize) -> Result<Vec<BitRow>, Memory>
 
 impl RowSet {
     /// Returns a set of so many rows, of which each has no number. `Memory` if an allocation fails.
-    pub fn new(alloc: Global, places: usize) -> Result<RowSet, Memory>
-        ensures { IfOk result (λ set. set ≡ no_items places) }
+    pub fn new(alloc: Global, positions: usize) -> Result<RowSet, Memory>
+        ensures { IfOk result (λ set. set ≡ no_items positions) }
     {
-        let rows = empty_rows(alloc, places)?;
-        let pending = empty_rows(alloc, places)?;
+        let rows = empty_rows(alloc, positions)?;
+        let pending = empty_rows(alloc, positions)?;
         Ok(RowSet {
             alloc,
             rows,
@@ -78,23 +78,23 @@ impl RowSet {
     }
 
     /// Returns a row by its index.
-    pub fn row(&self, place: usize) -> &BitRow
-        requires { place < length self.now.all }
-        ensures { result.now ≡ slice_index_or self.now.all place [] }
+    pub fn row(&self, position: usize) -> &BitRow
+        requires { position < length self.now.all }
+        ensures { result.now ≡ slice_index_or self.now.all position [] }
     {
-        &self.rows[place]
+        &self.rows[position]
     }
 
     /// Adds numbers to a row. Those that are new to it are pending. `Memory` if an allocation fails.
-    pub fn add(&mut self, place: usize, found: &BitRow) -> Result<(), Memory>
-        requires { place < length self.old.all }
-        ensures { IfOk result (λ done. AddsAt place (λ k. Contains found.now k) self.old self.new) }
+    pub fn add(&mut self, position: usize, found: &BitRow) -> Result<(), Memory>
+        requires { position < length self.old.all }
+        ensures { IfOk result (λ done. AddsAt position (λ k. Contains found.now k) self.old self.new) }
     {
-        if self.rows[place].has_all(found) {
+        if self.rows[position].has_all(found) {
             return Ok(());
         }
-        enqueue(&mut self.queue, &self.pending, place)?;
-        self.rows[place].merge(found, &mut self.pending[place])?;
+        enqueue(&mut self.queue, &self.pending, position)?;
+        self.rows[position].merge(found, &mut self.pending[position])?;
         Ok(())
     }
 
@@ -104,9 +104,9 @@ impl RowSet {
         ensures none { IfNone result ((p k : ℕ) → HasAt self.old.pending p k → ⊥) }
         ensures same { IfNone result (self.new ≡ self.old) }
     {
-        let place = self.queue.pop()?;
-        let row = mem::replace(&mut self.pending[place], BitRow::new(self.alloc));
-        Some((place, row))
+        let position = self.queue.pop()?;
+        let row = mem::replace(&mut self.pending[position], BitRow::new(self.alloc));
+        Some((position, row))
     }
 
     /// Returns the rows, in order.

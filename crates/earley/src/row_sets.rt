@@ -1,10 +1,10 @@
 //! Filled sets as rows.
 ghost use Rattle.std.specs.Prelude.{◌≡◌, ℕ, List, [], IfOk, length, slice_index_or};
 ghost use Rattle.std.specs.List.Sorted.{IsStrictlyIncreasing};
-ghost use Rattle.flatgrammar.specs.declared.block.DottedRule.{DottedRule as code_dot};
+ghost use Rattle.flatgrammar.specs.declared.closure.DottedRule.{DottedRule as code_dot};
 ghost use Rattle.earley.specs.RowItems.{row_items};
 
-use crate::place_table::PlaceTable;
+use crate::dot_table::DotTable;
 use crate::{BitRow, RowSet};
 use ruletable::Memory;
 
@@ -21,7 +21,7 @@ pub(crate) struct KeptRows {
 #[derive(Drop)]
 pub(crate) struct RowChart {
     /// The dotted rules that the rows are of, by number.
-    pub(crate) table: PlaceTable,
+    pub(crate) table: DotTable,
     /// The sets: one before the first symbol, and one after each.
     pub(crate) sets: Vec<KeptRows>,
 }

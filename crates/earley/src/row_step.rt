@@ -3,61 +3,61 @@ ghost use Rattle.std.specs.Prelude.{◌≡◌, ◌↔◌, ◌<◌, ℕ, List, []
 ghost use Rattle.earley.specs.RowSets.{HasAt};
 ghost use Rattle.earleyitems.specs.ItemSets.{IsPredicted, IsCompleted};
 ghost use Rattle.earleyitems.specs.Worklist.{AdvancesNullable, IsWork};
-ghost use Rattle.flatgrammar.specs.Blocks.{begin_count};
-ghost use Rattle.flatgrammar.specs.declared.block.DottedRule.{DottedRule as code_dot};
+ghost use Rattle.flatgrammar.specs.ItemClosures.{begin_count};
+ghost use Rattle.flatgrammar.specs.declared.closure.DottedRule.{DottedRule as code_dot};
 ghost use Rattle.flatgrammar.specs.declared.flat_item.Item as code_item;
-ghost use Rattle.earley.specs.PlaceTables.{IsPlaceTable, IsReached};
+ghost use Rattle.earley.specs.DotTables.{IsDotTable, IsReached};
 ghost use Rattle.earley.specs.RowCharts.{row_views};
 ghost use Rattle.earley.specs.RowIndexes.{AreIndexed, IsAfterIn, IsAfterLast, IsAfterOwn};
 ghost use Rattle.earley.specs.RowItems.{Gains, IsAfterCall, IsCompletedBy, IsFor, IsRowItem};
 
-use crate::place_table::{Call, PlaceTable};
+use crate::dot_table::{Call, DotTable};
 use crate::row_index::FilledSets;
 use crate::row_sets::KeptRows;
 use crate::{BitRow, RowSet};
 use ruletable::Memory;
 
-/// Predicts a root that is reached: adds the numbers of a row to the dotted rules where it starts.
-pub(crate) fn predict_root(
-    table: &PlaceTable,
-    root: usize,
+/// Predicts a target that is reached: adds the numbers of a row to the dotted rules where it starts.
+pub(crate) fn predict_target(
+    table: &DotTable,
+    target: usize,
     here: &BitRow,
     set: &mut RowSet,
 ) -> Result<(), Memory>
-    requires table { IsPlaceTable table.now }
-    requires reached { IsReached table.now.roots.items root }
+    requires table { IsDotTable table.now }
+    requires reached { IsReached table.now.targets.items target }
     requires count { length set.old.all ≡ length table.now.dots.items }
     ensures { IfOk result (λ done. Gains table.now.dots.items
-        (λ a. (a.node ≡ root) × (a.step < begin_count table.now.flat.value root) × Contains here.now a.origin)
+        (λ a. (a.node ≡ target) × (a.step < begin_count table.now.flat.value target) × Contains here.now a.origin)
         set.old set.new) }
 {
-    let Some(places) = table.roots.get(root) else {
+    let Some(positions) = table.targets.get(target) else {
         return Ok(());
     };
-    for place in &places.starts {
-        set.add(*place, here)?;
+    for position in &positions.starts {
+        set.add(*position, here)?;
     }
     Ok(())
 }
 
-/// Predicts the root that a dotted rule calls, for its row, which is not empty.
+/// Predicts the target that a dotted rule calls, for its row, which is not empty.
 fn predict_row(
-    table: &PlaceTable,
-    place: usize,
+    table: &DotTable,
+    position: usize,
     row: &BitRow,
     here: &BitRow,
     set: &mut RowSet,
 ) -> Result<(), Memory>
-    requires table { IsPlaceTable table.now }
+    requires table { IsDotTable table.now }
     requires count { length set.old.all ≡ length table.now.dots.items }
-    requires place { place < length table.now.dots.items }
+    requires position { position < length table.now.dots.items }
     requires some { (k : ℕ) × Contains row.now k }
     ensures { IfOk result (λ done. (j : ℕ) → ((k : ℕ) → Contains here.now k ↔ (k ≡ j)) → Gains table.now.dots.items
-        (IsFor table.now.dots.items place row.now (IsPredicted table.now.flat.value j)) set.old set.new) }
+        (IsFor table.now.dots.items position row.now (IsPredicted table.now.flat.value j)) set.old set.new) }
 {
-    match table.steps[place].called {
+    match table.steps[position].called {
         Some(called) => {
-            predict_root(table, called.root, here, set)?;
+            predict_target(table, called.target, here, set)?;
             Ok(())
         }
         None => Ok(()),
@@ -66,18 +66,18 @@ fn predict_row(
 
 /// Advances the row of a dotted rule over what it calls, if that can be passed without a symbol.
 fn advance_row(
-    table: &PlaceTable,
-    place: usize,
+    table: &DotTable,
+    position: usize,
     row: &BitRow,
     set: &mut RowSet,
 ) -> Result<(), Memory>
-    requires table { IsPlaceTable table.now }
+    requires table { IsDotTable table.now }
     requires count { length set.old.all ≡ length table.now.dots.items }
-    requires place { place < length table.now.dots.items }
+    requires position { position < length table.now.dots.items }
     ensures { IfOk result (λ done. Gains table.now.dots.items
-        (IsFor table.now.dots.items place row.now (AdvancesNullable table.now.flat.value)) set.old set.new) }
+        (IsFor table.now.dots.items position row.now (AdvancesNullable table.now.flat.value)) set.old set.new) }
 {
-    match table.steps[place].called {
+    match table.steps[position].called {
         Some(called) if called.free => {
             set.add(called.after, row)?;
             Ok(())
@@ -101,7 +101,7 @@ pub(crate) fn advance_call(rows: &[BitRow], call: Call, set: &mut RowSet) -> Res
     }
 }
 
-// Advances over a call the sets of those numbers of a row that are the place's own.
+// Advances over a call the sets of those numbers of a row that are the dotted rule's own.
 fn complete_own(own: &[BitRow], call: Call, row: &BitRow, set: &mut RowSet) -> Result<(), Memory>
     requires { call.after < length set.old.all }
     ensures { IfOk result (λ done. (dots : List code_dot) → Gains dots (IsAfterOwn dots call own.now row.now)
@@ -163,7 +163,8 @@ fn complete_last(
     Ok(())
 }
 
-// Returns whether the place after a call has all numbers that one of these rows has at the place that calls.
+// Returns whether the dotted rule after a call has all numbers that one of these rows has at the dotted rule that
+// calls.
 fn has_union(union: &[BitRow], call: Call, set: &RowSet) -> bool
     requires { call.after < length set.now.all }
     ensures { IsTrue result → (k : ℕ) → HasAt union.now call.from k → HasAt set.now.all call.after k }
@@ -184,16 +185,17 @@ fn is_single(row: &BitRow) -> bool
     }
 }
 
-// Advances over a call the set of each number of a row, where those of the place's own sets are done. The set of the
-// greatest number comes first: in a dense line it mostly has what all of them have, and then the others add nothing.
+// Advances over a call the set of each number of a row, where those of the dotted rule's own sets are done. The set of
+// the greatest number comes first: in a dense line it mostly has what all of them have, and then the others add
+// nothing.
 fn complete_rest(
-    places: usize,
+    positions: usize,
     filled: &FilledSets,
     call: Call,
     row: &BitRow,
     set: &mut RowSet,
 ) -> Result<(), Memory>
-    requires indexed { AreIndexed places filled.now }
+    requires indexed { AreIndexed positions filled.now }
     requires after { call.after < length set.old.all }
     requires own { (dots : List code_dot) (a : code_item.Item) → IsAfterOwn dots call filled.now.own.items row.now a
         → IsRowItem dots set.old.all a }
@@ -217,41 +219,41 @@ fn complete_rest(
 
 // Advances over a call the set of each number of a row.
 fn complete_call(
-    places: usize,
+    positions: usize,
     filled: &FilledSets,
     call: Call,
     row: &BitRow,
     set: &mut RowSet,
 ) -> Result<(), Memory>
-    requires indexed { AreIndexed places filled.now }
+    requires indexed { AreIndexed positions filled.now }
     requires after { call.after < length set.old.all }
     ensures { IfOk result (λ done. (dots : List code_dot) → Gains dots (IsAfterIn dots call filled.now.sets.items
         row.now (length filled.now.sets.items)) set.old set.new) }
 {
     complete_own(&filled.own, call, row, set)?;
-    complete_rest(places, filled, call, row, set)?;
+    complete_rest(positions, filled, call, row, set)?;
     Ok(())
 }
 
-/// Completes a root with each origin of a row: advances the rows that call it there.
+/// Completes a target with each origin of a row: advances the rows that call it there.
 fn complete_all(
-    table: &PlaceTable,
+    table: &DotTable,
     filled: &FilledSets,
-    root: usize,
+    target: usize,
     row: &BitRow,
     set: &mut RowSet,
 ) -> Result<(), Memory>
-    requires table { IsPlaceTable table.now }
+    requires table { IsDotTable table.now }
     requires indexed { AreIndexed (length table.now.dots.items) filled.now }
     requires count { length set.old.all ≡ length table.now.dots.items }
     ensures { IfOk result (λ done. Gains table.now.dots.items (IsCompletedBy table.now.flat.value
-        (row_views table.now.dots.items filled.now.sets.items) root row.now (length filled.now.sets.items)) set.old
+        (row_views table.now.dots.items filled.now.sets.items) target row.now (length filled.now.sets.items)) set.old
         set.new) }
 {
-    let Some(places) = table.roots.get(root) else {
+    let Some(positions) = table.targets.get(target) else {
         return Ok(());
     };
-    for call in &places.calls {
+    for call in &positions.calls {
         complete_call(table.dots.len(), filled, *call, row, set)?;
     }
     Ok(())
@@ -259,22 +261,22 @@ fn complete_all(
 
 /// Completes the row of a dotted rule, if its node is done there.
 fn complete_row(
-    table: &PlaceTable,
+    table: &DotTable,
     filled: &FilledSets,
-    place: usize,
+    position: usize,
     row: &BitRow,
     set: &mut RowSet,
 ) -> Result<(), Memory>
-    requires table { IsPlaceTable table.now }
+    requires table { IsDotTable table.now }
     requires indexed { AreIndexed (length table.now.dots.items) filled.now }
     requires count { length set.old.all ≡ length table.now.dots.items }
-    requires place { place < length table.now.dots.items }
-    ensures { IfOk result (λ done. Gains table.now.dots.items (IsFor table.now.dots.items place row.now
+    requires position { position < length table.now.dots.items }
+    ensures { IfOk result (λ done. Gains table.now.dots.items (IsFor table.now.dots.items position row.now
         (IsCompleted table.now.flat.value (row_views table.now.dots.items filled.now.sets.items) []))
         set.old set.new) }
 {
-    if table.steps[place].done {
-        complete_all(table, filled, table.dots[place].node, row, set)?;
+    if table.steps[position].done {
+        complete_all(table, filled, table.dots[position].node, row, set)?;
         return Ok(());
     }
     Ok(())
@@ -283,24 +285,24 @@ fn complete_row(
 /// Works on the row of a dotted rule, which is not empty: predicts what the dotted rule calls, advances and completes.
 /// The other row has the number of the set alone.
 pub(crate) fn work_row(
-    table: &PlaceTable,
+    table: &DotTable,
     filled: &FilledSets,
-    place: usize,
+    position: usize,
     row: &BitRow,
     here: &BitRow,
     set: &mut RowSet,
 ) -> Result<(), Memory>
-    requires table { IsPlaceTable table.now }
+    requires table { IsDotTable table.now }
     requires indexed { AreIndexed (length table.now.dots.items) filled.now }
     requires count { length set.old.all ≡ length table.now.dots.items }
-    requires place { place < length table.now.dots.items }
+    requires position { position < length table.now.dots.items }
     requires some { (k : ℕ) × Contains row.now k }
     requires here { (k : ℕ) → Contains here.now k ↔ (k ≡ length filled.now.sets.items) }
-    ensures { IfOk result (λ done. Gains table.now.dots.items (IsFor table.now.dots.items place row.now
+    ensures { IfOk result (λ done. Gains table.now.dots.items (IsFor table.now.dots.items position row.now
         (IsWork table.now.flat.value (row_views table.now.dots.items filled.now.sets.items))) set.old set.new) }
 {
-    predict_row(table, place, row, here, set)?;
-    advance_row(table, place, row, set)?;
-    complete_row(table, filled, place, row, set)?;
+    predict_row(table, position, row, here, set)?;
+    advance_row(table, position, row, set)?;
+    complete_row(table, filled, position, row, set)?;
     Ok(())
 }

@@ -2,7 +2,7 @@
 ghost use Rattle.std.specs.Prelude.{◌≡◌, ◌+◌, ◌*◌, ◌<◌, ◌≤◌, ℕ, [], IfOk, OnErr, length, map};
 ghost use Rattle.earleyitems.specs.ChartSets.{set_at, IsSet};
 ghost use Rattle.flatgrammar.specs.FlatVerdicts.{IsFlatVerdict};
-ghost use Rattle.flatgrammar.specs.Places.{places};
+ghost use Rattle.flatgrammar.specs.Positions.{positions};
 
 use crate::chart::{Chart, judge};
 use flatgrammar::{Flat, Verdict};
@@ -30,7 +30,7 @@ fn furthest(chart: &Chart, end: usize) -> usize
 pub fn viable<L: Letter>(chart: &mut Chart, flat: &Flat, line: &[L]) -> Result<Verdict, Memory>
     requires { length line.now ≤ flat.now.limit }
     ensures sets { IfOk result (λ _. (j : ℕ) → IsSet flat.now (map L.number line.now) j (set_at chart.new j)) }
-    ensures bound { IfOk result (λ _. (j : ℕ) → length (set_at chart.new j) ≤ places flat.now.nodes * (j + 1)) }
+    ensures bound { IfOk result (λ _. (j : ℕ) → length (set_at chart.new j) ≤ positions flat.now.nodes * (j + 1)) }
     ensures verdict { IfOk result (IsFlatVerdict flat.now (map L.number line.now)) }
     ensures empty { OnErr result (chart.new ≡ []) }
 {

@@ -2,7 +2,7 @@
 -- Serves: judge.
 use Rattle.std.proofs.Common.{◌≡◌, ◌⊎◌, inl, inr, List, [], ◌∷◌, ◌++◌, refl, sym, ◌∙◌, ap, subst, append_assoc}
 use Rattle.std.proofs.lemmas.List.{append-nil}
-use Rattle.flatgrammar.specs.Places.{In}
+use Rattle.flatgrammar.specs.Positions.{In}
 use Rattle.earleyitems.specs.ItemSets.{Adds}
 use Rattle.flatgrammar.proofs.InLemmas.{in_left, at_end, before_end, different_end}
 

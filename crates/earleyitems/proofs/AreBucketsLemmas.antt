@@ -5,7 +5,7 @@ use Rattle.std.proofs.Common.{take, Some, refl, ap, sym, ◌∙◌, ⊎_elim, ar
 use Rattle.std.proofs.Common.{length-set, add-one}
 use Rattle.std.proofs.lemmas.List.{length-take-le}
 use Rattle.std.proofs.lemmas.Option.{slice_get_within}
-use Rattle.flatgrammar.specs.Places.{In, now, on}
+use Rattle.flatgrammar.specs.Positions.{In, now, on}
 use Rattle.flatgrammar.specs.declared.flat_item.Item.{Item}
 use Rattle.flatgrammar.proofs.CallOfLemmas.{some_same}
 use Rattle.flatgrammar.proofs.SliceGetLemmas.{push_cases}

@@ -3,24 +3,24 @@
 use Rattle.std.proofs.Common.{◌≡◌, ℕ, ◌+◌, ◌<◌, ◌≤◌, ◌⊎◌, inl, inr, List, [], ◌∷◌, ◌++◌, Some, length, take, arith}
 use Rattle.std.proofs.Common.{ap, slice_get, slice_index_or, refl, sym, ◌∙◌, subst, length-append}
 use Rattle.std.proofs.lemmas.Option.{slice_get_within}
-use Rattle.flatgrammar.specs.Places.{In, now}
+use Rattle.flatgrammar.specs.Positions.{In, now}
 use Rattle.flatgrammar.specs.declared.flat_item.Item.{Item}
 use Rattle.flatgrammar.specs.declared.tables.Tables as code_flat
 use Rattle.flatgrammar.proofs.SliceGetLemmas.{push_cases}
 use Rattle.flatgrammar.proofs.InLemmas.{in_left, at_end, before_end, different_end}
 use Rattle.earleyitems.specs.EarleySets.{EarleySet}
-use Rattle.earleyitems.specs.declared.postdot.HomedItem.{HomedItem}
+use Rattle.earleyitems.specs.declared.postdot.OwnedItem.{OwnedItem}
 use Rattle.earleyitems.specs.declared.postdot.CallingItem.{CallingItem}
 use Rattle.earleyitems.specs.Chosen.{items_of, callers_of, Calls, ReadsSome, AreChosen, AreCallers, AreReaders}
 use Rattle.flatgrammar.specs.TableViews.{call_of}
 use Rattle.earleyitems.specs.ItemSets.{Adds}
-use Rattle.earleyitems.proofs.BlockLemmas.{different_left, different_apart}
+use Rattle.earleyitems.proofs.ClosureLemmas.{different_left, different_apart}
 use Rattle.earleyitems.proofs.ExpandLemmas.{map_end, take_one, take_past}
 use Rattle.earleyitems.proofs.FillLemmas.{front_same}
 
 -- the readers of a set that is put after the others
 pub readers_push : (flat : code_flat.Tables) (kept_sets : List EarleySet) (kept_set : EarleySet) (items : List Item)
-    (readers : List HomedItem) → kept_set.items ≡ items → AreChosen (ReadsSome flat) items (items_of readers)
+    (readers : List OwnedItem) → kept_set.items ≡ items → AreChosen (ReadsSome flat) items (items_of readers)
     → AreReaders flat (kept_sets ++ kept_set ∷ []) readers
 readers_push flat kept_sets kept_set items readers same are k f size is = by (push_cases kept_sets kept_set k f is)
   where
@@ -79,7 +79,7 @@ module _ (Q : Item → Type 0) where
 
 -- one more item that calls
 pub callers_more : (flat : code_flat.Tables) (seen : List Item) (list new : List CallingItem) (c : CallingItem)
-    → AreCallers flat seen list → call_of flat c.at.item ≡ Some (c.root, c.next) → new ≡ list ++ c ∷ [] →
+    → AreCallers flat seen list → call_of flat c.at.item ≡ Some (c.target, c.next) → new ≡ list ++ c ∷ [] →
     AreCallers flat (seen ++ c.at.item ∷ []) new
 callers_more flat seen list new c are reports pushed = record {
   chosen = subst (λ v. AreChosen (Calls flat) (seen ++ c.at.item ∷ []) v)
@@ -88,6 +88,6 @@ callers_more flat seen list new c are reports pushed = record {
   report = λ d i. by d (before_end d c list (subst (λ v. In d v) pushed i));
 }
   where
-    by : (d : CallingItem) → In d list ⊎ (d ≡ c) → call_of flat d.at.item ≡ Some (d.root, d.next)
+    by : (d : CallingItem) → In d list ⊎ (d ≡ c) → call_of flat d.at.item ≡ Some (d.target, d.next)
     by d (inl h) = are.report d h
-    by d (inr same) = subst (λ v. call_of flat v.at.item ≡ Some (v.root, v.next)) (sym same) reports
+    by d (inr same) = subst (λ v. call_of flat v.at.item ≡ Some (v.target, v.next)) (sym same) reports

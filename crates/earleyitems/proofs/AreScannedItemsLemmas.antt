@@ -3,23 +3,23 @@
 use Rattle.std.proofs.Common.{◌≡◌, ℕ, ◌+◌, ◌<◌, ◌⊎◌, inl, inr, List, [], ◌∷◌, ◌++◌, length, map, take, slice_index_or}
 use Rattle.std.proofs.Common.{refl, sym, ◌∙◌, ap, subst, arith, append_assoc}
 use Rattle.std.proofs.lemmas.List.{append-nil}
-use Rattle.flatgrammar.specs.Places.{In, now, on, AreDifferent}
+use Rattle.flatgrammar.specs.Positions.{In, now, on, AreDifferent}
 use Rattle.flatgrammar.specs.declared.flat_item.Item.{Item}
 use Rattle.flatgrammar.specs.declared.tables.Tables as code_flat
-use Rattle.flatgrammar.specs.declared.block.DottedRule.{DottedRule}
+use Rattle.flatgrammar.specs.declared.closure.DottedRule.{DottedRule}
 use Rattle.flatgrammar.specs.TableViews.{read_of}
 use Rattle.flatgrammar.specs.NodeSteps.{IfSomeSet}
-use Rattle.flatgrammar.specs.Blocks.{item_at, Block, block_of, readers_of, AreDotLists}
+use Rattle.flatgrammar.specs.ItemClosures.{item_at, ItemClosure, closure_of, readers_of, AreDotLists}
 use Rattle.flatgrammar.proofs.DotListLemmas.{readers_pick}
 use Rattle.flatgrammar.proofs.InLemmas.{in_left}
-use Rattle.earleyitems.specs.declared.postdot.HomedItem.{HomedItem}
+use Rattle.earleyitems.specs.declared.postdot.OwnedItem.{OwnedItem}
 use Rattle.earleyitems.specs.Chosen.{items_of}
 use Rattle.earleyitems.specs.ItemSets.{Adds}
 use Rattle.earleyitems.specs.ScannedItems.{IsScannedItem, AreScannedItems}
 use Rattle.earleyitems.specs.SetViews.{expand}
 use Rattle.earleyitems.proofs.ItemLemmas.{item_same}
-use Rattle.earleyitems.proofs.BlockLemmas.{in_right, in_either, in_map, from_map, different_left, different_right}
-use Rattle.earleyitems.proofs.BlockLemmas.{different_apart, different_both, different_map, different_dots}
+use Rattle.earleyitems.proofs.ClosureLemmas.{in_right, in_either, in_map, from_map, different_left, different_right}
+use Rattle.earleyitems.proofs.ClosureLemmas.{different_apart, different_both, different_map, different_dots}
 use Rattle.earleyitems.proofs.ExpandLemmas.{take_one, map_end, expand_end}
 
 module _ (flat : code_flat.Tables) (c : ℕ) where
@@ -113,11 +113,11 @@ module _ (flat : code_flat.Tables) (c : ℕ) where
       nobody a r (now same) = absurd (never (subst (λ v. IfSomeSet (read_of flat v) c) same r.reads))
       nobody a r (on h) = elim h [ ]
 
-  pub scan_homed_more : (ws : List HomedItem) (k : ℕ) (d : HomedItem) (old mid new : List Item) → k < length ws
+  pub scan_owned_more : (ws : List OwnedItem) (k : ℕ) (d : OwnedItem) (old mid new : List Item) → k < length ws
       → AreScannedItems flat c (items_of (take k ws)) old mid → AreScannedItems flat c ((slice_index_or ws k d).item ∷
       []) mid new
       → AreScannedItems flat c (items_of (take (k + 1) ws)) old new
-  scan_homed_more ws k d old mid new lt p q =
+  scan_owned_more ws k d old mid new lt p q =
       subst (λ v. AreScannedItems flat c v old new) (sym (ap (λ v. items_of v) (take_one ws k d lt)
       ∙ map_end (λ h. h.item) (take k ws) (slice_index_or ws k d)))
       (read_both (items_of (take k ws)) ((slice_index_or ws k d).item ∷ []) old mid new p q)
@@ -132,14 +132,15 @@ module _ (flat : code_flat.Tables) (c : ℕ) where
       ∙ map_end (item_at j) (take k ws) (slice_index_or ws k d)))
       (read_both (map (item_at j) (take k ws)) (item_at j (slice_index_or ws k d) ∷ []) old mid new p q)
 
-  pub scan_heads_more : (blocks : ℕ → Block) (j : ℕ) (hs : List ℕ) (k d : ℕ) (old mid new : List Item)
-      → k < length hs → AreScannedItems flat c (expand blocks j (take k hs)) old mid
-      → AreScannedItems flat c (map (item_at j) (blocks (slice_index_or hs k d)).dots) mid new
-      → AreScannedItems flat c (expand blocks j (take (k + 1) hs)) old new
-  scan_heads_more blocks j hs k d old mid new lt p q =
-      subst (λ v. AreScannedItems flat c v old new) (sym (ap (λ v. expand blocks j v) (take_one hs k d lt)
-      ∙ expand_end blocks j (take k hs) (slice_index_or hs k d)))
-      (read_both (expand blocks j (take k hs)) (map (item_at j) (blocks (slice_index_or hs k d)).dots) old mid new p q)
+  pub scan_predictions_more : (closures : ℕ → ItemClosure) (j : ℕ) (hs : List ℕ) (k d : ℕ) (old mid new : List Item)
+      → k < length hs → AreScannedItems flat c (expand closures j (take k hs)) old mid
+      → AreScannedItems flat c (map (item_at j) (closures (slice_index_or hs k d)).dots) mid new
+      → AreScannedItems flat c (expand closures j (take (k + 1) hs)) old new
+  scan_predictions_more closures j hs k d old mid new lt p q =
+      subst (λ v. AreScannedItems flat c v old new) (sym (ap (λ v. expand closures j v) (take_one hs k d lt)
+      ∙ expand_end closures j (take k hs) (slice_index_or hs k d)))
+      (read_both (expand closures j (take k hs))
+      (map (item_at j) (closures (slice_index_or hs k d)).dots) old mid new p q)
 
   -- where there was nothing, what different items have after the letter is added
   pub read_adds : (from new : List Item) → AreDifferent from → AreScannedItems flat c from [] new
@@ -165,18 +166,19 @@ module _ (flat : code_flat.Tables) (c : ℕ) (old new : List Item) where
     different = λ d. p.different (differ d);
   }
 
-  -- of a block the dotted rules that are tried on the letter are enough
-  pub block_read : (lists : AreDotLists flat) (head j : ℕ)
-      → AreScannedItems flat c (map (item_at j) (readers_of flat head c)) old new
-      → AreScannedItems flat c (map (item_at j) (block_of flat head).dots) old new
-  block_read lists head j =
-      let picks = readers_pick flat head c lists in
-      read_fewer (map (item_at j) (readers_of flat head c)) (map (item_at j) (block_of flat head).dots)
-      (λ a i. let m = from_map j a (readers_of flat head c) i in
-      subst (λ v. In v (map (item_at j) (block_of flat head).dots)) (sym m.is)
-      (in_map j m.dot (block_of flat head).dots (picks.0 m.dot m.stands)))
-      (λ a i r. let m = from_map j a (block_of flat head).dots i in
-      subst (λ v. In v (map (item_at j) (readers_of flat head c))) (sym m.is)
-      (in_map j m.dot (readers_of flat head c) (picks.1 m.dot m.stands
+  -- of a closure the dotted rules that are tried on the letter are enough
+  pub closure_read : (lists : AreDotLists flat) (prediction j : ℕ)
+      → AreScannedItems flat c (map (item_at j) (readers_of flat prediction c)) old new
+      → AreScannedItems flat c (map (item_at j) (closure_of flat prediction).dots) old new
+  closure_read lists prediction j =
+      let picks = readers_pick flat prediction c lists in
+      read_fewer (map (item_at j) (readers_of flat prediction c)) (map (item_at j) (closure_of flat prediction).dots)
+      (λ a i. let m = from_map j a (readers_of flat prediction c) i in
+      subst (λ v. In v (map (item_at j) (closure_of flat prediction).dots)) (sym m.is)
+      (in_map j m.dot (closure_of flat prediction).dots (picks.0 m.dot m.stands)))
+      (λ a i r. let m = from_map j a (closure_of flat prediction).dots i in
+      subst (λ v. In v (map (item_at j) (readers_of flat prediction c))) (sym m.is)
+      (in_map j m.dot (readers_of flat prediction c) (picks.1 m.dot m.stands
       (subst (λ v. IfSomeSet (read_of flat v) c) m.is r))))
-      (λ d. different_map j (readers_of flat head c) (picks.2 (different_dots j (block_of flat head).dots d)))
+      (λ d. different_map j (readers_of flat prediction c)
+      (picks.2 (different_dots j (closure_of flat prediction).dots d)))

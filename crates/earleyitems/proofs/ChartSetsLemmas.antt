@@ -7,27 +7,27 @@ use Rattle.std.proofs.lemmas.List.{length-map}
 use Rattle.std.proofs.lemmas.List.Sums.{sum_by-cons, sum_by_push}
 use Rattle.std.specs.Prelude.{sum_by}
 use Rattle.std.specs.declared.rc.Rc.{Rc}
-use Rattle.flatgrammar.specs.Flat.{Flat, Place, at}
+use Rattle.flatgrammar.specs.Flat.{Flat, Dot, at}
 use Rattle.flatgrammar.specs.Holds.{Holds, begins, called, has_read, returned}
-use Rattle.flatgrammar.specs.Places.{In, now, on, places}
+use Rattle.flatgrammar.specs.Positions.{In, now, on, positions}
 use Rattle.flatgrammar.specs.declared.flat_item.Item.{Item}
 use Rattle.earleyitems.specs.EarleySets.{EarleySet}
 use Rattle.flatgrammar.specs.declared.tables.Tables as code_flat
 use Rattle.flatgrammar.specs.NodeSteps.{flat_of}
 use Rattle.earleyitems.specs.Charts.{item_of, IsExact, IsExactSet}
 use Rattle.earleyitems.specs.ChartSets.{pair, chart_of, set_at, IsSet, AreSized, HaveMoreItems}
-use Rattle.flatgrammar.specs.declared.block.DottedRule.{DottedRule}
-use Rattle.flatgrammar.specs.Blocks.{Block, item_at, block_of}
+use Rattle.flatgrammar.specs.declared.closure.DottedRule.{DottedRule}
+use Rattle.flatgrammar.specs.ItemClosures.{ItemClosure, item_at, closure_of}
 use Rattle.earleyitems.specs.SetViews.{expand, full, view, views}
 use Rattle.flatgrammar.proofs.SliceGetLemmas.{get_below}
 use Rattle.flatgrammar.proofs.SliceGetLemmas.{push_cases}
 use Rattle.earleyitems.proofs.ExpandLemmas.{get_views, length_views, take_one, expand_end}
-use Rattle.flatgrammar.proofs.PlacesLemmas.{items_at_most}
+use Rattle.flatgrammar.proofs.PositionsLemmas.{items_at_most}
 use Rattle.earleyitems.proofs.SetAtMostLemmas.{From, in_map, different_map}
 use Rattle.earleyitems.proofs.ViewsLemmas.{views_more}
 
 -- no set lies past the line's end
-pub holds_within : {flat : Flat} {x : List ℕ} {j i : ℕ} {p : Place} → Holds flat x j p i → j ≤ length x
+pub holds_within : {flat : Flat} {x : List ℕ} {j i : ℕ} {p : Dot} → Holds flat x j p i → j ≤ length x
 holds_within (begins st) = omega arith
 holds_within (called h c st) = holds_within h
 holds_within {x = x} (has_read {j = j} h r letter lies) = let lt = get_below x j letter in omega (arith, lt)
@@ -63,15 +63,15 @@ module _ (tables : code_flat.Tables) (x : List ℕ) where
     different = different_map set e.different;
   }
     where
-      held : (p : Place) (i : ℕ) → From (p, i) set → Holds (flat_of tables) x j p i
+      held : (p : Dot) (i : ℕ) → From (p, i) set → Holds (flat_of tables) x j p i
       held p i f =
-          let place : p ≡ at f.item.node f.item.step = ap (λ v. v.0) f.is in
+          let position : p ≡ at f.item.node f.item.step = ap (λ v. v.0) f.is in
           let origin : i ≡ f.item.origin = ap (λ v. v.1) f.is in
-          subst (λ v. Holds (flat_of tables) x j v i) (sym place)
+          subst (λ v. Holds (flat_of tables) x j v i) (sym position)
           (subst (λ v. Holds (flat_of tables) x j (at f.item.node f.item.step) v) (sym origin)
           (e.held f.item f.stands))
 
-      all : (p : Place) (i : ℕ) → In (item_of p i) set → In {A = Place × ℕ} (p, i) (map pair set)
+      all : (p : Dot) (i : ℕ) → In (item_of p i) set → In {A = Dot × ℕ} (p, i) (map pair set)
       all (at s k) i h = pair_stands (record { node = s; step = k; origin = i }) set h
 
 -- some sets of a line that have more items than that
@@ -86,7 +86,7 @@ more_items tables x kept_sets most exact more = record {
   more = (let same = sizes_kept (views tables 0 kept_sets) in omega (arith, same, more));
 }
   where
-    mapped_set : (sets : List (List Item)) (j : ℕ) (set : List (Place × ℕ))
+    mapped_set : (sets : List (List Item)) (j : ℕ) (set : List (Dot × ℕ))
         → slice_get (map (λ set. map pair set) sets) j ≡ Some set
         → (items : List Item) × (slice_get sets j ≡ Some items) × (map pair items ≡ set)
     mapped_set [] j set is = absurd (cc is)
@@ -99,21 +99,21 @@ more_items tables x kept_sets most exact more = record {
     sizes_kept (s ∷ sets) =
         let here = length-map s pair in
         let rest = sizes_kept sets in
-        let one = sum_by-cons (λ (set : List (Place × ℕ)). length set) (map pair s) (map (λ set. map pair set) sets) in
+        let one = sum_by-cons (λ (set : List (Dot × ℕ)). length set) (map pair s) (map (λ set. map pair set) sets) in
         let two = sum_by-cons (λ (set : List Item). length set) s sets in
         omega (arith, here, rest, one, two)
 
--- one set more has at least its items beside the blocks
+-- one set more has at least its items beside the closures
 pub counted_push : (tables : code_flat.Tables) (kept_sets : List EarleySet) (kept_set : EarleySet) (items : List Item)
     (beside count : ℕ) → kept_set.items ≡ items
     → beside ≤ sum_by (λ set. length set) (views tables 0 kept_sets) → count ≤ beside + length items
     → count ≤ sum_by (λ set. length set) (views tables 0 (kept_sets ++ kept_set ∷ []))
 counted_push tables kept_sets kept_set items beside count is before le =
-    let place = 0 + length kept_sets in
+    let position = 0 + length kept_sets in
     let more = ap (λ (vs : List (List Item)). sum_by (λ set. length set) vs)
     (views_more tables 0 kept_sets kept_set)
-    ∙ sum_by_push (λ (set : List Item). length set) (views tables 0 kept_sets) (view tables place kept_set) in
-    let long = length-append (expand (block_of tables) place kept_set.heads) kept_set.items in
+    ∙ sum_by_push (λ (set : List Item). length set) (views tables 0 kept_sets) (view tables position kept_set) in
+    let long = length-append (expand (closure_of tables) position kept_set.predictions) kept_set.items in
     let same = ap (λ (l : List Item). length l) is in
     omega (arith, more, long, same, before, le)
 
@@ -126,7 +126,7 @@ module _ (tables : code_flat.Tables) (x : List ℕ) (sets : List (List Item)) (s
     different = tt;
   }
     where
-      nobody : (p : Place) (i : ℕ) → In {A = Place × ℕ} (p, i) [] → Holds (flat_of tables) x j p i
+      nobody : (p : Dot) (i : ℕ) → In {A = Dot × ℕ} (p, i) [] → Holds (flat_of tables) x j p i
       nobody p i h = elim h [ ]
 
   pub chart_sets : (j : ℕ) → IsSet (flat_of tables) x j (set_at (map (λ set. map pair set) sets) j)
@@ -143,8 +143,8 @@ pub chart_set : (tables : code_flat.Tables) (x : List ℕ) (kept_sets : List Ear
 chart_set tables x kept_sets size exact j =
     chart_sets tables x (views tables 0 kept_sets) (length_views tables 0 kept_sets ∙ size) exact j
 
-pub set_bound : (flat : Flat) (x : List ℕ) (j : ℕ) (set : List (Place × ℕ)) → IsSet flat x j set
-    → length set ≤ places flat.nodes * (j + 1)
+pub set_bound : (flat : Flat) (x : List ℕ) (j : ℕ) (set : List (Dot × ℕ)) → IsSet flat x j set
+    → length set ≤ positions flat.nodes * (j + 1)
 set_bound flat x j set e = items_at_most flat x j set e.different e.held
 
 -- sizes
@@ -187,20 +187,25 @@ sized_push tables kept_sets kept_set all last j f is =
     ⊎_elim (λ was. all j f was) (λ h. subst (λ v. v.size ≡ length (view tables j v)) h.1 (last j))
     (push_cases kept_sets kept_set j f is)
 
--- one block more
-pub size_more : (blocks : ℕ → Block) (j : ℕ) (heads : List ℕ) (k d : ℕ) (dots : List DottedRule) → k < length heads
-    → dots ≡ (blocks (slice_index_or heads k d)).dots →
-    length (expand blocks j (take (k + 1) heads)) ≡ length (expand blocks j (take k heads)) + length dots
-size_more blocks j heads k d dots lt is =
-    ap (λ v. length (expand blocks j v)) (take_one heads k d lt) ∙
-    (ap (λ v. length v) (expand_end blocks j (take k heads) (slice_index_or heads k d)) ∙
-    (length-append (expand blocks j (take k heads)) (map (item_at j) (blocks (slice_index_or heads k d)).dots) ∙
-    ap (λ v. length (expand blocks j (take k heads)) + v)
-    (length-map (blocks (slice_index_or heads k d)).dots (item_at j) ∙ ap (λ v. length v) (sym is))))
+-- one closure more
+pub size_more : (closures : ℕ → ItemClosure) (j : ℕ) (predictions : List ℕ) (k d : ℕ) (dots : List DottedRule)
+    → k < length predictions
+    → dots ≡ (closures (slice_index_or predictions k d)).dots →
+    length (expand closures j (take (k + 1) predictions))
+    ≡ length (expand closures j (take k predictions)) + length dots
+size_more closures j predictions k d dots lt is =
+    ap (λ v. length (expand closures j v)) (take_one predictions k d lt) ∙
+    (ap (λ v. length v) (expand_end closures j (take k predictions) (slice_index_or predictions k d)) ∙
+    (length-append (expand closures j (take k predictions))
+    (map (item_at j) (closures (slice_index_or predictions k d)).dots) ∙
+    ap (λ v. length (expand closures j (take k predictions)) + v)
+    (length-map (closures (slice_index_or predictions k d)).dots (item_at j) ∙ ap (λ v. length v) (sym is))))
 
-pub size_here : (tables : code_flat.Tables) (j : ℕ) (hs : List ℕ) (is : List Item) (heads : List ℕ) (items : List Item)
-    (n : ℕ) → hs ≡ heads → is ≡ items → n ≡ length (full (block_of tables) j hs is) →
-    n ≡ length (full (block_of tables) j heads items)
-size_here tables j hs is heads items n same other size =
-    size ∙ (ap (λ v. length (full (block_of tables) j v is)) same ∙ ap (λ v. length (full (block_of tables) j heads v))
+pub size_here : (tables : code_flat.Tables) (j : ℕ) (hs : List ℕ) (is : List Item) (predictions : List ℕ)
+    (items : List Item)
+    (n : ℕ) → hs ≡ predictions → is ≡ items → n ≡ length (full (closure_of tables) j hs is) →
+    n ≡ length (full (closure_of tables) j predictions items)
+size_here tables j hs is predictions items n same other size =
+    size ∙ (ap (λ v. length (full (closure_of tables) j v is)) same
+    ∙ ap (λ v. length (full (closure_of tables) j predictions v))
     other)

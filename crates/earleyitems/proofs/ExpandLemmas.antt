@@ -4,20 +4,20 @@ use Rattle.std.proofs.Common.{◌≡◌, ℕ, zero, suc, ◌+◌, ◌<◌, ◌�
 use Rattle.std.proofs.Common.{None, length, map, take, slice_get, slice_index_or, refl, sym, ◌∙◌, ap, subst, arith}
 use Rattle.std.proofs.Common.{append_assoc}
 use Rattle.std.proofs.lemmas.List.{append-nil}
-use Rattle.flatgrammar.specs.Places.{In, now, on}
+use Rattle.flatgrammar.specs.Positions.{In, now, on}
 use Rattle.flatgrammar.specs.declared.flat_item.Item.{Item}
 use Rattle.flatgrammar.specs.declared.tables.Tables as code_flat
-use Rattle.flatgrammar.specs.declared.block.DottedRule.{DottedRule}
+use Rattle.flatgrammar.specs.declared.closure.DottedRule.{DottedRule}
 use Rattle.earleyitems.specs.ItemSets.{Adds, IsAdvanced, IsCompleted, waiting_or, waiting_in}
 use Rattle.flatgrammar.specs.TableViews.{call_of, done_of, null_of, takes_of}
 use Rattle.earleyitems.specs.EarleySets.{EarleySet}
-use Rattle.earleyitems.specs.SetViews.{view, views, MovesOverNullable, IsPredictedRoot, expand}
+use Rattle.earleyitems.specs.SetViews.{view, views, MovesOverNullable, IsPredictedTarget, expand}
 use Rattle.earleyitems.proofs.ItemLemmas.{item_same}
 use Rattle.flatgrammar.proofs.CallOfLemmas.{some_same}
-use Rattle.flatgrammar.specs.Blocks.{item_at, Block}
+use Rattle.flatgrammar.specs.ItemClosures.{item_at, ItemClosure}
 use Rattle.earleyitems.proofs.AddsLemmas.{adds_both, adds_as, adds_none}
 use Rattle.flatgrammar.proofs.InLemmas.{in_left, at_end, before_end}
-use Rattle.earleyitems.proofs.BlockLemmas.{in_right, in_either}
+use Rattle.earleyitems.proofs.ClosureLemmas.{in_right, in_either}
 
 pub take_one : {A : Type 0} (xs : List A) (k : ℕ) (d : A) → k < length xs → take (k + 1) xs ≡ take k xs
     ++ slice_index_or xs k d ∷ []
@@ -36,13 +36,14 @@ pub map_end : {A B : Type 0} (f : A → B) (xs : List A) (x : A) → map f (xs +
 map_end f [] x = refl
 map_end f (y ∷ xs) x = ap (λ v. f y ∷ v) (map_end f xs x)
 
-pub expand_end : (blocks : ℕ → Block) (j : ℕ) (heads : List ℕ) (h : ℕ) → expand blocks j (heads ++ h ∷ [])
-    ≡ expand blocks j heads ++ map (item_at j) (blocks h).dots
-expand_end blocks j [] h = append-nil (map (item_at j) (blocks h).dots)
-expand_end blocks j (g ∷ heads) h =
-    ap (λ v. map (item_at j) (blocks g).dots ++ v) (expand_end blocks j heads h)
-    ∙ sym (append_assoc (map (item_at j) (blocks g).dots) (expand blocks j heads)
-    (map (item_at j) (blocks h).dots))
+pub expand_end : (closures : ℕ → ItemClosure) (j : ℕ) (predictions : List ℕ) (h : ℕ)
+    → expand closures j (predictions ++ h ∷ [])
+    ≡ expand closures j predictions ++ map (item_at j) (closures h).dots
+expand_end closures j [] h = append-nil (map (item_at j) (closures h).dots)
+expand_end closures j (g ∷ predictions) h =
+    ap (λ v. map (item_at j) (closures g).dots ++ v) (expand_end closures j predictions h)
+    ∙ sym (append_assoc (map (item_at j) (closures g).dots) (expand closures j predictions)
+    (map (item_at j) (closures h).dots))
 
 pub in_more : {A : Type 0} (ws : List A) (w : A) (old mid new : List A) → Adds (λ a. In a ws) old mid
     → Adds (λ a. a ≡ w) mid new → Adds (λ a. In a (ws ++ w ∷ [])) old new
@@ -56,101 +57,104 @@ in_none old = adds_none (λ a. In a []) old (λ a h. nobody a h)
     nobody : {A : Type 0} {old : List A} (a : A) → In a [] → In a old
     nobody a h = elim h [ ]
 
-module _ (flat : code_flat.Tables) (root : ℕ) where
-  advanced_from : (ws vs : List Item) (a : Item) (r : IsAdvanced flat root ws a) → In r.from vs
-      → IsAdvanced flat root vs a
+module _ (flat : code_flat.Tables) (target : ℕ) where
+  advanced_from : (ws vs : List Item) (a : Item) (r : IsAdvanced flat target ws a) → In r.from vs
+      → IsAdvanced flat target vs a
   advanced_from ws vs a r h = record { from = r.from; stands = h; call = r.call; node = r.node; origin = r.origin }
 
-  pub advanced_none : (old : List Item) → Adds (IsAdvanced flat root []) old old
-  advanced_none old = adds_none (IsAdvanced flat root []) old (λ a r. nobody a r.from r.stands)
+  pub advanced_none : (old : List Item) → Adds (IsAdvanced flat target []) old old
+  advanced_none old = adds_none (IsAdvanced flat target []) old (λ a r. nobody a r.from r.stands)
     where
       nobody : (a b : Item) → In b [] → In a old
       nobody a b h = elim h [ ]
 
-  pub advanced_both : (ws vs : List Item) (old mid new : List Item) → Adds (IsAdvanced flat root ws) old mid
-      → Adds (IsAdvanced flat root vs) mid new →
-      Adds (IsAdvanced flat root (ws ++ vs)) old new
-  advanced_both ws vs old mid new p q = adds_both (IsAdvanced flat root ws) (IsAdvanced flat root vs)
-      (IsAdvanced flat root (ws ++ vs)) old mid new p q
+  pub advanced_both : (ws vs : List Item) (old mid new : List Item) → Adds (IsAdvanced flat target ws) old mid
+      → Adds (IsAdvanced flat target vs) mid new →
+      Adds (IsAdvanced flat target (ws ++ vs)) old new
+  advanced_both ws vs old mid new p q = adds_both (IsAdvanced flat target ws) (IsAdvanced flat target vs)
+      (IsAdvanced flat target (ws ++ vs)) old mid new p q
       (λ a r. cases a r (in_either ws r.stands)) (λ a r. advanced_from ws (ws ++ vs) a r (in_left vs r.stands))
       (λ a r. advanced_from vs (ws ++ vs) a r (in_right ws r.stands))
     where
-      cases : (a : Item) (r : IsAdvanced flat root (ws ++ vs) a) → In r.from ws ⊎ In r.from vs
-          → IsAdvanced flat root ws a
-          ⊎ IsAdvanced flat root vs a
+      cases : (a : Item) (r : IsAdvanced flat target (ws ++ vs) a) → In r.from ws ⊎ In r.from vs
+          → IsAdvanced flat target ws a
+          ⊎ IsAdvanced flat target vs a
       cases a r (inl h) = inl (advanced_from (ws ++ vs) ws a r h)
       cases a r (inr h) = inr (advanced_from (ws ++ vs) vs a r h)
 
-module _ (flat : code_flat.Tables) (root : ℕ) where
-  pub advanced_one : (item : Item) (step : ℕ) (old new : List Item) → call_of flat item ≡ Some (root, step) →
+module _ (flat : code_flat.Tables) (target : ℕ) where
+  pub advanced_one : (item : Item) (step : ℕ) (old new : List Item) → call_of flat item ≡ Some (target, step) →
       Adds (λ a. a ≡ record { node = item.node; step = step; origin = item.origin }) old new
-      → Adds (IsAdvanced flat root (item ∷ [])) old new
+      → Adds (IsAdvanced flat target (item ∷ [])) old new
   advanced_one item step old new is p = adds_as (λ a. a ≡ record {
     node = item.node;
     step = step;
     origin = item.origin;
   })
-      (IsAdvanced flat root (item ∷ [])) old new
+      (IsAdvanced flat target (item ∷ [])) old new
       (λ a h. record {
         from = item;
         stands = now refl;
-        call = is ∙ ap (λ v. Some (root, v)) (sym (ap (λ v. v.step) h));
+        call = is ∙ ap (λ v. Some (target, v)) (sym (ap (λ v. v.step) h));
         node = ap (λ v. v.node) h;
         origin = ap (λ v. v.origin) h;
       })
       (λ a r. back a r r.stands) p
     where
-      back : (a : Item) (r : IsAdvanced flat root (item ∷ []) a) → In r.from (item ∷ [])
+      back : (a : Item) (r : IsAdvanced flat target (item ∷ []) a) → In r.from (item ∷ [])
           → a ≡ record { node = item.node; step = step; origin = item.origin }
       back a r (now same) =
-          let call : call_of flat item ≡ Some (root, a.step) = subst (λ v. call_of flat v ≡ Some (root, a.step)) same
+          let call : call_of flat item
+          ≡ Some (target, a.step) = subst (λ v. call_of flat v ≡ Some (target, a.step)) same
           r.call in
           let pair = some_same (sym call ∙ is) in
           item_same a item.node step item.origin (r.node ∙ ap (λ v. v.node) same) (ap (λ v. v.1) pair)
           (r.origin ∙ ap (λ v. v.origin) same)
       back a r (on h) = elim h [ ]
 
-  pub advanced_not : (item : Item) (old : List Item) → ((step : ℕ) → call_of flat item ≡ Some (root, step) → ⊥)
-      → Adds (IsAdvanced flat root (item ∷ [])) old old
-  advanced_not item old never = adds_none (IsAdvanced flat root (item ∷ [])) old (λ a r. nobody a r r.stands)
+  pub advanced_not : (item : Item) (old : List Item) → ((step : ℕ) → call_of flat item ≡ Some (target, step) → ⊥)
+      → Adds (IsAdvanced flat target (item ∷ [])) old old
+  advanced_not item old never = adds_none (IsAdvanced flat target (item ∷ [])) old (λ a r. nobody a r r.stands)
     where
-      nobody : (a : Item) (r : IsAdvanced flat root (item ∷ []) a) → In r.from (item ∷ []) → In a old
-      nobody a r (now same) = absurd (never a.step (subst (λ v. call_of flat v ≡ Some (root, a.step)) same r.call))
+      nobody : (a : Item) (r : IsAdvanced flat target (item ∷ []) a) → In r.from (item ∷ []) → In a old
+      nobody a r (now same) = absurd (never a.step (subst (λ v. call_of flat v ≡ Some (target, a.step)) same r.call))
       nobody a r (on h) = elim h [ ]
 
   pub advanced_more : (ws : List Item) (k : ℕ) (d : Item) (old mid new : List Item) → k < length ws
-      → Adds (IsAdvanced flat root (take k ws)) old mid →
-      Adds (IsAdvanced flat root (slice_index_or ws k d ∷ [])) mid new → Adds (IsAdvanced flat root (take (k + 1) ws))
+      → Adds (IsAdvanced flat target (take k ws)) old mid →
+      Adds (IsAdvanced flat target (slice_index_or ws k d ∷ [])) mid new
+      → Adds (IsAdvanced flat target (take (k + 1) ws))
       old new
   advanced_more ws k d old mid new lt p q =
-      subst (λ v. Adds (IsAdvanced flat root v) old new) (sym (take_one ws k d lt))
-      (advanced_both flat root (take k ws) (slice_index_or ws k d ∷ []) old mid new p q)
+      subst (λ v. Adds (IsAdvanced flat target v) old new) (sym (take_one ws k d lt))
+      (advanced_both flat target (take k ws) (slice_index_or ws k d ∷ []) old mid new p q)
 
   pub advanced_dots_more : (j : ℕ) (ws : List DottedRule) (k : ℕ) (d : DottedRule) (old mid new : List Item)
       → k < length ws
-      → Adds (IsAdvanced flat root (map (item_at j) (take k ws))) old mid →
-      Adds (IsAdvanced flat root (item_at j (slice_index_or ws k d) ∷ [])) mid new
-      → Adds (IsAdvanced flat root (map (item_at j) (take (k + 1) ws))) old new
+      → Adds (IsAdvanced flat target (map (item_at j) (take k ws))) old mid →
+      Adds (IsAdvanced flat target (item_at j (slice_index_or ws k d) ∷ [])) mid new
+      → Adds (IsAdvanced flat target (map (item_at j) (take (k + 1) ws))) old new
   advanced_dots_more j ws k d old mid new lt p q =
-      subst (λ v. Adds (IsAdvanced flat root v) old new)
+      subst (λ v. Adds (IsAdvanced flat target v) old new)
       (sym (ap (λ v. map (item_at j) v) (take_one ws k d lt)
       ∙ map_end (item_at j) (take k ws) (slice_index_or ws k d)))
-      (advanced_both flat root (map (item_at j) (take k ws)) (item_at j (slice_index_or ws k d) ∷ []) old mid new p q)
+      (advanced_both flat target (map (item_at j) (take k ws)) (item_at j (slice_index_or ws k d) ∷ []) old mid new p q)
 
-  pub advanced_heads_more : (blocks : ℕ → Block) (j : ℕ) (hs : List ℕ) (k d : ℕ) (dots : List DottedRule)
+  pub advanced_predictions_more : (closures : ℕ → ItemClosure) (j : ℕ) (hs : List ℕ) (k d : ℕ) (dots : List DottedRule)
       (old mid new : List Item) → k < length hs →
-      dots ≡ (blocks (slice_index_or hs k d)).dots → Adds (IsAdvanced flat root (expand blocks j (take k hs))) old
+      dots ≡ (closures (slice_index_or hs k d)).dots → Adds (IsAdvanced flat target (expand closures j (take k hs))) old
       mid →
-      Adds (IsAdvanced flat root (map (item_at j) dots)) mid new
-      → Adds (IsAdvanced flat root (expand blocks j (take (k + 1) hs))) old new
-  advanced_heads_more blocks j hs k d dots old mid new lt is p q =
-      subst (λ v. Adds (IsAdvanced flat root v) old new)
-      (sym (ap (λ v. expand blocks j v) (take_one hs k d lt)
-      ∙ expand_end blocks j (take k hs) (slice_index_or hs k d)))
-      (advanced_both flat root (expand blocks j (take k hs)) (map (item_at j) (blocks (slice_index_or hs k d)).dots)
+      Adds (IsAdvanced flat target (map (item_at j) dots)) mid new
+      → Adds (IsAdvanced flat target (expand closures j (take (k + 1) hs))) old new
+  advanced_predictions_more closures j hs k d dots old mid new lt is p q =
+      subst (λ v. Adds (IsAdvanced flat target v) old new)
+      (sym (ap (λ v. expand closures j v) (take_one hs k d lt)
+      ∙ expand_end closures j (take k hs) (slice_index_or hs k d)))
+      (advanced_both flat target (expand closures j (take k hs))
+      (map (item_at j) (closures (slice_index_or hs k d)).dots)
       old
       mid new p
-      (subst (λ v. Adds (IsAdvanced flat root (map (item_at j) v)) mid new) is q))
+      (subst (λ v. Adds (IsAdvanced flat target (map (item_at j) v)) mid new) is q))
 
 pub get_views : (flat : code_flat.Tables) (j : ℕ) (kept_sets : List EarleySet) (k : ℕ) (kept_set : EarleySet)
     → slice_get kept_sets k ≡ Some kept_set → slice_get (views flat j kept_sets) k ≡ Some (view flat (j + k) kept_set)
@@ -190,18 +194,18 @@ pub completed_undone : (flat : code_flat.Tables) (sets : List (List Item)) (item
     → (done_of flat item ≡ true → ⊥) → Adds (IsCompleted flat sets [] item) old old
 completed_undone flat sets item old never = adds_none (IsCompleted flat sets [] item) old (λ a c. absurd (never c.done))
 
-pub one_on : (flat : code_flat.Tables) (item : Item) (root next : ℕ) (old new : List Item)
-    → call_of flat item ≡ Some (root, next) → null_of flat root ≡ true → takes_of flat item ≡ false
+pub one_on : (flat : code_flat.Tables) (item : Item) (target next : ℕ) (old new : List Item)
+    → call_of flat item ≡ Some (target, next) → null_of flat target ≡ true → takes_of flat item ≡ false
     → (next ≡ item.step → ⊥) →
     Adds (λ a. a ≡ record { node = item.node; step = next; origin = item.origin }) old new
     → Adds (MovesOverNullable flat item) old new
-one_on flat item root next old new is marked free moves p =
+one_on flat item target next old new is marked free moves p =
     adds_as (λ a. a ≡ record { node = item.node; step = next; origin = item.origin }) (MovesOverNullable flat item)
     old new
     (λ a h. record {
       passed = record {
-        root = root;
-        call = is ∙ ap (λ v. Some (root, v)) (sym (ap (λ v. v.step) h));
+        target = target;
+        call = is ∙ ap (λ v. Some (target, v)) (sym (ap (λ v. v.step) h));
         null = marked;
         free = free;
         node = ap (λ v. v.node) h;
@@ -213,15 +217,17 @@ one_on flat item root next old new is marked free moves p =
     h.passed.origin) p
 
 pub none_on : (flat : code_flat.Tables) (item : Item) (old : List Item)
-    → ((root next : ℕ) → call_of flat item ≡ Some (root, next) → null_of flat root ≡ true → takes_of flat item ≡ false
+    → ((target next : ℕ) → call_of flat item ≡ Some (target, next) → null_of flat target ≡ true → takes_of flat item
+    ≡ false
     → (next ≡ item.step → ⊥) → ⊥) →
     Adds (MovesOverNullable flat item) old old
 none_on flat item old never = adds_none (MovesOverNullable flat item) old
-    (λ a h. absurd (never h.passed.root a.step h.passed.call h.passed.null h.passed.free h.moves))
+    (λ a h. absurd (never h.passed.target a.step h.passed.call h.passed.null h.passed.free h.moves))
 
-pub asked_one : (flat : code_flat.Tables) (item : Item) (root next : ℕ) (old new : List ℕ)
-    → call_of flat item ≡ Some (root, next) → Adds (λ t. t ≡ root) old new → Adds (IsPredictedRoot flat item) old new
-asked_one flat item root next old new is p = adds_as (λ t. t ≡ root) (IsPredictedRoot flat item) old new
+pub asked_one : (flat : code_flat.Tables) (item : Item) (target next : ℕ) (old new : List ℕ)
+    → call_of flat item ≡ Some (target, next) → Adds (λ t. t ≡ target) old new
+    → Adds (IsPredictedTarget flat item) old new
+asked_one flat item target next old new is p = adds_as (λ t. t ≡ target) (IsPredictedTarget flat item) old new
     (λ t h. record { next = next; call = is ∙ ap (λ v. Some (v, next)) (sym h) })
     (λ t h. ap (λ v. v.0) (some_same (sym h.call ∙ is))) p
 

@@ -4,13 +4,14 @@ use Rattle.std.proofs.Common.{◌≡◌, ℕ, zero, suc, ◌+◌, ◌<◌, ◌�
 use Rattle.std.proofs.Common.{length, take, slice_get, refl, sym, ◌∙◌, ap, subst, arith, slice_index_or}
 use Rattle.std.proofs.lemmas.List.{take-append-le}
 use Rattle.std.specs.Option.{option_flatten}
-use Rattle.flatgrammar.specs.Flat.{Place, at, Starts, Node, Letters, Concat, Alt, Rep, Turns, Opt, Name, Nothing, Set}
+use Rattle.flatgrammar.specs.Flat.{Dot, at, Starts, Node, Letters, Concat, Alt, Rep, Iterations, Opt, Name, Nothing}
+use Rattle.flatgrammar.specs.Flat.{Set}
 use Rattle.flatgrammar.specs.Flat.{Has, Reading, reads}
-use Rattle.flatgrammar.specs.Places.{In, AreDifferent}
+use Rattle.flatgrammar.specs.Positions.{In, AreDifferent}
 use Rattle.flatgrammar.specs.declared.flat_item.Item.{Item}
 use Rattle.flatgrammar.specs.declared.tables.Tables as code_flat
 use Rattle.flatgrammar.specs.NodeSteps.{flat_of, read_at, IfSomeSet}
-use Rattle.flatgrammar.specs.TableViews.{GiveRoots, read_in}
+use Rattle.flatgrammar.specs.TableViews.{GiveTargets, read_in}
 use Rattle.earleyitems.specs.Closed.{Hold, HoldAll, IsClosed}
 use Rattle.earleyitems.specs.ScannedItems.{IsScannedItem}
 use Rattle.earleyitems.specs.Charts.{item_of, IsFirst, IsWhole, IsAfter, IsExact, IsBuilt}
@@ -46,7 +47,7 @@ take_whole : {A : Type 0} (xs : List A) → take (length xs) xs ≡ xs
 take_whole [] = refl
 take_whole (x ∷ xs) = ap (λ v. x ∷ v) (take_whole xs)
 
-module _ (flat : code_flat.Tables) (roots : GiveRoots (flat_of flat) flat.roots.items) (x : List ℕ) where
+module _ (flat : code_flat.Tables) (targets : GiveTargets (flat_of flat) flat.targets.items) (x : List ℕ) where
   pub built_none : IsBuilt flat x []
   built_none = record {
     held = λ k set is. absurd cc;
@@ -57,7 +58,7 @@ module _ (flat : code_flat.Tables) (roots : GiveRoots (flat_of flat) flat.roots.
   pub built_exact : (sets : List (List Item)) → IsBuilt flat x sets → IsExact flat x sets
   built_exact sets b j set is = record {
     held = b.held j set is;
-    all = λ p i h. chart_contains flat roots x sets b.chart h set is;
+    all = λ p i h. chart_contains flat targets x sets b.chart h set is;
     different = b.different j set is;
   }
 
@@ -85,11 +86,11 @@ module _ (flat : code_flat.Tables) (roots : GiveRoots (flat_of flat) flat.roots.
         ∙ (ap (λ v. take v sets) e.last ∙ take_whole sets) in
         subst (λ v. IsClosed flat v s) (sym whole) (subst (λ v. IsClosed flat sets v) e.is closed)
 
-    begun_more : (s : List Item) → (slice_get sets 0 ≡ Some s) ⊎ AtEnd sets set 0 s → (p : Place)
-        → Starts (flat_of flat) flat.whole p → In (item_of p 0) s
+    begun_more : (s : List Item) → (slice_get sets 0 ≡ Some s) ⊎ AtEnd sets set 0 s → (p : Dot)
+        → Starts (flat_of flat) flat.start p → In (item_of p 0) s
     begun_more s (inl is) p st = b.chart.begun s is p st
     begun_more s (inr e) p st = subst (λ v. In (item_of p 0) v) e.is
-        (first (item_of p 0) (inl (sym e.last, whole_in flat roots st)))
+        (first (item_of p 0) (inl (sym e.last, whole_in flat targets st)))
 
     read_more : (j c : ℕ) (s next : List Item) → (slice_get sets j ≡ Some s) ⊎ AtEnd sets set j s
         → (slice_get sets (j + 1) ≡ Some next) ⊎ AtEnd sets set (j + 1) next →
@@ -142,12 +143,12 @@ read_from (Letters sets) k c h = read_found sets k c (slice_get sets k) refl h
 read_from (Concat ms) k c h = elim h [ ]
 read_from (Alt ms) k c h = elim h [ ]
 read_from (Rep a b m) k c h = elim h [ ]
-read_from (Turns b m) k c h = elim h [ ]
+read_from (Iterations b m) k c h = elim h [ ]
 read_from (Opt m) k c h = elim h [ ]
 read_from (Name r) k c h = elim h [ ]
 read_from Nothing k c h = elim h [ ]
 
-module _ (flat : code_flat.Tables) (roots : GiveRoots (flat_of flat) flat.roots.items) (x : List ℕ)
+module _ (flat : code_flat.Tables) (targets : GiveTargets (flat_of flat) flat.targets.items) (x : List ℕ)
     (sets : List (List Item)) (held : HoldAll (flat_of flat) x sets) where
   read_holds : (at_j c : ℕ) (b : Item) (o : Option code_node.Node) → slice_get flat.nodes.items b.node ≡ o
       → IfSomeSet (read_in o b.step) c → slice_get x at_j ≡ Some c →
@@ -169,16 +170,17 @@ module _ (flat : code_flat.Tables) (roots : GiveRoots (flat_of flat) flat.roots.
       (subst (λ v. Holds (flat_of flat) x (h.at + 1) (at a.node v) r.by.origin) (sym r.step)
       (subst (λ v. Holds (flat_of flat) x (h.at + 1) (at v (r.by.step + 1)) r.by.origin) (sym r.node) made)))
 
-  pub root_is : (o : Option (Option ℕ)) (root : ℕ) → option_flatten o ≡ Some root → o ≡ Some (Some root)
-  root_is None root h = absurd cc
-  root_is (Some o) root h = ap Some h
+  pub target_is : (o : Option (Option ℕ)) (target : ℕ) → option_flatten o ≡ Some target → o ≡ Some (Some target)
+  target_is None target h = absurd cc
+  target_is (Some o) target h = ap Some h
 
   pub whole_holds : (a : Item) → IsWhole flat a → Holds (flat_of flat) x 0 (at a.node a.step) a.origin
   whole_holds a h =
-      let root = (roots flat.whole h.root).0 (root_is (slice_get flat.roots.items flat.whole) h.root h.is) in
-      let made : Holds (flat_of flat) x 0 (at h.root a.step) 0 =
-      begins (begun_starts flat roots h.root a.step flat.whole (slice_get flat.nodes.items h.root) refl h.begun.1
-      root) in
+      let target = (targets flat.start h.target).0
+      (target_is (slice_get flat.targets.items flat.start) h.target h.is) in
+      let made : Holds (flat_of flat) x 0 (at h.target a.step) 0 =
+      begins (begun_starts flat targets h.target a.step flat.start (slice_get flat.nodes.items h.target) refl h.begun.1
+      target) in
       subst (λ v. Holds (flat_of flat) x 0 (at a.node a.step) v) (sym h.begun.2)
       (subst (λ v. Holds (flat_of flat) x 0 (at v a.step) 0) (sym h.begun.0) made)
 

@@ -4,20 +4,20 @@ use Rattle.std.proofs.Common.{◌≡◌, ℕ, zero, suc, ◌+◌, ◌<◌, ◌�
 use Rattle.std.proofs.Common.{take, slice_get, refl, sym, ◌∙◌, ap, subst, arith, length-take-le}
 use Rattle.std.proofs.lemmas.Bool.{cases_lt}
 use Rattle.std.specs.Option.{option_flatten}
-use Rattle.flatgrammar.specs.Flat.{Node, Letters, Name, Flat, Place, at, Set, Has, Begins, IsDone, Reading, Calling}
+use Rattle.flatgrammar.specs.Flat.{Node, Letters, Name, Flat, Dot, at, Set, Has, Begins, IsDone, Reading, Calling}
 use Rattle.flatgrammar.specs.Flat.{Starts, starts, name_starts, Ends, ends, name_ends, Reads, reads, Calls, calls}
 use Rattle.flatgrammar.specs.Flat.{Takes}
 use Rattle.flatgrammar.specs.Holds.{Holds, begins, called, has_read, returned}
-use Rattle.flatgrammar.specs.Places.{In}
-use Rattle.flatgrammar.proofs.PlacesLemmas.{holds_origin}
+use Rattle.flatgrammar.specs.Positions.{In}
+use Rattle.flatgrammar.proofs.PositionsLemmas.{holds_origin}
 use Rattle.flatgrammar.specs.declared.flat_item.Item.{Item}
 use Rattle.flatgrammar.specs.declared.tables.Tables as code_flat
 use Rattle.flatgrammar.specs.FlatViews.{node_of}
 use Rattle.flatgrammar.specs.NodeSteps.{flat_of, begin_count, is_done, callee, read_at, IfSomeSet}
-use Rattle.flatgrammar.specs.TableViews.{root_in, rooted, called_by, call_of, done_in, done_of, count_in, read_in}
-use Rattle.flatgrammar.specs.TableViews.{read_of, GiveRoots}
+use Rattle.flatgrammar.specs.TableViews.{target_in, rooted, called_by, call_of, done_in, done_of, count_in, read_in}
+use Rattle.flatgrammar.specs.TableViews.{read_of, GiveTargets}
 use Rattle.earleyitems.specs.ItemSets.{waiting_in}
-use Rattle.flatgrammar.specs.Roots.{Root, own, named}
+use Rattle.flatgrammar.specs.Targets.{Target, own, named}
 use Rattle.earleyitems.specs.Charts.{item_of, IsChart, IsWhole}
 use Rattle.flatgrammar.proofs.CallOfLemmas.{done_tests, calling_callee, begin_below, get_below, get_unmap, true_takes}
 
@@ -45,22 +45,22 @@ get_past (x ∷ xs) zero k le = refl
 get_past (x ∷ xs) (suc j) zero le = absurd (omega arith)
 get_past (x ∷ xs) (suc j) (suc k) le = let less : j ≤ k = omega arith in get_past xs j k less
 
-record StartsAt (flat : Flat) (s : ℕ) (p : Place) : Type 0 where
-  root : ℕ
+record StartsAt (flat : Flat) (s : ℕ) (p : Dot) : Type 0 where
+  target : ℕ
   step : ℕ
   node : Node
-  place : p ≡ at root step
-  rooted : Root flat.nodes flat.bodies s root
-  stands : slice_get flat.nodes root ≡ Some node
+  position : p ≡ at target step
+  rooted : Target flat.nodes flat.bodies s target
+  stands : slice_get flat.nodes target ≡ Some node
   begun : Begins node step
 
-starts_at : {flat : Flat} {s : ℕ} {p : Place} → Starts flat s p → StartsAt flat s p
+starts_at : {flat : Flat} {s : ℕ} {p : Dot} → Starts flat s p → StartsAt flat s p
 starts_at (starts {s = s} {k = k} {node = node} is b) =
     record {
-      root = s;
+      target = s;
       step = k;
       node = node;
-      place = refl;
+      position = refl;
       rooted = own is (λ r same. none k r (subst (λ v. Begins v k) same b));
       stands = is;
       begun = b;
@@ -70,31 +70,31 @@ starts_at (starts {s = s} {k = k} {node = node} is b) =
     none k r b = elim b [ ]
 starts_at (name_starts is at_r st) = let h = starts_at st in
     record {
-      root = h.root;
+      target = h.target;
       step = h.step;
       node = h.node;
-      place = h.place;
+      position = h.position;
       rooted = named is at_r h.rooted;
       stands = h.stands;
       begun = h.begun;
     }
 
-record EndsAt (flat : Flat) (s : ℕ) (p : Place) : Type 0 where
-  root : ℕ
+record EndsAt (flat : Flat) (s : ℕ) (p : Dot) : Type 0 where
+  target : ℕ
   step : ℕ
   node : Node
-  place : p ≡ at root step
-  rooted : Root flat.nodes flat.bodies s root
-  stands : slice_get flat.nodes root ≡ Some node
+  position : p ≡ at target step
+  rooted : Target flat.nodes flat.bodies s target
+  stands : slice_get flat.nodes target ≡ Some node
   done : IsDone node step
 
-ends_at : {flat : Flat} {s : ℕ} {p : Place} → Ends flat p s → EndsAt flat s p
+ends_at : {flat : Flat} {s : ℕ} {p : Dot} → Ends flat p s → EndsAt flat s p
 ends_at (ends {s = s} {k = k} {node = node} is d) =
     record {
-      root = s;
+      target = s;
       step = k;
       node = node;
-      place = refl;
+      position = refl;
       rooted = own is (λ r same. none k r (subst (λ v. IsDone v k) same d));
       stands = is;
       done = d;
@@ -104,77 +104,78 @@ ends_at (ends {s = s} {k = k} {node = node} is d) =
     none k r d = elim d [ ]
 ends_at (name_ends is at_r e) = let h = ends_at e in
     record {
-      root = h.root;
+      target = h.target;
       step = h.step;
       node = h.node;
-      place = h.place;
+      position = h.position;
       rooted = named is at_r h.rooted;
       stands = h.stands;
       done = h.done;
     }
 
-module _ (flat : code_flat.Tables) (roots : GiveRoots (flat_of flat) flat.roots.items) where
-  pub whole_in : {p : Place} → Starts (flat_of flat) flat.whole p → IsWhole flat (item_of p 0)
+module _ (flat : code_flat.Tables) (targets : GiveTargets (flat_of flat) flat.targets.items) where
+  pub whole_in : {p : Dot} → Starts (flat_of flat) flat.start p → IsWhole flat (item_of p 0)
   whole_in st =
       let b = starts_at st in
-      let u = get_unmap node_of flat.nodes.items b.root b.node b.stands in
-      let below : b.step < count_in (slice_get flat.nodes.items b.root) =
+      let u = get_unmap node_of flat.nodes.items b.target b.node b.stands in
+      let below : b.step < count_in (slice_get flat.nodes.items b.target) =
       rw u.at (subst (λ v. b.step < begin_count v) (sym u.is) (begin_below b.begun)) in
-      subst (λ v. IsWhole flat (item_of v 0)) (sym b.place)
+      subst (λ v. IsWhole flat (item_of v 0)) (sym b.position)
       (record {
-        root = b.root;
-        is = ap (λ o. option_flatten o) ((roots flat.whole b.root).1 b.rooted);
+        target = b.target;
+        is = ap (λ o. option_flatten o) ((targets flat.start b.target).1 b.rooted);
         begun = (refl, below, refl);
       })
 
-module _ (flat : code_flat.Tables) (roots : GiveRoots (flat_of flat) flat.roots.items) (x : List ℕ)
+module _ (flat : code_flat.Tables) (targets : GiveTargets (flat_of flat) flat.targets.items) (x : List ℕ)
     (sets : List (List Item)) (chart : IsChart flat x sets) where
-  call_is : (n k i : ℕ) {t l root : ℕ} {node : Node} → slice_get (flat_of flat).nodes n ≡ Some node → Calling node k t l
-      → Root (flat_of flat).nodes (flat_of flat).bodies t root →
-      call_of flat (record { node = n; step = k; origin = i }) ≡ Some (root, l)
-  call_is n k i {t = t} {l = l} {root = root} {node = node} is c r =
+  call_is : (n k i : ℕ) {t l target : ℕ} {node : Node} → slice_get (flat_of flat).nodes n ≡ Some node
+      → Calling node k t l
+      → Target (flat_of flat).nodes (flat_of flat).bodies t target →
+      call_of flat (record { node = n; step = k; origin = i }) ≡ Some (target, l)
+  call_is n k i {t = t} {l = l} {target = target} {node = node} is c r =
       let u = get_unmap node_of flat.nodes.items n node is in
       let called_is : callee (node_of u.from) k ≡ Some (t, l) = ap (λ v. callee v k) u.is ∙ calling_callee c in
-      ap (λ o. called_by flat.roots.items o k) u.at
-      ∙ (ap (λ o. rooted flat.roots.items o) called_is ∙ ap (λ o. root_in o l) ((roots t root).1 r))
+      ap (λ o. called_by flat.targets.items o k) u.at
+      ∙ (ap (λ o. rooted flat.targets.items o) called_is ∙ ap (λ o. target_in o l) ((targets t target).1 r))
 
-  predicted_in : (i j : ℕ) {s : ℕ} {q r p : Place} (set : List Item) → slice_get sets j ≡ Some set
+  predicted_in : (i j : ℕ) {s : ℕ} {q r p : Dot} (set : List Item) → slice_get sets j ≡ Some set
       → In (item_of q i) set → Calls (flat_of flat) q s r →
       Starts (flat_of flat) s p → In (item_of p j) set
   predicted_in i j {p = p} set is h (calls {s = n} {k = k} {t = t} {l = l} {node = node} at_n c) st =
       let b = starts_at st in
-      let u = get_unmap node_of flat.nodes.items b.root b.node b.stands in
-      let below : b.step < count_in (slice_get flat.nodes.items b.root) =
+      let u = get_unmap node_of flat.nodes.items b.target b.node b.stands in
+      let below : b.step < count_in (slice_get flat.nodes.items b.target) =
       rw u.at (subst (λ v. b.step < begin_count v) (sym u.is) (begin_below b.begun)) in
       let le : j ≤ length sets = omega (arith, get_below sets j is) in
       let size : j ≡ length (take j sets) = sym (length-take-le j sets le) in
-      subst (λ v. In (item_of v j) set) (sym b.place)
-      (chart.closed j set is (item_of (at b.root b.step) j)
+      subst (λ v. In (item_of v j) set) (sym b.position)
+      (chart.closed j set is (item_of (at b.target b.step) j)
       (record {
         by = item_of (at n k) i;
         stands = h;
         next = inl (record {
-          root = b.root;
+          target = b.target;
           next = l;
           call = call_is n k i at_n c b.rooted;
           begun = (refl, below, size);
         });
       }))
 
-  advanced_in : (i j k : ℕ) {s : ℕ} {q r p : Place} (set earlier : List Item) → slice_get sets j ≡ Some set
+  advanced_in : (i j k : ℕ) {s : ℕ} {q r p : Dot} (set earlier : List Item) → slice_get sets j ≡ Some set
       → slice_get sets k ≡ Some earlier → k ≤ j →
       In (item_of p k) set → Ends (flat_of flat) p s → In (item_of q i) earlier → Calls (flat_of flat) q s r
       → (Takes (flat_of flat) q → k < j) → In (item_of r i) set
   advanced_in i j o {p = p} set earlier is is_earlier le h e g
       (calls {s = n} {k = k} {t = t} {l = l} {node = node} at_n c) takes =
       let b = ends_at e in
-      let u = get_unmap node_of flat.nodes.items b.root b.node b.stands in
-      let done_is : done_of flat (item_of (at b.root b.step) o) ≡ true = ap (λ v. done_in v b.step) u.at
+      let u = get_unmap node_of flat.nodes.items b.target b.node b.stands in
+      let done_is : done_of flat (item_of (at b.target b.step) o) ≡ true = ap (λ v. done_in v b.step) u.at
       ∙ (ap (λ v. is_done v b.step) u.is ∙ done_tests b.done) in
       chart.closed j set is (item_of (at n l) i)
       (record {
-        by = item_of (at b.root b.step) o;
-        stands = subst (λ v. In (item_of v o) set) b.place h;
+        by = item_of (at b.target b.step) o;
+        stands = subst (λ v. In (item_of v o) set) b.position h;
         next = inr (record {
           completed = record {
             done = done_is;
@@ -204,7 +205,7 @@ module _ (flat : code_flat.Tables) (roots : GiveRoots (flat_of flat) flat.roots.
           let one : earlier ≡ set = some_same (sym is_earlier ∙ (ap (λ v. slice_get sets v) same ∙ is)) in
           rw (get_past sets j o past) (subst (λ v. In (item_of (at n k) i) v) one g)
 
-  read_in_next : (i j c : ℕ) {q r : Place} {s : Set} (set next : List Item) → slice_get sets j ≡ Some set
+  read_in_next : (i j c : ℕ) {q r : Dot} {s : Set} (set next : List Item) → slice_get sets j ≡ Some set
       → slice_get sets (j + 1) ≡ Some next → slice_get x j ≡ Some c →
       Has s c → Reads (flat_of flat) q s r → In (item_of q i) set → In (item_of r i) next
   read_in_next i j c set next is is_next letter lies
@@ -222,7 +223,7 @@ module _ (flat : code_flat.Tables) (roots : GiveRoots (flat_of flat) flat.roots.
         origin = refl;
       })
 
-  pub chart_contains : {j i : ℕ} {p : Place} → Holds (flat_of flat) x j p i → (set : List Item)
+  pub chart_contains : {j i : ℕ} {p : Dot} → Holds (flat_of flat) x j p i → (set : List Item)
       → slice_get sets j ≡ Some set
       → In (item_of p i) set
   chart_contains (begins st) set is = chart.begun set is _ st

@@ -6,8 +6,8 @@ use Rattle.std.proofs.lemmas.Bool.{false≢true}
 use Rattle.flatgrammar.specs.Flat.{Node, at}
 use Rattle.flatgrammar.specs.Holds.{Holds}
 use Rattle.flatgrammar.specs.Nullable.{Passes, Nullable}
-use Rattle.flatgrammar.specs.Places.{In}
-use Rattle.flatgrammar.proofs.PlacesLemmas.{holds_origin}
+use Rattle.flatgrammar.specs.Positions.{In}
+use Rattle.flatgrammar.proofs.PositionsLemmas.{holds_origin}
 use Rattle.flatgrammar.proofs.FlatNullableLemmas.{passes_where_begun, passes_at_once}
 use Rattle.flatgrammar.specs.declared.flat_item.Item.{Item}
 use Rattle.flatgrammar.specs.declared.flat_node.Node as code_node
@@ -15,14 +15,14 @@ use Rattle.flatgrammar.specs.declared.tables.Tables as code_flat
 use Rattle.flatgrammar.specs.FlatViews.{node_of}
 use Rattle.flatgrammar.specs.NodeSteps.{flat_of}
 use Rattle.earleyitems.specs.ItemSets.{waiting_or, IsAdvanced, IsNextOf}
-use Rattle.flatgrammar.specs.TableViews.{done_in, GiveRoots, AreNulls, null_in, takes_of}
-use Rattle.flatgrammar.specs.Roots.{Root, own, named}
+use Rattle.flatgrammar.specs.TableViews.{done_in, GiveTargets, AreNulls, null_in, takes_of}
+use Rattle.flatgrammar.specs.Targets.{Target, own, named}
 use Rattle.earleyitems.specs.Closed.{Hold, HoldAll, IsClosed}
 use Rattle.earleyitems.specs.Worklist.{AdvancesNullable, IsWorked}
 use Rattle.flatgrammar.proofs.CallOfLemmas.{get_map, below_get, called_of, takes_true}
 use Rattle.flatgrammar.proofs.NodeStepsLemmas.{done_is}
 
-nullable_up : {nodes : List Node} {bodies : List ℕ} {s t : ℕ} → Root nodes bodies s t → Nullable nodes bodies t
+nullable_up : {nodes : List Node} {bodies : List ℕ} {s t : ℕ} → Target nodes bodies s t → Nullable nodes bodies t
     → Nullable nodes bodies s
 nullable_up (own is differs) n = n
 nullable_up (named is at_r r) n = Nullable.named is at_r (nullable_up r n)
@@ -35,15 +35,15 @@ mark_is : (o : Option Bool) → null_in o ≡ true → o ≡ Some true
 mark_is None h = absurd cc
 mark_is (Some marked) h = ap Some h
 
-module _ (flat : code_flat.Tables) (roots : GiveRoots (flat_of flat) flat.roots.items)
+module _ (flat : code_flat.Tables) (targets : GiveTargets (flat_of flat) flat.targets.items)
     (nulls : AreNulls (flat_of flat) flat.nulls.items)
     (x : List ℕ) (sets : List (List Item)) (earlier : HoldAll (flat_of flat) x sets) where
   pub passed_holds : (item a : Item) → Holds (flat_of flat) x (length sets) (at item.node item.step) item.origin
       → AdvancesNullable flat item a →
       Holds (flat_of flat) x (length sets) (at a.node a.step) a.origin
   passed_holds item a h p =
-      let c = called_of flat roots item p.root a.step p.call in
-      let n = (nulls p.root).0 (mark_is (slice_get flat.nulls.items p.root) p.null) in
+      let c = called_of flat targets item p.target a.step p.call in
+      let n = (nulls p.target).0 (mark_is (slice_get flat.nulls.items p.target) p.null) in
       let made : Holds (flat_of flat) x (length sets) (at item.node a.step) item.origin =
       passes_at_once (flat_of flat) x h c.calls
       (λ t. absurd (false≢true (sym p.free ∙ takes_true flat item.node item.step item.origin t)))
@@ -81,7 +81,7 @@ module _ (flat : code_flat.Tables) (roots : GiveRoots (flat_of flat) flat.roots.
         (passes_where_begun (flat_of flat) x h same) in
         let free = not_true (takes_of flat r.from) (λ t. let lt = later t in omega (arith, lt, same)) in
         worked r.from r.stands a (inl (inr (record {
-          root = by.node;
+          target = by.node;
           call = r.call;
           null = ap null_in ((nulls by.node).1 n);
           free = free;

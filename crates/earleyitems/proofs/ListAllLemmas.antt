@@ -1,4 +1,4 @@
--- Waiting lists of heads.
+-- Waiting lists of predictions.
 -- Serves: judge.
 use Rattle.std.proofs.Common.{⊎_elim}
 use Rattle.std.proofs.Common.{◌≡◌, ℕ, zero, suc, ◌+◌, ◌-◌, ◌<◌, ◌≤◌, ◌⊎◌, inl, inr, Some, None, map, List, [], ◌∷◌}
@@ -6,7 +6,7 @@ use Rattle.std.proofs.Common.{◌++◌, length, take, set, slice_get, slice_inde
 use Rattle.std.proofs.Common.{append_assoc}
 use Rattle.std.proofs.lemmas.Option.{slice_get_within}
 use Rattle.std.proofs.lemmas.List.{append-nil}
-use Rattle.flatgrammar.specs.Places.{In, now, on}
+use Rattle.flatgrammar.specs.Positions.{In, now, on}
 use Rattle.flatgrammar.specs.declared.flat_item.Item.{Item}
 use Rattle.flatgrammar.specs.declared.tables.Tables as code_flat
 use Rattle.flatgrammar.specs.TableViews.{call_of}
@@ -18,9 +18,9 @@ use Rattle.earleyitems.specs.EarleySets.{EarleySet, GoesOn}
 use Rattle.earleyitems.specs.SetViews.{view}
 use Rattle.earleyitems.specs.Waiting.{IsSkippedTo, Chain, ended, linked, IsListed, call_site_at, AreWaiting}
 use Rattle.earleyitems.specs.Waiting.{AreWaitingAll}
-use Rattle.flatgrammar.specs.Blocks.{item_at, block_of, inner_of, lists_of, dots_of, AreDotLists}
+use Rattle.flatgrammar.specs.ItemClosures.{item_at, closure_of, inlined_of, lists_of, dots_of, AreDotLists}
 use Rattle.flatgrammar.specs.declared.dot_list.Ask.{Ask}
-use Rattle.earleyitems.proofs.BlockLemmas.{in_right, in_either, in_map, from_map}
+use Rattle.earleyitems.proofs.ClosureLemmas.{in_right, in_either, in_map, from_map}
 use Rattle.earleyitems.proofs.AddsLemmas.{adds_none, adds_both, adds_as}
 use Rattle.earleyitems.proofs.ExpandLemmas.{take_one}
 use Rattle.flatgrammar.proofs.SliceGetLemmas.{push_cases}
@@ -63,7 +63,7 @@ chain_none : {waiters : List Waiter} {at : ℕ} {es : List Item} → Chain waite
 chain_none ended le = refl
 chain_none (linked is le rest) most = absurd (omega (arith, most))
 
--- a walk along a list: what adds the rest adds the whole
+-- a walk along a list: what adds the rest adds the augmented start
 pub record IsAlong (waiters : List Waiter) (at : ℕ) (es : List Item) (old new : List Item) : Type 0 where
   pub rest : List Item
   pub chain : Chain waiters at rest
@@ -156,7 +156,7 @@ pub take_one_more : {A : Type 0} (xs ys : List A) (k : ℕ) (d : A) → xs ≡ y
 take_one_more xs ys k d same lt =
     subst (λ v. take (k + 1) v ≡ take k v ++ slice_index_or xs k d ∷ []) same (take_one xs k d lt)
 
--- the walk along a head's list adds what its completion adds
+-- the walk along a prediction's list adds what its completion adds
 pub listed_adds : {waiters : List Waiter} {first : ℕ} {Q : Item → Type 0} {old new : List Item} (l : IsListed waiters
     first Q)
     → Adds (λ a. In a l.items) old new → Adds Q old new
@@ -176,19 +176,19 @@ call_site_dots j (site ∷ sites) = ap (λ v. call_site_at j site ∷ v) (call_s
 -- one more set
 pub waiting_push : (flat : code_flat.Tables) (kept_sets : List EarleySet) (kept_set : EarleySet)
     → AreWaitingAll flat kept_sets →
-    AreWaiting flat (view flat (length kept_sets) kept_set) kept_set.heads kept_set.firsts kept_set.waiters
+    AreWaiting flat (view flat (length kept_sets) kept_set) kept_set.predictions kept_set.firsts kept_set.waiters
     → AreWaitingAll flat (kept_sets ++ kept_set ∷ [])
 waiting_push flat kept_sets kept_set are last k f is = by (push_cases kept_sets kept_set k f is)
   where
     by : (slice_get kept_sets k ≡ Some f) ⊎ ((k ≡ length kept_sets) × (kept_set ≡ f))
-        → AreWaiting flat (view flat k f) f.heads f.firsts f.waiters
+        → AreWaiting flat (view flat k f) f.predictions f.firsts f.waiters
     by (inl old) = are k f old
     by (inr new) =
-        subst (λ v. AreWaiting flat (view flat k v) v.heads v.firsts v.waiters) new.1
-        (subst (λ n. AreWaiting flat (view flat n kept_set) kept_set.heads kept_set.firsts kept_set.waiters)
+        subst (λ v. AreWaiting flat (view flat k v) v.predictions v.firsts v.waiters) new.1
+        (subst (λ n. AreWaiting flat (view flat n kept_set) kept_set.predictions kept_set.firsts kept_set.waiters)
         (sym new.0) last)
 
-module _ (flat : code_flat.Tables) (heads : List ℕ) where
+module _ (flat : code_flat.Tables) (predictions : List ℕ) where
   seen_more : (t : ℕ) (seen : List Item) (item a : Item) → IsAdvanced flat t seen a
       → IsAdvanced flat t (seen ++ item ∷ []) a
   seen_more t seen item a r = record {
@@ -213,10 +213,10 @@ module _ (flat : code_flat.Tables) (heads : List ℕ) where
         r.origin ∙ ap (λ v. v.origin) same,
       )
 
-  -- an item that calls none of the heads
+  -- an item that calls none of the predictions
   pub waiting_none : (seen : List Item) (item : Item) (firsts : List ℕ) (waiters : List Waiter)
-      → ((h t l : ℕ) → slice_get heads h ≡ Some t → call_of flat item ≡ Some (t, l) → ⊥) →
-      AreWaiting flat seen heads firsts waiters → AreWaiting flat (seen ++ item ∷ []) heads firsts waiters
+      → ((h t l : ℕ) → slice_get predictions h ≡ Some t → call_of flat item ≡ Some (t, l) → ⊥) →
+      AreWaiting flat seen predictions firsts waiters → AreWaiting flat (seen ++ item ∷ []) predictions firsts waiters
   waiting_none seen item firsts waiters never are h t is own =
       let l = are h t is own in
       record {
@@ -231,18 +231,18 @@ module _ (flat : code_flat.Tables) (heads : List ℕ) where
       by a (inl r) = (are h t is own).all a r
       by a (inr c) = absurd (never h t a.step is c.0)
 
-  -- an item that calls the head of an index
-  pub waiting_more : (seen : List Item) (item : Item) (firsts : List ℕ) (waiters : List Waiter) (index root step : ℕ)
-      (w : Waiter) → call_of flat item ≡ Some (root, step) →
-      slice_get heads index ≡ Some root → ((i : ℕ) → slice_get heads i ≡ Some root → i ≡ index)
+  -- an item that calls the prediction of an index
+  pub waiting_more : (seen : List Item) (item : Item) (firsts : List ℕ) (waiters : List Waiter) (index target step : ℕ)
+      (w : Waiter) → call_of flat item ≡ Some (target, step) →
+      slice_get predictions index ≡ Some target → ((i : ℕ) → slice_get predictions i ≡ Some target → i ≡ index)
       → index < length firsts →
       w.item ≡ record { node = item.node; step = step; origin = item.origin } → w.next ≡ slice_index_or firsts index 0 →
-      AreWaiting flat seen heads firsts waiters → AreWaiting flat (seen ++ item ∷ []) heads
+      AreWaiting flat seen predictions firsts waiters → AreWaiting flat (seen ++ item ∷ []) predictions
       (set firsts index (length waiters + 1)) (waiters ++ w ∷ [])
-  waiting_more seen item firsts waiters index root step w call at_index only within w_item w_next are h t is own =
+  waiting_more seen item firsts waiters index target step w call at_index only within w_item w_next are h t is own =
       by (equal_or h index)
     where
-      here : (h ≡ index) → (t ≡ root) → IsListed (waiters ++ w ∷ []) (length waiters + 1)
+      here : (h ≡ index) → (t ≡ target) → IsListed (waiters ++ w ∷ []) (length waiters + 1)
           (IsAdvanced flat t (seen ++ item ∷ []))
       here same t_is =
           let l = are h t is own in
@@ -284,7 +284,7 @@ module _ (flat : code_flat.Tables) (heads : List ℕ) where
       by : (h ≡ index) ⊎ (h ≡ index → ⊥) → IsListed (waiters ++ w ∷ [])
           (slice_index_or (set firsts index (length waiters + 1)) h 0) (IsAdvanced flat t (seen ++ item ∷ []))
       by (inl same) =
-          let t_is : t ≡ root = some_same (sym is ∙ (ap (λ n. slice_get heads n) same ∙ at_index)) in
+          let t_is : t ≡ target = some_same (sym is ∙ (ap (λ n. slice_get predictions n) same ∙ at_index)) in
           let value : slice_index_or (set firsts index (length waiters + 1)) h 0 ≡ length waiters + 1 =
           ap (λ n. slice_index_or (set firsts index (length waiters + 1)) n 0) same
           ∙ set_at firsts index (length waiters + 1) 0 within in
@@ -304,12 +304,12 @@ module _ (flat : code_flat.Tables) (heads : List ℕ) where
           to : (a : Item) → IsAdvanced flat t seen a ⊎ ((call_of flat item ≡ Some (t, a.step)) × (a.node ≡ item.node)
               × (a.origin ≡ item.origin)) → In a (are h t is own).items
           to a (inl r) = (are h t is own).all a r
-          to a (inr c) = let t_is : root ≡ t = ap (λ v. v.0) (some_same (sym call ∙ c.0)) in
+          to a (inr c) = let t_is : target ≡ t = ap (λ v. v.0) (some_same (sym call ∙ c.0)) in
               absurd (other (only h (is ∙ ap (λ v. Some v) (sym t_is))))
 
   -- nothing waits at first
   pub waiting_start : (firsts : List ℕ) (waiters : List Waiter) → ((h : ℕ) → slice_index_or firsts h 0 ≡ 0)
-      → AreWaiting flat [] heads firsts waiters
+      → AreWaiting flat [] predictions firsts waiters
   waiting_start firsts waiters zeros h t is own = record {
     items = [];
     chain = subst (λ n. Chain waiters n []) (sym (zeros h)) ended;
@@ -319,23 +319,25 @@ module _ (flat : code_flat.Tables) (heads : List ℕ) where
 
   -- what lists more for a further part lists more for both
   pub waiting_then : (xs : List Item) {ys zs : List Item} (f0 f1 f2 : List ℕ) {w0 w1 w2 : List Waiter} → zs ≡ xs ++ ys →
-      ((seen : List Item) → AreWaiting flat seen heads f0 w0 → AreWaiting flat (seen ++ xs) heads f1 w1) →
-      ((seen : List Item) → AreWaiting flat seen heads f1 w1 → AreWaiting flat (seen ++ ys) heads f2 w2) →
-      (seen : List Item) → AreWaiting flat seen heads f0 w0 → AreWaiting flat (seen ++ zs) heads f2 w2
+      ((seen : List Item) → AreWaiting flat seen predictions f0 w0 → AreWaiting flat (seen ++ xs) predictions f1 w1) →
+      ((seen : List Item) → AreWaiting flat seen predictions f1 w1 → AreWaiting flat (seen ++ ys) predictions f2 w2) →
+      (seen : List Item) → AreWaiting flat seen predictions f0 w0 → AreWaiting flat (seen ++ zs) predictions f2 w2
   waiting_then xs {ys = ys} f0 f1 f2 {w2 = w2} is p q seen h =
-      subst (λ v. AreWaiting flat (seen ++ v) heads f2 w2) (sym is)
-      (subst (λ v. AreWaiting flat v heads f2 w2) (append_assoc seen xs ys) (q (seen ++ xs) (p seen h)))
+      subst (λ v. AreWaiting flat (seen ++ v) predictions f2 w2) (sym is)
+      (subst (λ v. AreWaiting flat v predictions f2 w2) (append_assoc seen xs ys) (q (seen ++ xs) (p seen h)))
 
   pub waiting_same : (firsts : List ℕ) (waiters : List Waiter) (seen : List Item)
-      → AreWaiting flat seen heads firsts waiters
-      → AreWaiting flat (seen ++ []) heads firsts waiters
-  waiting_same firsts waiters seen h = subst (λ v. AreWaiting flat v heads firsts waiters) (sym (append-nil seen)) h
+      → AreWaiting flat seen predictions firsts waiters
+      → AreWaiting flat (seen ++ []) predictions firsts waiters
+  waiting_same firsts waiters seen h = subst (λ v. AreWaiting flat v predictions firsts waiters)
+      (sym (append-nil seen)) h
 
-  -- places that call none of the heads may be left out
+  -- dotted rules that call none of the predictions may be left out
   pub waiting_fewer : (seen few all : List Item) (firsts : List ℕ) (waiters : List Waiter)
       → ((a : Item) → In a few → In a all) →
-      ((a : Item) (t l : ℕ) → In a all → call_of flat a ≡ Some (t, l) → inner_of flat t ≡ None → In a few) →
-      AreWaiting flat (seen ++ few) heads firsts waiters → AreWaiting flat (seen ++ all) heads firsts waiters
+      ((a : Item) (t l : ℕ) → In a all → call_of flat a ≡ Some (t, l) → inlined_of flat t ≡ None → In a few) →
+      AreWaiting flat (seen ++ few) predictions firsts waiters
+      → AreWaiting flat (seen ++ all) predictions firsts waiters
   waiting_fewer seen few all firsts waiters stand called are h t is own =
       let l = are h t is own in
       record {
@@ -369,19 +371,20 @@ module _ (flat : code_flat.Tables) (heads : List ℕ) where
           by (inl i) = in_left all i
           by (inr i) = in_right seen (stand r.from i)
 
-  -- of a block the places that call a root with a block of its own are enough
-  pub waiting_callers : (lists : AreDotLists flat) (head j : ℕ) (seen : List Item) (firsts : List ℕ)
+  -- of a closure the dotted rules that call a target with a closure of its own are enough
+  pub waiting_callers : (lists : AreDotLists flat) (prediction j : ℕ) (seen : List Item) (firsts : List ℕ)
       (waiters : List Waiter) →
-      AreWaiting flat (seen ++ map (call_site_at j) (lists_of flat head).asks) heads firsts waiters
-      → AreWaiting flat (seen ++ map (item_at j) (block_of flat head).dots) heads firsts waiters
-  waiting_callers lists head j seen firsts waiters are =
-      waiting_fewer seen (map (item_at j) (dots_of (lists_of flat head).asks))
-      (map (item_at j) (block_of flat head).dots) firsts waiters
-      (λ a i. let m = from_map j a (dots_of (lists_of flat head).asks) i in
-      subst (λ v. In v (map (item_at j) (block_of flat head).dots)) (sym m.is)
-      (in_map j m.dot (block_of flat head).dots ((lists head).0.0 m.dot m.stands)))
-      (λ a t l i call own. let m = from_map j a (block_of flat head).dots i in
-      subst (λ v. In v (map (item_at j) (dots_of (lists_of flat head).asks))) (sym m.is)
-      (in_map j m.dot (dots_of (lists_of flat head).asks)
-      ((lists head).0.1 m.dot m.stands (t, l, subst (λ v. call_of flat v ≡ Some (t, l)) m.is call, own))))
-      (subst (λ v. AreWaiting flat (seen ++ v) heads firsts waiters) (call_site_dots j (lists_of flat head).asks) are)
+      AreWaiting flat (seen ++ map (call_site_at j) (lists_of flat prediction).asks) predictions firsts waiters
+      → AreWaiting flat (seen ++ map (item_at j) (closure_of flat prediction).dots) predictions firsts waiters
+  waiting_callers lists prediction j seen firsts waiters are =
+      waiting_fewer seen (map (item_at j) (dots_of (lists_of flat prediction).asks))
+      (map (item_at j) (closure_of flat prediction).dots) firsts waiters
+      (λ a i. let m = from_map j a (dots_of (lists_of flat prediction).asks) i in
+      subst (λ v. In v (map (item_at j) (closure_of flat prediction).dots)) (sym m.is)
+      (in_map j m.dot (closure_of flat prediction).dots ((lists prediction).0.0 m.dot m.stands)))
+      (λ a t l i call own. let m = from_map j a (closure_of flat prediction).dots i in
+      subst (λ v. In v (map (item_at j) (dots_of (lists_of flat prediction).asks))) (sym m.is)
+      (in_map j m.dot (dots_of (lists_of flat prediction).asks)
+      ((lists prediction).0.1 m.dot m.stands (t, l, subst (λ v. call_of flat v ≡ Some (t, l)) m.is call, own))))
+      (subst (λ v. AreWaiting flat (seen ++ v) predictions firsts waiters)
+      (call_site_dots j (lists_of flat prediction).asks) are)

@@ -2,20 +2,20 @@
 -- Serves: judge.
 use Rattle.std.proofs.Common.{◌≡◌, ℕ, ◌+◌, ◌*◌, ◌≤◌, List, [], ◌∷◌, length, map, refl, sym, ◌∙◌, ap, subst}
 use Rattle.std.proofs.lemmas.List.{length-map}
-use Rattle.flatgrammar.specs.Flat.{Flat, Place, at}
+use Rattle.flatgrammar.specs.Flat.{Flat, Dot, at}
 use Rattle.flatgrammar.specs.Holds.{Holds}
-use Rattle.flatgrammar.specs.Places.{places, In, now, on, AreDifferent}
-use Rattle.flatgrammar.proofs.PlacesLemmas.{items_at_most}
+use Rattle.flatgrammar.specs.Positions.{positions, In, now, on, AreDifferent}
+use Rattle.flatgrammar.proofs.PositionsLemmas.{items_at_most}
 use Rattle.flatgrammar.specs.declared.flat_item.Item.{Item}
 use Rattle.earleyitems.specs.Closed.{Hold}
 use Rattle.earleyitems.specs.ChartSets.{pair}
 
-pub record From (p : Place × ℕ) (set : List Item) : Type 0 where
+pub record From (p : Dot × ℕ) (set : List Item) : Type 0 where
   pub item : Item
   pub stands : In item set
   pub is : p ≡ pair item
 
-pub in_map : (p : Place × ℕ) (set : List Item) → In p (map pair set) → From p set
+pub in_map : (p : Dot × ℕ) (set : List Item) → In p (map pair set) → From p set
 in_map p [] h = elim h [ ]
 in_map p (a ∷ set) (now same) = record { item = a; stands = now refl; is = same }
 in_map p (a ∷ set) (on h) = let f = in_map p set h in record { item = f.item; stands = on f.stands; is = f.is }
@@ -25,8 +25,8 @@ at_same h = (cc, cc)
 
 pair_same : (a b : Item) → pair a ≡ pair b → a ≡ b
 pair_same a b h =
-    let place : at a.node a.step ≡ at b.node b.step = ap (λ v. v.0) h in
-    let parts = at_same place in
+    let position : at a.node a.step ≡ at b.node b.step = ap (λ v. v.0) h in
+    let parts = at_same position in
     ap (λ v. record { node = v; step = a.step; origin = a.origin }) parts.0 ∙
     (ap (λ v. record { node = b.node; step = v; origin = a.origin }) parts.1
     ∙ ap (λ v. record { node = b.node; step = b.step; origin = v }) (ap (λ v. v.1) h))
@@ -40,15 +40,15 @@ different_map (a ∷ set) d = (
 )
 
 pub set_at_most : (flat : Flat) (x : List ℕ) (j : ℕ) (set : List Item) → AreDifferent set → Hold flat x j set
-    → length set ≤ places flat.nodes * (j + 1)
+    → length set ≤ positions flat.nodes * (j + 1)
 set_at_most flat x j set different hold =
     let most = items_at_most flat x j (map pair set) (different_map set different)
     (λ p i h. found p i (in_map (p, i) set h)) in
     rw length-map at most
   where
-    found : (p : Place) (i : ℕ) → From (p, i) set → Holds flat x j p i
+    found : (p : Dot) (i : ℕ) → From (p, i) set → Holds flat x j p i
     found p i f =
-        let place : p ≡ at f.item.node f.item.step = ap (λ v. v.0) f.is in
+        let position : p ≡ at f.item.node f.item.step = ap (λ v. v.0) f.is in
         let origin : i ≡ f.item.origin = ap (λ v. v.1) f.is in
-        subst (λ v. Holds flat x j v i) (sym place) (subst (λ v. Holds flat x j (at f.item.node f.item.step) v)
+        subst (λ v. Holds flat x j v i) (sym position) (subst (λ v. Holds flat x j (at f.item.node f.item.step) v)
         (sym origin) (hold f.item f.stands))

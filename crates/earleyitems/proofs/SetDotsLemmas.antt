@@ -5,14 +5,14 @@ use Rattle.std.proofs.Common.{Global, slice_get, sym, ◌∙◌, ap, subst, ◌�
 use Rattle.std.proofs.lemmas.List.{map-append}
 use Rattle.std.specs.List.{flat_map}
 use Rattle.std.specs.declared.rc.Rc.{Rc}
-use Rattle.flatgrammar.specs.Blocks.{block_of, item_at, dot}
-use Rattle.flatgrammar.specs.Flat.{Place, at}
-use Rattle.flatgrammar.specs.Places.{In, now, on}
-use Rattle.flatgrammar.specs.declared.block.DottedRule.{DottedRule}
+use Rattle.flatgrammar.specs.ItemClosures.{closure_of, item_at, dot}
+use Rattle.flatgrammar.specs.Flat.{Dot, at}
+use Rattle.flatgrammar.specs.Positions.{In, now, on}
+use Rattle.flatgrammar.specs.declared.closure.DottedRule.{DottedRule}
 use Rattle.flatgrammar.specs.declared.flat_item.Item.{Item}
 use Rattle.flatgrammar.specs.declared.tables.Tables as code_flat
 use Rattle.earleyitems.specs.ChartSets.{chart_of, pair, set_at, AreDotsOf}
-use Rattle.earleyitems.specs.EarleySets.{EarleySet, heads_of}
+use Rattle.earleyitems.specs.EarleySets.{EarleySet, predictions_of}
 use Rattle.earleyitems.specs.SetViews.{expand, view, views}
 use Rattle.earleyitems.specs.declared.sets.Record.{Record}
 use Rattle.earleyitems.proofs.ChartSetsLemmas.{index_map, index_past}
@@ -21,10 +21,10 @@ use Rattle.earleyitems.proofs.ExpandLemmas.{get_views, length_views}
 abbrev pub dot_of : Item → DottedRule
 dot_of a = dot a.node a.step
 
-abbrev node_at : Place → ℕ
+abbrev node_at : Dot → ℕ
 node_at (at s k) = s
 
-abbrev step_at : Place → ℕ
+abbrev step_at : Dot → ℕ
 step_at (at s k) = k
 
 -- a dotted rule with an item of the list
@@ -39,13 +39,13 @@ pair_in [] a h = elim h [ ]
 pair_in (b ∷ items) a (now same) = now (ap pair same)
 pair_in (b ∷ items) a (on h) = on (pair_in items a h)
 
-pub in_pairs : (items : List Item) (s : DottedRule) (i : ℕ) → In {A = Place × ℕ} (at s.node s.step, i) (map pair items)
+pub in_pairs : (items : List Item) (s : DottedRule) (i : ℕ) → In {A = Dot × ℕ} (at s.node s.step, i) (map pair items)
     → IsDotOf items s
 in_pairs [] s i h = elim h [ ]
 in_pairs (b ∷ items) s i (now same) =
-    let place : at s.node s.step ≡ at b.node b.step = ap (λ v. v.0) same in
-    let node : b.node ≡ s.node = sym (ap node_at place) in
-    let step : b.step ≡ s.step = sym (ap step_at place) in
+    let position : at s.node s.step ≡ at b.node b.step = ap (λ v. v.0) same in
+    let node : b.node ≡ s.node = sym (ap node_at position) in
+    let step : b.step ≡ s.step = sym (ap step_at position) in
     record { item = b; stands = now refl; is = λ k. record { node = node k; step = step k } }
 in_pairs (b ∷ items) s i (on h) = let f = in_pairs items s i h in
     record { item = f.item; stands = on f.stands; is = f.is }
@@ -66,25 +66,26 @@ back_map : (j : ℕ) (dots : List DottedRule) → map dot_of (map (item_at j) do
 back_map j [] = refl
 back_map j (s ∷ dots) = ap (λ v. s ∷ v) (back_map j dots)
 
-heads_dots : (tables : code_flat.Tables) (j : ℕ) (records : List Record)
-    → flat_map (λ (r : Record). (block_of tables r.head).dots) records
-    ≡ map dot_of (expand (block_of tables) j (heads_of records))
-heads_dots tables j [] = refl
-heads_dots tables j (r ∷ records) =
-    let here = (block_of tables r.head).dots in
-    let rest = expand (block_of tables) j (heads_of records) in
-    ap (λ v. here ++ v) (heads_dots tables j records)
+predictions_dots : (tables : code_flat.Tables) (j : ℕ) (records : List Record)
+    → flat_map (λ (r : Record). (closure_of tables r.prediction).dots) records
+    ≡ map dot_of (expand (closure_of tables) j (predictions_of records))
+predictions_dots tables j [] = refl
+predictions_dots tables j (r ∷ records) =
+    let here = (closure_of tables r.prediction).dots in
+    let rest = expand (closure_of tables) j (predictions_of records) in
+    ap (λ v. here ++ v) (predictions_dots tables j records)
     ∙ sym (map-append dot_of (map (item_at j) here) rest ∙ ap (λ v. v ++ map dot_of rest) (back_map j here))
 
 pub dots_of_view : (tables : code_flat.Tables) (j : ℕ) (kept_set : EarleySet) (records : List Record)
-    (items : List Item) (mid new : List DottedRule) → heads_of records ≡ kept_set.heads → items ≡ kept_set.items
-    → mid ≡ flat_map (λ (r : Record). (block_of tables r.head).dots) records
+    (items : List Item) (mid new : List DottedRule) → predictions_of records ≡ kept_set.predictions → items
+    ≡ kept_set.items
+    → mid ≡ flat_map (λ (r : Record). (closure_of tables r.prediction).dots) records
     → new ≡ mid ++ map dot_of items → new ≡ map dot_of (view tables j kept_set)
-dots_of_view tables j kept_set records items mid new heads same first next =
-    let front = expand (block_of tables) j kept_set.heads in
+dots_of_view tables j kept_set records items mid new predictions same first next =
+    let front = expand (closure_of tables) j kept_set.predictions in
     next
-    ∙ ap (λ v. v ++ map dot_of items) (first ∙ heads_dots tables j records
-    ∙ ap (λ v. map dot_of (expand (block_of tables) j v)) heads)
+    ∙ ap (λ v. v ++ map dot_of items) (first ∙ predictions_dots tables j records
+    ∙ ap (λ v. map dot_of (expand (closure_of tables) j v)) predictions)
     ∙ ap (λ v. map dot_of front ++ map dot_of v) same ∙ sym (map-append dot_of front kept_set.items)
 
 dots_decide : (set : List Item) (dots : List DottedRule) → dots ≡ map dot_of set → AreDotsOf (map pair set) dots
@@ -92,7 +93,7 @@ dots_decide set dots are s = (
   λ h. let f = dots_in set s (subst (λ v. In s v) are h) in
       record {
         origin = f.item.origin;
-        stands = subst (λ v. In {A = Place × ℕ} (at v.node v.step, f.item.origin) (map pair set)) f.is
+        stands = subst (λ v. In {A = Dot × ℕ} (at v.node v.step, f.item.origin) (map pair set)) f.is
             (pair_in set f.item f.stands);
       },
   λ h. let f = in_pairs set s h.origin h.stands in

@@ -1,10 +1,10 @@
--- A chart of heads and items, set by set.
+-- A chart of predictions and items, set by set.
 -- Serves: judge.
 use Rattle.std.proofs.Common.{◌≡◌, ℕ, suc, ◌+◌, ◌<◌, ◌≤◌, ◌⊎◌, inl, inr, Option, Some, None, List, [], ◌∷◌, ◌++◌}
 use Rattle.std.proofs.Common.{length, map, take, slice_get, slice_index_or, refl, sym, ◌∙◌, ap, subst, arith}
 use Rattle.flatgrammar.specs.Flat.{at}
 use Rattle.flatgrammar.specs.Holds.{Holds, begins}
-use Rattle.flatgrammar.specs.Places.{In, AreDifferent}
+use Rattle.flatgrammar.specs.Positions.{In, AreDifferent}
 use Rattle.flatgrammar.specs.declared.flat_item.Item.{Item}
 use Rattle.earleyitems.specs.EarleySets.{EarleySet}
 use Rattle.flatgrammar.specs.declared.flat_node.Node as code_node
@@ -13,16 +13,16 @@ use Rattle.flatgrammar.specs.declared.flat_node.Node.TheVariants as vn
 use Rattle.flatgrammar.specs.FlatViews.{node_of}
 use Rattle.flatgrammar.specs.NodeSteps.{flat_of, IfSomeSet}
 use Rattle.earleyitems.specs.ItemSets.{Adds}
-use Rattle.flatgrammar.specs.TableViews.{count_in, read_in, GiveRoots, whole_root, AreNulls}
+use Rattle.flatgrammar.specs.TableViews.{count_in, read_in, GiveTargets, start_target, AreNulls}
 use Rattle.earleyitems.specs.ScannedItems.{IsScannedItem}
 use Rattle.earleyitems.specs.Closed.{Hold, IsClosed, Keeps}
 use Rattle.earleyitems.specs.Charts.{IsFirst, IsAfter, IsBuilt}
-use Rattle.flatgrammar.specs.declared.block.DottedRule.{DottedRule}
-use Rattle.flatgrammar.specs.Blocks.{item_at, Block, begin_count, block_of, AreTables}
+use Rattle.flatgrammar.specs.declared.closure.DottedRule.{DottedRule}
+use Rattle.flatgrammar.specs.ItemClosures.{item_at, ItemClosure, begin_count, closure_of, AreTables}
 use Rattle.earleyitems.specs.SetViews.{expand, full, view, views, IsWorklist, IsWholeAt}
-use Rattle.flatgrammar.proofs.CallOfLemmas.{begun_starts, root_stands, get_below, some_same}
-use Rattle.earleyitems.proofs.IsBuiltLemmas.{after_holds, root_is, built_more}
-use Rattle.earleyitems.proofs.BlockLemmas.{in_expand, in_right, in_map, from_map, in_either}
+use Rattle.flatgrammar.proofs.CallOfLemmas.{begun_starts, target_stands, get_below, some_same}
+use Rattle.earleyitems.proofs.IsBuiltLemmas.{after_holds, target_is, built_more}
+use Rattle.earleyitems.proofs.ClosureLemmas.{in_expand, in_right, in_map, from_map, in_either}
 use Rattle.flatgrammar.proofs.InLemmas.{in_left, before_end, at_index_in}
 use Rattle.earleyitems.proofs.FillLemmas.{size_map}
 use Rattle.earleyitems.proofs.ExpandLemmas.{length_views, take_one, take_past, map_end, expand_end}
@@ -46,7 +46,7 @@ read_late flat c k (Some (vn.Letters sets)) h lt = absurd (omega (arith, lt))
 read_late flat c k (Some (vn.Concat ms)) h lt = elim h [ ]
 read_late flat c k (Some (vn.Alt ms)) h lt = elim h [ ]
 read_late flat c k (Some (vn.Rep a b m)) h lt = elim h [ ]
-read_late flat c k (Some (vn.Turns a b)) h lt = elim h [ ]
+read_late flat c k (Some (vn.Iterations a b)) h lt = elim h [ ]
 read_late flat c k (Some (vn.Opt m)) h lt = elim h [ ]
 read_late flat c k (Some (vn.Name r)) h lt = elim h [ ]
 read_late flat c k (Some vn.Nothing) h lt = elim h [ ]
@@ -58,11 +58,11 @@ after_late flat x sets a h lt =
     read_late flat h.letter r.by.step (slice_get flat.nodes.items r.by.node) r.reads
     (subst (λ v. v < begin_count flat r.by.node) r.step (subst (λ v. a.step < begin_count flat v) r.node lt))
 
-module _ (flat : code_flat.Tables) (roots : GiveRoots (flat_of flat) flat.roots.items)
+module _ (flat : code_flat.Tables) (targets : GiveTargets (flat_of flat) flat.targets.items)
     (nulls : AreNulls (flat_of flat) flat.nulls.items) (tables : AreTables flat)
-    (x : List ℕ) (sets : List (List Item)) (built : IsBuilt flat x sets) (heads : List ℕ) (items : List Item)
-    (begun : Adds (IsWholeAt flat (length sets)) [] heads) (after : Adds (IsAfter flat x sets) [] items) where
-  whole_at : (h : ℕ) → In h heads → IsWholeAt flat (length sets) h
+    (x : List ℕ) (sets : List (List Item)) (built : IsBuilt flat x sets) (predictions : List ℕ) (items : List Item)
+    (begun : Adds (IsWholeAt flat (length sets)) [] predictions) (after : Adds (IsAfter flat x sets) [] items) where
+  whole_at : (h : ℕ) → In h predictions → IsWholeAt flat (length sets) h
   whole_at h i = by (begun.only h i)
     where
       by : In h [] ⊎ IsWholeAt flat (length sets) h → IsWholeAt flat (length sets) h
@@ -79,15 +79,15 @@ module _ (flat : code_flat.Tables) (roots : GiveRoots (flat_of flat) flat.roots.
   nothing_in : {A B : Type 0} {a : A} → In a [] → B
   nothing_in h = elim h [ ]
 
-  pub going_first : IsWorklist flat x sets 0 0 heads items
+  pub going_first : IsWorklist flat x sets 0 0 predictions items
   going_first = record {
     within_items = omega arith;
-    within_heads = omega arith;
+    within_predictions = omega arith;
     predicted = λ h i k lt. predicted h (whole_at h i) k lt;
     below = λ h i. below h (whole_at h i);
-    are_heads = λ h i. tables.whole h (whole_at h i).1;
-    held = λ a i. after_holds flat roots x sets built.held a (after_at a i);
-    heads_different = begun.different tt;
+    are_predictions = λ h i. tables.whole h (whole_at h i).1;
+    held = λ a i. after_holds flat targets x sets built.held a (after_at a i);
+    predictions_different = begun.different tt;
     items_different = after.different tt;
     late = λ a i. inl (after_late flat x sets a (after_at a i));
     beside = λ a i same. after_late flat x sets a (after_at a i);
@@ -98,38 +98,39 @@ module _ (flat : code_flat.Tables) (roots : GiveRoots (flat_of flat) flat.roots.
       predicted : (h : ℕ) → IsWholeAt flat (length sets) h → (k : ℕ) → k < begin_count flat h
           → Holds (flat_of flat) x (length sets) (at h k) (length sets)
       predicted h w k lt =
-          let root = (roots flat.whole h).0 (root_is flat roots x sets built.held
-          (slice_get flat.roots.items flat.whole) h w.1) in
+          let target = (targets flat.start h).0 (target_is flat targets x sets built.held
+          (slice_get flat.targets.items flat.start) h w.1) in
           let made : Holds (flat_of flat) x 0 (at h k) 0 =
-          begins (begun_starts flat roots h k flat.whole (slice_get flat.nodes.items h) refl lt root) in
+          begins (begun_starts flat targets h k flat.start (slice_get flat.nodes.items h) refl lt target) in
           subst (λ v. Holds (flat_of flat) x v (at h k) v) (sym w.0) made
 
       below : (h : ℕ) → IsWholeAt flat (length sets) h → h < length flat.nodes.items
       below h w =
-          let root = (roots flat.whole h).0 (root_is flat roots x sets built.held
-          (slice_get flat.roots.items flat.whole) h w.1) in
-          let stands = root_stands root in
+          let target = (targets flat.start h).0 (target_is flat targets x sets built.held
+          (slice_get flat.targets.items flat.start) h w.1) in
+          let stands = target_stands target in
           subst (λ v. h < v) (size_map node_of flat.nodes.items) (get_below (flat_of flat).nodes h stands.1)
 
-  first_in : (a : Item) → IsFirst flat x sets a → In a (full (block_of flat) (length sets) heads items)
+  first_in : (a : Item) → IsFirst flat x sets a → In a (full (closure_of flat) (length sets) predictions items)
   first_in a (inl w) =
-      let at_root = begun.all w.1.root (w.0, w.1.is) in
-      let dot = tables.whole w.1.root w.1.is a.step w.1.begun.1 in
-      let is = item_same a w.1.root a.step (length sets) w.1.begun.0 refl (w.1.begun.2 ∙ sym w.0) in
-      subst (λ v. In v (full (block_of flat) (length sets) heads items)) (sym is)
-      (in_left items (in_expand (block_of flat) (length sets) w.1.root heads (record { node = w.1.root; step = a.step })
-      at_root dot))
-  first_in a (inr r) = in_right (expand (block_of flat) (length sets) heads) (after.all a r)
+      let at_target = begun.all w.1.target (w.0, w.1.is) in
+      let dot = tables.whole w.1.target w.1.is a.step w.1.begun.1 in
+      let is = item_same a w.1.target a.step (length sets) w.1.begun.0 refl (w.1.begun.2 ∙ sym w.0) in
+      subst (λ v. In v (full (closure_of flat) (length sets) predictions items)) (sym is)
+      (in_left items (in_expand (closure_of flat) (length sets) w.1.target predictions
+      (record { node = w.1.target; step = a.step })
+      at_target dot))
+  first_in a (inr r) = in_right (expand (closure_of flat) (length sets) predictions) (after.all a r)
 
   pub set_built : (new : List Item) → Hold (flat_of flat) x (length sets) new → AreDifferent new
-      → Keeps (full (block_of flat) (length sets) heads items) new → IsClosed flat sets new →
+      → Keeps (full (closure_of flat) (length sets) predictions items) new → IsClosed flat sets new →
       IsBuilt flat x (sets ++ new ∷ [])
-  set_built new hold different keeps closed = built_more flat roots x sets built new hold different closed
+  set_built new hold different keeps closed = built_more flat targets x sets built new hold different closed
       (λ a f. keeps a (first_in a f))
 
-pub begun_here : (flat : code_flat.Tables) (j root : ℕ) (old new : List ℕ) → j ≡ 0 → whole_root flat ≡ Some root
-    → Adds (λ t. t ≡ root) old new → Adds (IsWholeAt flat j) old new
-begun_here flat j root old new none is p = adds_as (λ t. t ≡ root) (IsWholeAt flat j) old new
+pub begun_here : (flat : code_flat.Tables) (j target : ℕ) (old new : List ℕ) → j ≡ 0 → start_target flat ≡ Some target
+    → Adds (λ t. t ≡ target) old new → Adds (IsWholeAt flat j) old new
+begun_here flat j target old new none is p = adds_as (λ t. t ≡ target) (IsWholeAt flat j) old new
     (λ t h. (none, is ∙ ap Some (sym h))) (λ t w. some_same (sym w.1 ∙ is)) p
 
 pub begun_not : (flat : code_flat.Tables) (j : ℕ) (old : List ℕ) → ((t : ℕ) → IsWholeAt flat j t → ⊥)
@@ -154,45 +155,54 @@ module _ (flat : code_flat.Tables) (x : List ℕ) (sets : List (List Item)) (old
   pub after_none : length sets ≡ 0 → Adds (IsAfter flat x sets) old old
   after_none none = adds_none (IsAfter flat x sets) old (λ a h. absurd (omega (arith, h.size, none)))
 
-module _ (flat : code_flat.Tables) (roots : GiveRoots (flat_of flat) flat.roots.items)
+module _ (flat : code_flat.Tables) (targets : GiveTargets (flat_of flat) flat.targets.items)
     (nulls : AreNulls (flat_of flat) flat.nulls.items) (tables : AreTables flat)
     (x : List ℕ) (kept_sets : List EarleySet) (built : IsBuilt flat x (views flat 0 kept_sets))
-    (number : ℕ) (is_number : number ≡ length kept_sets) (heads : List ℕ) (items : List Item)
-    (begun : Adds (IsWholeAt flat number) [] heads)
+    (number : ℕ) (is_number : number ≡ length kept_sets) (predictions : List ℕ) (items : List Item)
+    (begun : Adds (IsWholeAt flat number) [] predictions)
     (after : Adds (IsAfter flat x (views flat 0 kept_sets)) [] items) where
-  begun_there : Adds (IsWholeAt flat (length (views flat 0 kept_sets))) [] heads
-  begun_there = subst (λ v. Adds (IsWholeAt flat v) [] heads) (is_number ∙ sym (length_views flat 0 kept_sets)) begun
+  begun_there : Adds (IsWholeAt flat (length (views flat 0 kept_sets))) [] predictions
+  begun_there = subst (λ v. Adds (IsWholeAt flat v) [] predictions)
+      (is_number ∙ sym (length_views flat 0 kept_sets)) begun
 
-  pub going_from : IsWorklist flat x (views flat 0 kept_sets) 0 0 heads items
-  going_from = going_first flat roots nulls tables x (views flat 0 kept_sets) built heads items begun_there after
+  pub going_from : IsWorklist flat x (views flat 0 kept_sets) 0 0 predictions items
+  going_from = going_first flat targets nulls tables x
+      (views flat 0 kept_sets) built predictions items begun_there after
 
   built_from : (kept_set : EarleySet) → Hold (flat_of flat) x (length (views flat 0 kept_sets))
-      (full (block_of flat) (length (views flat 0 kept_sets)) kept_set.heads kept_set.items) →
-      AreDifferent (full (block_of flat) (length (views flat 0 kept_sets)) kept_set.heads kept_set.items) →
-      Keeps (full (block_of flat) (length (views flat 0 kept_sets)) heads items)
-      (full (block_of flat) (length (views flat 0 kept_sets)) kept_set.heads kept_set.items) →
-      IsClosed flat (views flat 0 kept_sets) (full (block_of flat) (length (views flat 0 kept_sets)) kept_set.heads
+      (full (closure_of flat) (length (views flat 0 kept_sets)) kept_set.predictions kept_set.items) →
+      AreDifferent (full (closure_of flat) (length (views flat 0 kept_sets)) kept_set.predictions kept_set.items) →
+      Keeps (full (closure_of flat) (length (views flat 0 kept_sets)) predictions items)
+      (full (closure_of flat) (length (views flat 0 kept_sets)) kept_set.predictions kept_set.items) →
+      IsClosed flat (views flat 0 kept_sets)
+      (full (closure_of flat) (length (views flat 0 kept_sets)) kept_set.predictions
       kept_set.items) → IsBuilt flat x (views flat 0 (kept_sets ++ kept_set ∷ []))
   built_from kept_set hold different keeps closed =
-      let more = set_built flat roots nulls tables x (views flat 0 kept_sets) built heads items begun_there after
-      (full (block_of flat) (length (views flat 0 kept_sets)) kept_set.heads kept_set.items) hold different keeps
+      let more = set_built flat targets nulls tables x
+      (views flat 0 kept_sets) built predictions items begun_there after
+      (full (closure_of flat) (length (views flat 0 kept_sets)) kept_set.predictions kept_set.items) hold different
+      keeps
       closed in
       let count : length (views flat 0 kept_sets) ≡ 0 + length kept_sets =
       (let size = length_views flat 0 kept_sets in omega (arith, size)) in
       subst (λ v. IsBuilt flat x v) (sym (views_more flat 0 kept_sets kept_set))
-      (subst (λ n. IsBuilt flat x (views flat 0 kept_sets ++ full (block_of flat) n kept_set.heads kept_set.items ∷ []))
+      (subst (λ n. IsBuilt flat x
+      (views flat 0 kept_sets ++ full (closure_of flat) n kept_set.predictions kept_set.items ∷ []))
       count more)
 
-  pub built_by : (kept_set : EarleySet) (heads' : List ℕ) (items' : List Item) → kept_set.heads ≡ heads'
+  pub built_by : (kept_set : EarleySet) (predictions' : List ℕ) (items' : List Item) → kept_set.predictions
+      ≡ predictions'
       → kept_set.items ≡ items' →
       Hold (flat_of flat) x (length (views flat 0 kept_sets))
-      (full (block_of flat) (length (views flat 0 kept_sets)) heads' items') →
-      AreDifferent (full (block_of flat) (length (views flat 0 kept_sets)) heads' items') →
-      Keeps (full (block_of flat) (length (views flat 0 kept_sets)) heads items)
-      (full (block_of flat) (length (views flat 0 kept_sets)) heads' items') →
-      IsClosed flat (views flat 0 kept_sets) (full (block_of flat) (length (views flat 0 kept_sets)) heads' items')
+      (full (closure_of flat) (length (views flat 0 kept_sets)) predictions' items') →
+      AreDifferent (full (closure_of flat) (length (views flat 0 kept_sets)) predictions' items') →
+      Keeps (full (closure_of flat) (length (views flat 0 kept_sets)) predictions items)
+      (full (closure_of flat) (length (views flat 0 kept_sets)) predictions' items') →
+      IsClosed flat (views flat 0 kept_sets)
+      (full (closure_of flat) (length (views flat 0 kept_sets)) predictions' items')
       → IsBuilt flat x (views flat 0 (kept_sets ++ kept_set ∷ []))
-  built_by kept_set heads' items' h i hold different keeps closed = built_from kept_set (rw (h, i) hold) (rw (h, i)
+  built_by kept_set predictions' items' h i hold different keeps closed = built_from kept_set (rw (h, i) hold)
+      (rw (h, i)
       different)
       (rw (h, i) keeps) (rw (h, i) closed)
 
@@ -217,32 +227,36 @@ pub dots_some : (j : ℕ) (item : Item) (dots : List DottedRule) (k : ℕ) (d : 
 dots_some j item dots k d lt same = subst (λ v. In v (map (item_at j) dots)) (sym same)
     (in_map j (slice_index_or dots k d) dots (at_index_in dots k d lt))
 
-pub heads_none : (blocks : ℕ → Block) (j : ℕ) (item : Item) (heads : List ℕ) (k d : ℕ) (dots : List DottedRule)
-    → k < length heads → dots ≡ (blocks (slice_index_or heads k d)).dots →
-    (In item (expand blocks j (take k heads)) → ⊥) → (In item (map (item_at j) dots) → ⊥)
-    → In item (expand blocks j (take (k + 1) heads)) → ⊥
-heads_none blocks j item heads k d dots lt is none differs h =
-    by (in_either (expand blocks j (take k heads)) (subst (λ v. In item v)
-    (ap (λ v. expand blocks j v) (take_one heads k d lt)
-    ∙ expand_end blocks j (take k heads) (slice_index_or heads k d)) h))
+pub predictions_none : (closures : ℕ → ItemClosure) (j : ℕ) (item : Item) (predictions : List ℕ) (k d : ℕ)
+    (dots : List DottedRule)
+    → k < length predictions → dots ≡ (closures (slice_index_or predictions k d)).dots →
+    (In item (expand closures j (take k predictions)) → ⊥) → (In item (map (item_at j) dots) → ⊥)
+    → In item (expand closures j (take (k + 1) predictions)) → ⊥
+predictions_none closures j item predictions k d dots lt is none differs h =
+    by (in_either (expand closures j (take k predictions)) (subst (λ v. In item v)
+    (ap (λ v. expand closures j v) (take_one predictions k d lt)
+    ∙ expand_end closures j (take k predictions) (slice_index_or predictions k d)) h))
   where
-    by : In item (expand blocks j (take k heads)) ⊎ In item
-        (map (item_at j) (blocks (slice_index_or heads k d)).dots) → ⊥
+    by : In item (expand closures j (take k predictions)) ⊎ In item
+        (map (item_at j) (closures (slice_index_or predictions k d)).dots) → ⊥
     by (inl g) = none g
     by (inr g) = differs (subst (λ v. In item (map (item_at j) v)) (sym is) g)
 
-pub heads_some : (blocks : ℕ → Block) (j : ℕ) (item : Item) (heads : List ℕ) (k d : ℕ) (dots : List DottedRule)
-    → k < length heads → dots ≡ (blocks (slice_index_or heads k d)).dots →
-    In item (map (item_at j) dots) → In item (expand blocks j heads)
-heads_some blocks j item heads k d dots lt is h =
-    let f = from_map j item (blocks (slice_index_or heads k d)).dots (subst (λ v. In item (map (item_at j) v)) is h) in
-    subst (λ v. In v (expand blocks j heads)) (sym f.is)
-    (in_expand blocks j (slice_index_or heads k d) heads f.dot (at_index_in heads k d lt) f.stands)
+pub predictions_some : (closures : ℕ → ItemClosure) (j : ℕ) (item : Item) (predictions : List ℕ) (k d : ℕ)
+    (dots : List DottedRule)
+    → k < length predictions → dots ≡ (closures (slice_index_or predictions k d)).dots →
+    In item (map (item_at j) dots) → In item (expand closures j predictions)
+predictions_some closures j item predictions k d dots lt is h =
+    let f = from_map j item (closures (slice_index_or predictions k d)).dots
+    (subst (λ v. In item (map (item_at j) v)) is h) in
+    subst (λ v. In v (expand closures j predictions)) (sym f.is)
+    (in_expand closures j (slice_index_or predictions k d) predictions f.dot (at_index_in predictions k d lt) f.stands)
 
-pub heads_all : (blocks : ℕ → Block) (j : ℕ) (item : Item) (heads : List ℕ) (k : ℕ) → length heads ≤ k
-    → (In item (expand blocks j (take k heads)) → ⊥) → In item (expand blocks j heads) → ⊥
-heads_all blocks j item heads k le none h = none
-    (subst (λ v. In item (expand blocks j v)) (sym (take_past heads k le)) h)
+pub predictions_all : (closures : ℕ → ItemClosure) (j : ℕ) (item : Item) (predictions : List ℕ) (k : ℕ)
+    → length predictions ≤ k
+    → (In item (expand closures j (take k predictions)) → ⊥) → In item (expand closures j predictions) → ⊥
+predictions_all closures j item predictions k le none h = none
+    (subst (λ v. In item (expand closures j v)) (sym (take_past predictions k le)) h)
 
 pub dots_all : (j : ℕ) (item : Item) (dots : List DottedRule) (k : ℕ) → length dots ≤ k
     → (In item (map (item_at j) (take k dots)) → ⊥) → In item (map (item_at j) dots) → ⊥

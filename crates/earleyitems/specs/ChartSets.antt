@@ -1,49 +1,49 @@
--- A chart as contracts see it: of each set its items, each a place with its origin.
+-- A chart as contracts see it: of each set its items, each a dotted rule with its origin.
 use Rattle.std.specs.Prelude.{◌≡◌, ◌↔◌, ℕ, ◌<◌, List, [], map, slice_get, slice_index_or, length, sum_by, Option}
 use Rattle.std.specs.Prelude.{Some, None}
 use Rattle.std.proofs.Common.{Global}
 use Rattle.std.specs.declared.rc.Rc.{Rc}
-use Rattle.flatgrammar.specs.Flat.{Flat, Place, at}
+use Rattle.flatgrammar.specs.Flat.{Flat, Dot, at}
 use Rattle.flatgrammar.specs.Holds.{Holds}
-use Rattle.flatgrammar.specs.Places.{In, AreDifferent}
-use Rattle.flatgrammar.specs.declared.block.DottedRule.{DottedRule}
+use Rattle.flatgrammar.specs.Positions.{In, AreDifferent}
+use Rattle.flatgrammar.specs.declared.closure.DottedRule.{DottedRule}
 use Rattle.flatgrammar.specs.declared.flat_item.Item.{Item}
 use Rattle.earleyitems.specs.EarleySets.{EarleySet}
 use Rattle.flatgrammar.specs.declared.tables.Tables as code_flat
 use Rattle.earleyitems.specs.SetViews.{views}
 
 -- an item as the definitions name it
-abbrev pub pair : Item → Place × ℕ
+abbrev pub pair : Item → Dot × ℕ
 pair a = (at a.node a.step, a.origin)
 
 -- the sets of a chart; with no tables there are none
-abbrev pub chart_of : Option (Rc code_flat.Tables Global) → List EarleySet → List (List (Place × ℕ))
+abbrev pub chart_of : Option (Rc code_flat.Tables Global) → List EarleySet → List (List (Dot × ℕ))
 chart_of None kept_sets = []
 chart_of (Some tables) kept_sets = map (λ set. map pair set) (views tables.value 0 kept_sets)
 
 -- set j; one that is not there is empty
-abbrev pub set_at : List (List (Place × ℕ)) → ℕ → List (Place × ℕ)
+abbrev pub set_at : List (List (Dot × ℕ)) → ℕ → List (Dot × ℕ)
 set_at sets j = slice_index_or sets j []
 
 -- an item of a set has this dotted rule
-pub record HasDot (set : List (Place × ℕ)) (s : DottedRule) : Type 0 where
+pub record HasDot (set : List (Dot × ℕ)) (s : DottedRule) : Type 0 where
   pub origin : ℕ
-  pub stands : In {A = Place × ℕ} (at s.node s.step, origin) set
+  pub stands : In {A = Dot × ℕ} (at s.node s.step, origin) set
 
 -- the dotted rules are those of the items of a set
-abbrev pub AreDotsOf : List (Place × ℕ) → List DottedRule → Type 0
+abbrev pub AreDotsOf : List (Dot × ℕ) → List DottedRule → Type 0
 AreDotsOf set dots = (s : DottedRule) → In s dots ↔ HasDot set s
 
 -- a list is exactly the items of set j, each once
-pub record IsSet (flat : Flat) (x : List ℕ) (j : ℕ) (set : List (Place × ℕ)) : Type 0 where
-  pub held : (p : Place) (i : ℕ) → In {A = Place × ℕ} (p, i) set → Holds flat x j p i
-  pub all : (p : Place) (i : ℕ) → Holds flat x j p i → In {A = Place × ℕ} (p, i) set
+pub record IsSet (flat : Flat) (x : List ℕ) (j : ℕ) (set : List (Dot × ℕ)) : Type 0 where
+  pub held : (p : Dot) (i : ℕ) → In {A = Dot × ℕ} (p, i) set → Holds flat x j p i
+  pub all : (p : Dot) (i : ℕ) → Holds flat x j p i → In {A = Dot × ℕ} (p, i) set
   pub different : AreDifferent set
 
 -- sets of a line, from the first on, have more than that many items in all
 pub record HaveMoreItems (flat : Flat) (x : List ℕ) (most : ℕ) : Type 0 where
-  pub sets : List (List (Place × ℕ))
-  pub are_sets : (j : ℕ) (set : List (Place × ℕ)) → slice_get sets j ≡ Some set → IsSet flat x j set
+  pub sets : List (List (Dot × ℕ))
+  pub are_sets : (j : ℕ) (set : List (Dot × ℕ)) → slice_get sets j ≡ Some set → IsSet flat x j set
   pub more : most < sum_by (λ set. length set) sets
 
 -- each set has its size beside it

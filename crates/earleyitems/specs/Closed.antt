@@ -5,7 +5,7 @@ use Rattle.flatgrammar.specs.declared.tables.Tables as code_flat
 use Rattle.earleyitems.specs.ItemSets.{IsNext}
 use Rattle.flatgrammar.specs.Flat.{Flat, at}
 use Rattle.flatgrammar.specs.Holds.{Holds}
-use Rattle.flatgrammar.specs.Places.{In}
+use Rattle.flatgrammar.specs.Positions.{In}
 
 abbrev pub Hold : Flat → List ℕ → ℕ → List Item → Type 0
 Hold flat x j set = (a : Item) → In a set → Holds flat x j (at a.node a.step) a.origin

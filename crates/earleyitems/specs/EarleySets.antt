@@ -10,7 +10,7 @@ use Rattle.earleyitems.specs.declared.sets.Stores.{Stores}
 
 -- a set as it is kept
 pub record EarleySet : Type 0 where
-  pub heads : List ℕ
+  pub predictions : List ℕ
   pub items : List Item
   pub firsts : List ℕ
   pub waiters : List Waiter
@@ -21,22 +21,22 @@ abbrev pub part_of : {A : Type 0} → List A → IndexRange → List A
 part_of xs part = slice_range xs part.from part.to
 
 abbrev pub the_record : ℕ → ℕ → Record
-the_record head first = record { head = head; first = first }
+the_record prediction first = record { prediction = prediction; first = first }
 
-abbrev pub heads_of : List Record → List ℕ
-heads_of records = map (λ r. r.head) records
+abbrev pub predictions_of : List Record → List ℕ
+predictions_of records = map (λ r. r.prediction) records
 
 abbrev pub firsts_of : List Record → List ℕ
 firsts_of records = map (λ r. r.first) records
 
--- the same heads, whose waiting lists may differ
-abbrev pub AreSameHeads : List Record → List Record → Type 0
-AreSameHeads old new = heads_of new ≡ heads_of old
+-- the same predictions, whose waiting lists may differ
+abbrev pub AreSamePredictions : List Record → List Record → Type 0
+AreSamePredictions old new = predictions_of new ≡ predictions_of old
 
 -- the set that stands between those bounds
 abbrev pub set_in : Stores → SetBounds → EarleySet
 set_in s b = record {
-  heads = heads_of (part_of s.records.items b.records);
+  predictions = predictions_of (part_of s.records.items b.records);
   items = part_of s.items.items b.items;
   firsts = firsts_of (part_of s.records.items b.records);
   waiters = take b.waiters s.waiters.items;

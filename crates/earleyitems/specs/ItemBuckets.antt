@@ -2,7 +2,7 @@
 use Rattle.std.specs.Prelude.{◌≡◌, ℕ, ◌+◌, ◌-◌, ◌*◌, ◌%◌, ◌^◌, ◌<◌, ◌≤◌, List, Some, slice_get, length, bit_and}
 use Rattle.flatgrammar.specs.declared.flat_item.Item.{Item}
 
--- places a few numbers apart are mixed, and the origins of a place take every fourth bucket
+-- dotted rules a few numbers apart are mixed, and the origins of a dotted rule take every fourth bucket
 unfoldable pub item_bucket : ℕ → Item → ℕ
 item_bucket count a =
     bit_and (((a.origin * 4 % 2 ^ 64) + ((a.node + a.step) % 2 ^ 64 * 11400714819323198059 % 2 ^ 64)) % 2 ^ 64)

@@ -1,8 +1,8 @@
--- The items of a set beside its blocks, as they are kept.
+-- The items of a set beside its closures, as they are kept.
 use Rattle.std.specs.Prelude.{ℕ, List}
 use Rattle.flatgrammar.specs.declared.flat_item.Item.{Item}
 
--- each item has its home at the same index; further homes may come after them
+-- each item has its owner at the same index; further owners may come after them
 pub record ItemList : Type 0 where
   pub items : List Item
-  pub homes : List ℕ
+  pub owners : List ℕ

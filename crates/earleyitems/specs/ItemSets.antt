@@ -2,7 +2,7 @@
 use Rattle.std.specs.Prelude.{◌≡◌, ℕ, ◌<◌, ◌⊎◌, true, List, [], ◌∷◌, ◌++◌, length, slice_get, Option, Some, None}
 use Rattle.flatgrammar.specs.declared.flat_item.Item.{Item}
 use Rattle.flatgrammar.specs.declared.tables.Tables as code_flat
-use Rattle.flatgrammar.specs.Places.{In, AreDifferent}
+use Rattle.flatgrammar.specs.Positions.{In, AreDifferent}
 use Rattle.flatgrammar.specs.TableViews.{count_in, done_of, call_of, takes_of}
 
 -- new is old, and after it those of Q that were not there, each once
@@ -17,15 +17,15 @@ pub record Adds {A : Type 0} (Q : A → Type 0) (old : List A) (new : List A) : 
 abbrev pub IsOneMore : {A : Type 0} → A → List A → List A → Type 0
 IsOneMore a old new = (new ≡ old) ⊎ (new ≡ old ++ a ∷ [])
 
--- the items where a root begins
+-- the items where a target begins
 abbrev pub IsBegun : ℕ → ℕ → ℕ → Item → Type 0
-IsBegun root count j a = (a.node ≡ root) × (a.step < count) × (a.origin ≡ j)
+IsBegun target count j a = (a.node ≡ target) × (a.step < count) × (a.origin ≡ j)
 
--- those that wait for a root, advanced over it
-pub record IsAdvanced (flat : code_flat.Tables) (root : ℕ) (waiting : List Item) (a : Item) : Type 0 where
+-- those that wait for a target, advanced over it
+pub record IsAdvanced (flat : code_flat.Tables) (target : ℕ) (waiting : List Item) (a : Item) : Type 0 where
   pub from : Item
   pub stands : In from waiting
-  pub call : call_of flat from ≡ Some (root, a.step)
+  pub call : call_of flat from ≡ Some (target, a.step)
   pub node : a.node ≡ from.node
   pub origin : a.origin ≡ from.origin
 
@@ -39,10 +39,10 @@ waiting_in sets seen o = waiting_or seen (slice_get sets o)
 
 -- the items that one predicts
 pub record IsPredicted (flat : code_flat.Tables) (j : ℕ) (item : Item) (a : Item) : Type 0 where
-  pub root : ℕ
+  pub target : ℕ
   pub next : ℕ
-  pub call : call_of flat item ≡ Some (root, next)
-  pub begun : IsBegun root (count_in (slice_get flat.nodes.items root)) j a
+  pub call : call_of flat item ≡ Some (target, next)
+  pub begun : IsBegun target (count_in (slice_get flat.nodes.items target)) j a
 
 -- the items that the completion of one adds
 pub record IsCompleted (flat : code_flat.Tables) (sets : List (List Item)) (seen : List Item) (item : Item)
@@ -50,7 +50,7 @@ pub record IsCompleted (flat : code_flat.Tables) (sets : List (List Item)) (seen
   pub done : done_of flat item ≡ true
   pub advanced : IsAdvanced flat item.node (waiting_in sets seen item.origin) a
 
--- of them, those that are allowed: after a turn that takes a letter only in a later set
+-- of them, those that are allowed: after an iteration that takes a letter only in a later set
 pub record IsAllowedCompletion (flat : code_flat.Tables) (sets : List (List Item)) (seen : List Item) (item : Item)
     (a : Item) : Type 0 where
   pub completed : IsCompleted flat sets seen item a

@@ -4,9 +4,9 @@ pub mod Chosen
 pub mod Closed
 pub mod SetViews
 pub mod EarleySets
-pub mod HeadTables
+pub mod PredictionTables
 pub mod ItemBuckets
-pub mod ItemHomes
+pub mod ItemOwners
 pub mod ItemLists
 pub mod ItemSets
 pub mod ScannedItems

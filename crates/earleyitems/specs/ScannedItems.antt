@@ -3,7 +3,7 @@ use Rattle.std.specs.Prelude.{◌≡◌, ℕ, ◌+◌, List, ◌++◌}
 use Rattle.flatgrammar.specs.declared.flat_item.Item.{Item}
 use Rattle.flatgrammar.specs.declared.tables.Tables as code_flat
 use Rattle.flatgrammar.specs.NodeSteps.{IfSomeSet}
-use Rattle.flatgrammar.specs.Places.{In, AreDifferent}
+use Rattle.flatgrammar.specs.Positions.{In, AreDifferent}
 use Rattle.flatgrammar.specs.TableViews.{read_of}
 
 pub record IsScannedItem (flat : code_flat.Tables) (c : ℕ) (from : List Item) (a : Item) : Type 0 where

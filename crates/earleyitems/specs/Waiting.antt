@@ -1,11 +1,11 @@
--- The waiting lists of the heads of a set, as lists of links.
+-- The waiting lists of the predictions of a set, as lists of links.
 use Rattle.std.specs.Prelude.{◌≡◌, ℕ, suc, ◌<◌, ◌≤◌, ◌⊎◌, List, [], ◌∷◌, Some, None, length, slice_get, slice_index_or}
 use Rattle.flatgrammar.specs.declared.flat_item.Item.{Item}
 use Rattle.flatgrammar.specs.declared.tables.Tables as code_flat
 use Rattle.flatgrammar.specs.TableViews.{call_of}
 use Rattle.flatgrammar.specs.declared.dot_list.Ask.{Ask}
-use Rattle.flatgrammar.specs.Blocks.{item_at, begin_count, inner_of}
-use Rattle.flatgrammar.specs.Places.{In}
+use Rattle.flatgrammar.specs.ItemClosures.{item_at, begin_count, inlined_of}
+use Rattle.flatgrammar.specs.Positions.{In}
 use Rattle.earleyitems.specs.EarleySets.{EarleySet}
 use Rattle.earleyitems.specs.declared.waiters.Waiter.{Waiter}
 use Rattle.earleyitems.specs.ItemSets.{IsAdvanced}
@@ -40,22 +40,24 @@ item_from item step = record { node = item.node; step = step; origin = item.orig
 abbrev pub call_site_at : ℕ → Ask → Item
 call_site_at j site = item_at j site.dot
 
--- for each head that no one place alone calls, the items after those that call it
+-- for each prediction that no one dotted rule alone calls, the items after those that call it
 abbrev pub AreWaiting : code_flat.Tables → List Item → List ℕ → List ℕ → List Waiter → Type 0
-AreWaiting flat places heads firsts waiters = (h t : ℕ) → slice_get heads h ≡ Some t → inner_of flat t ≡ None
-    → IsListed waiters (slice_index_or firsts h 0) (IsAdvanced flat t places)
+AreWaiting flat positions predictions firsts waiters = (h t : ℕ) → slice_get predictions h ≡ Some t → inlined_of flat t
+    ≡ None
+    → IsListed waiters (slice_index_or firsts h 0) (IsAdvanced flat t positions)
 
 abbrev pub AreWaitingAll : code_flat.Tables → List EarleySet → Type 0
 AreWaitingAll flat kept_sets = (k : ℕ) (f : EarleySet) → slice_get kept_sets k ≡ Some f
-    → AreWaiting flat (view flat k f) f.heads f.firsts f.waiters
+    → AreWaiting flat (view flat k f) f.predictions f.firsts f.waiters
 
--- a set as it is kept, of those heads and items
-pub record IsKept (flat : code_flat.Tables) (j : ℕ) (heads : List ℕ) (items : List Item) (kept_set : EarleySet) : Type
+-- a set as it is kept, of those predictions and items
+pub record IsKept (flat : code_flat.Tables) (j : ℕ) (predictions : List ℕ) (items : List Item)
+    (kept_set : EarleySet) : Type
     0 where
-  pub same_heads : kept_set.heads ≡ heads
+  pub same_predictions : kept_set.predictions ≡ predictions
   pub same_items : kept_set.items ≡ items
   pub size : (k : ℕ) → kept_set.size ≡ length (view flat k kept_set)
-  pub waiting : AreWaiting flat (view flat j kept_set) kept_set.heads kept_set.firsts kept_set.waiters
+  pub waiting : AreWaiting flat (view flat j kept_set) kept_set.predictions kept_set.firsts kept_set.waiters
 
 -- what begins in a set and goes on elsewhere began there
 abbrev pub BeginHere : code_flat.Tables → ℕ → List Item → Type 0

@@ -4,18 +4,18 @@ use Rattle.flatgrammar.specs.declared.flat_item.Item.{Item}
 use Rattle.flatgrammar.specs.declared.tables.Tables as code_flat
 use Rattle.flatgrammar.specs.TableViews.{null_of, call_of, takes_of}
 use Rattle.earleyitems.specs.ItemSets.{IsPredicted, IsCompleted}
-use Rattle.flatgrammar.specs.Places.{In}
+use Rattle.flatgrammar.specs.Positions.{In}
 
--- the item after one that calls a nullable root, but for a turn that takes a letter
+-- the item after one that calls a nullable target, but for an iteration that takes a letter
 pub record AdvancesNullable (flat : code_flat.Tables) (item : Item) (a : Item) : Type 0 where
-  pub root : ℕ
-  pub call : call_of flat item ≡ Some (root, a.step)
-  pub null : null_of flat root ≡ true
+  pub target : ℕ
+  pub call : call_of flat item ≡ Some (target, a.step)
+  pub null : null_of flat target ≡ true
   pub free : takes_of flat item ≡ false
   pub node : a.node ≡ item.node
   pub origin : a.origin ≡ item.origin
 
--- those that an item adds: by prediction, over a nullable root, and by completion
+-- those that an item adds: by prediction, over a nullable target, and by completion
 abbrev pub IsWork : code_flat.Tables → List (List Item) → Item → Item → Type 0
 IsWork flat sets item a = (IsPredicted flat (length sets) item a ⊎ AdvancesNullable flat item a)
     ⊎ IsCompleted flat sets [] item a

@@ -2,30 +2,31 @@
 ghost use Rattle.std.specs.Prelude.{◌≡◌, ◌↔◌, ◌+◌, ◌<◌, ◌≤◌, ℕ, List, [], true, false, Some, IsTrue, IfOk, IfSome};
 ghost use Rattle.std.specs.Prelude.{IfNone, OnOk, OnErr, length, map, slice_get, sum_by};
 ghost use Rattle.flatgrammar.specs.NodeSteps.{flat_of};
-ghost use Rattle.flatgrammar.specs.TableViews.{GiveRoots, AreNulls};
+ghost use Rattle.flatgrammar.specs.TableViews.{GiveTargets, AreNulls};
 ghost use Rattle.earleyitems.specs.Charts.{IsAfter, IsExact};
 ghost use Rattle.earleyitems.specs.ChartSets.{chart_of, set_at, IsSet, AreSized, AreDotsOf, HaveMoreItems};
-ghost use Rattle.flatgrammar.specs.Blocks.{AreExact, block_of, item_at, AreTables, AreAlone, AreHomes, AreDotLists};
-ghost use Rattle.earleyitems.specs.ItemHomes.{head_rows, AreItemsHomed, AreReadersHomed};
+ghost use Rattle.flatgrammar.specs.ItemClosures.{AreExact, closure_of, item_at, AreTables, AreAlone, AreOwners};
+ghost use Rattle.flatgrammar.specs.ItemClosures.{AreDotLists};
+ghost use Rattle.earleyitems.specs.ItemOwners.{prediction_rows, AreItemsOwned, AreReadersOwned};
 ghost use Rattle.earleyitems.specs.ItemSets.{Adds};
 ghost use Rattle.earleyitems.specs.Waiting.{IsKept};
 ghost use Rattle.earleyitems.specs.Chosen.{AreReaders};
 ghost use Rattle.earleyitems.specs.SetViews.{expand, full, view, views, IsWholeAt};
-ghost use Rattle.flatgrammar.specs.Places.{In, AreDifferent};
-ghost use Rattle.flatgrammar.specs.Flat.{Place};
+ghost use Rattle.flatgrammar.specs.Positions.{In, AreDifferent};
+ghost use Rattle.flatgrammar.specs.Flat.{Dot};
 ghost use Rattle.flatgrammar.specs.Holds.{Holds};
-ghost use Rattle.earleyitems.specs.EarleySets.{EarleySet as kept_set, heads_of};
+ghost use Rattle.earleyitems.specs.EarleySets.{EarleySet as kept_set, predictions_of};
 
 use crate::earley_set::EarleySet;
 use crate::fill::fill;
-use crate::heads::Heads;
 use crate::item::{holds, same};
 use crate::items::Items;
-use crate::postdot::{HomedItem, Postdot};
+use crate::postdot::{OwnedItem, Postdot};
+use crate::predictions::Predictions;
 use crate::scan::scan;
-use crate::set_dots::{push_heads, push_items};
+use crate::set_dots::{push_items, push_predictions};
 use crate::sets::{Filled, Record, Sets};
-use flatgrammar::{DottedRule, Flat, Item, Tables, dots, whole_root};
+use flatgrammar::{DottedRule, Flat, Item, Tables, dots, start_target};
 use letters::Letter;
 use ruletable::Memory;
 use std::alloc::Global;
@@ -35,7 +36,7 @@ use std::rc::Rc;
 
 /// The Earley sets of a line. Contracts see a list of lists of items, each a dotted rule with its origin.
 ///
-/// A set stores the roots that it predicts, and the items beside their closures. The closures are precomputed in the
+/// A set stores the targets that it predicts, and the items beside their closures. The closures are precomputed in the
 /// grammar's tables, so `tables` and `sets` together give the items. A chart that is empty, or whose last line failed,
 /// has no tables and no set. `kept` has the memory of the set under way, which the next line uses again.
 #[derive(Drop)]
@@ -54,7 +55,7 @@ pub struct ItemChart {
 #[derive(Drop)]
 struct WorkTables {
     /// The predictions of the set.
-    heads: Heads,
+    predictions: Predictions,
     /// The items beside the closures.
     items: Items,
     /// Those items of the last set that call or read.
@@ -65,7 +66,7 @@ impl WorkTables {
     // Returns tables without entries. It takes no memory.
     fn new(alloc: Global) -> WorkTables {
         WorkTables {
-            heads: Heads::new(alloc),
+            predictions: Predictions::new(alloc),
             items: Items::new(alloc),
             postdot: Postdot::new(alloc),
         }
@@ -74,10 +75,10 @@ impl WorkTables {
 
 impl Model for ItemChart {
     ghost use Rattle.std.specs.Prelude.{ℕ, List};
-    ghost use Rattle.flatgrammar.specs.Flat.{Place};
+    ghost use Rattle.flatgrammar.specs.Flat.{Dot};
     ghost use Rattle.earleyitems.specs.ChartSets.{chart_of, AreSized};
 
-    ghost Value = { List (List (Place × ℕ)) };
+    ghost Value = { List (List (Dot × ℕ)) };
 
     ghost view = { λ c. chart_of c.tables c.sets };
 
@@ -118,7 +119,7 @@ impl ItemChart {
             Some(tables) => match self.sets.get(j) {
                 None => Ok(dots),
                 Some(kept_set) => {
-                    push_heads(tables, kept_set.records(), &mut dots)?;
+                    push_predictions(tables, kept_set.records(), &mut dots)?;
                     push_items(kept_set.items(), &mut dots)?;
                     Ok(dots)
                 }
@@ -151,13 +152,13 @@ impl ItemChart {
     }
 }
 
-// Predicts the whole, before the first letter.
-fn predict_start(flat: &Tables, number: usize, heads: &mut Heads) -> Result<(), Memory>
-    ensures { IfOk result (λ done. Adds (IsWholeAt flat.now number) heads.old heads.new) }
+// Predicts the augmented start, before the first letter.
+fn predict_start(flat: &Tables, number: usize, predictions: &mut Predictions) -> Result<(), Memory>
+    ensures { IfOk result (λ done. Adds (IsWholeAt flat.now number) predictions.old predictions.new) }
 {
     if number == 0 {
-        if let Some(root) = whole_root(flat) {
-            heads.add(root)?;
+        if let Some(target) = start_target(flat) {
+            predictions.add(target)?;
         }
     }
     Ok(())
@@ -168,7 +169,7 @@ fn scan_last<L: Letter>(
     flat: &Tables,
     line: &[L],
     sets: &Sets,
-    readers: &[HomedItem],
+    readers: &[OwnedItem],
     items: &mut Items,
 ) -> Result<(), Memory>
     requires length { length sets.now ≤ length line.now }
@@ -176,11 +177,12 @@ fn scan_last<L: Letter>(
     requires readers { AreReaders flat.now sets.now readers.now }
     requires different { (k : ℕ) (f : kept_set) → slice_get sets.now k ≡ Some f → AreDifferent (view flat.now k f) }
     requires empty { items.old.items ≡ [] }
-    requires homes { AreHomes flat.now }
-    requires homed { (k : ℕ) → length sets.now ≡ k + 1 → AreReadersHomed flat.now (head_rows sets.now) readers.now }
+    requires owners { AreOwners flat.now }
+    requires owned { (k : ℕ) → length sets.now ≡ k + 1
+        → AreReadersOwned flat.now (prediction_rows sets.now) readers.now }
     ensures added { IfOk result (λ done. Adds (IsAfter flat.now (map L.number line.now) (views flat.now 0 sets.now))
         items.old.items items.new.items) }
-    ensures homes { IfOk result (λ done. AreItemsHomed flat.now (head_rows sets.now) items.new) }
+    ensures owners { IfOk result (λ done. AreItemsOwned flat.now (prediction_rows sets.now) items.new) }
 {
     if sets.len() > 0 {
         let last = sets.len() - 1;
@@ -192,7 +194,7 @@ fn scan_last<L: Letter>(
     Ok(())
 }
 
-// Adds the item sets of a line, where there are none. It stops once the items beside the blocks are more than `most`,
+// Adds the item sets of a line, where there are none. It stops once the items beside the closures are more than `most`,
 // and returns whether it did not.
 fn fill_sets<L: Letter>(
     flat: &Tables,
@@ -201,13 +203,13 @@ fn fill_sets<L: Letter>(
     sets: &mut Sets,
     most: usize,
 ) -> Result<bool, Memory>
-    requires roots { GiveRoots (flat_of flat.now) flat.now.roots.items }
+    requires targets { GiveTargets (flat_of flat.now) flat.now.targets.items }
     requires nulls { AreNulls (flat_of flat.now) flat.now.nulls.items }
     requires tables { AreTables flat.now }
     requires alone { AreAlone flat.now }
     requires lists { AreDotLists flat.now }
-    requires no_heads { kept.old.heads ≡ [] }
-    requires homes { AreHomes flat.now }
+    requires no_predictions { kept.old.predictions ≡ [] }
+    requires owners { AreOwners flat.now }
     requires no_items { kept.old.items.items ≡ [] }
     requires no_sets { sets.old ≡ [] }
     ensures size { IfOk result (λ whole. whole ≡ true → length sets.new ≡ length line.now + 1) }
@@ -222,20 +224,20 @@ fn fill_sets<L: Letter>(
         if beside > most {
             return Ok(false);
         }
-        let heads = &mut kept.heads;
+        let predictions = &mut kept.predictions;
         let items = &mut kept.items;
-        predict_start(flat, sets.len(), heads)?;
+        predict_start(flat, sets.len(), predictions)?;
         scan_last(flat, line, sets, &kept.postdot.readers, items)?;
-        let blocks = fill(flat, sets, heads, items, &mut kept.postdot)?;
+        let closures = fill(flat, sets, predictions, items, &mut kept.postdot)?;
         beside = beside.saturating_add(items.len());
         let filled = Filled {
-            heads,
+            predictions,
             items: items.list(),
             callers: &kept.postdot.callers,
-            blocks,
+            closures,
         };
         sets.push(flat, filled)?;
-        heads.clear();
+        predictions.clear();
         items.clear();
     }
     Ok(true)
@@ -257,11 +259,11 @@ fn in_dots(dots: &[DottedRule], number: usize, item: Item) -> bool
     false
 }
 
-fn in_heads(flat: &Tables, records: &[Record], number: usize, item: Item) -> bool
-    ensures { IsTrue result ↔ In item (expand (block_of flat.now) number (heads_of records.now)) }
+fn in_predictions(flat: &Tables, records: &[Record], number: usize, item: Item) -> bool
+    ensures { IsTrue result ↔ In item (expand (closure_of flat.now) number (predictions_of records.now)) }
 {
     for record in records {
-        if in_dots(dots(flat, record.head), number, item) {
+        if in_dots(dots(flat, record.prediction), number, item) {
             return true;
         }
     }
@@ -272,21 +274,21 @@ fn in_heads(flat: &Tables, records: &[Record], number: usize, item: Item) -> boo
 fn contains(flat: &Tables, kept_set: &EarleySet<'_>, number: usize, item: Item) -> bool
     ensures { IsTrue result ↔ In item (view flat.now number kept_set.now) }
 {
-    if in_heads(flat, kept_set.records(), number, item) {
+    if in_predictions(flat, kept_set.records(), number, item) {
         return true;
     }
     holds(kept_set.items(), item)
 }
 
-// Returns whether the last set holds the whole's end with origin 0.
+// Returns whether the last set holds the augmented start's end with origin 0.
 fn is_yes<L: Letter>(flat: &Tables, sets: &Sets, line: &[L]) -> bool
     requires size { length sets.now ≡ length line.now + 1 }
     requires exact { IsExact flat.now (map L.number line.now) (views flat.now 0 sets.now) }
     ensures { IsTrue result ↔ Holds (flat_of flat.now) (map L.number line.now) (length line.now)
-        (Place.at flat.now.whole 1) 0 }
+        (Dot.at flat.now.start 1) 0 }
 {
     let whole = Item {
-        node: flat.whole,
+        node: flat.start,
         step: 1,
         origin: 0,
     };
@@ -312,7 +314,7 @@ fn judge_by<L: Letter>(
     ensures sets { IfOk result (λ reported. IfSome reported (λ _. (j : ℕ) → IsSet (flat_of tables.value)
         (map L.number line.now) j (set_at chart.new j))) }
     ensures answer { IfOk result (λ reported. IfSome reported (λ yes. IsTrue yes ↔ Holds (flat_of tables.value)
-        (map L.number line.now) (length line.now) (Place.at (flat_of tables.value).whole 1) 0)) }
+        (map L.number line.now) (length line.now) (Dot.at (flat_of tables.value).start 1) 0)) }
     ensures none { IfOk result (λ reported. IfNone reported (chart.new ≡ [])) }
     ensures more { IfOk result (λ reported. IfNone reported (HaveMoreItems (flat_of tables.value)
         (map L.number line.now)
@@ -321,7 +323,7 @@ fn judge_by<L: Letter>(
 {
     let mut sets = sets;
     let mut kept = kept;
-    kept.heads.clear();
+    kept.predictions.clear();
     kept.items.clear();
     let whole = fill_sets(&tables, line, &mut kept, &mut sets, most)?;
     if whole {
@@ -350,7 +352,7 @@ pub fn judge_within<L: Letter>(
         (set_at chart.new j))) }
     ensures answer { IfOk result (λ reported. IfSome reported (λ yes. IsTrue yes
         ↔ Holds flat.now (map L.number line.now)
-        (length line.now) (Place.at flat.now.whole 1) 0)) }
+        (length line.now) (Dot.at flat.now.start 1) 0)) }
     ensures none { IfOk result (λ reported. IfNone reported (chart.new ≡ [])) }
     ensures more { IfOk result (λ reported. IfNone reported (HaveMoreItems flat.now (map L.number line.now) most)) }
     ensures empty { OnErr result (chart.new ≡ []) }

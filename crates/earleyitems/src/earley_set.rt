@@ -1,6 +1,6 @@
 //! An item set of a line, where it stands.
 ghost use Rattle.std.specs.Prelude.{◌≡◌};
-ghost use Rattle.earleyitems.specs.EarleySets.{heads_of, firsts_of};
+ghost use Rattle.earleyitems.specs.EarleySets.{predictions_of, firsts_of};
 
 use crate::sets::{Record, SetBounds, Stores};
 use flatgrammar::Item;
@@ -8,7 +8,7 @@ use std::marker::Model;
 
 /// A view of one Earley set, whose lists stand among those of the line's other sets.
 ///
-/// A set has predictions and items. A prediction is a root; the items of its precomputed closure are not stored. The
+/// A set has predictions and items. A prediction is a target; the items of its precomputed closure are not stored. The
 /// record of a prediction says where its waiting list begins.
 #[derive(Drop)]
 pub(crate) struct EarleySet<'a> {
@@ -32,7 +32,7 @@ impl<'a> EarleySet<'a> {
     /// Returns the records of the predictions.
     #[inline(always)]
     pub(crate) fn records(&self) -> &'a [Record]
-        ensures heads { heads_of result.now ≡ self.now.heads }
+        ensures predictions { predictions_of result.now ≡ self.now.predictions }
         ensures firsts { firsts_of result.now ≡ self.now.firsts }
     {
         &self.stores.records[self.bounds.records.from..self.bounds.records.to]

@@ -1,6 +1,6 @@
 //! Items of a set.
 ghost use Rattle.std.specs.Prelude.{◌≡◌, ◌↔◌, IsTrue};
-ghost use Rattle.flatgrammar.specs.Places.{In};
+ghost use Rattle.flatgrammar.specs.Positions.{In};
 
 use flatgrammar::Item;
 

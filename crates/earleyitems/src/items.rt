@@ -1,10 +1,10 @@
 //! The items of a set, found fast.
 ghost use Rattle.std.specs.Prelude.{◌≡◌, ◌↔◌, ◌+◌, ◌<◌, ◌^◌, ◌≤◌, ◌++◌, ◌∷◌, ℕ, List, [], length, slice_get, Some};
 ghost use Rattle.std.specs.Prelude.{IsTrue, IfOk, OnOk, OnErr};
-ghost use Rattle.flatgrammar.specs.Places.{In};
+ghost use Rattle.flatgrammar.specs.Positions.{In};
 ghost use Rattle.flatgrammar.specs.declared.flat_item.Item as code_item;
 ghost use Rattle.flatgrammar.specs.declared.tables.Tables as code_flat;
-ghost use Rattle.earleyitems.specs.ItemHomes.{IsHome, AreItemsHomed};
+ghost use Rattle.earleyitems.specs.ItemOwners.{IsOwner, AreItemsOwned};
 ghost use Rattle.earleyitems.specs.ItemSets.{Adds, IsOneMore};
 ghost use Rattle.earleyitems.specs.Waiting.{Chain, IsSkippedTo};
 ghost use Rattle.earleyitems.specs.ItemBuckets.{item_bucket as the_item_bucket, IsLast, AreLinked, IsLinkedTo};
@@ -25,7 +25,7 @@ const LINEAR: usize = 5;
 const BUCKETS: usize = 64;
 
 /// The items of a set beside its closures, in the order in which they were added. Contracts see a list of the items,
-/// and one of their homes. A home is the index of an item's prediction in the set of its origin.
+/// and one of their owners. An owner is the index of an item's prediction in the set of its origin.
 ///
 /// `links` and `buckets` are a hash table over `list`. Fewer than five items are compared one by one, without links.
 /// More are linked before the first search: each with the last one before it in its bucket. They stay linked while
@@ -43,7 +43,7 @@ pub(crate) struct Items {
     /// Of each bucket the sum of `base`, the index of its last item, and 1; at most `base` if the bucket is empty.
     buckets: Vec<usize>,
     /// Of each item the index of its prediction in the set of its origin.
-    homes: Vec<usize>,
+    owners: Vec<usize>,
     /// Subtracted from the number in a bucket.
     base: usize,
     /// The links serve while there are fewer items than this; 0 if the items are not linked.
@@ -57,17 +57,17 @@ impl Model for Items {
 
     ghost Value = { ItemList };
 
-    ghost view = { λ s. record { items = s.list.items; homes = s.homes.items } };
+    ghost view = { λ s. record { items = s.list.items; owners = s.owners.items } };
 
     ghost invariant = { λ s. AreBuckets s.list.items s.links.items s.buckets.items s.base s.room
-        × (length s.list.items ≤ length s.homes.items) };
+        × (length s.list.items ≤ length s.owners.items) };
 }
 
 // An odd number whose products have mixed bits. It is near 2^64 by the golden ratio, and no small multiple of its last
 // bits is near 0.
 const MIX: usize = 11_400_714_819_323_198_059;
 
-// The bucket of an item among that many, a power of two. The origins of one place take every fourth bucket.
+// The bucket of an item among that many, a power of two. The origins of one dotted rule take every fourth bucket.
 #[tactic(auto, unfolding(crate::specs::ItemBuckets::item_bucket))]
 #[inline(always)]
 fn item_bucket(count: usize, item: Item) -> usize
@@ -75,10 +75,10 @@ fn item_bucket(count: usize, item: Item) -> usize
     ensures value { result ≡ the_item_bucket count item }
     ensures within { result < count }
 {
-    let place = item.node.wrapping_add(item.step);
+    let position = item.node.wrapping_add(item.step);
     item.origin
         .wrapping_mul(4)
-        .wrapping_add(place.wrapping_mul(MIX))
+        .wrapping_add(position.wrapping_mul(MIX))
         & (count - 1)
 }
 
@@ -369,7 +369,7 @@ impl Items {
             list: Vec::new(alloc),
             links: Vec::new(alloc),
             buckets: Vec::new(alloc),
-            homes: Vec::new(alloc),
+            owners: Vec::new(alloc),
             base: 0,
             room: 0,
         }
@@ -397,12 +397,12 @@ impl Items {
         self.list[index]
     }
 
-    /// Returns the home of the item at that index.
-    pub(crate) fn home(&self, index: usize) -> usize
+    /// Returns the owner of the item at that index.
+    pub(crate) fn owner(&self, index: usize) -> usize
         requires { index < length self.now.items }
-        ensures { slice_get self.now.homes index ≡ Some result }
+        ensures { slice_get self.now.owners index ≡ Some result }
     {
-        self.homes[index]
+        self.owners[index]
     }
 
     /// Goes along a list from a link on, and returns the link of the first item that is not seen at once to stand
@@ -420,14 +420,14 @@ impl Items {
         skip_last(waiters, first, &self.list, &self.buckets, self.base)
     }
 
-    /// Adds an item with its home unless the item is there. `Memory` if an allocation fails.
+    /// Adds an item with its owner unless the item is there. `Memory` if an allocation fails.
     #[inline(always)]
-    pub(crate) fn add(&mut self, item: Item, home: usize) -> Result<(), Memory>
+    pub(crate) fn add(&mut self, item: Item, owner: usize) -> Result<(), Memory>
         ensures added { IfOk result (λ done. Adds (λ a. a ≡ item) self.old.items self.new.items) }
-        ensures homes { IfOk result (λ done. (flat : code_flat.Tables) (rows : List (List ℕ))
-            → IsHome flat rows item home → AreItemsHomed flat rows self.old → AreItemsHomed flat rows self.new) }
+        ensures owners { IfOk result (λ done. (flat : code_flat.Tables) (rows : List (List ℕ))
+            → IsOwner flat rows item owner → AreItemsOwned flat rows self.old → AreItemsOwned flat rows self.new) }
     {
-        set_entry(&mut self.homes, self.list.len(), home)?;
+        set_entry(&mut self.owners, self.list.len(), owner)?;
         put(
             &mut self.list,
             &mut self.links,
@@ -439,14 +439,14 @@ impl Items {
         Ok(())
     }
 
-    /// Adds an item with its home after the others, and looks for none. `Memory` if an allocation fails.
+    /// Adds an item with its owner after the others, and looks for none. `Memory` if an allocation fails.
     #[inline(always)]
-    pub(crate) fn push(&mut self, item: Item, home: usize) -> Result<(), Memory>
+    pub(crate) fn push(&mut self, item: Item, owner: usize) -> Result<(), Memory>
         ensures pushed { IfOk result (λ done. self.new.items ≡ self.old.items ++ item ∷ []) }
-        ensures homes { IfOk result (λ done. (flat : code_flat.Tables) (rows : List (List ℕ))
-            → IsHome flat rows item home → AreItemsHomed flat rows self.old → AreItemsHomed flat rows self.new) }
+        ensures owners { IfOk result (λ done. (flat : code_flat.Tables) (rows : List (List ℕ))
+            → IsOwner flat rows item owner → AreItemsOwned flat rows self.old → AreItemsOwned flat rows self.new) }
     {
-        set_entry(&mut self.homes, self.list.len(), home)?;
+        set_entry(&mut self.owners, self.list.len(), owner)?;
         self.room = 0;
         self.list.push(item)?;
         Ok(())

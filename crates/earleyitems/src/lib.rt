@@ -4,10 +4,10 @@
 mod chart;
 mod earley_set;
 mod fill;
-mod heads;
 mod item;
 mod items;
 mod postdot;
+mod predictions;
 mod scan;
 mod set_dots;
 mod sets;

@@ -3,20 +3,20 @@ ghost use Rattle.std.specs.Prelude.{◌≡◌, ◌↔◌, ◌+◌, ◌^◌, ◌<
 ghost use Rattle.std.specs.Prelude.{List, slice_index_or};
 ghost use Rattle.std.specs.Prelude.{◌∷◌};
 ghost use Rattle.flatgrammar.specs.NodeSteps.{IfSomeSet};
-ghost use Rattle.flatgrammar.specs.Places.{In, AreDifferent};
-ghost use Rattle.flatgrammar.specs.declared.block.DottedRule as code_dot;
+ghost use Rattle.flatgrammar.specs.Positions.{In, AreDifferent};
+ghost use Rattle.flatgrammar.specs.declared.closure.DottedRule as code_dot;
 ghost use Rattle.earleyitems.specs.ItemSets.{Adds};
 ghost use Rattle.earleyitems.specs.ScannedItems.{IsScannedItem, AreScannedItems};
 ghost use Rattle.earleyitems.specs.Chosen.{items_of, ReadsSome, AreChosen};
 ghost use Rattle.flatgrammar.specs.TableViews.{read_of};
-ghost use Rattle.flatgrammar.specs.Blocks.{block_of, item_at, AreDotLists, AreHomes};
-ghost use Rattle.earleyitems.specs.ItemHomes.{IsHome, AreItemsHomed, AreReadersHomed};
+ghost use Rattle.flatgrammar.specs.ItemClosures.{closure_of, item_at, AreDotLists, AreOwners};
+ghost use Rattle.earleyitems.specs.ItemOwners.{IsOwner, AreItemsOwned, AreReadersOwned};
 ghost use Rattle.earleyitems.specs.SetViews.{expand, view};
-ghost use Rattle.earleyitems.specs.EarleySets.{heads_of};
+ghost use Rattle.earleyitems.specs.EarleySets.{predictions_of};
 
 use crate::earley_set::EarleySet;
 use crate::items::Items;
-use crate::postdot::HomedItem;
+use crate::postdot::OwnedItem;
 use crate::sets::Record;
 use flatgrammar::{DottedRule, Item, Tables, readers, reads};
 use letters::Letter;
@@ -27,12 +27,12 @@ fn scan_item(
     flat: &Tables,
     value: u32,
     item: Item,
-    home: usize,
+    owner: usize,
     set: &mut Items,
 ) -> Result<(), Memory>
     ensures added { IfOk result (λ done. AreScannedItems flat.now value (item ∷ []) set.old.items set.new.items) }
-    ensures homes { IfOk result (λ done. (rows : List (List ℕ)) → IsHome flat.now rows item home
-        → AreItemsHomed flat.now rows set.old → AreItemsHomed flat.now rows set.new) }
+    ensures owners { IfOk result (λ done. (rows : List (List ℕ)) → IsOwner flat.now rows item owner
+        → AreItemsOwned flat.now rows set.old → AreItemsOwned flat.now rows set.new) }
 {
     if reads(flat, item, value) {
         set.push(
@@ -41,21 +41,21 @@ fn scan_item(
                 step: item.step + 1,
                 origin: item.origin,
             },
-            home,
+            owner,
         )?;
     }
     Ok(())
 }
 
 /// Scans a symbol for some items.
-fn scan_items(flat: &Tables, value: u32, from: &[HomedItem], set: &mut Items) -> Result<(), Memory>
+fn scan_items(flat: &Tables, value: u32, from: &[OwnedItem], set: &mut Items) -> Result<(), Memory>
     ensures added { IfOk result (λ done. AreScannedItems flat.now value (items_of from.now) set.old.items
         set.new.items) }
-    ensures homes { IfOk result (λ done. (rows : List (List ℕ)) → AreReadersHomed flat.now rows from.now
-        → AreItemsHomed flat.now rows set.old → AreItemsHomed flat.now rows set.new) }
+    ensures owners { IfOk result (λ done. (rows : List (List ℕ)) → AreReadersOwned flat.now rows from.now
+        → AreItemsOwned flat.now rows set.old → AreItemsOwned flat.now rows set.new) }
 {
     for at in from {
-        scan_item(flat, value, at.item, at.home, set)?;
+        scan_item(flat, value, at.item, at.owner, set)?;
     }
     Ok(())
 }
@@ -66,14 +66,14 @@ fn scan_dots(
     value: u32,
     from: &[DottedRule],
     origin: usize,
-    home: usize,
+    owner: usize,
     set: &mut Items,
 ) -> Result<(), Memory>
     ensures added { IfOk result (λ done. AreScannedItems flat.now value (map (item_at origin) from.now) set.old.items
         set.new.items) }
-    ensures homes { IfOk result (λ done. (rows : List (List ℕ))
-        → ((p : code_dot.DottedRule) → In p from.now → IsHome flat.now rows (item_at origin p) home)
-        → AreItemsHomed flat.now rows set.old → AreItemsHomed flat.now rows set.new) }
+    ensures owners { IfOk result (λ done. (rows : List (List ℕ))
+        → ((p : code_dot.DottedRule) → In p from.now → IsOwner flat.now rows (item_at origin p) owner)
+        → AreItemsOwned flat.now rows set.old → AreItemsOwned flat.now rows set.new) }
 {
     for dot in from {
         scan_item(
@@ -84,7 +84,7 @@ fn scan_dots(
                 step: dot.step,
                 origin,
             },
-            home,
+            owner,
             set,
         )?;
     }
@@ -92,7 +92,7 @@ fn scan_dots(
 }
 
 /// Scans a symbol for the closures of predictions.
-fn scan_heads(
+fn scan_predictions(
     flat: &Tables,
     value: u32,
     records: &[Record],
@@ -100,15 +100,17 @@ fn scan_heads(
     set: &mut Items,
 ) -> Result<(), Memory>
     requires lists { AreDotLists flat.now }
-    requires homes { AreHomes flat.now }
-    ensures added { IfOk result (λ done. AreScannedItems flat.now value (expand (block_of flat.now) origin (heads_of
+    requires owners { AreOwners flat.now }
+    ensures added { IfOk result
+        (λ done. AreScannedItems flat.now value (expand (closure_of flat.now) origin (predictions_of
         records.now)) set.old.items set.new.items) }
-    ensures homes { IfOk result (λ done. (rows : List (List ℕ)) → slice_index_or rows origin [] ≡ heads_of records.now
-        → AreItemsHomed flat.now rows set.old → AreItemsHomed flat.now rows set.new) }
+    ensures owners { IfOk result
+        (λ done. (rows : List (List ℕ)) → slice_index_or rows origin [] ≡ predictions_of records.now
+        → AreItemsOwned flat.now rows set.old → AreItemsOwned flat.now rows set.new) }
 {
-    for (home, record) in records.iter().enumerate() {
-        let readers = readers(flat, record.head, value);
-        scan_dots(flat, value, readers, origin, home, set)?;
+    for (owner, record) in records.iter().enumerate() {
+        let readers = readers(flat, record.prediction, value);
+        scan_dots(flat, value, readers, origin, owner, set)?;
     }
     Ok(())
 }
@@ -119,7 +121,7 @@ pub(crate) fn scan<L: Letter>(
     flat: &Tables,
     letter: L,
     from: &EarleySet<'_>,
-    readers: &[HomedItem],
+    readers: &[OwnedItem],
     origin: usize,
     set: &mut Items,
 ) -> Result<(), Memory>
@@ -127,15 +129,15 @@ pub(crate) fn scan<L: Letter>(
     requires readers { AreChosen (ReadsSome flat.now) from.now.items (items_of readers.now) }
     requires different { AreDifferent (view flat.now origin from.now) }
     requires empty { set.old.items ≡ [] }
-    requires homes { AreHomes flat.now }
+    requires owners { AreOwners flat.now }
     ensures added { IfOk result (λ done. Adds (IsScannedItem flat.now (L.number letter) (view flat.now origin
         from.now)) set.old.items set.new.items) }
-    ensures homes { IfOk result (λ done. (rows : List (List ℕ)) → slice_index_or rows origin [] ≡ from.now.heads
-        → AreReadersHomed flat.now rows readers.now → AreItemsHomed flat.now rows set.old
-        → AreItemsHomed flat.now rows set.new) }
+    ensures owners { IfOk result (λ done. (rows : List (List ℕ)) → slice_index_or rows origin [] ≡ from.now.predictions
+        → AreReadersOwned flat.now rows readers.now → AreItemsOwned flat.now rows set.old
+        → AreItemsOwned flat.now rows set.new) }
 {
     let value = letter.value();
-    scan_heads(flat, value, from.records(), origin, set)?;
+    scan_predictions(flat, value, from.records(), origin, set)?;
     scan_items(flat, value, readers, set)?;
     Ok(())
 }

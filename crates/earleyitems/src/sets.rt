@@ -1,17 +1,17 @@
 //! The sets of a line, one after another.
 ghost use Rattle.std.specs.Prelude.{◌≡◌, ◌++◌, ◌∷◌, ℕ, List, [], length, slice_get, slice_index_or, Some, IfOk, OnOk};
-ghost use Rattle.flatgrammar.specs.Blocks.{block_of, AreHomes, AreDotLists};
+ghost use Rattle.flatgrammar.specs.ItemClosures.{closure_of, AreOwners, AreDotLists};
 ghost use Rattle.earleyitems.specs.Chosen.{AreCallers};
 ghost use Rattle.earleyitems.specs.SetViews.{expand};
 ghost use Rattle.earleyitems.specs.EarleySets.{EarleySet as kept_set, set_in, sets_in, AreBounds, AreStored, GoesOn};
 ghost use Rattle.earleyitems.specs.EarleySets.{GoOn};
 ghost use Rattle.earleyitems.specs.EarleySets.{IsAppended};
-ghost use Rattle.earleyitems.specs.ItemHomes.{head_rows_with, AreCallersHomed, AreSetsHomed, AreWaitersHomed};
+ghost use Rattle.earleyitems.specs.ItemOwners.{prediction_rows_with, AreCallersOwned, AreSetsOwned, AreWaitersOwned};
 ghost use Rattle.earleyitems.specs.Waiting.{IsKept};
 
 use crate::earley_set::EarleySet;
-use crate::heads::Heads;
 use crate::postdot::CallingItem;
+use crate::predictions::Predictions;
 use crate::waiters::{Waiter, list_waiters};
 use flatgrammar::{Item, Tables};
 use ruletable::Memory;
@@ -28,8 +28,8 @@ pub(crate) struct IndexRange {
 /// A prediction of a set, with its waiting list.
 #[derive(Clone, Copy)]
 pub(crate) struct Record {
-    /// The root that is predicted.
-    pub(crate) head: usize,
+    /// The target that is predicted.
+    pub(crate) prediction: usize,
     /// One more than the index of the first entry of its waiting list, or 0 for an empty list.
     pub(crate) first: usize,
 }
@@ -51,13 +51,13 @@ pub(crate) struct SetBounds {
 #[derive(Clone, Copy)]
 pub(crate) struct Filled<'a> {
     /// Its predictions.
-    pub(crate) heads: &'a Heads,
+    pub(crate) predictions: &'a Predictions,
     /// Its items beside the closures.
     pub(crate) items: &'a [Item],
     /// Those of the items that call.
     pub(crate) callers: &'a [CallingItem],
     /// The number of items of the closures.
-    pub(crate) blocks: usize,
+    pub(crate) closures: usize,
 }
 
 /// The lists of all sets, one vector for each kind, so that a set needs no vector of its own.
@@ -118,25 +118,25 @@ fn store(
 ) -> Result<SetBounds, Memory>
     requires lists { AreDotLists flat.now }
     requires callers { AreCallers flat.now filled.items.now filled.callers.now }
-    requires blocks { (j : ℕ) → filled.blocks ≡ length (expand (block_of flat.now) j filled.heads.now) }
-    requires homes { AreHomes flat.now }
+    requires closures { (j : ℕ) → filled.closures ≡ length (expand (closure_of flat.now) j filled.predictions.now) }
+    requires owners { AreOwners flat.now }
     ensures more { GoOn stores.old stores.new }
     ensures bounds { IfOk result (λ bounds. AreBounds stores.new bounds) }
     ensures ends { IfOk result (λ bounds. bounds.waiters ≡ length stores.new.waiters.items) }
-    ensures homes { IfOk result (λ bounds. (rows : List (List ℕ)) → slice_index_or rows number []
-        ≡ filled.entry.heads.now → AreCallersHomed flat.now rows filled.entry.callers.now
-        → AreWaitersHomed flat.now rows stores.old.waiters.items
-        → AreWaitersHomed flat.now rows stores.new.waiters.items) }
-    ensures kept { IfOk result (λ bounds. IsKept flat.now number filled.entry.heads.now filled.entry.items.now
+    ensures owners { IfOk result (λ bounds. (rows : List (List ℕ)) → slice_index_or rows number []
+        ≡ filled.entry.predictions.now → AreCallersOwned flat.now rows filled.entry.callers.now
+        → AreWaitersOwned flat.now rows stores.old.waiters.items
+        → AreWaitersOwned flat.now rows stores.new.waiters.items) }
+    ensures kept { IfOk result (λ bounds. IsKept flat.now number filled.entry.predictions.now filled.entry.items.now
         (set_in stores.new bounds)) }
 {
-    let Some(size) = filled.blocks.checked_add(filled.items.len()) else {
+    let Some(size) = filled.closures.checked_add(filled.items.len()) else {
         return Err(Memory);
     };
     let items = append(&mut stores.items, filled.items)?;
     let records = list_waiters(
         flat,
-        filled.heads,
+        filled.predictions,
         filled.callers,
         number,
         &mut stores.records,
@@ -161,15 +161,16 @@ fn add_set(
     requires stored { AreStored stores.old bounds.old.items }
     requires lists { AreDotLists flat.now }
     requires callers { AreCallers flat.now filled.items.now filled.callers.now }
-    requires blocks { (j : ℕ) → filled.blocks ≡ length (expand (block_of flat.now) j filled.heads.now) }
-    requires homes { AreHomes flat.now }
+    requires closures { (j : ℕ) → filled.closures ≡ length (expand (closure_of flat.now) j filled.predictions.now) }
+    requires owners { AreOwners flat.now }
     ensures stored { OnOk result (AreStored stores.new bounds.new.items) }
     ensures added { IfOk result (λ _. (f : kept_set)
         × ((sets_in stores.new bounds.new.items ≡ sets_in stores.old bounds.old.items ++ f ∷ [])
-        × IsKept flat.now (length bounds.old.items) filled.entry.heads.now filled.entry.items.now f)) }
-    ensures homes { IfOk result (λ _. AreSetsHomed flat.now (sets_in stores.old bounds.old.items)
-        → AreCallersHomed flat.now (head_rows_with (sets_in stores.old bounds.old.items) filled.entry.heads.now)
-        filled.entry.callers.now → AreSetsHomed flat.now (sets_in stores.new bounds.new.items)) }
+        × IsKept flat.now (length bounds.old.items) filled.entry.predictions.now filled.entry.items.now f)) }
+    ensures owners { IfOk result (λ _. AreSetsOwned flat.now (sets_in stores.old bounds.old.items)
+        → AreCallersOwned flat.now
+        (prediction_rows_with (sets_in stores.old bounds.old.items) filled.entry.predictions.now)
+        filled.entry.callers.now → AreSetsOwned flat.now (sets_in stores.new bounds.new.items)) }
 {
     let more = store(flat, filled, bounds.len(), stores)?;
     bounds.push(more)?;
@@ -238,13 +239,14 @@ impl Sets {
     pub(crate) fn push(&mut self, flat: &Tables, filled: Filled<'_>) -> Result<(), Memory>
         requires lists { AreDotLists flat.now }
         requires callers { AreCallers flat.now filled.items.now filled.callers.now }
-        requires blocks { (j : ℕ) → filled.blocks ≡ length (expand (block_of flat.now) j filled.heads.now) }
-        requires homes { AreHomes flat.now }
+        requires closures { (j : ℕ) → filled.closures ≡ length (expand (closure_of flat.now) j filled.predictions.now) }
+        requires owners { AreOwners flat.now }
         ensures added { IfOk result (λ _. (f : kept_set) × ((self.new ≡ self.old ++ f ∷ [])
-            × IsKept flat.now (length self.old) filled.entry.heads.now filled.entry.items.now f)) }
-        ensures homes { IfOk result (λ _. AreSetsHomed flat.now self.old
-            → AreCallersHomed flat.now (head_rows_with self.old filled.entry.heads.now) filled.entry.callers.now
-            → AreSetsHomed flat.now self.new) }
+            × IsKept flat.now (length self.old) filled.entry.predictions.now filled.entry.items.now f)) }
+        ensures owners { IfOk result (λ _. AreSetsOwned flat.now self.old
+            → AreCallersOwned flat.now
+            (prediction_rows_with self.old filled.entry.predictions.now) filled.entry.callers.now
+            → AreSetsOwned flat.now self.new) }
     {
         match add_set(flat, filled, &mut self.bounds, &mut self.stores) {
             Ok(()) => Ok(()),

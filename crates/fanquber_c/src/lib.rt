@@ -81,39 +81,39 @@ pub extern "C" fn fanquber_peg_open(
     asked: &CSettings,
     grammar: &[u8],
     name: &[u8],
-    place: &mut CRunner,
+    slot: &mut CRunner,
     err: &mut [u8],
 ) -> CResult
     ensures out { result.out_len ≡ 0 }
     ensures call { IsOpenCall PegMeant (λ settings. IsPegOpening grammar.now settings) asked.now name.now
-        (record { old = place.old.runner.held; new = place.new.runner.held })
+        (record { old = slot.old.runner.held; new = slot.new.runner.held })
         (record { old = err.old; new = err.new; len = result.err_len }) result.status }
 {
-    capi::peg_open(alloc, asked, grammar, name, place, err)
+    capi::peg_open(alloc, asked, grammar, name, slot, err)
 }
 
 /// Exports `capi::peg_run`.
 #[unsafe(no_mangle)]
 pub extern "C" fn fanquber_peg_run(
     alloc: Global,
-    place: &mut CRunner,
+    slot: &mut CRunner,
     input: &[u8],
     out: &mut [u8],
     err: &mut [u8],
 ) -> CResult
-    ensures same { place.new.runner.held ≡ place.old.runner.held }
+    ensures same { slot.new.runner.held ≡ slot.old.runner.held }
     ensures ran { IsRunCall input.now (record { old = out.old; new = out.new; len = result.out_len })
-        (record { old = err.old; new = err.new; len = result.err_len }) result.status place.old.runner.held }
+        (record { old = err.old; new = err.new; len = result.err_len }) result.status slot.old.runner.held }
 {
-    capi::peg_run(alloc, place, input, out, err)
+    capi::peg_run(alloc, slot, input, out, err)
 }
 
 /// Exports `capi::peg_close`.
 #[unsafe(no_mangle)]
-pub extern "C" fn fanquber_peg_close(alloc: Global, place: &mut CRunner)
-    ensures { place.new.runner.held ≡ None }
+pub extern "C" fn fanquber_peg_close(alloc: Global, slot: &mut CRunner)
+    ensures { slot.new.runner.held ≡ None }
 {
-    capi::peg_close(alloc, place)
+    capi::peg_close(alloc, slot)
 }
 
 /// Exports `capi::abnf_open`.
@@ -123,30 +123,30 @@ pub extern "C" fn fanquber_abnf_open(
     asked: &CSettings,
     grammar: &[u8],
     name: &[u8],
-    place: &mut CJudge,
+    slot: &mut CJudge,
     err: &mut [u8],
 ) -> CResult
     ensures out { result.out_len ≡ 0 }
     ensures call { IsOpenCall AbnfMeant (λ settings. IsAbnfOpening grammar.now settings) asked.now name.now
-        (record { old = place.old.judge.held; new = place.new.judge.held })
+        (record { old = slot.old.judge.held; new = slot.new.judge.held })
         (record { old = err.old; new = err.new; len = result.err_len }) result.status }
 {
-    capi::abnf_open(alloc, asked, grammar, name, place, err)
+    capi::abnf_open(alloc, asked, grammar, name, slot, err)
 }
 
 /// Exports `capi::abnf_judge`.
 #[unsafe(no_mangle)]
-pub extern "C" fn fanquber_abnf_judge(alloc: Global, place: &mut CJudge, line: &[u8]) -> CAnswer
-    ensures same { place.new.judge.held ≡ place.old.judge.held }
-    ensures reported { IsJudgeCall line.now result place.old.judge.held }
+pub extern "C" fn fanquber_abnf_judge(alloc: Global, slot: &mut CJudge, line: &[u8]) -> CAnswer
+    ensures same { slot.new.judge.held ≡ slot.old.judge.held }
+    ensures reported { IsJudgeCall line.now result slot.old.judge.held }
 {
-    capi::abnf_judge(alloc, place, line)
+    capi::abnf_judge(alloc, slot, line)
 }
 
 /// Exports `capi::abnf_close`.
 #[unsafe(no_mangle)]
-pub extern "C" fn fanquber_abnf_close(alloc: Global, place: &mut CJudge)
-    ensures { place.new.judge.held ≡ None }
+pub extern "C" fn fanquber_abnf_close(alloc: Global, slot: &mut CJudge)
+    ensures { slot.new.judge.held ≡ None }
 {
-    capi::abnf_close(alloc, place)
+    capi::abnf_close(alloc, slot)
 }

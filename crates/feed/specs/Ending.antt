@@ -1,4 +1,4 @@
--- How a reader tells its end.
+-- How a reader reports its end.
 use Rattle.std.specs.Prelude.{Result, ◌≡◌, ℕ, ◌<◌, ◌⊎◌, Bool, true, List, length, MatchResult}
 
 -- an answer of 0 into a buffer that is not empty sets the mark, and nothing else changes it

@@ -1,4 +1,4 @@
--- A feed: the bytes of a reader from a place on, as many as are held.
+-- A feed: the bytes of a reader from a position on, as many as are held.
 use Rattle.std.specs.Prelude.{◌≡◌, ℕ, ◌+◌, ◌<◌, ◌⊎◌, ◌++◌, Bool, true, false, List, [], length, Option}
 use Rattle.std.specs.Borrow.{MutBor}
 use Rattle.std.specs.Io.KnownBytes.{Consumes, IsAtEnd}
@@ -48,14 +48,14 @@ pub record Grows {R : Type 0} (remaining : R → Option (List ℕ)) (old new : F
   pub capacity : capacity_of new ≡ capacity_of old
   pub stays : (flow_of old ≡ Open) ⊎ ((flow_of new ≡ flow_of old) × (more ≡ []) × (reader_of new ≡ reader_of old))
 
--- What is to come is what the reader told: its end, its failure, or that it gave as much as an input may have.
+-- What is to come is what the reader reported: its end, its failure, or that it gave as much as an input may have.
 abbrev pub IsReportedBy : Option (List ℕ) → Bool → Bool → ℕ → Flow → Type 0
 IsReportedBy remaining failed ended allowance Open = (failed ≡ false) × (ended ≡ false)
 IsReportedBy remaining failed ended allowance Ended = (failed ≡ false) × (ended ≡ true) × IsAtEnd remaining
     × (0 < allowance)
 IsReportedBy remaining failed ended allowance Broken = (failed ≡ true) ⊎ ((failed ≡ false) × (allowance ≡ 0))
 
--- A feed says of its reader what that told.
+-- A feed says of its reader what that reported.
 abbrev pub IsTrueOfReader : {R : Type 0} → (R → Option (List ℕ)) → (R → Bool) → (R → Bool) → Feed R → Type 0
 IsTrueOfReader remaining failed ended f = IsReportedBy (remaining (reader_of f)) (failed (reader_of f))
     (ended (reader_of f)) (allowance_of f) (flow_of f)

@@ -81,7 +81,7 @@ module _ {A : Type 0} where
   only_at x zero y h = cc h
   only_at x (suc i) y h = absurd (cc h)
 
--- members stand at places
+-- members stand at positions
 pub drop_in : (f : ℕ) (xs : List ℕ) (i n : ℕ) → f ≤ i → At xs i n → Contains (drop f xs) n
 drop_in zero xs i n le h = in_get xs i n h
 drop_in (suc f) [] i n le h = absurd (cc h)

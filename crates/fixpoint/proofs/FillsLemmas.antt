@@ -172,7 +172,7 @@ module _ (rows : List (List ℕ)) (s : ℕ) where
 
       waits : (v : ℕ) → Contains g.added v → Waits queue 0 v
       waits v h = let at = get_in g.added v h in record {
-        place = at.0;
+        position = at.0;
         after = omega arith;
         at = subst (λ z. At z at.0 v) (sym whole) at.1;
       }
@@ -227,8 +227,8 @@ module _ (rows : List (List ℕ)) (s : ℕ) where
         let f : d ≡ m = cc e in
         subst (λ z. LeadsNear rows b v z) f (subst (λ z. LeadsNear rows b z d) same head_leads_near)
         ))
-        (λ lt. inl (record { place = w.place; after = omega (arith, lt); at = old_at w.place v w.at }))
-        (split w.place head w.after)
+        (λ lt. inl (record { position = w.position; after = omega (arith, lt); at = old_at w.position v w.at }))
+        (split w.position head w.after)
       where
         split : (p h : ℕ) → h ≤ p → (p ≡ h) ⊎ (h < p)
         split zero zero le = inl refl
@@ -254,7 +254,7 @@ module _ (rows : List (List ℕ)) (s : ℕ) where
           (λ shut. inr (λ w step. let x = shut w step in (x.0, g.kept w x.0 x.1, x.2)))
           (k.done v m old))
           (λ new. inl (let at = get_in g.added v new.2 in let lt = head_inside in record {
-            place = length q + at.0;
+            position = length q + at.0;
             after = omega (arith, lt);
             at = subst (λ z. At z (length q + at.0) v) (sym g.is) (at_append_right q g.added at.0 v at.1);
           }))
@@ -294,7 +294,7 @@ module _ (rows : List (List ℕ)) (s : ℕ) where
   module _ (far : List (Option ℕ)) (queue : List ℕ) (head : ℕ) (k : IsFilling rows s far queue head)
       (end : length queue ≤ head) where
     none_waits : (v : ℕ) → Waits queue head v → ⊥
-    none_waits v w = let lt = slice_get_within queue w.place v w.at in let le = w.after in omega (arith, lt, le, end)
+    none_waits v w = let lt = slice_get_within queue w.position v w.at in let le = w.after in omega (arith, lt, le, end)
 
     reached_within : (v n : ℕ) → Steps rows s v n → (d : ℕ) × At far v (Some d) × (d ≤ n)
     reached_within v n no_step = (0, k.start, omega arith)

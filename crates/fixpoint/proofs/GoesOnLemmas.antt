@@ -1,4 +1,4 @@
--- What holds at each turn of the search.
+-- What holds at each iteration of the search.
 -- Serves: on_cycle (marks)
 use Rattle.std.proofs.Common.{◌≡◌, ℕ, ◌+◌, ◌-◌, ◌<◌, ◌≤◌, List, [], ◌∷◌, ◌++◌, length, refl, sym, ap, subst, ⊎_elim}
 use Rattle.std.proofs.Common.{arith, length-append, ◌∙◌, Contains, take}
@@ -7,7 +7,7 @@ use Rattle.fixpoint.proofs.ContainsLemmas.{get_in}
 use Rattle.fixpoint.specs.StepRows.{AreStepsWithin}
 use Rattle.fixpoint.specs.Way.{Way, At, IsWay, IsLast, AreShort}
 use Rattle.fixpoint.specs.declared.cycles.Part.{Part}
-use Rattle.fixpoint.specs.declared.cycles.SearchPlace.TheVariants as place
+use Rattle.fixpoint.specs.declared.cycles.SearchPosition.TheVariants as position
 use Rattle.fixpoint.proofs.AtLemmas.{at_push, at_push_cases}
 
 take_all : (xs ys : List Part) → take (length xs) (xs ++ ys) ≡ xs
@@ -44,8 +44,9 @@ module _ (rows : List (List ℕ)) (w : Way) where
   first_within last g l = g.kept.filled (length l.others) last
       (subst (λ v. At v (length l.others) last) (sym l.is) (at_push l.others last))
 
-  pub path_below : IsWay rows w → (m : ℕ) → Contains w.path m → m < length w.places
-  path_below g m h = let at = get_in w.path m h in slice_get_within w.places m (place.On at.0) (g.kept.here at.0 m at.1)
+  pub path_below : IsWay rows w → (m : ℕ) → Contains w.path m → m < length w.positions
+  path_below g m h = let at = get_in w.path m h in slice_get_within w.positions m (position.On at.0)
+      (g.kept.here at.0 m at.1)
 
 -- the last part leaves
 pub others_left : (parts left : List Part) (s : Part) (m : ℕ) → (l : IsLast parts s) → m ≡ length parts →

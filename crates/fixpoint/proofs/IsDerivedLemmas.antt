@@ -15,7 +15,7 @@ use Rattle.fixpoint.specs.NeedCounts.{once, times, met, count_of, counts_of, lef
 use Rattle.fixpoint.specs.NeedCounts.{IsQueue, Reported, IsComing}
 use Rattle.fixpoint.specs.StepRows.{row_at}
 use Rattle.fixpoint.proofs.TimesLemmas.{once_same, once_other, times-append, times_in, in_times, times_take}
-use Rattle.fixpoint.proofs.TimesLemmas.{times_earlier, one_place, met_push, met_none, met_mono, met_all, all_met}
+use Rattle.fixpoint.proofs.TimesLemmas.{times_earlier, one_position, met_push, met_none, met_mono, met_all, all_met}
 use Rattle.fixpoint.proofs.TimesLemmas.{met_one, one_met}
 
 -- n was put before the row of x
@@ -202,7 +202,7 @@ module _ (needs : List Demand) where
   coming_done left order i le g = record {
     within = λ n h. let lt = queue_within left order n g.queue h in let c = g.count in omega (arith, lt, c);
     short = let s = queue_short left order g.queue in let c = g.count in omega (arith, s, c);
-    once = λ i j n at there. one_place order i j n (at_most n) at there;
+    once = λ i j n at there. one_position order i j n (at_most n) at there;
     earned = λ k n need at h. is_met k need (g.earned k n need at h);
     closed = λ n need h enough_in.
         let r = g.rest n need h in

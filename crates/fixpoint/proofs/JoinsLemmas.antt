@@ -7,16 +7,16 @@ use Rattle.std.proofs.lemmas.Option.{slice_get_within}
 use Rattle.fixpoint.specs.Way.{At, Drops}
 use Rattle.fixpoint.specs.declared.cycles.Part.{Part}
 
-pub drops_one : (place : ℕ) (parts a b : List Part) (s : Part) → a ≡ b ++ s ∷ [] → place < s.first →
-    Drops place parts a → Drops place parts b
-drops_one place parts a b s is lt d = record {
+pub drops_one : (position : ℕ) (parts a b : List Part) (s : Part) → a ≡ b ++ s ∷ [] → position < s.first →
+    Drops position parts a → Drops position parts b
+drops_one position parts a b s is lt d = record {
   gone = s ∷ d.gone;
   is = d.is ∙ (ap (λ v. v ++ d.gone) is ∙ append_assoc b (s ∷ []) d.gone);
   past = past;
 }
   where
-    past : (k : ℕ) (t : Part) → At (s ∷ d.gone) k t → place < t.first
-    past zero t h = let e : s ≡ t = cc h in subst (λ v. place < v.first) e lt
+    past : (k : ℕ) (t : Part) → At (s ∷ d.gone) k t → position < t.first
+    past zero t h = let e : s ≡ t = cc h in subst (λ v. position < v.first) e lt
     past (suc k) t h = d.past k t h
 
 -- the last one leaves
@@ -35,11 +35,11 @@ last_out x a b s m at is size rest =
     let e : b ≡ take (length a - 1) a = rest ∙ ap (λ v. take (v - 1) a) size in
     split ∙ ap (λ v. v ++ s ∷ []) (sym e)
 
-pub drops_next : (place : ℕ) (parts x a b : List Part) (s : Part) (m : ℕ) → Some s ≡ slice_get x (length x - 1) →
-    x ≡ a → m ≡ length a → b ≡ take (m - 1) a → place < s.first →
-    Drops place parts a → Drops place parts b
-drops_next place parts x a b s m at is size rest lt d =
-    drops_one place parts a b s (last_out x a b s m at is size rest) lt d
+pub drops_next : (position : ℕ) (parts x a b : List Part) (s : Part) (m : ℕ) → Some s ≡ slice_get x (length x - 1) →
+    x ≡ a → m ≡ length a → b ≡ take (m - 1) a → position < s.first →
+    Drops position parts a → Drops position parts b
+drops_next position parts x a b s m at is size rest lt d =
+    drops_one position parts a b s (last_out x a b s m at is size rest) lt d
 
 list_last : (ys : List Part) (y : Part) → (ps : List Part) × (z : Part) × (y ∷ ys ≡ ps ++ z ∷ [])
 list_last [] y = ([], y, refl)

@@ -21,4 +21,4 @@ pub mod RowsOfLemmas
 pub mod TallyLemmas
 pub mod TimesLemmas
 pub mod ReportedLemmas
-pub mod TurnsLemmas
+pub mod IterationsLemmas

@@ -10,7 +10,7 @@ use Rattle.fixpoint.specs.NumberMarks.{IsMarked}
 use Rattle.fixpoint.specs.Way.{Way, At, IsSeen, to_done, to_later, to_same, to_ahead, IsKept, IsWay, IsOwing, IsSource}
 use Rattle.fixpoint.specs.Way.{Joins, Meets}
 use Rattle.fixpoint.specs.declared.cycles.Part.{Part}
-use Rattle.fixpoint.specs.declared.cycles.SearchPlace.TheVariants as place
+use Rattle.fixpoint.specs.declared.cycles.SearchPosition.TheVariants as position
 use Rattle.fixpoint.proofs.JoinsLemmas.{last_of}
 use Rattle.fixpoint.proofs.LeadsLemmas.{leads_joined}
 use Rattle.fixpoint.proofs.IsMarkedLemmas.{marked_here, marked_set, set_marked}
@@ -20,13 +20,13 @@ use Rattle.fixpoint.proofs.AtLemmas.{at_one, at_append_left, at_append_cases, at
 module _ (rows : List (List ℕ)) (w : Way) (t p : ℕ) (parts' : List Part) where
   -- the way once t was met
   abbrev next : Way
-  next = record { places = w.places; path = w.path; ahead = w.ahead; parts = parts'; marks = set w.marks t true }
+  next = record { positions = w.positions; path = w.path; ahead = w.ahead; parts = parts'; marks = set w.marks t true }
 
-  met_next : IsOwing rows w t → IsSource rows w t → At w.places t (place.On p) →
+  met_next : IsOwing rows w t → IsSource rows w t → At w.positions t (position.On p) →
       Joins p w.parts parts' → IsWay rows next
   met_next o source is_on joins = record {
     kept = record {
-      places = k.places;
+      positions = k.positions;
       marks = length-set w.marks t true ∙ k.marks;
       here = k.here;
       there = k.there;
@@ -47,7 +47,7 @@ module _ (rows : List (List ℕ)) (w : Way) (t p : ℕ) (parts' : List Part) whe
           (cases_lt p j);
       from = λ a m h. let f = k.from a m h in
           record {
-            place = f.place;
+            position = f.position;
             number = f.number;
             at = f.at;
             step = f.step;
@@ -83,7 +83,7 @@ module _ (rows : List (List ℕ)) (w : Way) (t p : ℕ) (parts' : List Part) whe
       lead = all_lead rows w t k source
 
       in_it : t < length w.marks
-      in_it = let lt = slice_get_within w.places t (place.On p) is_on in let e = k.places in
+      in_it = let lt = slice_get_within w.positions t (position.On p) is_on in let e = k.positions in
           let f = k.marks in omega (arith, lt, e, f)
 
       was : (l : ℕ) (s : Part) → At parts' l s → At w.parts l s
@@ -124,18 +124,20 @@ module _ (rows : List (List ℕ)) (w : Way) (t p : ℕ) (parts' : List Part) whe
           to_same i h (marked_set w.marks t m in_it marked) (λ l s at. same l s (was l s at))
       go j m (to_ahead a h below) = to_ahead a h (λ l s at. below l s (was l s at))
 
-  pub met_is_way : (w' : Way) → IsOwing rows w t → IsSource rows w t → At w.places t (place.On p) → w'.parts ≡ parts' →
+  pub met_is_way : (w' : Way) → IsOwing rows w t → IsSource rows w t → At w.positions t (position.On p) → w'.parts
+      ≡ parts' →
       Meets p t w w' → IsWay rows w'
   met_is_way w' o source is_on e m =
-      same_way rows next.places w'.places next.path w'.path next.ahead w'.ahead next.parts w'.parts next.marks w'.marks
-      m.places m.path m.ahead e m.marks
+      same_way rows next.positions w'.positions next.path w'.path next.ahead w'.ahead next.parts w'.parts next.marks
+      w'.marks
+      m.positions m.path m.ahead e m.marks
       (met_next o source is_on (subst (λ v. Joins p w.parts v) e m.parts))
 
 -- a step to what is done
-pub skipped_is_way : (rows : List (List ℕ)) (w : Way) (t : ℕ) → IsOwing rows w t → At w.places t place.Done
+pub skipped_is_way : (rows : List (List ℕ)) (w : Way) (t : ℕ) → IsOwing rows w t → At w.positions t position.Done
     → IsWay rows w
 skipped_is_way rows w t o is_done = record {
   kept = o.kept;
   seen = λ j n m h step. ⊎_elim (λ s. s)
-      (λ is. to_done (subst (λ v. At w.places v place.Done) (sym is) is_done)) (o.seen j n m h step);
+      (λ is. to_done (subst (λ v. At w.positions v position.Done) (sym is) is_done)) (o.seen j n m h step);
 }

@@ -11,17 +11,17 @@ use Rattle.fixpoint.specs.StepRows.{Step, row_at}
 use Rattle.fixpoint.specs.Way.{Way, At, IsSeen, to_done, to_later, to_same, to_ahead, IsKept, IsWay, IsOwing, IsSource}
 use Rattle.fixpoint.specs.Way.{Opens}
 use Rattle.fixpoint.specs.declared.cycles.Part.{Part}
-use Rattle.fixpoint.specs.declared.cycles.SearchPlace.{SearchPlace}
-use Rattle.fixpoint.specs.declared.cycles.SearchPlace.TheVariants as place
+use Rattle.fixpoint.specs.declared.cycles.SearchPosition.{SearchPosition}
+use Rattle.fixpoint.specs.declared.cycles.SearchPosition.TheVariants as position
 use Rattle.fixpoint.proofs.AtLemmas.{at_one, at_append_left, at_append_right, at_append_cases, at_push, at_push_cases}
 use Rattle.fixpoint.proofs.AtLemmas.{set_same, set_other, set_cases}
 
 module _ (rows : List (List ℕ)) where
-  pub same_way : (p p' : List SearchPlace) (h h' a a' : List ℕ) (q q' : List Part) (m m' : List Bool) → p' ≡ p
+  pub same_way : (p p' : List SearchPosition) (h h' a a' : List ℕ) (q q' : List Part) (m m' : List Bool) → p' ≡ p
       → h' ≡ h →
       a' ≡ a → q' ≡ q → m' ≡ m →
-      IsWay rows (record { places = p; path = h; ahead = a; parts = q; marks = m }) →
-      IsWay rows (record { places = p'; path = h'; ahead = a'; parts = q'; marks = m' })
+      IsWay rows (record { positions = p; path = h; ahead = a; parts = q; marks = m }) →
+      IsWay rows (record { positions = p'; path = h'; ahead = a'; parts = q'; marks = m' })
   same_way p p' h h' a a' q q' m m' e f g i j k = rw (e, f, g, i, j) k
 
   -- what was ahead at last has a source in the last part
@@ -30,7 +30,7 @@ module _ (rows : List (List ℕ)) where
   source_of w t g short =
       let f = g.kept.from (length w.ahead) t (at_push w.ahead t) in
       record {
-        place = f.place;
+        position = f.position;
         number = f.number;
         at = f.at;
         step = f.step;
@@ -42,7 +42,7 @@ module _ (rows : List (List ℕ)) where
       ((k : ℕ) (s : Part) → At w.parts k s → s.rest ≤ length w.ahead) → IsOwing rows w t
   owing_of w t g short = record {
     kept = record {
-      places = g.kept.places;
+      positions = g.kept.positions;
       marks = g.kept.marks;
       here = g.kept.here;
       there = g.kept.there;
@@ -50,7 +50,7 @@ module _ (rows : List (List ℕ)) where
       forth = g.kept.forth;
       back = g.kept.back;
       from = λ a m h. let f = g.kept.from a m (at_append_left w.ahead (t ∷ []) a m h) in
-          record { place = f.place; number = f.number; at = f.at; step = f.step; part = f.part };
+          record { position = f.position; number = f.number; at = f.at; step = f.step; part = f.part };
       covered = g.kept.covered;
       filled = g.kept.filled;
       short = short;
@@ -75,20 +75,20 @@ module _ (rows : List (List ℕ)) where
   -- all of the path leads to what the last part leads to
   pub all_lead : (w : Way) (t : ℕ) → IsKept rows w → IsSource rows w t → (i n : ℕ) → At w.path i n → Leads rows n t
   all_lead w t k s i n h = ⊎_elim
-      (λ lt. more (k.forth i s.place n s.number lt h s.at) s.step)
+      (λ lt. more (k.forth i s.position n s.number lt h s.at) s.step)
       (λ le. ⊎_elim
       (λ is. one (subst (λ v. Step rows v t)
       (at_one w.path i s.number n (subst (λ v. At w.path v s.number) (sym is) s.at) h) s.step))
-      (λ ne. more (k.back s.place i s.number n (omega (arith, le, ne)) s.at h
+      (λ ne. more (k.back s.position i s.number n (omega (arith, le, ne)) s.at h
       (λ l q at below above. let low = s.last l q at in omega (arith, low, below))) s.step)
-      (cases_eq i s.place))
-      (cases_lt i s.place)
+      (cases_eq i s.position))
+      (cases_lt i s.position)
 
   module _ (w : Way) (t : ℕ) where
     -- the way once t is opened
     abbrev next : Way
     next = record {
-      places = set w.places t (place.On (length w.path));
+      positions = set w.positions t (position.On (length w.path));
       path = w.path ++ t ∷ [];
       ahead = w.ahead ++ row_at rows t;
       parts = w.parts ++ record { first = length w.path; rest = length w.ahead } ∷ [];
@@ -96,23 +96,25 @@ module _ (rows : List (List ℕ)) where
     }
 
     opened_next : IsOwing rows w t → ((i n : ℕ) → At w.path i n → Leads rows n t) →
-        At w.places t place.New → IsWay rows next
+        At w.positions t position.New → IsWay rows next
     opened_next o lead is_new = record {
       kept = record {
-        places = let e = length-set w.places t (place.On (length w.path)) in let f = k.places in omega (arith, e, f);
+        positions = let e = length-set w.positions t (position.On (length w.path)) in let f = k.positions in omega
+            (arith, e, f);
         marks = k.marks;
         here = λ i n h. ⊎_elim
-            (λ old. stays n (place.On i) (k.here i n old) (λ e. cc e))
-            (λ new. subst (λ v. At next.places v (place.On i)) (sym new.1)
-            (subst (λ v. At next.places t (place.On v)) (sym new.0)
-            (set_same w.places t (place.On (length w.path)) in_it)))
+            (λ old. stays n (position.On i) (k.here i n old) (λ e. cc e))
+            (λ new. subst (λ v. At next.positions v (position.On i)) (sym new.1)
+            (subst (λ v. At next.positions t (position.On v)) (sym new.0)
+            (set_same w.positions t (position.On (length w.path)) in_it)))
             (at_push_cases w.path t i n h);
         there = λ i n h. ⊎_elim
             (λ is. let e : i ≡ length w.path = cc is.1 in
             subst (λ v. At next.path i v) (sym is.0) (subst (λ v. At next.path v t) (sym e) (at_push w.path t)))
             (λ old. at_append_left w.path (t ∷ []) i n (k.there i n old.1))
-            (set_cases w.places t n (place.On (length w.path)) (place.On i) h);
-        closed = λ n m h step. stays m place.Done (k.closed n m (was n place.Done h (λ e. cc e)) step) (λ e. cc e);
+            (set_cases w.positions t n (position.On (length w.path)) (position.On i) h);
+        closed = λ n m h step. stays m position.Done (k.closed n m (was n position.Done h (λ e. cc e)) step)
+            (λ e. cc e);
         forth = λ i j n m lt g h. ⊎_elim
             (λ old. ⊎_elim
             (λ low. k.forth i j n m lt low old)
@@ -135,12 +137,12 @@ module _ (rows : List (List ℕ)) where
             (at_push_cases w.path t j m h);
         from = λ a m h. ⊎_elim
             (λ old. let f = k.from a m old in
-            let low = slice_get_within w.path f.place f.number f.at in
+            let low = slice_get_within w.path f.position f.number f.at in
             let below = slice_get_within w.ahead a m old in
             record {
-              place = f.place;
+              position = f.position;
               number = f.number;
-              at = at_append_left w.path (t ∷ []) f.place f.number f.at;
+              at = at_append_left w.path (t ∷ []) f.position f.number f.at;
               step = f.step;
               part = λ l s at. ⊎_elim
                   (λ before. f.part l s before)
@@ -149,7 +151,7 @@ module _ (rows : List (List ℕ)) where
                   (at_push_cases w.parts part l s at);
             })
             (λ new. record {
-              place = length w.path;
+              position = length w.path;
               number = t;
               at = at_push w.path t;
               step = in_get (row_at rows t) new.0 m new.2;
@@ -186,7 +188,7 @@ module _ (rows : List (List ℕ)) where
             (at_push_cases w.parts part i s g))
             (at_push_cases w.parts part j u h);
         sound = k.sound;
-        whole = λ n h. k.whole n (was n place.Done h (λ e. cc e));
+        whole = λ n h. k.whole n (was n position.Done h (λ e. cc e));
       };
       seen = λ j n m h step. ⊎_elim
           (λ old. let low = slice_get_within w.path j n old in ⊎_elim
@@ -208,21 +210,22 @@ module _ (rows : List (List ℕ)) where
         part : Part
         part = record { first = length w.path; rest = length w.ahead }
 
-        in_it : t < length w.places
-        in_it = slice_get_within w.places t place.New is_new
+        in_it : t < length w.positions
+        in_it = slice_get_within w.positions t position.New is_new
 
-        apart : (n : ℕ) (p : SearchPlace) → At w.places n p → (p ≡ place.New → ⊥) → n ≢ t
-        apart n p h not e = not (at_one w.places t p place.New (subst (λ v. At w.places v p) e h) is_new)
+        apart : (n : ℕ) (p : SearchPosition) → At w.positions n p → (p ≡ position.New → ⊥) → n ≢ t
+        apart n p h not e = not (at_one w.positions t p position.New (subst (λ v. At w.positions v p) e h) is_new)
 
-        stays : (n : ℕ) (p : SearchPlace) → At w.places n p → (p ≡ place.New → ⊥) → At next.places n p
-        stays n p h not = set_other w.places t n (place.On (length w.path)) p (apart n p h not) h
+        stays : (n : ℕ) (p : SearchPosition) → At w.positions n p → (p ≡ position.New → ⊥) → At next.positions n p
+        stays n p h not = set_other w.positions t n (position.On (length w.path)) p (apart n p h not) h
 
-        was : (n : ℕ) (p : SearchPlace) → At next.places n p → (p ≡ place.On (length w.path) → ⊥) → At w.places n p
+        was : (n : ℕ) (p : SearchPosition) → At next.positions n p → (p ≡ position.On (length w.path) → ⊥)
+            → At w.positions n p
         was n p h not = ⊎_elim (λ is. absurd (not is.1)) (λ old. old.1)
-            (set_cases w.places t n (place.On (length w.path)) p h)
+            (set_cases w.positions t n (position.On (length w.path)) p h)
 
         go : (j m : ℕ) → j < length w.path → IsSeen rows w j m → IsSeen rows next j m
-        go j m lt (to_done h) = to_done (stays m place.Done h (λ e. cc e))
+        go j m lt (to_done h) = to_done (stays m position.Done h (λ e. cc e))
         go j m lt (to_later i h less) = to_later i (at_append_left w.path (t ∷ []) i m h) less
         go j m lt (to_same i h marked same) =
             to_same i (at_append_left w.path (t ∷ []) i m h) marked (λ l s at below above. ⊎_elim
@@ -235,7 +238,8 @@ module _ (rows : List (List ℕ)) where
             (at_push_cases w.parts part l s at))
 
     pub opened_is_way : (w' : Way) → IsOwing rows w t → ((i n : ℕ) → At w.path i n → Leads rows n t) →
-        At w.places t place.New → Opens t (row_at rows t) w w' → IsWay rows w'
+        At w.positions t position.New → Opens t (row_at rows t) w w' → IsWay rows w'
     opened_is_way w' o lead is_new p =
-        same_way next.places w'.places next.path w'.path next.ahead w'.ahead next.parts w'.parts next.marks w'.marks
-        p.places p.path p.ahead p.parts p.marks (opened_next o lead is_new)
+        same_way next.positions w'.positions next.path w'.path next.ahead w'.ahead next.parts w'.parts next.marks
+        w'.marks
+        p.positions p.path p.ahead p.parts p.marks (opened_next o lead is_new)

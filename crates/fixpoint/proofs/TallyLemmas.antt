@@ -11,12 +11,12 @@ use Rattle.fixpoint.specs.NumberMarks.{IsMarked}
 use Rattle.fixpoint.specs.Way.{Way, At, IsWay, IsThrough, Opens, Closes, Tally, SetsAll, IsRanked, KeepsDone}
 use Rattle.fixpoint.specs.Way.{Ranks, undone, rank_at}
 use Rattle.fixpoint.specs.declared.cycles.Part.{Part}
-use Rattle.fixpoint.specs.declared.cycles.SearchPlace.{SearchPlace}
-use Rattle.fixpoint.specs.declared.cycles.SearchPlace.TheVariants as place
+use Rattle.fixpoint.specs.declared.cycles.SearchPosition.{SearchPosition}
+use Rattle.fixpoint.specs.declared.cycles.SearchPosition.TheVariants as position
 use Rattle.fixpoint.proofs.ClosesLemmas.{last_step}
 use Rattle.fixpoint.proofs.ContainsLemmas.{none_of}
 use Rattle.fixpoint.proofs.AtLemmas.{at_one, at_some, at_push, drop_in, in_drop, set_cases, set_other}
-use Rattle.fixpoint.proofs.TurnsLemmas.{row_within, replicate_is_new}
+use Rattle.fixpoint.proofs.IterationsLemmas.{row_within, replicate_is_new}
 
 pub sets_none : (v : ℕ) (ranks : List ℕ) → SetsAll [] v ranks ranks
 sets_none v ranks = record { count = refl; all = λ n h. absurd (none_of n h); other = λ n h. refl }
@@ -41,69 +41,71 @@ pub sets_next : (row : List ℕ) (i x v : ℕ) (a b : List ℕ) → i < length r
 sets_next row i x v a b lt is g in_it =
     rw (add-one i, take-suc row i 0, sym is) (sets_push (take i row) x v a b g in_it)
 
-undone_one : (q : SearchPlace) (b : List SearchPlace) → undone (q ∷ b) ≤ undone b + 1
-undone_one place.New b = omega arith
-undone_one (place.On i) b = omega arith
-undone_one place.Done b = omega arith
+undone_one : (q : SearchPosition) (b : List SearchPosition) → undone (q ∷ b) ≤ undone b + 1
+undone_one position.New b = omega arith
+undone_one (position.On i) b = omega arith
+undone_one position.Done b = omega arith
 
-undone_le : (a b : List SearchPlace) → length a ≡ length b →
-    ((n : ℕ) → At a n place.Done → At b n place.Done) → undone b ≤ undone a
+undone_le : (a b : List SearchPosition) → length a ≡ length b →
+    ((n : ℕ) → At a n position.Done → At b n position.Done) → undone b ≤ undone a
 undone_le [] [] e h = omega arith
 undone_le [] (q ∷ b) e h = absurd (omega (arith, e))
 undone_le (p ∷ a) [] e h = absurd (omega (arith, e))
-undone_le (place.Done ∷ a) (place.Done ∷ b) e h = undone_le a b (omega (arith, e)) (λ n g. h (suc n) g)
-undone_le (place.Done ∷ a) (place.New ∷ b) e h = let g = h zero refl in absurd (cc g)
-undone_le (place.Done ∷ a) (place.On i ∷ b) e h = let g = h zero refl in absurd (cc g)
-undone_le (place.New ∷ a) (q ∷ b) e h = let k = undone_le a b (omega (arith, e)) (λ n g. h (suc n) g) in
+undone_le (position.Done ∷ a) (position.Done ∷ b) e h = undone_le a b (omega (arith, e)) (λ n g. h (suc n) g)
+undone_le (position.Done ∷ a) (position.New ∷ b) e h = let g = h zero refl in absurd (cc g)
+undone_le (position.Done ∷ a) (position.On i ∷ b) e h = let g = h zero refl in absurd (cc g)
+undone_le (position.New ∷ a) (q ∷ b) e h = let k = undone_le a b (omega (arith, e)) (λ n g. h (suc n) g) in
     let m = undone_one q b in omega (arith, k, m)
-undone_le (place.On i ∷ a) (q ∷ b) e h = let k = undone_le a b (omega (arith, e)) (λ n g. h (suc n) g) in
+undone_le (position.On i ∷ a) (q ∷ b) e h = let k = undone_le a b (omega (arith, e)) (λ n g. h (suc n) g) in
     let m = undone_one q b in omega (arith, k, m)
 
-undone_lt : (a b : List SearchPlace) (n i : ℕ) → length a ≡ length b
-    → ((m : ℕ) → At a m place.Done → At b m place.Done) →
-    At a n (place.On i) → At b n place.Done → undone b < undone a
+undone_lt : (a b : List SearchPosition) (n i : ℕ) → length a ≡ length b
+    → ((m : ℕ) → At a m position.Done → At b m position.Done) →
+    At a n (position.On i) → At b n position.Done → undone b < undone a
 undone_lt [] b n i e h x y = absurd (cc x)
 undone_lt (p ∷ a) [] n i e h x y = absurd (cc y)
 undone_lt (p ∷ a) (q ∷ b) zero i e h x y =
-    let is : p ≡ place.On i = cc x in
-    let done : q ≡ place.Done = cc y in
+    let is : p ≡ position.On i = cc x in
+    let done : q ≡ position.Done = cc y in
     let k = undone_le a b (omega (arith, e)) (λ m g. h (suc m) g) in
     rw (is, done) (omega (arith, k))
-undone_lt (place.Done ∷ a) (place.Done ∷ b) (suc n) i e h x y =
+undone_lt (position.Done ∷ a) (position.Done ∷ b) (suc n) i e h x y =
     undone_lt a b n i (omega (arith, e)) (λ m g. h (suc m) g) x y
-undone_lt (place.Done ∷ a) (place.New ∷ b) (suc n) i e h x y = let g = h zero refl in absurd (cc g)
-undone_lt (place.Done ∷ a) (place.On j ∷ b) (suc n) i e h x y = let g = h zero refl in absurd (cc g)
-undone_lt (place.New ∷ a) (q ∷ b) (suc n) i e h x y = let k =
+undone_lt (position.Done ∷ a) (position.New ∷ b) (suc n) i e h x y = let g = h zero refl in absurd (cc g)
+undone_lt (position.Done ∷ a) (position.On j ∷ b) (suc n) i e h x y = let g = h zero refl in absurd (cc g)
+undone_lt (position.New ∷ a) (q ∷ b) (suc n) i e h x y = let k =
     undone_lt a b n i (omega (arith, e)) (λ m g. h (suc m) g) x y in let m = undone_one q b in omega (arith, k, m)
-undone_lt (place.On j ∷ a) (q ∷ b) (suc n) i e h x y = let k =
+undone_lt (position.On j ∷ a) (q ∷ b) (suc n) i e h x y = let k =
     undone_lt a b n i (omega (arith, e)) (λ m g. h (suc m) g) x y in let m = undone_one q b in omega (arith, k, m)
 
-undone_some : (a : List SearchPlace) (n i : ℕ) → At a n (place.On i) → 0 < undone a
+undone_some : (a : List SearchPosition) (n i : ℕ) → At a n (position.On i) → 0 < undone a
 undone_some [] n i h = absurd (cc h)
-undone_some (place.New ∷ a) n i h = omega arith
-undone_some (place.On j ∷ a) n i h = omega arith
-undone_some (place.Done ∷ a) zero i h = absurd (cc h)
-undone_some (place.Done ∷ a) (suc n) i h = undone_some a n i h
+undone_some (position.New ∷ a) n i h = omega arith
+undone_some (position.On j ∷ a) n i h = omega arith
+undone_some (position.Done ∷ a) zero i h = absurd (cc h)
+undone_some (position.Done ∷ a) (suc n) i h = undone_some a n i h
 
 -- opening, meeting
-pub open_keeps : (w w' : Way) (t : ℕ) (row : List ℕ) → At w.places t place.New → Opens t row w w' → KeepsDone w w'
+pub open_keeps : (w w' : Way) (t : ℕ) (row : List ℕ) → At w.positions t position.New → Opens t row w w' → KeepsDone w w'
 open_keeps w w' t row is_new p = record {
   back = λ n h. ⊎_elim
-      (λ is. let e : place.Done ≡ place.On (length w.path) = is.1 in absurd (cc e))
+      (λ is. let e : position.Done ≡ position.On (length w.path) = is.1 in absurd (cc e))
       (λ old. old.1)
-      (set_cases w.places t n (place.On (length w.path)) place.Done (subst (λ v. At v n place.Done) p.places h));
-  there = λ n h. subst (λ v. At v n place.Done) (sym p.places)
-      (set_other w.places t n (place.On (length w.path)) place.Done
-      (λ e. let k = at_one w.places t place.Done place.New (subst (λ v. At w.places v place.Done) e h) is_new in
+      (set_cases w.positions t n (position.On (length w.path)) position.Done
+      (subst (λ v. At v n position.Done) p.positions h));
+  there = λ n h. subst (λ v. At v n position.Done) (sym p.positions)
+      (set_other w.positions t n (position.On (length w.path)) position.Done
+      (λ e. let k = at_one w.positions t position.Done position.New
+      (subst (λ v. At w.positions v position.Done) e h) is_new in
       cc k) h);
   marks = λ n h. subst (λ v. IsMarked v n) (sym p.marks) h;
 }
 
-pub ranked_kept : (rows : List (List ℕ)) (w w' : Way) (t t' : Tally) → length w'.places ≡ length w.places →
+pub ranked_kept : (rows : List (List ℕ)) (w w' : Way) (t t' : Tally) → length w'.positions ≡ length w.positions →
     t'.ranks ≡ t.ranks → t'.parts ≡ t.parts → KeepsDone w w' → IsRanked rows w t → IsRanked rows w' t'
 ranked_kept rows w w' t t' size same same_parts k r = record {
   count = ap length same ∙ r.count;
-  bound = let le = undone_le w.places w'.places (sym size) k.there in let b = r.bound in
+  bound = let le = undone_le w.positions w'.positions (sym size) k.there in let b = r.bound in
       omega (arith, le, b, same_parts);
   low = λ n h. let lt = r.low n (k.back n h) in let e = ap (λ v. rank_at v n) same in omega (arith, lt, e, same_parts);
   falls = λ n m h step. ⊎_elim
@@ -123,7 +125,7 @@ module _ (rows : List (List ℕ)) (w : Way) (parts' : List Part) (last : Part) (
         (λ old. let lt = r.low n old in let e = k.ranks.other n (λ these. done_apart n old these) in let f = k.parts in
         omega (arith, lt, e, f))
         (λ these. let e = k.ranks.all n these.0 in let f = k.parts in omega (arith, e, f))
-        (c.places.only n place.Done h);
+        (c.positions.only n position.Done h);
     falls = λ n m h step. ⊎_elim
         (λ old. let now = g.kept.closed n m old step in
         let e = k.ranks.other n (λ these. done_apart n old these) in
@@ -143,40 +145,40 @@ module _ (rows : List (List ℕ)) (w : Way) (parts' : List Part) (last : Part) (
         (λ marked. inl (marks_stay n marked))
         (last_step rows w parts' last g split none_ahead d.0 n d.1 d.2 few m step))
         (cases_lt 1 (length (drop last.first w.path))))
-        (c.places.only n place.Done h);
+        (c.positions.only n position.Done h);
   }
     where
-      done_apart : (n : ℕ) → At w.places n place.Done → Contains (drop last.first w.path) n → ⊥
+      done_apart : (n : ℕ) → At w.positions n position.Done → Contains (drop last.first w.path) n → ⊥
       done_apart n h these = let d = in_drop last.first w.path n these in
-          let e = at_one w.places n (place.On d.0) place.Done (g.kept.here d.0 n d.2) h in cc e
+          let e = at_one w.positions n (position.On d.0) position.Done (g.kept.here d.0 n d.2) h in cc e
 
       marks_stay : (n : ℕ) → IsMarked w.marks n → IsMarked w'.marks n
       marks_stay n h = ⊎_elim (λ many. (c.many many).kept n h) (λ few. subst (λ v. IsMarked v n) (sym (c.few few)) h)
           (cases_lt 1 (length (drop last.first w.path)))
 
-      fewer : undone w'.places < undone w.places
+      fewer : undone w'.positions < undone w.positions
       fewer =
           let low = g.kept.filled (length parts') last
           (subst (λ v. At v (length parts') last) (sym split) (at_push parts' last)) in
           let s = at_some w.path last.first low in
-          undone_lt w.places w'.places s.0 last.first (sym c.places.count)
-          (λ m h. ⊎_elim (λ same. same) (λ these. c.places.all m these) (c.places.other m place.Done h))
+          undone_lt w.positions w'.positions s.0 last.first (sym c.positions.count)
+          (λ m h. ⊎_elim (λ same. same) (λ these. c.positions.all m these) (c.positions.other m position.Done h))
           (g.kept.here last.first s.0 s.1)
-          (c.places.all s.0 (drop_in last.first w.path last.first s.0 (omega arith) s.1))
+          (c.positions.all s.0 (drop_in last.first w.path last.first s.0 (omega arith) s.1))
 
 -- a part that is done leaves room for one more
 pub ranks_have_room : (rows : List (List ℕ)) (w : Way) (t : Tally) (i n : ℕ) → IsWay rows w → IsRanked rows w t
     → At w.path i n →
     t.parts < length t.ranks
-ranks_have_room rows w t i n g r h = let some = undone_some w.places n i (g.kept.here i n h) in let b = r.bound in
+ranks_have_room rows w t i n g r h = let some = undone_some w.positions n i (g.kept.here i n h) in let b = r.bound in
     let c = r.count in omega (arith, some, b, c)
 
-undone_all : (count : ℕ) → undone (replicate count place.New) ≡ count
+undone_all : (count : ℕ) → undone (replicate count position.New) ≡ count
 undone_all zero = refl
 undone_all (suc count) = let k = undone_all count in omega (arith, k)
 
 pub ranked_none : (rows : List (List ℕ)) (w : Way) (t : Tally) (count : ℕ) → count ≡ length rows →
-    w.places ≡ replicate count place.New → length t.ranks ≡ count → t.parts ≡ 0 → IsRanked rows w t
+    w.positions ≡ replicate count position.New → length t.ranks ≡ count → t.parts ≡ 0 → IsRanked rows w t
 ranked_none rows w t count size fresh same none = record {
   count = same ∙ size;
   bound = let e = ap undone fresh in let f = undone_all count in omega (arith, e, f, none, size);
@@ -184,8 +186,8 @@ ranked_none rows w t count size fresh same none = record {
   falls = λ n m h step. absurd (never n h);
 }
   where
-    never : (n : ℕ) → At w.places n place.Done → ⊥
-    never n h = let e = replicate_is_new count n place.Done (subst (λ v. At v n place.Done) fresh h) in cc e
+    never : (n : ℕ) → At w.positions n position.Done → ⊥
+    never n h = let e = replicate_is_new count n position.Done (subst (λ v. At v n position.Done) fresh h) in cc e
 
 -- all numbers are done
 pub all_ranked : (rows : List (List ℕ)) (w : Way) (t : Tally) → IsThrough rows w (length rows) → IsRanked rows w t →

@@ -56,22 +56,23 @@ times_earlier (x ∷ xs) zero j m le = omega arith
 times_earlier (x ∷ xs) (suc i) zero m le = absurd (omega (arith, le))
 times_earlier (x ∷ xs) (suc i) (suc j) m le = let k = times_earlier xs i j m (omega (arith, le)) in omega (arith, k)
 
--- a number that stands at most once stands at one place
-pub one_place : (xs : List ℕ) (i j n : ℕ) → times xs n ≤ 1 → slice_get xs i ≡ Some n → slice_get xs j ≡ Some n → i ≡ j
-one_place [] i j n le g h = absurd (cc g)
-one_place (x ∷ xs) zero zero n le g h = refl
-one_place (x ∷ xs) zero (suc j) n le g h =
+-- a number that stands at most once stands at one position
+pub one_position : (xs : List ℕ) (i j n : ℕ) → times xs n ≤ 1 → slice_get xs i ≡ Some n → slice_get xs j ≡ Some n → i
+    ≡ j
+one_position [] i j n le g h = absurd (cc g)
+one_position (x ∷ xs) zero zero n le g h = refl
+one_position (x ∷ xs) zero (suc j) n le g h =
     let is : x ≡ n = cc g in
     let k = subst (λ v. once x v ≡ 1) is (once_same x) in
     let t = times_in xs n (in_get xs j n h) in
     absurd (omega (arith, le, k, t))
-one_place (x ∷ xs) (suc i) zero n le g h =
+one_position (x ∷ xs) (suc i) zero n le g h =
     let is : x ≡ n = cc h in
     let k = subst (λ v. once x v ≡ 1) is (once_same x) in
     let t = times_in xs n (in_get xs i n g) in
     absurd (omega (arith, le, k, t))
-one_place (x ∷ xs) (suc i) (suc j) n le g h = let k : times xs n ≤ 1 = omega (arith, le) in
-    ap (λ v. suc v) (one_place xs i j n k g h)
+one_position (x ∷ xs) (suc i) (suc j) n le g h = let k : times xs n ≤ 1 = omega (arith, le) in
+    ap (λ v. suc v) (one_position xs i j n k g h)
 
 pub met_push : (order : List ℕ) (m : ℕ) (row : List ℕ) → met (order ++ m ∷ []) row ≡ met order row + times row m
 met_push order m [] = refl
@@ -129,7 +130,7 @@ one_met order (x ∷ row) le = cases (times order x) refl (λ h. one_met order r
     cases zero e f = let r = f (omega (arith, le, e)) in (r.0, in_later x r.0 row r.1, r.2)
     cases (suc k) e f = (x, in_first x row, in_times order x (omega (arith, e)))
 
--- what stands in the first i + 1 places
+-- what stands in the first i + 1 positions
 pub taken_cases : (xs : List ℕ) (i m : ℕ) → Contains (take (suc i) xs) m →
     Contains (take i xs) m ⊎ (slice_get xs i ≡ Some m)
 taken_cases [] zero m h = absurd (none_of m h)

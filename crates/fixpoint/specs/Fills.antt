@@ -31,9 +31,9 @@ LeadsNear rows far v n = (m : ℕ) → Step rows v m → (d : ℕ) × At far m (
 
 -- a number stands in the queue, from the head on
 pub record Waits (queue : List ℕ) (head v : ℕ) : Type 0 where
-  pub place : ℕ
-  pub after : head ≤ place
-  pub at : At queue place v
+  pub position : ℕ
+  pub after : head ≤ position
+  pub at : At queue position v
 
 module _ (rows : List (List ℕ)) (s : ℕ) where
   -- what the queue has come to

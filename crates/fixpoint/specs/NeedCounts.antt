@@ -71,7 +71,7 @@ pub record Reported (users left order left' order' : List ℕ) : Type 0 where
   pub added : List ℕ
   pub grows : order' ≡ order ++ added
 
--- what stands before place i of the order was taken off what is needed
+-- what stands before position i of the order was taken off what is needed
 pub record IsComing (needs : List Demand) (left order : List ℕ) (i : ℕ) : Type 0 where
   pub count : length left ≡ length needs
   pub queue : IsQueue left order

@@ -10,14 +10,14 @@ ghost use Rattle.fixpoint.specs.StepRows.{slices_of, row_at, AreStepsWithin};
 ghost use Rattle.fixpoint.specs.Way.{Way, way_of, At, Opens, Joins, Meets, Finishes, Closes, GoesOn, IsKept, IsWay};
 ghost use Rattle.fixpoint.specs.Way.{IsOwing, IsSource, IsThrough, IsLast, AreShort, ComesToEnd, before_step, tally_of};
 ghost use Rattle.fixpoint.specs.Way.{SetsAll, Ranks, IsRanked, KeepsDone};
-ghost use Rattle.fixpoint.specs.declared.cycles.SearchPlace.TheVariants as place;
+ghost use Rattle.fixpoint.specs.declared.cycles.SearchPosition.TheVariants as position;
 
 use crate::marks::mark;
 use std::alloc::{AllocError, Global};
 
 // How far the search is with a number.
 #[derive(Clone, Copy)]
-enum SearchPlace {
+enum SearchPosition {
     // The search has not met it.
     New,
     // It is on the path, at this index.
@@ -40,7 +40,7 @@ struct Part {
 #[derive(Drop)]
 struct Search {
     /// Of each number where the search has it.
-    places: Vec<SearchPlace>,
+    positions: Vec<SearchPosition>,
     /// Numbers that each lead to the next.
     path: Vec<usize>,
     /// The targets of steps from the path that the search has not looked at.
@@ -55,25 +55,25 @@ struct Search {
     done: usize,
 }
 
-// Drops the parts that begin after `place`, so that the part of `place` is the last.
-fn join(parts: &mut Vec<Part>, place: usize)
-    ensures { Joins place parts.old.items parts.new.items }
+// Drops the parts that begin after `position`, so that the part of `position` is the last.
+fn join(parts: &mut Vec<Part>, position: usize)
+    ensures { Joins position parts.old.items parts.new.items }
 {
     while let Some(part) = parts.last() {
-        if part.first <= place {
+        if part.first <= position {
             break;
         }
         parts.pop();
     }
 }
 
-// Sets the place of each number in `these` to `Done`.
-fn finish(these: &[usize], places: &mut [SearchPlace])
-    requires { AreBelow these.now (length places.old) }
-    ensures { Finishes these.now places.old places.new }
+// Sets the position of each number in `these` to `Done`.
+fn finish(these: &[usize], positions: &mut [SearchPosition])
+    requires { AreBelow these.now (length positions.old) }
+    ensures { Finishes these.now positions.old positions.new }
 {
     for n in these {
-        places[*n] = SearchPlace::Done;
+        positions[*n] = SearchPosition::Done;
     }
 }
 
@@ -90,13 +90,13 @@ fn set_all(these: &[usize], rank: usize, ranks: &mut [usize])
 impl Search {
     // Appends `n` to the path, as a part of its own, and its row to the targets ahead.
     fn open(&mut self, n: usize, row: &[usize]) -> Result<(), AllocError>
-        requires { n < length self.old.places.items }
+        requires { n < length self.old.positions.items }
         ensures opens { IfOk result (λ _. Opens n row.now (way_of self.old) (way_of self.new)) }
         ensures tally { IfOk result (λ _. tally_of self.new ≡ tally_of self.old) }
     {
         let first = self.path.len();
         let rest = self.ahead.len();
-        self.places[n] = SearchPlace::On(first);
+        self.positions[n] = SearchPosition::On(first);
         self.parts.push(Part { first, rest })?;
         self.path.push(n)?;
         self.ahead.extend_from_slice(row)?;
@@ -104,19 +104,19 @@ impl Search {
     }
 
     // Takes a step back to `n`, which is on the path: marks it, and joins all numbers after it on the path to its part.
-    fn meet(&mut self, n: usize, place: usize)
+    fn meet(&mut self, n: usize, position: usize)
         requires { n < length self.old.marks.items }
-        ensures meets { Meets place n (way_of self.old) (way_of self.new) }
+        ensures meets { Meets position n (way_of self.old) (way_of self.new) }
         ensures tally { tally_of self.new ≡ tally_of self.old }
     {
         self.marks[n] = true;
-        join(&mut self.parts, place);
+        join(&mut self.parts, position);
     }
 
     // Ends the last part, which begins at index `first` of the path. If it has several numbers, it marks them.
     fn close(&mut self, first: usize)
         requires first { first ≤ length self.old.path.items }
-        requires places { AreBelow self.old.path.items (length self.old.places.items) }
+        requires positions { AreBelow self.old.path.items (length self.old.positions.items) }
         requires marks { AreBelow self.old.path.items (length self.old.marks.items) }
         requires ranks { AreBelow self.old.path.items (length self.old.ranks.items) }
         requires room { self.old.done < length self.old.ranks.items }
@@ -127,7 +127,7 @@ impl Search {
         if these.len() > 1 {
             mark(these, &mut self.marks);
         }
-        finish(these, &mut self.places);
+        finish(these, &mut self.positions);
         set_all(these, self.done, &mut self.ranks);
         self.done += 1;
         self.path.truncate(first);
@@ -143,14 +143,14 @@ impl Search {
         ensures keeps { IfOk result (λ _. KeepsDone (way_of self.old) (way_of self.new)) }
         ensures tally { IfOk result (λ _. tally_of self.new ≡ tally_of self.old) }
     {
-        match self.places[target] {
-            SearchPlace::New => {
+        match self.positions[target] {
+            SearchPosition::New => {
                 self.open(target, steps[target])?;
             }
-            SearchPlace::On(place) => {
-                self.meet(target, place);
+            SearchPosition::On(position) => {
+                self.meet(target, position);
             }
-            SearchPlace::Done => {}
+            SearchPosition::Done => {}
         }
         Ok(())
     }
@@ -199,7 +199,7 @@ impl Search {
         ensures through { IfOk result (λ _. IsThrough (slices_of steps.now) (way_of self.new) (n + 1)) }
         ensures ranked { IfOk result (λ _. IsRanked (slices_of steps.now) (way_of self.new) (tally_of self.new)) }
     {
-        if let SearchPlace::New = self.places[n] {
+        if let SearchPosition::New = self.positions[n] {
             self.open(n, steps[n])?;
             self.follow(steps)?;
         }
@@ -212,7 +212,7 @@ impl Search {
         ensures ranked { IfOk result (λ search. IsRanked (slices_of steps.now) (way_of search) (tally_of search)) }
     {
         Ok(Search {
-            places: vec![in alloc; SearchPlace::New; steps.len()]?,
+            positions: vec![in alloc; SearchPosition::New; steps.len()]?,
             path: Vec::new(alloc),
             ahead: Vec::new(alloc),
             parts: Vec::new(alloc),

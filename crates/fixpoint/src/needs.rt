@@ -191,10 +191,10 @@ fn run(users: &Users, left: &mut [usize], order: &mut Vec<usize>) -> Result<(), 
     ensures { IfOk result (λ _. (needs : List Demand) (rows : List (List ℕ)) → AreLists users.now rows
         → AreUsers needs rows → IsComing needs left.old order.old.items 0 → IsDerived needs order.new.items) }
 {
-    let mut place = 0;
-    while place < order.len() {
-        report(users, order[place], left, order)?;
-        place += 1;
+    let mut position = 0;
+    while position < order.len() {
+        report(users, order[position], left, order)?;
+        position += 1;
     }
     Ok(())
 }

@@ -5,15 +5,15 @@ use Rattle.std.proofs.Common.{◌||◌, if◌then◌else◌, Bool, true, false, 
 use Rattle.std.proofs.Common.{length, take, slice_get, slice_index_or, Vec, Global, refl, sym, ◌∙◌, ap, subst, arith}
 use Rattle.std.proofs.lemmas.Bool.{cases_lt}
 use Rattle.std.proofs.lemmas.List.{map-append, take_all}
-use Rattle.flatgrammar.specs.Places.{In, now, on, AreDifferent}
-use Rattle.flatgrammar.specs.declared.block.DottedRule.{DottedRule}
+use Rattle.flatgrammar.specs.Positions.{In, now, on, AreDifferent}
+use Rattle.flatgrammar.specs.declared.closure.DottedRule.{DottedRule}
 use Rattle.flatgrammar.specs.declared.dot_list.Ask.{Ask}
 use Rattle.flatgrammar.specs.declared.dot_list.DotList.{DotList}
 use Rattle.flatgrammar.specs.declared.tables.Tables as code_flat
-use Rattle.flatgrammar.specs.Blocks.{block_in, block_of, lists_of, list_or, readers_of, AreDotLists}
-use Rattle.flatgrammar.specs.Blocks.{call_at, dots_of, AreAsks}
+use Rattle.flatgrammar.specs.ItemClosures.{closure_in, closure_of, lists_of, list_or, readers_of, AreDotLists}
+use Rattle.flatgrammar.specs.ItemClosures.{call_at, dots_of, AreAsks}
 use Rattle.flatgrammar.specs.declared.flat_node.Ends.{Ends}
-use Rattle.flatgrammar.specs.Blocks.{Lists, Reads, AreEnds, Picks, AreByLetter, lists_in, IsDotList}
+use Rattle.flatgrammar.specs.ItemClosures.{Lists, Reads, AreEnds, Picks, AreByLetter, lists_in, IsDotList}
 use Rattle.flatgrammar.proofs.CallOfLemmas.{past_get}
 use Rattle.flatgrammar.proofs.SliceGetLemmas.{push_cases}
 use Rattle.flatgrammar.proofs.InLemmas.{in_left, at_end, before_end, among_more, in_front, from_front, different_end}
@@ -117,12 +117,12 @@ pick_ask Q dots list new k d ask lt same pushed picks = pick_one Q dots (dots_of
     ∙ ap (λ v. dots_of list ++ v ∷ []) same)) picks
 
 pub asks_more : (flat : code_flat.Tables) (list new : List Ask) (ask : Ask) → AreAsks flat list
-    → call_at flat ask.dot ≡ Some (ask.root, ask.next) → new ≡ list ++ ask ∷ [] → AreAsks flat new
+    → call_at flat ask.dot ≡ Some (ask.target, ask.next) → new ≡ list ++ ask ∷ [] → AreAsks flat new
 asks_more flat list new ask are reports pushed a i = by (before_end a ask list (subst (λ v. In a v) pushed i))
   where
-    by : In a list ⊎ (a ≡ ask) → call_at flat a.dot ≡ Some (a.root, a.next)
+    by : In a list ⊎ (a ≡ ask) → call_at flat a.dot ≡ Some (a.target, a.next)
     by (inl h) = are a h
-    by (inr same) = subst (λ v. call_at flat v.dot ≡ Some (v.root, v.next)) (sym same) reports
+    by (inr same) = subst (λ v. call_at flat v.dot ≡ Some (v.target, v.next)) (sym same) reports
 
 pub picked_all : (Q : DottedRule → Type 0) (dots list : List DottedRule) (k : ℕ) → length dots ≤ k
     → Picks Q (take k dots) list
@@ -153,33 +153,33 @@ get_end [] a = refl
 get_end (x ∷ xs) a = get_end xs a
 
 pub lists_more : (flat : code_flat.Tables) (lists : List DotList) (list : DotList) (n : ℕ) → length lists ≡ n →
-    ((h : ℕ) → h < n → IsDotList flat (block_of flat h).dots (lists_in (slice_get lists h)))
-    → IsDotList flat (block_of flat n).dots (lists_in (Some list)) →
-    (h : ℕ) → h < n + 1 → IsDotList flat (block_of flat h).dots (lists_in (slice_get (lists ++ list ∷ []) h))
+    ((h : ℕ) → h < n → IsDotList flat (closure_of flat h).dots (lists_in (slice_get lists h)))
+    → IsDotList flat (closure_of flat n).dots (lists_in (Some list)) →
+    (h : ℕ) → h < n + 1 → IsDotList flat (closure_of flat h).dots (lists_in (slice_get (lists ++ list ∷ []) h))
 lists_more flat lists list n count are one h lt = by (cases_lt h n)
   where
-    by : (h < n) ⊎ (n ≤ h) → IsDotList flat (block_of flat h).dots (lists_in (slice_get (lists ++ list ∷ []) h))
-    by (inl less) = subst (λ v. IsDotList flat (block_of flat h).dots (lists_in v))
+    by : (h < n) ⊎ (n ≤ h) → IsDotList flat (closure_of flat h).dots (lists_in (slice_get (lists ++ list ∷ []) h))
+    by (inl less) = subst (λ v. IsDotList flat (closure_of flat h).dots (lists_in v))
         (sym (get_left lists (list ∷ []) h (omega (arith, less, count)))) (are h less)
     by (inr le) =
         let same : h ≡ n = omega (arith, lt, le) in
         let here : slice_get (lists ++ list ∷ []) h ≡ Some list = ap (λ v. slice_get (lists ++ list ∷ []) v)
         (same ∙ sym count) ∙ get_end lists list in
-        subst (λ v. IsDotList flat (block_of flat h).dots (lists_in v)) (sym here)
-        (subst (λ v. IsDotList flat (block_of flat v).dots (lists_in (Some list))) (sym same) one)
+        subst (λ v. IsDotList flat (closure_of flat h).dots (lists_in v)) (sym here)
+        (subst (λ v. IsDotList flat (closure_of flat v).dots (lists_in (Some list))) (sym same) one)
 
-pub lists_all : (flat : code_flat.Tables) (lists : List DotList) (n : ℕ) → length lists ≡ n → length flat.blocks.items
+pub lists_all : (flat : code_flat.Tables) (lists : List DotList) (n : ℕ) → length lists ≡ n → length flat.closures.items
     ≤ n →
-    ((h : ℕ) → h < n → IsDotList flat (block_of flat h).dots (lists_in (slice_get lists h))) → (h : ℕ)
-    → IsDotList flat (block_of flat h).dots (lists_in (slice_get lists h))
+    ((h : ℕ) → h < n → IsDotList flat (closure_of flat h).dots (lists_in (slice_get lists h))) → (h : ℕ)
+    → IsDotList flat (closure_of flat h).dots (lists_in (slice_get lists h))
 lists_all flat lists n count all are h = by (cases_lt h n)
   where
-    by : (h < n) ⊎ (n ≤ h) → IsDotList flat (block_of flat h).dots (lists_in (slice_get lists h))
+    by : (h < n) ⊎ (n ≤ h) → IsDotList flat (closure_of flat h).dots (lists_in (slice_get lists h))
     by (inl less) = are h less
     by (inr le) =
         let none : slice_get lists h ≡ None = past_get lists h (omega (arith, le, count)) in
-        let empty : slice_get flat.blocks.items h ≡ None = past_get flat.blocks.items h (omega (arith, le, all)) in
-        subst (λ v. IsDotList flat (block_in v).dots (lists_in (slice_get lists h))) (sym empty)
+        let empty : slice_get flat.closures.items h ≡ None = past_get flat.closures.items h (omega (arith, le, all)) in
+        subst (λ v. IsDotList flat (closure_in v).dots (lists_in (slice_get lists h))) (sym empty)
         (subst (λ v. IsDotList flat [] (lists_in v)) (sym none) (
           ((λ p i. i), (λ p i q. i), (λ d. d)),
           ((λ p i. i), (λ p i q. i), (λ d. d)),
@@ -229,12 +229,12 @@ within_ends flat dots lists c are true is list picks = (
 
 -- the dotted rules that are tried on a letter are all that read it
 pub readers_pick : (flat : code_flat.Tables) (h c : ℕ) → AreDotLists flat
-    → Picks (Reads flat c) (block_of flat h).dots (readers_of flat h c)
+    → Picks (Reads flat c) (closure_of flat h).dots (readers_of flat h c)
 readers_pick flat h c are =
-    within_ends flat (block_of flat h).dots (lists_of flat h) c (are h) _ refl _
+    within_ends flat (closure_of flat h).dots (lists_of flat h) c (are h) _ refl _
     (by (slice_get (lists_of flat h).by_letter c) refl)
   where
     by : (o : Option (Vec DottedRule Global)) → slice_get (lists_of flat h).by_letter c ≡ o
-        → Picks (Reads flat c) (block_of flat h).dots (list_or o (lists_of flat h).readers)
+        → Picks (Reads flat c) (closure_of flat h).dots (list_or o (lists_of flat h).readers)
     by None is = ((λ p i. (are h).1.0 p i), (λ p i q. (are h).1.1 p i (c, q)), (λ d. (are h).1.2 d))
     by (Some list) is = (are h).2 c list is

@@ -2,7 +2,7 @@
 -- Serves: judge.
 use Rattle.std.proofs.Common.{◌≡◌, ℕ, zero, suc, ◌+◌, ◌<◌, ◌≤◌, ◌⊎◌, inl, inr, List, [], ◌∷◌, ◌++◌, length, take}
 use Rattle.std.proofs.Common.{slice_index_or, refl, sym, subst, arith}
-use Rattle.flatgrammar.specs.Places.{In, now, on, AreDifferent}
+use Rattle.flatgrammar.specs.Positions.{In, now, on, AreDifferent}
 
 pub at_index_in : {A : Type 0} (xs : List A) (k : ℕ) (d : A) → k < length xs → In (slice_index_or xs k d) xs
 at_index_in [] k d lt = absurd (omega arith)

@@ -1,12 +1,12 @@
 pub mod AreExactLemmas
 pub mod CallOfLemmas
 pub mod FlatNullableLemmas
-pub mod HeadBlockLemmas
+pub mod PredictionClosureLemmas
 pub mod InLemmas
-pub mod InnerLemmas
+pub mod InlinedLemmas
 pub mod NodeStepsLemmas
-pub mod PlacesLemmas
-pub mod RootLemmas
+pub mod PositionsLemmas
+pub mod TargetLemmas
 pub mod SliceGetLemmas
 pub mod DotListLemmas
 pub mod WalkLemmas

@@ -3,7 +3,7 @@
 use Rattle.std.proofs.Common.{ltb-true, leb-true, eqb-true, ◌≡◌, ℕ, zero, suc, ◌+◌, ◌-◌, ◌<◌, ◌≤◌, Bool, true, false}
 use Rattle.std.proofs.Common.{◌&&◌, ◌||◌, eqb, ltb, leb, if◌then◌else◌, Option, Some, None, length, slice_get, refl}
 use Rattle.std.proofs.Common.{sym, ap, subst, arith}
-use Rattle.flatgrammar.specs.Flat.{Node, Letters, Concat, Alt, Rep, Turns, Opt, Name, Nothing, IsTaking, is_taking}
+use Rattle.flatgrammar.specs.Flat.{Node, Letters, Concat, Alt, Rep, Iterations, Opt, Name, Nothing, IsTaking, is_taking}
 use Rattle.flatgrammar.specs.Flat.{Begins, IsDone, Calling}
 use Rattle.flatgrammar.specs.NodeSteps.{begin_count, is_done, callee, takes, with_next}
 
@@ -45,7 +45,7 @@ callee_calling (Rep a None m) k t l h = by (ltb k a) refl h
         let pair = pair_same h in
         subst (λ v. Calling (Rep a None m) k v l) (ap (λ v. v.0) pair)
         (subst (λ v. Calling (Rep a None m) k m v) (ap (λ v. v.1) pair)
-        (subst (λ v. Calling (Rep a None m) v m a) (sym (eqb_same k a is)) Calling.turn_uncounted))
+        (subst (λ v. Calling (Rep a None m) v m a) (sym (eqb_same k a is)) Calling.iteration_uncounted))
     last false is h = absurd cc
 
     by : (b : Bool) → ltb k a ≡ b → ◌≡◌ {A = Option (ℕ × ℕ)}
@@ -54,7 +54,7 @@ callee_calling (Rep a None m) k t l h = by (ltb k a) refl h
     by true is h =
         let pair = pair_same h in
         subst (λ v. Calling (Rep a None m) k v l) (ap (λ v. v.0) pair)
-        (subst (λ v. Calling (Rep a None m) k m v) (ap (λ v. v.1) pair) (Calling.turn (ltb_less k a is)))
+        (subst (λ v. Calling (Rep a None m) k m v) (ap (λ v. v.1) pair) (Calling.iteration (ltb_less k a is)))
     by false is h = last (eqb k a) refl h
 callee_calling (Rep a (Some b) m) k t l h = by (ltb k b) refl h
   where
@@ -63,26 +63,26 @@ callee_calling (Rep a (Some b) m) k t l h = by (ltb k b) refl h
     by true is h =
         let pair = pair_same h in
         subst (λ v. Calling (Rep a (Some b) m) k v l) (ap (λ v. v.0) pair)
-        (subst (λ v. Calling (Rep a (Some b) m) k m v) (ap (λ v. v.1) pair) (Calling.turn (ltb_less k b is)))
+        (subst (λ v. Calling (Rep a (Some b) m) k m v) (ap (λ v. v.1) pair) (Calling.iteration (ltb_less k b is)))
     by false is h = absurd cc
-callee_calling (Turns None m) k t l h = by (eqb k 0) refl h
+callee_calling (Iterations None m) k t l h = by (eqb k 0) refl h
   where
     by : (c : Bool) → eqb k 0 ≡ c → ◌≡◌ {A = Option (ℕ × ℕ)} (if c then Some (m, 0) else None) (Some (t, l))
-        → Calling (Turns None m) k t l
+        → Calling (Iterations None m) k t l
     by true is h =
         let pair = pair_same h in
-        subst (λ v. Calling (Turns None m) k v l) (ap (λ v. v.0) pair)
-        (subst (λ v. Calling (Turns None m) k m v) (ap (λ v. v.1) pair)
-        (subst (λ v. Calling (Turns None m) v m 0) (sym (eqb_same k 0 is)) Calling.takes_uncounted))
+        subst (λ v. Calling (Iterations None m) k v l) (ap (λ v. v.0) pair)
+        (subst (λ v. Calling (Iterations None m) k m v) (ap (λ v. v.1) pair)
+        (subst (λ v. Calling (Iterations None m) v m 0) (sym (eqb_same k 0 is)) Calling.takes_uncounted))
     by false is h = absurd cc
-callee_calling (Turns (Some b) m) k t l h = by (ltb k b) refl h
+callee_calling (Iterations (Some b) m) k t l h = by (ltb k b) refl h
   where
     by : (c : Bool) → ltb k b ≡ c → ◌≡◌ {A = Option (ℕ × ℕ)} (if c then Some (m, k + 1) else None) (Some (t, l))
-        → Calling (Turns (Some b) m) k t l
+        → Calling (Iterations (Some b) m) k t l
     by true is h =
         let pair = pair_same h in
-        subst (λ v. Calling (Turns (Some b) m) k v l) (ap (λ v. v.0) pair)
-        (subst (λ v. Calling (Turns (Some b) m) k m v) (ap (λ v. v.1) pair) (Calling.takes (ltb_less k b is)))
+        subst (λ v. Calling (Iterations (Some b) m) k v l) (ap (λ v. v.0) pair)
+        (subst (λ v. Calling (Iterations (Some b) m) k m v) (ap (λ v. v.1) pair) (Calling.takes (ltb_less k b is)))
     by false is h = absurd cc
 callee_calling (Opt m) k t l h = by (eqb k 0) refl h
   where
@@ -113,8 +113,8 @@ done_is (Alt ms) k h =
 done_is (Rep a None m) k h = let same = eqb_same k a h in IsDone.rep (omega arith) (omega arith)
 done_is (Rep a (Some b) m) k h = let both = and_both (leb a k) (leb k b) h in
     IsDone.rep (leb_le a k both.0) (leb_le k b both.1)
-done_is (Turns None m) k h = let same = eqb_same k 0 h in IsDone.turns (omega (arith, same))
-done_is (Turns (Some b) m) k h = IsDone.turns (leb_le k b h)
+done_is (Iterations None m) k h = let same = eqb_same k 0 h in IsDone.iterations (omega (arith, same))
+done_is (Iterations (Some b) m) k h = IsDone.iterations (leb_le k b h)
 done_is (Opt m) k h = by (eqb k 1) refl h
   where
     by : (c : Bool) → eqb k 1 ≡ c → (c || eqb k 2) ≡ true → IsDone (Opt m) k
@@ -130,7 +130,8 @@ begins_is (Concat ms) k lt = let zero_is : 0 ≡ k = omega arith in
     subst (λ v. Begins (Concat ms) v) zero_is Begins.concat
 begins_is (Alt ms) k lt = Begins.alt lt
 begins_is (Rep a b m) k lt = let zero_is : 0 ≡ k = omega arith in subst (λ v. Begins (Rep a b m) v) zero_is Begins.rep
-begins_is (Turns b m) k lt = let zero_is : 0 ≡ k = omega arith in subst (λ v. Begins (Turns b m) v) zero_is Begins.turns
+begins_is (Iterations b m) k lt = let zero_is : 0
+    ≡ k = omega arith in subst (λ v. Begins (Iterations b m) v) zero_is Begins.iterations
 begins_is (Opt m) zero lt = Begins.opt
 begins_is (Opt m) (suc k) lt = let one_is : 1 ≡ suc k = omega arith in
     subst (λ v. Begins (Opt m) v) one_is Begins.opt_empty
@@ -145,7 +146,7 @@ takes_taking (Letters sets) h = absurd cc
 takes_taking (Concat ms) h = absurd cc
 takes_taking (Alt ms) h = absurd cc
 takes_taking (Rep a b m) h = absurd cc
-takes_taking (Turns b m) h = is_taking
+takes_taking (Iterations b m) h = is_taking
 takes_taking (Opt m) h = absurd cc
 takes_taking (Name r) h = absurd cc
 takes_taking Nothing h = absurd cc

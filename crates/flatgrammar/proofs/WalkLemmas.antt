@@ -1,5 +1,5 @@
--- Walks along the ways, and the roots that they find.
--- Serves: lower, Flat::root.
+-- Walks along the ways, and the targets that they find.
+-- Serves: lower, Flat::target.
 use Rattle.std.proofs.Common.{◌≡◌, ℕ, zero, suc, ◌+◌, ◌<◌, List, [], ◌∷◌, ◌++◌, length, take, get_or, set, Contains}
 use Rattle.std.proofs.Common.{Option, Some, None, refl, sym, ◌∙◌, ap, subst, arith, ⊎_elim, inl, inr, ◌⊎◌, add-one}
 use Rattle.std.specs.Prelude.{slice_get}
@@ -8,8 +8,8 @@ use Rattle.std.proofs.lemmas.List.{length-set}
 use Rattle.std.proofs.lemmas.List.Elements.{Contains-push, Contains-push_cases, Contains-append_left, Contains-get_or}
 use Rattle.std.proofs.lemmas.Option.{slice_get_within, slice_get-get_or}
 use Rattle.std.proofs.Math.Seq.{take-suc}
-use Rattle.flatgrammar.specs.declared.roots.Way.{Way}
-use Rattle.flatgrammar.specs.declared.roots.Way.TheVariants.{On, Found}
+use Rattle.flatgrammar.specs.declared.targets.Way.{Way}
+use Rattle.flatgrammar.specs.declared.targets.Way.TheVariants.{On, Found}
 use Rattle.flatgrammar.specs.Ways.{IsFound, IsOnWithin, set_all, LeadsTo, arrived, leads_on, AreWays, IsWalk, Settles}
 
 -- one way is not another
@@ -145,7 +145,7 @@ module _ (old : List Way) (start : ℕ) where
           (Contains-push_cases path s p h);
     }
 
-  -- the root at the end of a walk is that of each node on its path
+  -- the target at the end of a walk is that of each node on its path
   module _ (s : ℕ) (path : List ℕ) (ways : List Way) (w : IsWalk old start s path ways) (r : Option ℕ)
       (is : slice_get ways s ≡ Some (Found r)) where
     abbrev pub new : List Way

@@ -1,4 +1,4 @@
--- A grammar as numbered nodes, its places, and the relations between them.
+-- A grammar as numbered nodes, its dotted rules, and the relations between them.
 use Rattle.std.specs.Prelude.{◌≡◌, ℕ, ◌+◌, ◌<◌, ◌≤◌, min, List, length, slice_get, Option, Some, None}
 use Rattle.letters.specs.Letters.{small}
 
@@ -19,7 +19,7 @@ pub data Node : Type 0 where
   Concat : List ℕ → Node
   Alt : List ℕ → Node
   Rep : (least : ℕ) → (most : Option ℕ) → ℕ → Node
-  Turns : (most : Option ℕ) → ℕ → Node  -- at most so many turns, each of at least one letter
+  Iterations : (most : Option ℕ) → ℕ → Node  -- at most so many iterations, each of at least one letter
   Opt : ℕ → Node
   Name : ℕ → Node  -- a rule, by its number
   Nothing : Node
@@ -27,12 +27,12 @@ pub data Node : Type 0 where
 pub record Flat : Type 0 where
   pub nodes : List Node
   pub bodies : List ℕ  -- for each rule the node of its body
-  pub whole : ℕ  -- the node of the judged rule's body alone, as a concatenation of one
+  pub start : ℕ  -- the node of the judged rule's body alone, as a concatenation of one
   pub limit : ℕ  -- it serves lines of at most so many letters
 
--- a place: a node, and how far one is in it
-pub data Place : Type 0 where
-  at : (node : ℕ) → (step : ℕ) → Place
+-- a dotted rule: a node, and how far one is in it
+pub data Dot : Type 0 where
+  at : (node : ℕ) → (step : ℕ) → Dot
 
 -- the last step of a repetition that is counted
 abbrev pub top : ℕ → Option ℕ → ℕ
@@ -49,7 +49,7 @@ pub data Begins : Node → ℕ → Type 0 where
   concat : {ms : List ℕ} → Begins (Concat ms) 0
   alt : {ms : List ℕ} {k : ℕ} → k < length ms → Begins (Alt ms) k
   rep : {a m : ℕ} {b : Option ℕ} → Begins (Rep a b m) 0
-  turns : {m : ℕ} {b : Option ℕ} → Begins (Turns b m) 0
+  iterations : {m : ℕ} {b : Option ℕ} → Begins (Iterations b m) 0
   opt : {m : ℕ} → Begins (Opt m) 0
   opt_empty : {m : ℕ} → Begins (Opt m) 1
 
@@ -59,7 +59,7 @@ pub data IsDone : Node → ℕ → Type 0 where
   concat : {ms : List ℕ} {k : ℕ} → k ≡ length ms → IsDone (Concat ms) k
   alt : {ms : List ℕ} {k : ℕ} → k < length ms → IsDone (Alt ms) (length ms + k)
   rep : {a m k : ℕ} {b : Option ℕ} → a ≤ k → k ≤ top a b → IsDone (Rep a b m) k
-  turns : {m k : ℕ} {b : Option ℕ} → k ≤ top 0 b → IsDone (Turns b m) k
+  iterations : {m k : ℕ} {b : Option ℕ} → k ≤ top 0 b → IsDone (Iterations b m) k
   opt : {m : ℕ} → IsDone (Opt m) 2
   opt_empty : {m : ℕ} → IsDone (Opt m) 1
 
@@ -71,36 +71,36 @@ pub data Reading : Node → ℕ → Set → ℕ → Type 0 where
 pub data Calling : Node → ℕ → ℕ → ℕ → Type 0 where
   member : {ms : List ℕ} {k s : ℕ} → slice_get ms k ≡ Some s → Calling (Concat ms) k s (k + 1)
   alternative : {ms : List ℕ} {k s : ℕ} → slice_get ms k ≡ Some s → Calling (Alt ms) k s (length ms + k)
-  turn : {a m k : ℕ} {b : Option ℕ} → k < top a b → Calling (Rep a b m) k m (k + 1)
-  turn_uncounted : {a m : ℕ} → Calling (Rep a None m) a m a
-  takes : {m k : ℕ} {b : Option ℕ} → k < top 0 b → Calling (Turns b m) k m (k + 1)
-  takes_uncounted : {m : ℕ} → Calling (Turns None m) 0 m 0
+  iteration : {a m k : ℕ} {b : Option ℕ} → k < top a b → Calling (Rep a b m) k m (k + 1)
+  iteration_uncounted : {a m : ℕ} → Calling (Rep a None m) a m a
+  takes : {m k : ℕ} {b : Option ℕ} → k < top 0 b → Calling (Iterations b m) k m (k + 1)
+  takes_uncounted : {m : ℕ} → Calling (Iterations None m) 0 m 0
   operand : {m : ℕ} → Calling (Opt m) 0 m 2
 
--- a node whose turns take at least one letter each
+-- a node whose iterations take at least one letter each
 pub data IsTaking : Node → Type 0 where
-  is_taking : {m : ℕ} {b : Option ℕ} → IsTaking (Turns b m)
+  is_taking : {m : ℕ} {b : Option ℕ} → IsTaking (Iterations b m)
 
 module _ (flat : Flat) where
   -- a name starts and ends where its body does
-  pub data Starts : ℕ → Place → Type 0 where
+  pub data Starts : ℕ → Dot → Type 0 where
     starts : {s k : ℕ} {node : Node} → slice_get flat.nodes s ≡ Some node → Begins node k → Starts s (at s k)
-    name_starts : {s t r : ℕ} {p : Place} → slice_get flat.nodes s ≡ Some (Name r) → slice_get flat.bodies r ≡ Some t
+    name_starts : {s t r : ℕ} {p : Dot} → slice_get flat.nodes s ≡ Some (Name r) → slice_get flat.bodies r ≡ Some t
         → Starts t p → Starts s p
 
-  pub data Ends : Place → ℕ → Type 0 where
+  pub data Ends : Dot → ℕ → Type 0 where
     ends : {s k : ℕ} {node : Node} → slice_get flat.nodes s ≡ Some node → IsDone node k → Ends (at s k) s
-    name_ends : {s t r : ℕ} {p : Place} → slice_get flat.nodes s ≡ Some (Name r) → slice_get flat.bodies r ≡ Some t
+    name_ends : {s t r : ℕ} {p : Dot} → slice_get flat.nodes s ≡ Some (Name r) → slice_get flat.bodies r ≡ Some t
         → Ends p t → Ends p s
 
-  pub data Reads : Place → Set → Place → Type 0 where
+  pub data Reads : Dot → Set → Dot → Type 0 where
     reads : {s k l : ℕ} {set : Set} {node : Node} → slice_get flat.nodes s ≡ Some node → Reading node k set l
         → Reads (at s k) set (at s l)
 
-  pub data Calls : Place → ℕ → Place → Type 0 where
+  pub data Calls : Dot → ℕ → Dot → Type 0 where
     calls : {s k t l : ℕ} {node : Node} → slice_get flat.nodes s ≡ Some node → Calling node k t l
         → Calls (at s k) t (at s l)
 
-  -- a place in such a node
-  pub data Takes : Place → Type 0 where
-    in_turns : {s k : ℕ} {node : Node} → slice_get flat.nodes s ≡ Some node → IsTaking node → Takes (at s k)
+  -- a dotted rule in such a node
+  pub data Takes : Dot → Type 0 where
+    in_iterations : {s k : ℕ} {node : Node} → slice_get flat.nodes s ≡ Some node → IsTaking node → Takes (at s k)

@@ -5,9 +5,9 @@ use Rattle.flatgrammar.specs.Holds.{Holds, HasItem}
 use Rattle.flatgrammar.specs.declared.verdict.Verdict.{Verdict}
 use Rattle.flatgrammar.specs.declared.verdict.Verdict.TheVariants.{Yes, No}
 
--- the flat grammar derives the line: the set after its symbols holds the whole's end with origin 0
+-- the flat grammar derives the line: the set after its symbols holds the augmented start's end with origin 0
 abbrev pub DerivesLine : Flat → List ℕ → Type 0
-DerivesLine flat x = Holds flat x (length x) (at flat.whole 1) 0
+DerivesLine flat x = Holds flat x (length x) (at flat.start 1) 0
 
 -- set n is the last one with an item; nothing is said of set 0
 pub record IsLastSet (flat : Flat) (x : List ℕ) (n : ℕ) : Type 0 where

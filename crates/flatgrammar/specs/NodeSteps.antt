@@ -3,14 +3,14 @@ use Rattle.std.specs.Prelude.{ℕ, ◌+◌, ◌-◌, Bool, true, false, ◌&&◌
 use Rattle.std.specs.Prelude.{Some, None, if◌then◌else◌}
 use Rattle.flatgrammar.specs.FlatViews.{nodes_of}
 use Rattle.flatgrammar.specs.declared.tables.Tables as code_flat
-use Rattle.flatgrammar.specs.Flat.{Node, Set, Has, Flat, Letters, Concat, Alt, Rep, Turns, Opt, Name, Nothing}
+use Rattle.flatgrammar.specs.Flat.{Node, Set, Has, Flat, Letters, Concat, Alt, Rep, Iterations, Opt, Name, Nothing}
 
 -- the grammar of the tables
 abbrev pub flat_of : code_flat.Tables → Flat
 flat_of flat = record {
   nodes = nodes_of flat.nodes.items;
   bodies = flat.bodies.items;
-  whole = flat.whole;
+  start = flat.start;
   limit = flat.limit;
 }
 
@@ -20,7 +20,7 @@ begin_count (Letters sets) = 1
 begin_count (Concat ms) = 1
 begin_count (Alt ms) = length ms
 begin_count (Rep a b m) = 1
-begin_count (Turns b m) = 1
+begin_count (Iterations b m) = 1
 begin_count (Opt m) = 2
 begin_count (Name r) = 0
 begin_count Nothing = 0
@@ -31,19 +31,19 @@ is_done (Concat ms) k = eqb k (length ms)
 is_done (Alt ms) k = leb (length ms) k && ltb (k - length ms) (length ms)
 is_done (Rep a None m) k = eqb k a
 is_done (Rep a (Some b) m) k = leb a k && leb k b
-is_done (Turns None m) k = eqb k 0
-is_done (Turns (Some b) m) k = leb k b
+is_done (Iterations None m) k = eqb k 0
+is_done (Iterations (Some b) m) k = leb k b
 is_done (Opt m) k = eqb k 1 || eqb k 2
 is_done (Name r) k = false
 is_done Nothing k = false
 
--- each turn takes a letter
+-- each iteration takes a letter
 abbrev pub takes : Node → Bool
 takes (Letters sets) = false
 takes (Concat ms) = false
 takes (Alt ms) = false
 takes (Rep a b m) = false
-takes (Turns b m) = true
+takes (Iterations b m) = true
 takes (Opt m) = false
 takes (Name r) = false
 takes Nothing = false
@@ -59,8 +59,8 @@ callee (Concat ms) k = with_next (slice_get ms k) (k + 1)
 callee (Alt ms) k = with_next (slice_get ms k) (length ms + k)
 callee (Rep a None m) k = if ltb k a then Some (m, k + 1) else (if eqb k a then Some (m, a) else None)
 callee (Rep a (Some b) m) k = if ltb k b then Some (m, k + 1) else None
-callee (Turns None m) k = if eqb k 0 then Some (m, 0) else None
-callee (Turns (Some b) m) k = if ltb k b then Some (m, k + 1) else None
+callee (Iterations None m) k = if eqb k 0 then Some (m, 0) else None
+callee (Iterations (Some b) m) k = if ltb k b then Some (m, k + 1) else None
 callee (Opt m) k = if eqb k 0 then Some (m, 2) else None
 callee (Name r) k = None
 callee Nothing k = None
@@ -71,18 +71,18 @@ call_count (Letters sets) = 0
 call_count (Concat ms) = length ms
 call_count (Alt ms) = length ms
 call_count (Rep a b m) = 0
-call_count (Turns b m) = 0
+call_count (Iterations b m) = 0
 call_count (Opt m) = 1
 call_count (Name r) = 0
 call_count Nothing = 0
 
--- what each turn calls
+-- what each iteration calls
 abbrev pub turned : Node → Option ℕ
 turned (Letters sets) = None
 turned (Concat ms) = None
 turned (Alt ms) = None
 turned (Rep a b m) = Some m
-turned (Turns b m) = Some m
+turned (Iterations b m) = Some m
 turned (Opt m) = None
 turned (Name r) = None
 turned Nothing = None
@@ -93,7 +93,7 @@ read_at (Letters sets) k = slice_get sets k
 read_at (Concat ms) k = None
 read_at (Alt ms) k = None
 read_at (Rep a b m) k = None
-read_at (Turns b m) k = None
+read_at (Iterations b m) k = None
 read_at (Opt m) k = None
 read_at (Name r) k = None
 read_at Nothing k = None

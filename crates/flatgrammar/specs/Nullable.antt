@@ -4,7 +4,7 @@ use Rattle.flatgrammar.specs.Flat.{Node, Name, Begins, IsDone, Calling, IsTaking
 
 module _ (nodes : List Node) (bodies : List ℕ) where
   mutual
-    -- from a node's start to one of its steps; a turn that takes a letter is no way
+    -- from a node's start to one of its steps; an iteration that takes a letter is no way
     pub data Passes : ℕ → ℕ → Type 0 where
       begun : {s k : ℕ} {node : Node} → slice_get nodes s ≡ Some node → Begins node k → Passes s k
       stepped : {s k t l : ℕ} {node : Node} → Passes s k → slice_get nodes s ≡ Some node → Calling node k t l

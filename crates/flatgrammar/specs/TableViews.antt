@@ -8,29 +8,29 @@ use Rattle.flatgrammar.specs.Flat.{Flat, Set}
 use Rattle.flatgrammar.specs.FlatViews.{node_of}
 use Rattle.flatgrammar.specs.NodeSteps.{begin_count, is_done, callee, takes, read_at}
 use Rattle.flatgrammar.specs.Nullable.{Nullable}
-use Rattle.flatgrammar.specs.Roots.{Root}
+use Rattle.flatgrammar.specs.Targets.{Target}
 
--- the table has of each node its root
-abbrev pub GiveRoots : Flat → List (Option ℕ) → Type 0
-GiveRoots flat roots = (s t : ℕ) → (slice_get roots s ≡ Some (Some t)) ↔ Root flat.nodes flat.bodies s t
+-- the table has of each node its target
+abbrev pub GiveTargets : Flat → List (Option ℕ) → Type 0
+GiveTargets flat targets = (s t : ℕ) → (slice_get targets s ≡ Some (Some t)) ↔ Target flat.nodes flat.bodies s t
 
--- a root in the table
-abbrev pub root_in : Option (Option ℕ) → ℕ → Option (ℕ × ℕ)
-root_in None l = None
-root_in (Some None) l = None
-root_in (Some (Some r)) l = Some (r, l)
+-- a target in the table
+abbrev pub target_in : Option (Option ℕ) → ℕ → Option (ℕ × ℕ)
+target_in None l = None
+target_in (Some None) l = None
+target_in (Some (Some r)) l = Some (r, l)
 
 abbrev pub rooted : List (Option ℕ) → Option (ℕ × ℕ) → Option (ℕ × ℕ)
-rooted roots None = None
-rooted roots (Some called) = root_in (slice_get roots called.0) called.1
+rooted targets None = None
+rooted targets (Some called) = target_in (slice_get targets called.0) called.1
 
 abbrev pub called_by : List (Option ℕ) → Option code_node.Node → ℕ → Option (ℕ × ℕ)
-called_by roots None k = None
-called_by roots (Some node) k = rooted roots (callee (node_of node) k)
+called_by targets None k = None
+called_by targets (Some node) k = rooted targets (callee (node_of node) k)
 
--- the root that an item's place calls, and the step after it
+-- the target that an item's dotted rule calls, and the step after it
 abbrev pub call_of : code_flat.Tables → Item → Option (ℕ × ℕ)
-call_of flat item = called_by flat.roots.items (slice_get flat.nodes.items item.node) item.step
+call_of flat item = called_by flat.targets.items (slice_get flat.nodes.items item.node) item.step
 
 abbrev pub done_in : Option code_node.Node → ℕ → Bool
 done_in None k = false
@@ -47,7 +47,7 @@ abbrev pub takes_in : Option code_node.Node → Bool
 takes_in None = false
 takes_in (Some node) = takes (node_of node)
 
--- what an item's place calls has to take a letter
+-- what an item's dotted rule calls has to take a letter
 abbrev pub takes_of : code_flat.Tables → Item → Bool
 takes_of flat item = takes_in (slice_get flat.nodes.items item.node)
 
@@ -62,9 +62,9 @@ null_in (Some marked) = marked
 abbrev pub null_of : code_flat.Tables → ℕ → Bool
 null_of flat t = null_in (slice_get flat.nulls.items t)
 
--- the root of the whole
-abbrev pub whole_root : code_flat.Tables → Option ℕ
-whole_root flat = option_flatten (slice_get flat.roots.items flat.whole)
+-- the target of the augmented start
+abbrev pub start_target : code_flat.Tables → Option ℕ
+start_target flat = option_flatten (slice_get flat.targets.items flat.start)
 
 abbrev pub read_in : Option code_node.Node → ℕ → Option Set
 read_in None k = None

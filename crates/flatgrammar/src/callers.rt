@@ -1,10 +1,10 @@
 //! The callers of each node.
 ghost use Rattle.std.specs.Prelude.{◌≡◌, ◌<◌, ℕ, Some, IfOk, length, slice_get};
-ghost use Rattle.flatgrammar.specs.TableViews.{root_in};
-ghost use Rattle.flatgrammar.specs.Blocks.{dot, call_at};
-ghost use Rattle.flatgrammar.specs.Inners.{allows, allows_in, StillAllow, AreCallers};
+ghost use Rattle.flatgrammar.specs.TableViews.{target_in};
+ghost use Rattle.flatgrammar.specs.ItemClosures.{dot, call_at};
+ghost use Rattle.flatgrammar.specs.Inlines.{allows, allows_in, StillAllow, AreCallers};
 
-use crate::block::DottedRule;
+use crate::closure::DottedRule;
 use crate::flat_item::Item;
 use crate::flat_node::{call_count, turned};
 use crate::tables::{Tables, call};
@@ -22,7 +22,7 @@ pub(crate) enum Caller {
     Many,
 }
 
-// Returns what calls a node that one more place calls.
+// Returns what calls a node that one more dotted rule calls.
 fn with_dot(caller: Caller, dot: DottedRule) -> Caller
     ensures old { (n k : ℕ) → allows caller n k → allows result n k }
     ensures new { allows result dot.node dot.step }
@@ -33,31 +33,31 @@ fn with_dot(caller: Caller, dot: DottedRule) -> Caller
     }
 }
 
-// Notes that a place calls a root.
-fn mark(callers: &mut [Caller], root: usize, dot: DottedRule)
+// Notes that a dotted rule calls a target.
+fn mark(callers: &mut [Caller], target: usize, dot: DottedRule)
     ensures count { length callers.new ≡ length callers.old }
     ensures still { StillAllow callers.old callers.new }
-    ensures here { allows_in (slice_get callers.new root) dot.node dot.step }
+    ensures here { allows_in (slice_get callers.new target) dot.node dot.step }
 {
-    if root < callers.len() {
-        let caller = with_dot(callers[root], dot);
-        callers[root] = caller;
+    if target < callers.len() {
+        let caller = with_dot(callers[target], dot);
+        callers[target] = caller;
     }
 }
 
-// Notes that any places call a root.
-fn mark_many(callers: &mut [Caller], root: usize)
+// Notes that any dotted rules call a target.
+fn mark_many(callers: &mut [Caller], target: usize)
     ensures count { length callers.new ≡ length callers.old }
     ensures still { StillAllow callers.old callers.new }
-    ensures here { (n k : ℕ) → allows_in (slice_get callers.new root) n k }
+    ensures here { (n k : ℕ) → allows_in (slice_get callers.new target) n k }
 {
-    if root < callers.len() {
-        callers[root] = Caller::Many;
+    if target < callers.len() {
+        callers[target] = Caller::Many;
     }
 }
 
-// Notes what a place calls.
-fn mark_place(flat: &Tables, node: usize, step: usize, callers: &mut [Caller])
+// Notes what a dotted rule calls.
+fn mark_position(flat: &Tables, node: usize, step: usize, callers: &mut [Caller])
     ensures count { length callers.new ≡ length callers.old }
     ensures still { StillAllow callers.old callers.new }
     ensures here { (t l : ℕ) → call_at flat.now (dot node step) ≡ Some (t, l)
@@ -68,32 +68,32 @@ fn mark_place(flat: &Tables, node: usize, step: usize, callers: &mut [Caller])
         step,
         origin: 0,
     };
-    if let Some((root, _)) = call(flat, item) {
-        mark(callers, root, DottedRule { node, step });
+    if let Some((target, _)) = call(flat, item) {
+        mark(callers, target, DottedRule { node, step });
     }
 }
 
-// Notes what the first places of a node call.
-fn mark_places(flat: &Tables, node: usize, count: usize, callers: &mut [Caller])
+// Notes what the first dotted rules of a node call.
+fn mark_positions(flat: &Tables, node: usize, count: usize, callers: &mut [Caller])
     ensures count { length callers.new ≡ length callers.old }
     ensures still { StillAllow callers.old callers.new }
     ensures here { (k t l : ℕ) → k < count → call_at flat.now (dot node k) ≡ Some (t, l)
         → allows_in (slice_get callers.new t) node k }
 {
     for step in 0..count {
-        mark_place(flat, node, step, callers);
+        mark_position(flat, node, step, callers);
     }
 }
 
-// Notes that the turns of a repetition call the root of its operand.
-fn mark_turns(flat: &Tables, operand: usize, callers: &mut [Caller])
+// Notes that the iterations of a repetition call the target of its operand.
+fn mark_iterations(flat: &Tables, operand: usize, callers: &mut [Caller])
     ensures count { length callers.new ≡ length callers.old }
     ensures still { StillAllow callers.old callers.new }
-    ensures here { (t l m n k : ℕ) → root_in (slice_get flat.now.roots.items operand) m ≡ Some (t, l)
+    ensures here { (t l m n k : ℕ) → target_in (slice_get flat.now.targets.items operand) m ≡ Some (t, l)
         → allows_in (slice_get callers.new t) n k }
 {
-    if let Some(Some(root)) = flat.roots.get(operand) {
-        mark_many(callers, *root);
+    if let Some(Some(target)) = flat.targets.get(operand) {
+        mark_many(callers, *target);
     }
 }
 
@@ -105,9 +105,9 @@ fn mark_node(flat: &Tables, node: usize, callers: &mut [Caller])
         → allows_in (slice_get callers.new t) node k }
 {
     if let Some(at) = flat.nodes.get(node) {
-        mark_places(flat, node, call_count(at), callers);
+        mark_positions(flat, node, call_count(at), callers);
         if let Some(operand) = turned(at) {
-            mark_turns(flat, operand, callers);
+            mark_iterations(flat, operand, callers);
         }
     }
 }

@@ -1,9 +1,9 @@
 //! The dotted rules of a closure that call or read.
 ghost use Rattle.std.specs.Prelude.{◌≡◌, ◌≤◌, ℕ, Some, IsTrue, IfOk, IfSome, IfNone, slice_get};
-ghost use Rattle.flatgrammar.specs.Blocks.{block_of, call_at, dots_of, Asks, AreAsks, Reads, ReadsAny, Picks};
-ghost use Rattle.flatgrammar.specs.Blocks.{AreByLetter, AreEnds, lists_in, IsDotList};
+ghost use Rattle.flatgrammar.specs.ItemClosures.{closure_of, call_at, dots_of, Asks, AreAsks, Reads, ReadsAny, Picks};
+ghost use Rattle.flatgrammar.specs.ItemClosures.{AreByLetter, AreEnds, lists_in, IsDotList};
 
-use crate::block::DottedRule;
+use crate::closure::DottedRule;
 use crate::flat_item::Item;
 use crate::flat_node::{Ends, Node, widened};
 use crate::tables::{Tables, call, dots, reads, sole_caller};
@@ -13,13 +13,13 @@ use std::alloc::Global;
 // Fewer dotted rules that read are walked without a table by letter.
 const FEW: usize = 4;
 
-/// A dotted rule that calls a root with a closure of its own.
+/// A dotted rule that calls a target with a closure of its own.
 #[derive(Clone, Copy)]
 pub struct Ask {
     /// The dotted rule.
     pub dot: DottedRule,
-    /// The root that it calls.
-    pub root: usize,
+    /// The target that it calls.
+    pub target: usize,
     /// The step after the call.
     pub next: usize,
 }
@@ -27,7 +27,7 @@ pub struct Ask {
 /// The dotted rules of a closure that matter in a set: those that call, and those that read.
 #[derive(Drop)]
 pub struct DotList {
-    /// The dotted rules that call a root with a closure of its own.
+    /// The dotted rules that call a target with a closure of its own.
     pub asks: Vec<Ask>,
     /// The dotted rules that may read a symbol.
     pub readers: Vec<DottedRule>,
@@ -37,10 +37,10 @@ pub struct DotList {
     pub ends: Ends,
 }
 
-// Returns what a dotted rule asks for, if it calls a root with a block of its own.
+// Returns what a dotted rule asks for, if it calls a target with a closure of its own.
 fn ask_of(flat: &Tables, dot: DottedRule) -> Option<Ask>
     ensures dot { IfSome result (λ ask. ask.dot ≡ dot) }
-    ensures call { IfSome result (λ ask. call_at flat.now dot ≡ Some (ask.root, ask.next)) }
+    ensures call { IfSome result (λ ask. call_at flat.now dot ≡ Some (ask.target, ask.next)) }
     ensures none { IfNone result (Asks flat.now dot → ⊥) }
 {
     let item = Item {
@@ -48,9 +48,9 @@ fn ask_of(flat: &Tables, dot: DottedRule) -> Option<Ask>
         step: dot.step,
         origin: 0,
     };
-    let (root, next) = call(flat, item)?;
-    match sole_caller(flat, root) {
-        None => Some(Ask { dot, root, next }),
+    let (target, next) = call(flat, item)?;
+    match sole_caller(flat, target) {
+        None => Some(Ask { dot, target, next }),
         Some(_) => None,
     }
 }
@@ -77,7 +77,7 @@ fn reads_it(flat: &Tables, dot: DottedRule, value: u32) -> bool
     reads(flat, item, value)
 }
 
-// Returns what those ask for that call a root with a block of its own.
+// Returns what those ask for that call a target with a closure of its own.
 fn asks_of(alloc: Global, flat: &Tables, from: &[DottedRule]) -> Result<Vec<Ask>, Memory>
     ensures picks { IfOk result (λ list. Picks (Asks flat.now) from.now (dots_of list.items)) }
     ensures report { IfOk result (λ list. AreAsks flat.now list.items) }
@@ -166,7 +166,7 @@ fn by_letter(
     Ok(lists)
 }
 
-// Returns the lists of a block.
+// Returns the lists of a closure.
 fn list_of(alloc: Global, flat: &Tables, from: &[DottedRule]) -> Result<DotList, Memory>
     ensures { IfOk result (λ list. IsDotList flat.now from.now (lists_in (Some list))) }
 {
@@ -184,12 +184,12 @@ fn list_of(alloc: Global, flat: &Tables, from: &[DottedRule]) -> Result<DotList,
 
 /// Returns of each closure its lists.
 pub(crate) fn dot_lists(alloc: Global, flat: &Tables) -> Result<Vec<DotList>, Memory>
-    ensures { IfOk result (λ lists. (h : ℕ) → IsDotList flat.now (block_of flat.now h).dots
+    ensures { IfOk result (λ lists. (h : ℕ) → IsDotList flat.now (closure_of flat.now h).dots
         (lists_in (slice_get lists.items h))) }
 {
     let mut lists = Vec::new(alloc);
-    for head in 0..flat.blocks.len() {
-        let list = list_of(alloc, flat, dots(flat, head))?;
+    for prediction in 0..flat.closures.len() {
+        let list = list_of(alloc, flat, dots(flat, prediction))?;
         lists.push(list)?;
     }
     Ok(lists)

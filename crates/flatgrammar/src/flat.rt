@@ -1,19 +1,19 @@
 //! Lowered grammars.
 ghost use Rattle.std.specs.Prelude.{◌≡◌, ◌↔◌, ℕ, ◌<◌, length, slice_get, Some, IfOk, IsTrue};
-ghost use Rattle.flatgrammar.specs.Blocks.{AreExact};
+ghost use Rattle.flatgrammar.specs.ItemClosures.{AreExact};
 ghost use Rattle.flatgrammar.specs.FlatViews.{node_of, nodes_of};
 ghost use Rattle.flatgrammar.specs.NodeSteps.{flat_of};
 ghost use Rattle.flatgrammar.specs.Nullable.{Nullable};
 ghost use Rattle.flatgrammar.specs.Operands.{AreOrdered};
-ghost use Rattle.flatgrammar.specs.Roots.{Root};
+ghost use Rattle.flatgrammar.specs.Targets.{Target};
 ghost use Rattle.flatgrammar.specs.TableViews.{AreNulls};
 
 use crate::dot_list::dot_lists;
 use crate::flat_node::Node;
-use crate::head_block::head_blocks;
-use crate::inner::find_inners;
-use crate::roots::find_roots;
+use crate::inlined::find_inlines;
+use crate::prediction_closure::prediction_closures;
 use crate::tables::Tables;
+use crate::targets::find_targets;
 use ruletable::Memory;
 use std::alloc::Global;
 use std::marker::Model;
@@ -32,7 +32,7 @@ pub struct Flat {
 
 impl Model for Flat {
     ghost use Rattle.flatgrammar.specs.Flat as spec;
-    ghost use Rattle.flatgrammar.specs.Blocks.{AreExact};
+    ghost use Rattle.flatgrammar.specs.ItemClosures.{AreExact};
     ghost use Rattle.flatgrammar.specs.NodeSteps.{flat_of};
 
     ghost Value = { spec.Flat };
@@ -50,7 +50,7 @@ impl Flat {
         nodes: Vec<Node>,
         nulls: Vec<bool>,
         bodies: Vec<usize>,
-        whole: usize,
+        start: usize,
         limit: usize,
     ) -> Result<Flat, Memory>
         requires ordered { AreOrdered (nodes_of nodes.items) }
@@ -58,30 +58,30 @@ impl Flat {
         requires nulls { AreNulls (record {
           nodes = nodes_of nodes.items;
           bodies = bodies.items;
-          whole = whole;
+          start = start;
           limit = limit;
         }) nulls.items }
         ensures nodes { IfOk result (λ flat. flat.nodes ≡ nodes_of nodes.items) }
         ensures bodies { IfOk result (λ flat. flat.bodies ≡ bodies.items) }
-        ensures whole { IfOk result (λ flat. flat.whole ≡ whole) }
+        ensures start { IfOk result (λ flat. flat.start ≡ start) }
         ensures limit { IfOk result (λ flat. flat.limit ≡ limit) }
     {
-        let roots = find_roots(alloc, &nodes, &bodies)?;
+        let targets = find_targets(alloc, &nodes, &bodies)?;
         let mut tables = Tables {
             nodes,
             bodies,
-            roots,
+            targets,
             nulls,
-            inners: Vec::new(alloc),
-            blocks: Vec::new(alloc),
+            inlines: Vec::new(alloc),
+            closures: Vec::new(alloc),
             lists: Vec::new(alloc),
-            whole,
+            start,
             limit,
         };
-        let inners = find_inners(alloc, &tables)?;
-        let blocks = head_blocks(alloc, &tables, &inners)?;
-        tables.inners = inners;
-        tables.blocks = blocks;
+        let inlines = find_inlines(alloc, &tables)?;
+        let closures = prediction_closures(alloc, &tables, &inlines)?;
+        tables.inlines = inlines;
+        tables.closures = closures;
         let lists = dot_lists(alloc, &tables)?;
         tables.lists = lists;
         let tables = Rc::new(alloc, tables)?;
@@ -104,11 +104,11 @@ impl Flat {
     }
 
     /// Returns the node where that one starts and ends, if there is one: of a name that of its rule's body.
-    pub fn root(&self, n: usize) -> Option<usize>
-        ensures { (t : ℕ) → (result ≡ Some t) ↔ Root self.now.nodes self.now.bodies n t }
+    pub fn target(&self, n: usize) -> Option<usize>
+        ensures { (t : ℕ) → (result ≡ Some t) ↔ Target self.now.nodes self.now.bodies n t }
     {
-        match self.tables.roots.get(n) {
-            Some(root) => *root,
+        match self.tables.targets.get(n) {
+            Some(target) => *target,
             None => None,
         }
     }
@@ -124,10 +124,10 @@ impl Flat {
     }
 
     /// Returns the number of the augmented start.
-    pub fn whole(&self) -> usize
-        ensures { result ≡ self.now.whole }
+    pub fn start(&self) -> usize
+        ensures { result ≡ self.now.start }
     {
-        self.tables.whole
+        self.tables.start
     }
 
     /// Returns how many symbols a line may have.

@@ -1,7 +1,7 @@
 //! Numbered nodes.
 ghost use Rattle.std.specs.Prelude.{◌≡◌, ◌≢◌, ◌↔◌, ◌+◌, ◌^◌, ◌<◌, ◌≤◌, ℕ, None, IsTrue};
 ghost use Rattle.letters.specs.Letters.{small};
-ghost use Rattle.flatgrammar.specs.Flat.{Has, Rep, Turns};
+ghost use Rattle.flatgrammar.specs.Flat.{Has, Rep, Iterations};
 ghost use Rattle.flatgrammar.specs.FlatViews.{set_of, node_of};
 ghost use Rattle.flatgrammar.specs.NodeSteps.{begin_count, is_done, callee, call_count, turned, takes, read_at};
 ghost use Rattle.flatgrammar.specs.NodeSteps.{IfSomeSet};
@@ -33,7 +33,7 @@ pub enum Node {
         operand: usize,
     },
     /// At most `most` iterations of it where that is there, each of at least one symbol.
-    Turns {
+    Iterations {
         most: Option<u32>,
         operand: usize,
     },
@@ -111,19 +111,19 @@ pub(crate) fn begins(node: &Node) -> usize
     ensures { result ≡ begin_count (node_of node.now) }
 {
     match node {
-        Node::Letters(_) | Node::Concat(_) | Node::Rep { .. } | Node::Turns { .. } => 1,
+        Node::Letters(_) | Node::Concat(_) | Node::Rep { .. } | Node::Iterations { .. } => 1,
         Node::Alt(members) => members.len(),
         Node::Opt(_) => 2,
         Node::Name(_) | Node::Nothing => 0,
     }
 }
 
-// The operand and the step after a turn, if there is a turn at that step. Without a greatest number the turns after the
-// least are not counted.
+// The operand and the step after an iteration, if there is an iteration at that step. Without a greatest number the
+// iterations after the least are not counted.
 #[inline(always)]
-fn turn(least: u32, most: Option<u32>, operand: usize, step: usize) -> Option<(usize, usize)>
+fn iteration(least: u32, most: Option<u32>, operand: usize, step: usize) -> Option<(usize, usize)>
     ensures rep { result ≡ callee (Rep least most operand) step }
-    ensures turns { least ≡ 0 → result ≡ callee (Turns most operand) step }
+    ensures iterations { least ≡ 0 → result ≡ callee (Iterations most operand) step }
 {
     let top = match most {
         None => least,
@@ -142,7 +142,7 @@ fn turn(least: u32, most: Option<u32>, operand: usize, step: usize) -> Option<(u
 #[inline(always)]
 fn is_enough(least: u32, most: Option<u32>, step: usize) -> bool
     ensures rep { (operand : ℕ) → result ≡ is_done (Rep least most operand) step }
-    ensures turns { (operand : ℕ) → least ≡ 0 → result ≡ is_done (Turns most operand) step }
+    ensures iterations { (operand : ℕ) → least ≡ 0 → result ≡ is_done (Iterations most operand) step }
 {
     match most {
         None => step == least as usize,
@@ -191,11 +191,11 @@ pub(crate) fn node_operation(node: &Node, step: usize) -> NodeOperation
             most,
             operand,
         } => NodeOperation {
-            called: turn(*least, *most, *operand, step),
+            called: iteration(*least, *most, *operand, step),
             done: is_enough(*least, *most, step),
         },
-        Node::Turns { most, operand } => NodeOperation {
-            called: turn(0, *most, *operand, step),
+        Node::Iterations { most, operand } => NodeOperation {
+            called: iteration(0, *most, *operand, step),
             done: is_enough(0, *most, step),
         },
         Node::Opt(operand) => NodeOperation {
@@ -233,7 +233,7 @@ pub(crate) fn turned(node: &Node) -> Option<usize>
     ensures { result ≡ turned (node_of node.now) }
 {
     match node {
-        Node::Rep { operand, .. } | Node::Turns { operand, .. } => Some(*operand),
+        Node::Rep { operand, .. } | Node::Iterations { operand, .. } => Some(*operand),
         _ => None,
     }
 }
@@ -244,7 +244,7 @@ pub(crate) fn takes(node: &Node) -> bool
     ensures { result ≡ takes (node_of node.now) }
 {
     match node {
-        Node::Turns { .. } => true,
+        Node::Iterations { .. } => true,
         _ => false,
     }
 }

@@ -1,19 +1,19 @@
 //! The tables of a lowered grammar, by node.
 ghost use Rattle.std.specs.Prelude.{◌≡◌, ◌≢◌, ◌↔◌, ◌+◌, ◌^◌, ◌<◌, None, IsTrue};
 ghost use Rattle.flatgrammar.specs.NodeSteps.{IfSomeSet};
-ghost use Rattle.flatgrammar.specs.TableViews.{call_of, done_of, null_of, takes_of, read_of, rooted, whole_root};
-ghost use Rattle.flatgrammar.specs.Blocks.{block_of, inner_of, lists_of, readers_of as the_readers_of};
+ghost use Rattle.flatgrammar.specs.TableViews.{call_of, done_of, null_of, takes_of, read_of, rooted, start_target};
+ghost use Rattle.flatgrammar.specs.ItemClosures.{closure_of, inlined_of, lists_of, readers_of as the_readers_of};
 
-use crate::block::{Block, DottedRule};
+use crate::closure::{DottedRule, ItemClosure};
 use crate::dot_list::{Ask, DotList};
 use crate::flat_item::Item;
 use crate::flat_node;
 use crate::flat_node::{Node, callee, may_read, node_operation, takes};
-use crate::inner::{Inner, inner_at};
+use crate::inlined::{Inlined, inlined_at};
 
 /// A lowered grammar, with all that judging looks up by node.
 ///
-/// `nodes`, `bodies`, `whole` and `limit` are the grammar. The other vectors have an entry for each node and follow
+/// `nodes`, `bodies`, `start` and `limit` are the grammar. The other vectors have an entry for each node and follow
 /// from it.
 #[derive(Drop)]
 pub struct Tables {
@@ -21,35 +21,35 @@ pub struct Tables {
     pub nodes: Vec<Node>,
     /// Of each rule the node of its body.
     pub bodies: Vec<usize>,
-    /// Of each node its root: the node where it starts and ends. A name's root is that of its rule's body.
-    pub roots: Vec<Option<usize>>,
+    /// Of each node its target: the node where it starts and ends. A name's target is that of its rule's body.
+    pub targets: Vec<Option<usize>>,
     /// Of each node whether it derives the empty line.
     pub nulls: Vec<bool>,
     /// Of each inlined node its only call site.
-    pub inners: Vec<Option<Inner>>,
+    pub inlines: Vec<Option<Inlined>>,
     /// Of each node the closure of its prediction; empty for an inlined node.
-    pub blocks: Vec<Block>,
+    pub closures: Vec<ItemClosure>,
     /// Of each closure the dotted rules that call or read.
     pub lists: Vec<DotList>,
     /// The node of the augmented start.
-    pub whole: usize,
+    pub start: usize,
     /// The most symbols of a line.
     pub limit: usize,
 }
 
-// Returns the root of a called node, and the step after it.
+// Returns the target of a called node, and the step after it.
 #[inline(always)]
 fn rooted(flat: &Tables, called: Option<(usize, usize)>) -> Option<(usize, usize)>
-    ensures { result ≡ rooted flat.now.roots.items called }
+    ensures { result ≡ rooted flat.now.targets.items called }
 {
     let (node, next) = called?;
-    match flat.roots.get(node) {
+    match flat.targets.get(node) {
         Some(Some(found)) => Some((*found, next)),
         _ => None,
     }
 }
 
-/// Returns the root that an item's dotted rule calls, and the step after it.
+/// Returns the target that an item's dotted rule calls, and the step after it.
 #[inline(always)]
 pub fn call(flat: &Tables, item: Item) -> Option<(usize, usize)>
     ensures { result ≡ call_of flat.now item }
@@ -71,7 +71,7 @@ pub fn takes_letter(flat: &Tables, item: Item) -> bool
 /// The actions of an item's dotted rule.
 #[derive(Clone, Copy)]
 pub struct Operation {
-    /// The root that it calls, and the step after the call.
+    /// The target that it calls, and the step after the call.
     pub called: Option<(usize, usize)>,
     /// Whether its node is complete there.
     pub done: bool,
@@ -108,42 +108,42 @@ pub fn operation_of(flat: &Tables, item: Item) -> Operation
     }
 }
 
-/// Returns whether a root is nullable.
-pub fn null(flat: &Tables, root: usize) -> bool
-    ensures { result ≡ null_of flat.now root }
+/// Returns whether a target is nullable.
+pub fn null(flat: &Tables, target: usize) -> bool
+    ensures { result ≡ null_of flat.now target }
 {
-    match flat.nulls.get(root) {
+    match flat.nulls.get(target) {
         Some(yes) => *yes,
         None => false,
     }
 }
 
-/// Returns the dotted rules of a root's closure.
-pub fn dots(flat: &Tables, head: usize) -> &[DottedRule]
-    ensures { result.now ≡ (block_of flat.now head).dots }
+/// Returns the dotted rules of a target's closure.
+pub fn dots(flat: &Tables, prediction: usize) -> &[DottedRule]
+    ensures { result.now ≡ (closure_of flat.now prediction).dots }
 {
-    match flat.blocks.get(head) {
-        Some(block) => &block.dots,
+    match flat.closures.get(prediction) {
+        Some(closure) => &closure.dots,
         None => &[],
     }
 }
 
-/// Returns of the dotted rules of a root's closure at least those that call a root with a closure of its own, with what
-/// they ask for.
-pub fn asks(flat: &Tables, head: usize) -> &[Ask]
-    ensures { result.now ≡ (lists_of flat.now head).asks }
+/// Returns of the dotted rules of a target's closure at least those that call a target with a closure of its own, with
+/// what they ask for.
+pub fn asks(flat: &Tables, prediction: usize) -> &[Ask]
+    ensures { result.now ≡ (lists_of flat.now prediction).asks }
 {
-    match flat.lists.get(head) {
+    match flat.lists.get(prediction) {
         Some(list) => &list.asks,
         None => &[],
     }
 }
 
-/// Returns of the dotted rules of a root's closure at least those that read a symbol.
-pub fn readers(flat: &Tables, head: usize, value: u32) -> &[DottedRule]
-    ensures { result.now ≡ the_readers_of flat.now head value }
+/// Returns of the dotted rules of a target's closure at least those that read a symbol.
+pub fn readers(flat: &Tables, prediction: usize, value: u32) -> &[DottedRule]
+    ensures { result.now ≡ the_readers_of flat.now prediction value }
 {
-    let Some(list) = flat.lists.get(head) else {
+    let Some(list) = flat.lists.get(prediction) else {
         return &[];
     };
     if value < list.ends.least || list.ends.greatest < value {
@@ -155,40 +155,40 @@ pub fn readers(flat: &Tables, head: usize, value: u32) -> &[DottedRule]
     }
 }
 
-/// Returns the roots with closures of their own that the dotted rules of a root's closure call.
-pub fn calls(flat: &Tables, head: usize) -> &[usize]
-    ensures { result.now ≡ (block_of flat.now head).calls }
+/// Returns the targets with closures of their own that the dotted rules of a target's closure call.
+pub fn calls(flat: &Tables, prediction: usize) -> &[usize]
+    ensures { result.now ≡ (closure_of flat.now prediction).calls }
 {
-    match flat.blocks.get(head) {
-        Some(block) => &block.calls,
+    match flat.closures.get(prediction) {
+        Some(closure) => &closure.calls,
         None => &[],
     }
 }
 
-/// Returns the dotted rules after the nullable calls of a root's closure.
-pub fn passes(flat: &Tables, head: usize) -> &[DottedRule]
-    ensures { result.now ≡ (block_of flat.now head).passes }
+/// Returns the dotted rules after the nullable calls of a target's closure.
+pub fn passes(flat: &Tables, prediction: usize) -> &[DottedRule]
+    ensures { result.now ≡ (closure_of flat.now prediction).passes }
 {
-    match flat.blocks.get(head) {
-        Some(block) => &block.passes,
+    match flat.closures.get(prediction) {
+        Some(closure) => &closure.passes,
         None => &[],
     }
 }
 
-/// Returns the only call site of a root, if the root is inlined.
-pub fn sole_caller(flat: &Tables, root: usize) -> Option<Inner>
-    ensures { result ≡ inner_of flat.now root }
+/// Returns the only call site of a target, if the target is inlined.
+pub fn sole_caller(flat: &Tables, target: usize) -> Option<Inlined>
+    ensures { result ≡ inlined_of flat.now target }
 {
-    inner_at(&flat.inners, root)
+    inlined_at(&flat.inlines, target)
 }
 
-/// Returns the root of the augmented start.
-pub fn whole_root(flat: &Tables) -> Option<usize>
-    ensures { result ≡ whole_root flat.now }
+/// Returns the target of the augmented start.
+pub fn start_target(flat: &Tables) -> Option<usize>
+    ensures { result ≡ start_target flat.now }
 {
-    match flat.roots.get(flat.whole) {
+    match flat.targets.get(flat.start) {
         None => None,
-        Some(root) => *root,
+        Some(target) => *target,
     }
 }
 

@@ -14,7 +14,7 @@ use Rattle.fixpoint.specs.Leads.{Leads, one, more, AreCycleMarks}
 use Rattle.fixpoint.specs.StepRows.{Step, AreStepsWithin}
 use Rattle.fixpoint.proofs.IsMarkedLemmas.{none_set}
 use Rattle.fixpoint.proofs.LeadsLemmas.{leads_joined}
-use Rattle.fixpoint.proofs.TurnsLemmas.{row_within}
+use Rattle.fixpoint.proofs.IterationsLemmas.{row_within}
 use Rattle.fixpoint.proofs.ContainsLemmas.{none_of, only_one, in_first, in_later, cons_cases, in_get}
 use Rattle.pegnodes.proofs.BodyOfLemmas.{name_body}
 use Rattle.gramcheck.proofs.LeftStepLemmas.{step_at, step_from, step_node}
@@ -111,9 +111,9 @@ module _ (bodies : List ℕ) (nulls : List Bool) (nodes : List Shape) (built : I
       }))
       (chain_passes n j d)
 
-  pub chain_turns : (n : ℕ) → Leads (step_rows bodies nulls nodes) n n →
+  pub chain_iterations : (n : ℕ) → Leads (step_rows bodies nulls nodes) n n →
       (id : ℕ) × ComesBack (step_rows bodies nulls nodes) nodes bodies id
-  chain_turns n d = ⊎_elim
+  chain_iterations n d = ⊎_elim
       (λ lt. absurd (omega (arith, lt)))
       (λ p.
       let back = ⊎_elim

@@ -15,7 +15,7 @@ use Rattle.pegnodes.specs.Nodes.{spells_act, spells_open, spells_close}
 use Rattle.gramcheck.specs.Nulls.{AreNullMarks}
 use Rattle.gramcheck.specs.NodeRows.{step_rows, ComesBack, AreComingBack, IsLeft, front, steps_of}
 use Rattle.gramcheck.proofs.LeftStepLemmas.{chain_leads, leads_chain, step_at}
-use Rattle.gramcheck.proofs.ComesBackLemmas.{chain_turns}
+use Rattle.gramcheck.proofs.ComesBackLemmas.{chain_iterations}
 use Rattle.std.proofs.lemmas.List.{length-map}
 use Rattle.fixpoint.specs.NumberMarks.{IsMarked}
 use Rattle.fixpoint.specs.StepRows.{Step}
@@ -140,5 +140,6 @@ module _ (rules : List Rule) (nodes : List Shape) (bodies : List ℕ) (nulls : L
     sound = λ id rule at h. is_left id rule at ((back.marks id).0 h);
     whole = λ id rule at own d. (back.marks id).1 (left_is id rule at own d);
     ranked = λ off. are_ranks bodies nulls nodes rules marked marks ranks falls
-        (λ n h. let t = chain_turns bodies nulls nodes built n ((cycles n).0 h) in off t.0 ((back.marks t.0).1 t.1));
+        (λ n h. let t = chain_iterations bodies nulls nodes built n ((cycles n).0 h) in off t.0
+        ((back.marks t.0).1 t.1));
   }

@@ -19,7 +19,7 @@ use Rattle.gramcheck.specs.Nulls.{AreNullMarks}
 use Rattle.gramcheck.specs.NodeRows.{front, steps_of, step_rows}
 use Rattle.fixpoint.specs.Leads.{Leads, one, more}
 use Rattle.fixpoint.specs.StepRows.{row_at, Step}
-use Rattle.fixpoint.proofs.TurnsLemmas.{row_within}
+use Rattle.fixpoint.proofs.IterationsLemmas.{row_within}
 use Rattle.fixpoint.proofs.ContainsLemmas.{none_of, only_one, in_first, in_later, cons_cases}
 use Rattle.pegnodes.proofs.BodyOfLemmas.{said_here, name_body, body_node, node_body}
 

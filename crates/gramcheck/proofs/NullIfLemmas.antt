@@ -27,7 +27,7 @@ takes_none rules p [] is = no_bytes
 takes_none rules p (b ∷ bs) is = absurd (omega arith)
 
 module _ (rules : List Rule) (x : List ℕ) where
-  -- a success ends between its place and the input's end
+  -- a success ends between its position and the input's end
   pub takes_forward : (p q k : ℕ) (e : Pattern) (es : List Event) → Gives rules x e p (Takes q es) k → p ≤ length x
       → (p ≤ q)
       × (q ≤ length x)

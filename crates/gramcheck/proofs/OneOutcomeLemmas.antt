@@ -1,4 +1,4 @@
--- An expression gives one outcome at a place, and looks equally far.
+-- An expression gives one outcome at a position, and looks equally far.
 -- Serves: exactly_one_outcome, one_outcome, some_outcome
 use Rattle.std.proofs.Common.{◌≡◌, ℕ, List, refl, subst}
 use Rattle.pegread.specs.Pattern.{Pattern, Patterns, Rule, Star}

@@ -7,7 +7,7 @@ use Rattle.std.proofs.lemmas.Slice.Eq.{bytes_eq-Decides}
 use Rattle.std.specs.Str.{bytes_eq}
 use Rattle.ruletable.specs.Rules.{Rules, HasUniqueNames, names_of}
 use Rattle.ruletable.specs.declared.table.NameCase.TheVariants.{Exact}
-use Rattle.rulenames.proofs.IsAddedLemmas.{own_place}
+use Rattle.rulenames.proofs.IsAddedLemmas.{own_position}
 use Rattle.pegread.specs.Pattern.{Rule}
 use Rattle.pegread.specs.PegViews.{rule_of, rules_of}
 use Rattle.pegread.specs.declared.expr.Expr.{Expr}
@@ -30,4 +30,4 @@ names-same t = map-map (λ (rule : Rule). rule.name) rule_of t.rules
 pub own-names : (t : Rules Expr) → HasUniqueNames t → t.names ≡ Exact → (id : ℕ) (name : List ℕ)
     → slice_get (rule_names (rules_of t)) id ≡ Some name →
     position (bytes_eq name) (rule_names (rules_of t)) ≡ Some id
-own-names t unique exact = rw (names-same t) (rw exact at (own_place t unique))
+own-names t unique exact = rw (names-same t) (rw exact at (own_position t unique))

@@ -1,4 +1,4 @@
--- Every expression that the nodes of a ranked grammar spell gives an outcome at every place.
+-- Every expression that the nodes of a ranked grammar spell gives an outcome at every position.
 -- Serves: exactly_one_outcome, some_outcome
 use Rattle.std.proofs.Common.{◌≡◌, ℕ, zero, suc, ◌+◌, ◌-◌, ◌<◌, ◌≤◌, List, [], ◌∷◌, length, map, get_or, subst, arith}
 use Rattle.std.proofs.Common.{max, Bool, true, false, ◌++◌, drop, Option, Some, None, refl, ◌*◌, ⊎_elim}
@@ -33,7 +33,7 @@ use Rattle.gramcheck.specs.Outcome as event
 
 -- the measure of an evaluation: what is left of the input first, and then the rank
 abbrev pub measure : ℕ → ℕ → ℕ → ℕ → ℕ
-measure len place nodes rank = (len - place) * (nodes + 1) + rank
+measure len position nodes rank = (len - position) * (nodes + 1) + rank
 
 ahead_less : (a b n r s : ℕ) → a + 1 ≤ b → r ≤ n → a * (n + 1) + r < b * (n + 1) + s
 ahead_less a b n r s h le = omega (arith, mul-le-mul_right (n + 1) h)
@@ -42,7 +42,7 @@ ahead_less a b n r s h le = omega (arith, mul-le-mul_right (n + 1) h)
 pub falls_ahead : (len p q n r s : ℕ) → p < q → q ≤ len → r ≤ n → measure len q n r < measure len p n s
 falls_ahead len p q n r s lt le bound = ahead_less (len - q) (len - p) n r s (omega arith) bound
 
--- at the same place a left step lowers the rank
+-- at the same position a left step lowers the rank
 pub falls_here : (len p n r s : ℕ) → r < s → measure len p n r < measure len p n s
 falls_here len p n r s lt = omega arith
 

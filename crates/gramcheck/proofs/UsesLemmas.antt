@@ -20,7 +20,8 @@ use Rattle.ruletable.specs.declared.table.NameCase.TheVariants.{Exact}
 use Rattle.rulenames.specs.FirstUses.{is_among, news}
 use Rattle.rulenames.specs.NameUses.{IsAdded}
 use Rattle.rulenames.proofs.IsAddedLemmas.{found_in}
-use Rattle.rulenames.proofs.IsPlaceLemmas.{place_among, place_append, place_of, position-none, same_place}
+use Rattle.rulenames.proofs.IsPositionLemmas.{position_among, position_append, position_of, position-none}
+use Rattle.rulenames.proofs.IsPositionLemmas.{same_position}
 use Rattle.rulenames.proofs.IsScannedLemmas.{news_append, used_next}
 use Rattle.pegread.specs.Pattern.{Pattern, Rule}
 use Rattle.pegread.specs.PegViews.{patterns, patterns_of, pattern_of, rule_of, rules_of}
@@ -64,16 +65,16 @@ module _ (rules : List Rule) (seen : List (List ℕ)) (n : List ℕ) where
   pub known-use : (ids : List ℕ) (missing : Rules (Unit {0})) (i : ℕ) → AreUses rules seen ids missing
       → position (bytes_eq n) names ≡ Some i → AreUses rules (seen ++ n ∷ []) (ids ++ i ∷ []) missing
   known-use ids missing i u at =
-      let place = place_of Exact n names i at in
+      let position = position_of Exact n names i at in
       record {
         compares = u.compares;
         all = u.all ∙ sym (append-nil (news Exact names seen))
             ∙ sym (news-next (news Exact names seen) refl true
-            (place_among Exact (place_append Exact (news Exact names seen) place)));
+            (position_among Exact (position_append Exact (news Exact names seen) position)));
         known = λ name id own.
             list_any-append (λ other. other == id) ids (i ∷ [])
             ∙ ap (λ b. list_any (λ other. other == id) ids || b)
-            (or-false (i == id) ∙ same_place Exact n name place (place_of Exact name names id own))
+            (or-false (i == id) ∙ same_position Exact n name position (position_of Exact name names id own))
             ∙ ap (λ b. b || bytes_eq name n) (u.known name id own) ∙ sym (among-next name);
       }
 

@@ -40,7 +40,7 @@ module _ (rules : List Rule) where
     front_first : {e : Pattern} {es : Patterns} → Front (more e es) e
     front_later : {d e : Pattern} {es : Patterns} → Nullable d → Front es e → Front (more d es) e
 
-  -- what an expression may ask for at its own place: an expression, and one of which it asks there
+  -- what an expression may ask for at its own position: an expression, and one of which it asks there
   pub data LeftStep : Pattern → Pattern → Type 0 where
     to_body : {n : List ℕ} {e : Pattern} → body_of rules n ≡ Some e → LeftStep (Name n) e
     to_alternative : {e : Pattern} {es : Patterns} → Among es e → LeftStep (Choice es) e

@@ -1,4 +1,4 @@
--- What an expression gives at a place of the input (Ford 2004, section 3.3, with captures and actions), and how far
+-- What an expression gives at a position of the input (Ford 2004, section 3.3, with captures and actions), and how far
 -- that looks.
 use Rattle.std.specs.Prelude.{◌≡◌, ℕ, zero, suc, ◌+◌, max, Bool, true, false, ◌&&◌, List, [], ◌∷◌, ◌++◌, length, map}
 use Rattle.std.specs.Prelude.{drop, slice_get, Some, None, if◌then◌else◌, ◌==◌}
@@ -7,11 +7,11 @@ use Rattle.pegread.specs.Pattern.{Open, Close, none, more, Rule, body_of}
 
 -- what a success leaves: a capture's ends, with their positions, and the template of an action
 pub data Event : Type 0 where
-  Opened : (place : ℕ) → Event
-  Closed : (place : ℕ) → Event
+  Opened : (position : ℕ) → Event
+  Closed : (position : ℕ) → Event
   Acted : (template : List ℕ) → Event
 
--- a failure, or the place where a success ends, with its events in order
+-- a failure, or the position where a success ends, with its events in order
 pub data Outcome : Type 0 where
   Fails : Outcome
   Takes : (end : ℕ) → (events : List Event) → Outcome
@@ -27,14 +27,14 @@ compared bytes [] = 0
 compared [] (b ∷ bs) = 0
 compared (c ∷ cs) (b ∷ bs) = if c == b then compared cs bs + 1 else 1
 
--- one more than the place of the last byte of n compared from p on, or 0 where n is 0
+-- one more than the position of the last byte of n compared from p on, or 0 where n is 0
 abbrev pub looked_at : ℕ → ℕ → ℕ
 looked_at p zero = 0
 looked_at p (suc n) = p + suc n
 
 module _ (rules : List Rule) (x : List ℕ) where
   mutual
-    -- `Gives e p o k`: at place p, e gives o, and k is one more than the last place looked at, or 0
+    -- `Gives e p o k`: at position p, e gives o, and k is one more than the last position looked at, or 0
     pub data Gives : Pattern → ℕ → Outcome → ℕ → Type 0 where
       any_takes : {p b : ℕ} → slice_get x p ≡ Some b → Gives Any p (Takes (p + 1) []) (p + 1)
       any_at_end : {p : ℕ} → slice_get x p ≡ None → Gives Any p Fails 0
@@ -68,7 +68,7 @@ module _ (rules : List Rule) (x : List ℕ) where
       not_takes : {e : Pattern} {p k : ℕ} → Gives e p Fails k → Gives (Not e) p (Takes p []) k
       not_fails : {e : Pattern} {p q k : ℕ} {es : List Event} → Gives e p (Takes q es) k → Gives (Not e) p Fails k
 
-    -- the members in order, each from the place of the one before
+    -- the members in order, each from the position of the one before
     pub data GivesAll : Patterns → ℕ → Outcome → ℕ → Type 0 where
       all_done : {p : ℕ} → GivesAll none p (Takes p []) 0
       one_fails : {e : Pattern} {rest : Patterns} {p k : ℕ} → Gives e p Fails k → GivesAll (more e rest) p Fails k

@@ -18,7 +18,7 @@ pub record IsRanked (rules : List Rule) (start : ℕ) (nodes : List Shape) (bodi
   pub falling : AreRanks rules nodes bodies ranks
   pub moving : RepeatsNoNull rules nodes bodies
 
--- at place p an expression gives one outcome, and no other
+-- at position p an expression gives one outcome, and no other
 pub record GivesOne (rules : List Rule) (x : List ℕ) (e : Pattern) (p : ℕ) : Type 0 where
   pub outcome : Outcome
   pub looked : ℕ

@@ -87,13 +87,13 @@ fn tables_of(alloc: Global, cut: &Cut, start: usize) -> Result<Tables, Memory>
     requires start { start < length cut.now.bodies.items }
     ensures { IfOk result (λ t. ((rules : List Rule) → AreBodies rules (shapes_of cut.now.nodes.items)
         cut.now.bodies.items → ArePrintMarks rules (shapes_of cut.now.nodes.items) t.printing.items)
-        × AreCuts (shapes_of cut.now.nodes.items) t.templates.places.items t.templates.cuts.items
+        × AreCuts (shapes_of cut.now.nodes.items) t.templates.positions.items t.templates.cuts.items
         × AreMarks start (shapes_of cut.now.nodes.items) cut.now.bodies.items
         (node_marks (marks_of (shapes_of cut.now.nodes.items) t.keys.nodes.items t.keys.after.items))
         (tail_marks (marks_of (shapes_of cut.now.nodes.items) t.keys.nodes.items t.keys.after.items))
         × AreByteTables (shapes_of cut.now.nodes.items) cut.now.bodies.items
         (marks_of (shapes_of cut.now.nodes.items) t.keys.nodes.items t.keys.after.items)
-        t.by_byte.places.items t.by_byte.runs.items t.by_byte.choices.items) }
+        t.by_byte.positions.items t.by_byte.runs.items t.by_byte.choices.items) }
 {
     let printing = print_marks(alloc, &cut.nodes, &cut.bodies)?;
     let templates = cut_templates(alloc, &cut.nodes)?;

@@ -92,13 +92,13 @@ impl Model for SoundPeg {
 
     ghost invariant = { λ p. IsRanked (rules_of p.rules) p.start (shapes_of p.nodes.items) p.bodies.items p.ranks.items
         × ArePrintMarks (rules_of p.rules) (shapes_of p.nodes.items) p.printing.items
-        × AreCuts (shapes_of p.nodes.items) p.templates.places.items p.templates.cuts.items
+        × AreCuts (shapes_of p.nodes.items) p.templates.positions.items p.templates.cuts.items
         × AreMarks p.start (shapes_of p.nodes.items) p.bodies.items
         (node_marks (marks_of (shapes_of p.nodes.items) p.keys.nodes.items p.keys.after.items))
         (tail_marks (marks_of (shapes_of p.nodes.items) p.keys.nodes.items p.keys.after.items))
         × AreByteTables (shapes_of p.nodes.items) p.bodies.items
         (marks_of (shapes_of p.nodes.items) p.keys.nodes.items p.keys.after.items)
-        p.by_byte.places.items p.by_byte.runs.items p.by_byte.choices.items
+        p.by_byte.positions.items p.by_byte.runs.items p.by_byte.choices.items
         × AreNumbered (rules_of p.rules) (shapes_of p.nodes.items) p.bodies.items };
 }
 
@@ -113,14 +113,14 @@ impl SoundPeg {
     ) -> SoundPeg
         requires ranked { IsRanked (rules_of rules) start (shapes_of cut.nodes.items) cut.bodies.items ranks.items }
         requires printing { ArePrintMarks (rules_of rules) (shapes_of cut.nodes.items) tables.printing.items }
-        requires templates { AreCuts (shapes_of cut.nodes.items) tables.templates.places.items
+        requires templates { AreCuts (shapes_of cut.nodes.items) tables.templates.positions.items
             tables.templates.cuts.items }
         requires keys { AreMarks start (shapes_of cut.nodes.items) cut.bodies.items
             (node_marks (marks_of (shapes_of cut.nodes.items) tables.keys.nodes.items tables.keys.after.items))
             (tail_marks (marks_of (shapes_of cut.nodes.items) tables.keys.nodes.items tables.keys.after.items)) }
         requires by_byte { AreByteTables (shapes_of cut.nodes.items) cut.bodies.items
             (marks_of (shapes_of cut.nodes.items) tables.keys.nodes.items tables.keys.after.items)
-            tables.by_byte.places.items tables.by_byte.runs.items tables.by_byte.choices.items }
+            tables.by_byte.positions.items tables.by_byte.runs.items tables.by_byte.choices.items }
         requires numbered { AreNumbered (rules_of rules) (shapes_of cut.nodes.items) cut.bodies.items }
         ensures rules { result.rules ≡ rules }
         ensures start { result.start ≡ start }
@@ -189,7 +189,7 @@ impl SoundPeg {
         ensures { (text : List ℕ) → slice_get (shapes_of self.now.nodes) n ≡ Some (Act text)
             → IsCut text result.now }
     {
-        &self.templates.cuts[self.templates.places[n]]
+        &self.templates.cuts[self.templates.positions[n]]
     }
 
     /// Returns the rank of the node of that number, which must be less than `nodes()`: at most the number of nodes, and
@@ -241,9 +241,9 @@ impl SoundPeg {
             → IsTabled n s k → IsTable (shapes_of self.now.nodes) self.now.bodies (node_marks self.now.keys)
             (tail_marks self.now.keys) k t.now.entries.items) }
     {
-        let place = self.by_byte.places.get(n)?;
-        match *place {
-            Some(place) => self.by_byte.runs.get(usize::from(place)),
+        let position = self.by_byte.positions.get(n)?;
+        match *position {
+            Some(position) => self.by_byte.runs.get(usize::from(position)),
             None => None,
         }
     }
@@ -255,9 +255,9 @@ impl SoundPeg {
             → IsChoiceTable (shapes_of self.now.nodes) self.now.bodies (node_marks self.now.keys)
             (tail_marks self.now.keys) choice ms t.now.entries.items) }
     {
-        let place = self.by_byte.places.get(choice)?;
-        match *place {
-            Some(place) => self.by_byte.choices.get(usize::from(place)),
+        let position = self.by_byte.positions.get(choice)?;
+        match *position {
+            Some(position) => self.by_byte.choices.get(usize::from(position)),
             None => None,
         }
     }

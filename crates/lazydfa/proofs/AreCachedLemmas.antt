@@ -10,9 +10,9 @@ use Rattle.std.proofs.lemmas.Nat.{div-mul-add, div-add-mod'}
 use Rattle.std.proofs.lemmas.Option.{slice_get_within}
 use Rattle.std.proofs.Math.ListN.{set}
 use Rattle.std.specs.Prelude.{slice_get, Some, Contains}
-use Rattle.flatgrammar.specs.Flat.{Place}
+use Rattle.flatgrammar.specs.Flat.{Dot}
 use Rattle.flatgrammar.specs.declared.tables.Tables as code_flat
-use Rattle.flatgrammar.proofs.InnerLemmas.{set_same, set_other}
+use Rattle.flatgrammar.proofs.InlinedLemmas.{set_same, set_other}
 use Rattle.flatgrammar.proofs.SliceGetLemmas.{push_cases}
 use Rattle.lazydfa.specs.declared.conts.Cont.{Cont}
 use Rattle.lazydfa.specs.declared.cache.State.{State}
@@ -22,20 +22,20 @@ use Rattle.lazydfa.specs.Conts.{stack_of, AreKept, IsStackOf, GoesOn, here, on, 
 use Rattle.lazydfa.specs.Conts.{TopReads}
 use Rattle.lazydfa.specs.Cached.{IsStart, AreGrown, IsStateOf, IsInterned, IsStep, IsPush, IsCell, AreCached}
 use Rattle.lazydfa.specs.Cached.{AreAddedUnknown}
-use Rattle.lazydfa.specs.StackParts.{IsSplitOff}
+use Rattle.lazydfa.specs.StackSuffixes.{IsSplitOff}
 use Rattle.lazydfa.proofs.ContsLemmas.{kept_stack, kept_within, kept_same, kept_both}
 use Rattle.lazydfa.proofs.IsClosureLemmas.{stands_at}
 
 module _ (old new : List Cont) (kept : AreKept old new) where
   module _ (tops : List ℕ) (within : (id : ℕ) → Contains tops id → id ≤ length old) where
-    pub stack_on : (s : List Place) → IsStackOf old tops s → IsStackOf new tops s
+    pub stack_on : (s : List Dot) → IsStackOf old tops s → IsStackOf new tops s
     stack_on s h = record {
       id = h.id;
       stands = h.stands;
       is = h.is ∙ sym (kept_stack old new kept h.id (within h.id h.stands));
     }
 
-    pub stack_off : (s : List Place) → IsStackOf new tops s → IsStackOf old tops s
+    pub stack_off : (s : List Dot) → IsStackOf new tops s → IsStackOf old tops s
     stack_off s h = record {
       id = h.id;
       stands = h.stands;
@@ -43,14 +43,14 @@ module _ (old new : List Cont) (kept : AreKept old new) where
     }
 
     module _ (tables : code_flat.Tables) (c : ℕ) where
-      pub reads_on : (s : List Place) → ReadsFrom tables c old tops s → ReadsFrom tables c new tops s
+      pub reads_on : (s : List Dot) → ReadsFrom tables c old tops s → ReadsFrom tables c new tops s
       reads_on s h = record {
         id = h.id;
         stands = h.stands;
         reads = subst (λ v. ReadsOn tables c v s) (sym (kept_stack old new kept h.id (within h.id h.stands))) h.reads;
       }
 
-      pub reads_off : (s : List Place) → ReadsFrom tables c new tops s → ReadsFrom tables c old tops s
+      pub reads_off : (s : List Dot) → ReadsFrom tables c new tops s → ReadsFrom tables c old tops s
       reads_off s h = record {
         id = h.id;
         stands = h.stands;
@@ -58,13 +58,13 @@ module _ (old new : List Cont) (kept : AreKept old new) where
       }
 
 -- growth keeps it
-pub split_kept : (tables : code_flat.Tables) (old new : List Cont) (tops base : List ℕ) (part : ℕ) → AreKept old new
-    → ((id : ℕ) → Contains tops id → id ≤ length old) → IsSplitOff tables old tops base part
-    → IsSplitOff tables new tops base part
-split_kept tables old new tops base part kept within s =
-    let same = kept_stack old new kept part s.within in
+pub split_kept : (tables : code_flat.Tables) (old new : List Cont) (tops base : List ℕ) (suffix : ℕ) → AreKept old new
+    → ((id : ℕ) → Contains tops id → id ≤ length old) → IsSplitOff tables old tops base suffix
+    → IsSplitOff tables new tops base suffix
+split_kept tables old new tops base suffix kept within s =
+    let same = kept_stack old new kept suffix s.within in
     record {
-      within = kept_within old new kept part s.within;
+      within = kept_within old new kept suffix s.within;
       base_within = λ id h. kept_within old new kept id (s.base_within id h);
       full = λ empty. s.full (sym same ∙ empty);
       tops_are = λ stack. (
@@ -83,8 +83,8 @@ split_kept tables old new tops base part kept within s =
           (s.all_read id h);
     }
 
-pub goes_as : (tables : code_flat.Tables) (P Q : List Place → Type 0) → ((s : List Place) → P s → Q s)
-    → (s : List Place) → GoesOn tables P s → GoesOn tables Q s
+pub goes_as : (tables : code_flat.Tables) (P Q : List Dot → Type 0) → ((s : List Dot) → P s → Q s)
+    → (s : List Dot) → GoesOn tables P s → GoesOn tables Q s
 goes_as tables P Q to _ (here {stack = s} h) = here (to s h)
 goes_as tables P Q to _ (on {stack = r} h g) = on (goes_as tables P Q to r h) g
 
@@ -157,7 +157,7 @@ cell_kept tables d old new states more s (To t) kept grown within h = record {
     reads_on old new kept h.from.tops.items (within s h.from h.from_is) tables d h.some.0 h.some.1,
   );
 }
-cell_kept tables d old new states more s (Push t part) kept grown within h = record {
+cell_kept tables d old new states more s (Push t suffix) kept grown within h = record {
   from = h.from;
   to = h.to;
   read = h.read;
@@ -169,7 +169,7 @@ cell_kept tables d old new states more s (Push t part) kept grown within h = rec
     h.some.0,
     reads_on old new kept h.from.tops.items (within s h.from h.from_is) tables d h.some.0 h.some.1,
   );
-  split = split_kept tables old new h.read h.to.tops.items part kept h.is.within h.split;
+  split = split_kept tables old new h.read h.to.tops.items suffix kept h.is.within h.split;
   runs = h.runs;
 }
 
@@ -259,11 +259,11 @@ module _ (tables : code_flat.Tables) (samples : List ℕ) where
 
 module _ (tables : code_flat.Tables) (c : ℕ) (conts : List Cont) (ids : List ℕ) where
   abbrev pub NoneReads : ℕ → Type 0
-  NoneReads count = (k id : ℕ) → k < count → slice_get ids k ≡ Some id → (stack : List Place)
+  NoneReads count = (k id : ℕ) → k < count → slice_get ids k ≡ Some id → (stack : List Dot)
       → ReadsOn tables c (stack_of conts id) stack → ⊥
 
   pub none_more : (count id : ℕ) → slice_get ids count ≡ Some id
-      → ((stack : List Place) → ReadsOn tables c (stack_of conts id) stack → ⊥) → NoneReads count
+      → ((stack : List Dot) → ReadsOn tables c (stack_of conts id) stack → ⊥) → NoneReads count
       → NoneReads (count + 1)
   none_more count id is never none k other lt at_k stack h = by (cases_lt k count)
     where
@@ -275,11 +275,12 @@ module _ (tables : code_flat.Tables) (c : ℕ) (conts : List Cont) (ids : List �
           let same : other ≡ id = cc both in
           never stack (subst (λ v. ReadsOn tables c (stack_of conts v) stack) same h)
 
-  pub none_all : (count : ℕ) → length ids ≤ count → NoneReads count → (stack : List Place)
+  pub none_all : (count : ℕ) → length ids ≤ count → NoneReads count → (stack : List Dot)
       → ReadsFrom tables c conts ids stack → ⊥
   none_all count le none stack r =
       let t = stands_at ids r.id r.stands in
-      none t.place r.id (let w = slice_get_within ids t.place r.id t.is in omega (arith, w, le)) t.is stack r.reads
+      none t.position r.id (let w = slice_get_within ids t.position r.id t.is in omega (arith, w, le)) t.is stack
+      r.reads
 
 pub interned_found : (states : List State) (tops : List ℕ) (ended : Bool) (t : ℕ) → IsStateOf states tops ended t
     → IsInterned states states tops ended t
@@ -354,20 +355,20 @@ module _ (tables : code_flat.Tables) (samples : List ℕ) (conts mid new : List 
       (λ none. absurd (let w = slice_get_within states s from at_s in omega (arith, w, none)))
       (cached_conts tables samples conts mid states cells kept cached))
 
--- a transition to a state over a part
+-- a transition to a state over a suffix
 module _ (tables : code_flat.Tables) (conts mid apart new : List Cont) (states more : List State) (from : State)
-    (tops read base : List ℕ) (ended : Bool) (s t v part : ℕ)
+    (tops read base : List ℕ) (ended : Bool) (s t v suffix : ℕ)
     (within : (id : ℕ) → Contains from.tops.items id → id ≤ length conts) (kept : AreKept conts mid)
     (moved : AreKept mid apart) (same : new ≡ apart) (interned : IsInterned states more base false t)
     (at_s : slice_get states s ≡ Some from) (tops_are : tops ≡ from.tops.items) (runs : ended ≡ false)
-    (is : IsTransition tables v conts tops mid read ended) (split : IsSplitOff tables apart read base part) where
+    (is : IsTransition tables v conts tops mid read ended) (split : IsSplitOff tables apart read base suffix) where
   both_kept : AreKept conts apart
   both_kept = kept_both conts mid apart kept moved
 
-  pub led_push : (stack : List Place) × ReadsFrom tables v conts tops stack → (d : ℕ) → v ≡ d
-      → IsPush tables d new more s t part
+  pub led_push : (stack : List Dot) × ReadsFrom tables v conts tops stack → (d : ℕ) → v ≡ d
+      → IsPush tables d new more s t suffix
   led_push some d is_d =
-      subst (λ v. IsPush tables v new more s t part) is_d (subst (λ c. IsPush tables v c more s t part) (sym same)
+      subst (λ v. IsPush tables v new more s t suffix) is_d (subst (λ c. IsPush tables v c more s t suffix) (sym same)
       (record {
         from = from;
         to = interned.is.state;
@@ -382,7 +383,7 @@ module _ (tables : code_flat.Tables) (conts mid apart new : List Cont) (states m
           reads_on conts apart both_kept from.tops.items within tables v some.0
               (subst (λ w. ReadsFrom tables v conts w some.0) tops_are some.1),
         );
-        split = subst (λ w. IsSplitOff tables apart read w part) (sym interned.is.tops_are) split;
+        split = subst (λ w. IsSplitOff tables apart read w suffix) (sym interned.is.tops_are) split;
         runs = interned.is.ended_is;
       }))
 
@@ -398,7 +399,7 @@ module _ (tables : code_flat.Tables) (samples : List ℕ) (conts mid new : List 
       grown_cached tables samples conts mid new states more cells filled from next ended s t cached kept same interned
       unknown at_s is.within
 
-  pub led_step : (stack : List Place) × ReadsFrom tables v conts tops stack → (d : ℕ) → v ≡ d
+  pub led_step : (stack : List Dot) × ReadsFrom tables v conts tops stack → (d : ℕ) → v ≡ d
       → IsStep tables d new more s t
   led_step some d is_d =
       subst (λ v. IsStep tables v new more s t) is_d (subst (λ c. IsStep tables v c more s t) (sym same) (record {

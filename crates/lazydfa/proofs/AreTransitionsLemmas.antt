@@ -20,10 +20,10 @@ use Rattle.lazydfa.specs.Transitions.{
   IsTransitionTo,
 }
 use Rattle.lazydfa.specs.Transitions.{last_word}
-use Rattle.lazydfa.specs.Memos.{AreUnfolds, IsMemo}
+use Rattle.lazydfa.specs.Memos.{AreResumes, IsMemo}
 use Rattle.lazydfa.specs.declared.memo.Memo.{Memo}
 use Rattle.lazydfa.proofs.AreCachedLemmas.{cached_none, cell_kept, grown_at, row_is, class_is}
-use Rattle.lazydfa.proofs.IsOverLemmas.{unfolds_kept, unfolds_none}
+use Rattle.lazydfa.proofs.IsOverLemmas.{resumes_kept, resumes_none}
 
 -- growth keeps a word
 module _ (tables : code_flat.Tables) (samples : List ℕ) (old new : List Cont) (states more : List State)
@@ -102,11 +102,11 @@ transitions_put states classes s k t at row last two there old mid new there_is 
     by (inl before) = inl before
     by (inr (inl made)) = inr (inl (record {
       within = within;
-      place = made.0 ∙ at_is;
+      position = made.0 ∙ at_is;
       is = let e : row ≡ word = made.1 in omega (arith, e, row_at);
     }))
     by (inr (inr end)) = inr (inr (record {
-      place = let e : i ≡ last = end.0 in omega (arith, e, last_is, row_at);
+      position = let e : i ≡ last = end.0 in omega (arith, e, last_is, row_at);
       state = there;
       there = there_is;
       is = sym end.1 ∙ two_is;
@@ -120,13 +120,13 @@ module _ (tables : code_flat.Tables) (samples : List ℕ) (conts : List Cont) (s
   made_is i word made =
       let within = made.within in
       let wide : k < length samples + 1 = omega (arith, within) in
-      let class = class_is s k (length samples + 1) i wide made.place in
+      let class = class_is s k (length samples + 1) i wide made.position in
       record {
         leads = λ lt below. record {
           to = t;
           row = made.is;
           leads = λ d sample. subst (λ v. IsCell tables d conts states v (To t))
-              (sym (row_is s k (length samples + 1) i wide made.place))
+              (sym (row_is s k (length samples + 1) i wide made.position))
               (leads d (subst (λ v. slice_get samples v ≡ Some d) class sample));
         };
         runs = λ last zero. absurd (let e : k ≡ length samples = sym class ∙ last in omega (arith, within, e));
@@ -137,9 +137,9 @@ module _ (tables : code_flat.Tables) (samples : List ℕ) (conts : List Cont) (s
       → IsCachedTransition tables samples conts states i word
   end_is i word made =
       let wide : length samples < length samples + 1 = omega arith in
-      let class = class_is t (length samples) (length samples + 1) i wide made.place in
+      let class = class_is t (length samples) (length samples + 1) i wide made.position in
       let there = subst (λ v. slice_get states v ≡ Some made.state)
-      (sym (row_is t (length samples) (length samples + 1) i wide made.place)) made.there in
+      (sym (row_is t (length samples) (length samples + 1) i wide made.position)) made.there in
       record {
         leads = λ lt below. absurd (nothing_below (subst (λ v. v < length samples) class lt));
         runs = λ last zero. record {
@@ -178,13 +178,13 @@ module _ (tables : code_flat.Tables) (samples : List ℕ) (conts : List Cont) (s
 
 -- what is kept beside a cache that grew
 pub memo_kept : (tables : code_flat.Tables) (samples : List ℕ) (old new : Memo) → IsMemo tables samples old
-    → IsCache tables samples new.cache → Grows old.cache new.cache → new.unfolds.items ≡ old.unfolds.items
+    → IsCache tables samples new.cache → Grows old.cache new.cache → new.resumes.items ≡ old.resumes.items
     → new.transitions.items ≡ old.transitions.items → IsMemo tables samples new
 memo_kept tables samples old new memo cached grows same same_transitions = record {
   cached = cached;
-  unfolds = subst (λ v. AreUnfolds tables new.cache.conts.items.items new.cache.states.items v) (sym same)
-      (unfolds_kept tables old.cache.conts.items.items new.cache.conts.items.items old.cache.states.items
-      new.cache.states.items grows.conts grows.states memo.cached.within old.unfolds.items memo.unfolds);
+  resumes = subst (λ v. AreResumes tables new.cache.conts.items.items new.cache.states.items v) (sym same)
+      (resumes_kept tables old.cache.conts.items.items new.cache.conts.items.items old.cache.states.items
+      new.cache.states.items grows.conts grows.states memo.cached.within old.resumes.items memo.resumes);
   transitions = subst (λ v. AreTransitions tables samples new.cache.conts.items.items new.cache.states.items v)
       (sym same_transitions)
       (transitions_kept tables samples old.cache.conts.items.items new.cache.conts.items.items old.cache.states.items
@@ -193,12 +193,12 @@ memo_kept tables samples old new memo cached grows same same_transitions = recor
 
 -- a memo with nothing in it
 pub memo_none : (tables : code_flat.Tables) (samples : List ℕ) (memo : Memo) → memo.cache.conts.items.items ≡ []
-    → memo.cache.states.items ≡ [] → memo.cache.cells.items ≡ [] → memo.transitions.items ≡ [] → memo.unfolds.items ≡ []
+    → memo.cache.states.items ≡ [] → memo.cache.cells.items ≡ [] → memo.transitions.items ≡ [] → memo.resumes.items ≡ []
     → IsMemo tables samples memo
-memo_none tables samples memo no_conts no_states no_cells no_transitions no_unfolds = record {
+memo_none tables samples memo no_conts no_states no_cells no_transitions no_resumes = record {
   cached = cached_none tables samples memo.cache.conts.items.items memo.cache.states.items memo.cache.cells.items
       no_conts no_states no_cells;
-  unfolds = unfolds_none tables memo.cache.conts.items.items memo.cache.states.items memo.unfolds.items no_unfolds;
+  resumes = resumes_none tables memo.cache.conts.items.items memo.cache.states.items memo.resumes.items no_resumes;
   transitions = transitions_none tables samples memo.cache.conts.items.items memo.cache.states.items
       memo.transitions.items no_transitions;
 }

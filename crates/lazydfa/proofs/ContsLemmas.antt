@@ -8,12 +8,12 @@ use Rattle.std.proofs.lemmas.Bool.{cases_lt}
 use Rattle.std.proofs.lemmas.List.Elements.{Contains-append_left, Contains-append_cases}
 use Rattle.std.proofs.lemmas.Option.{slice_get_within}
 use Rattle.std.specs.Prelude.{slice_get, Some, Contains, not}
-use Rattle.flatgrammar.specs.Flat.{Place, at}
+use Rattle.flatgrammar.specs.Flat.{Dot, at}
 use Rattle.flatgrammar.proofs.SliceGetLemmas.{push_cases}
 use Rattle.lazydfa.specs.declared.conts.Cont.{Cont}
 use Rattle.lazydfa.specs.Conts.{stack_back, stack_of, AreOlder, AreKept, IsIdOf, Adds, IsAdded, Begun, CallMoves}
 use Rattle.lazydfa.specs.Conts.{after, Goes, EndsAlone}
-use Rattle.flatgrammar.specs.Blocks.{begin_count, item_at, dot}
+use Rattle.flatgrammar.specs.ItemClosures.{begin_count, item_at, dot}
 use Rattle.flatgrammar.specs.TableViews.{call_of, done_of}
 use Rattle.flatgrammar.specs.declared.tables.Tables as code_flat
 
@@ -52,11 +52,11 @@ back_at (d ∷ older) k c is le = by (λ e. back_at older k c e le) (push_cases 
         here ∙ (ih earlier ∙ ap (λ v. at c.node c.step ∷ v) (sym below))
     by ih (inr h) =
         let l = length-reverse older in
-        let place = h.0 in
+        let position = h.0 in
         let same : eqb (k + 1) (length older + 1) ≡ true = eqb_same (k + 1) (length older + 1) (omega
-        (arith, l, place)) in
+        (arith, l, position)) in
         let below : stack_back (d ∷ older) c.next ≡ stack_back older c.next =
-        skip_newer (d ∷ []) older c.next (omega (arith, l, place, le)) in
+        skip_newer (d ∷ []) older c.next (omega (arith, l, position, le)) in
         let top : stack_back (d ∷ older) (k + 1) ≡ at d.node d.step ∷ stack_back older d.next = rw same refl in
         top ∙ (ap (λ v. at v.node v.step ∷ stack_back older v.next) h.1 ∙ ap (λ v. at c.node c.step ∷ v) (sym below))
 
@@ -102,7 +102,7 @@ pushed_kept conts c new le is = record {
         → d.next ≤ k
     by o k d (inl earlier) = o k d earlier
     by o k d (inr h) =
-        let place = h.0 in let next : c.next ≡ d.next = ap (λ v. v.next) h.1 in omega (arith, place, next, le)
+        let position = h.0 in let next : c.next ≡ d.next = ap (λ v. v.next) h.1 in omega (arith, position, next, le)
 
 kept_length : (old new : List Cont) → AreKept old new → length old ≤ length new
 kept_length old new kept =
@@ -110,14 +110,14 @@ kept_length old new kept =
     (λ v. length v) kept.grown in
     omega (arith, l, g)
 
-pub kept_id : (old new : List Cont) → AreKept old new → (id : ℕ) (stack : List Place) → IsIdOf old id stack
+pub kept_id : (old new : List Cont) → AreKept old new → (id : ℕ) (stack : List Dot) → IsIdOf old id stack
     → IsIdOf new id stack
 kept_id old new kept id stack i = record {
   within = let l = kept_length old new kept in let w = i.within in omega (arith, l, w);
   is = kept_stack old new kept id i.within ∙ i.is;
 }
 
-pub adds_none : (conts : List Cont) (P : List Place → Type 0) (ids : List ℕ) → ((s : List Place) → P s → ⊥)
+pub adds_none : (conts : List Cont) (P : List Dot → Type 0) (ids : List ℕ) → ((s : List Dot) → P s → ⊥)
     → Adds conts P ids ids
 adds_none conts P ids never = record {
   added = [];
@@ -127,9 +127,9 @@ adds_none conts P ids never = record {
 }
 
 -- one stack more
-pub adds_one : (old mid : List Cont) (P Q : List Place → Type 0) (a b c : List ℕ) (id : ℕ) (stack : List Place)
-    → AreKept old mid → Adds old P a b → IsIdOf mid id stack → IsAdded b c id → ((s : List Place) → P s → Q s)
-    → Q stack → ((s : List Place) → Q s → P s ⊎ (s ≡ stack)) → Adds mid Q a c
+pub adds_one : (old mid : List Cont) (P Q : List Dot → Type 0) (a b c : List ℕ) (id : ℕ) (stack : List Dot)
+    → AreKept old mid → Adds old P a b → IsIdOf mid id stack → IsAdded b c id → ((s : List Dot) → P s → Q s)
+    → Q stack → ((s : List Dot) → Q s → P s ⊎ (s ≡ stack)) → Adds mid Q a c
 adds_one old mid P Q a b c id stack kept adds is one sub here split = record {
   added = adds.added ++ one.added;
   grown = one.grown ∙ (ap (λ v. v ++ one.added) adds.grown ∙ append_assoc a adds.added one.added);
@@ -149,7 +149,7 @@ adds_one old mid P Q a b c id stack kept adds is one sub here split = record {
           subst (λ v. Q (stack_of mid v)) (sym same) (subst (λ v. Q v) (sym is.is) here),
         )
 
-    which : (s : List Place) → P s ⊎ (s ≡ stack) → (id : ℕ) × Contains c id × IsIdOf mid id s
+    which : (s : List Dot) → P s ⊎ (s ≡ stack) → (id : ℕ) × Contains c id × IsIdOf mid id s
     which s (inl p) =
         let w = adds.whole s p in (
           w.0,
@@ -161,7 +161,7 @@ adds_one old mid P Q a b c id stack kept adds is one sub here split = record {
 pub kept_within : (old new : List Cont) → AreKept old new → (id : ℕ) → id ≤ length old → id ≤ length new
 kept_within old new kept id le = let l = kept_length old new kept in omega (arith, l, le)
 
-pub begun_none : (conts : List Cont) (node : ℕ) (below : List Place) (ids : List ℕ)
+pub begun_none : (conts : List Cont) (node : ℕ) (below : List Dot) (ids : List ℕ)
     → Adds conts (Begun node 0 below) ids ids
 begun_none conts node below ids = adds_none conts (Begun node 0 below) ids (λ s b. let lt = b.begins in
     omega (arith, lt))
@@ -178,7 +178,7 @@ begun_more old mid new node count below id a b c kept more le adds is one =
     (record { step = count; begins = omega arith; is = refl })
     (λ s q. by s q (cases_lt q.step count))
   where
-    by : (s : List Place) (q : Begun node (count + 1) (stack_of old below) s) → (q.step < count) ⊎ (count ≤ q.step)
+    by : (s : List Dot) (q : Begun node (count + 1) (stack_of old below) s) → (q.step < count) ⊎ (count ≤ q.step)
         → Begun node count (stack_of old below) s ⊎ (s ≡ at node count ∷ stack_of old below)
     by s q (inl lt) = inl (record { step = q.step; begins = lt; is = q.is })
     by s q (inr le) =
@@ -186,8 +186,8 @@ begun_more old mid new node count below id a b c kept more le adds is one =
         let same : q.step ≡ count = omega (arith, le, lt) in
         inr (q.is ∙ ap (λ v. at node v ∷ stack_of old below) same)
 
-pub adds_as : (conts : List Cont) (P Q : List Place → Type 0) (a b : List ℕ) → ((s : List Place) → P s → Q s)
-    → ((s : List Place) → Q s → P s) → Adds conts P a b → Adds conts Q a b
+pub adds_as : (conts : List Cont) (P Q : List Dot → Type 0) (a b : List ℕ) → ((s : List Dot) → P s → Q s)
+    → ((s : List Dot) → Q s → P s) → Adds conts P a b → Adds conts Q a b
 adds_as conts P Q a b to from adds = record {
   added = adds.added;
   grown = adds.grown;
@@ -195,26 +195,26 @@ adds_as conts P Q a b to from adds = record {
   whole = λ s q. adds.whole s (from s q);
 }
 
-pub called_adds : (tables : code_flat.Tables) (n k root next : ℕ) (conts : List Cont) (under mid : List Place)
-    (a b : List ℕ) → call_of tables (item_at 0 (dot n k)) ≡ Some (root, next) → mid ≡ after tables n next under
-    → Adds conts (Begun root (begin_count tables root) mid) a b → Adds conts (CallMoves tables n k under) a b
-called_adds tables n k root next conts under mid a b called is adds =
-    adds_as conts (Begun root (begin_count tables root) mid) (CallMoves tables n k under) a b
+pub called_adds : (tables : code_flat.Tables) (n k target next : ℕ) (conts : List Cont) (under mid : List Dot)
+    (a b : List ℕ) → call_of tables (item_at 0 (dot n k)) ≡ Some (target, next) → mid ≡ after tables n next under
+    → Adds conts (Begun target (begin_count tables target) mid) a b → Adds conts (CallMoves tables n k under) a b
+called_adds tables n k target next conts under mid a b called is adds =
+    adds_as conts (Begun target (begin_count tables target) mid) (CallMoves tables n k under) a b
     (λ s g. record {
-      root = root;
+      target = target;
       next = next;
       called = called;
-      begun = subst (λ v. Begun root (begin_count tables root) v s) is g;
+      begun = subst (λ v. Begun target (begin_count tables target) v s) is g;
     })
     (λ s m. by s m) adds
   where
-    by : (s : List Place) → CallMoves tables n k under s → Begun root (begin_count tables root) mid s
+    by : (s : List Dot) → CallMoves tables n k under s → Begun target (begin_count tables target) mid s
     by s m =
         let pair = pair_same (sym m.called ∙ called) in
-        let r : m.root ≡ root = ap (λ v. v.0) pair in
+        let r : m.target ≡ target = ap (λ v. v.0) pair in
         let l : m.next ≡ next = ap (λ v. v.1) pair in
-        subst (λ v. Begun root (begin_count tables root) v s) (sym is)
-        (subst (λ v. Begun root (begin_count tables root) (after tables n v under) s) l
+        subst (λ v. Begun target (begin_count tables target) v s) (sym is)
+        (subst (λ v. Begun target (begin_count tables target) (after tables n v under) s) l
         (subst (λ v. Begun v (begin_count tables v) (after tables n m.next under) s) r m.begun))
       where
         pair_same : {a b : ℕ × ℕ} → Some a ≡ Some b → a ≡ b
@@ -242,14 +242,14 @@ some_stack conts (suc k) older lt le none = by (get_there conts k (omega (arith,
         cc (none, f)
 
 -- one id more, or the same ones
-pub adds_end : (conts : List Cont) (P Q : List Place → Type 0) (a b c : List ℕ) (id : ℕ) → id ≤ length conts
-    → Adds conts P a b → IsAdded b c id → ((s : List Place) → P s → Q s) → Q (stack_of conts id)
-    → ((s : List Place) → Q s → P s ⊎ (s ≡ stack_of conts id)) → Adds conts Q a c
+pub adds_end : (conts : List Cont) (P Q : List Dot → Type 0) (a b c : List ℕ) (id : ℕ) → id ≤ length conts
+    → Adds conts P a b → IsAdded b c id → ((s : List Dot) → P s → Q s) → Q (stack_of conts id)
+    → ((s : List Dot) → Q s → P s ⊎ (s ≡ stack_of conts id)) → Adds conts Q a c
 adds_end conts P Q a b c id le adds one sub here split =
     adds_one conts conts P Q a b c id (stack_of conts id) (kept_same conts) adds (record { within = le; is = refl }) one
     sub here split
 
-module _ (tables : code_flat.Tables) (n k : ℕ) (below stack : List Place) (stack_is : stack ≡ at n k ∷ below) where
+module _ (tables : code_flat.Tables) (n k : ℕ) (below stack : List Dot) (stack_is : stack ≡ at n k ∷ below) where
   pub goes_call : (conts : List Cont) (a b : List ℕ)
       → (done_of tables (item_at 0 (dot n k)) ≡ false) ⊎ (below ≡ []) →
       Adds conts (CallMoves tables n k below) a b → Adds conts (Goes tables stack) a b
@@ -258,7 +258,7 @@ module _ (tables : code_flat.Tables) (n k : ℕ) (below stack : List Place) (sta
       (adds_as conts (CallMoves tables n k below) (Goes tables (at n k ∷ below)) a b (λ s m. inl m)
       (λ s g. by s g) adds)
     where
-      by : (s : List Place) → Goes tables (at n k ∷ below) s → CallMoves tables n k below s
+      by : (s : List Dot) → Goes tables (at n k ∷ below) s → CallMoves tables n k below s
       by s (inl m) = m
       by s (inr e) = absurd (never which e.0 e.2)
         where
@@ -275,7 +275,7 @@ module _ (tables : code_flat.Tables) (n k : ℕ) (below stack : List Place) (sta
       (adds_end conts (CallMoves tables n k below) (Goes tables (at n k ∷ below)) a b c id le adds one (λ s m. inl m)
       (inr (done, is, some)) (λ s g. by s g))
     where
-      by : (s : List Place) → Goes tables (at n k ∷ below) s → CallMoves tables n k below s ⊎ (s ≡ stack_of conts id)
+      by : (s : List Dot) → Goes tables (at n k ∷ below) s → CallMoves tables n k below s ⊎ (s ≡ stack_of conts id)
       by s (inl m) = inl m
       by s (inr e) = inr (e.1 ∙ sym is)
 
@@ -289,7 +289,7 @@ module _ (tables : code_flat.Tables) (n k : ℕ) (below stack : List Place) (sta
   pub ends_so : done_of tables (item_at 0 (dot n k)) ≡ true → below ≡ [] → EndsAlone tables stack
   ends_so done none = subst (λ v. EndsAlone tables v) (sym stack_is) (done, none)
 
-pub goes_nowhere : (tables : code_flat.Tables) (conts : List Cont) (stack : List Place) (a : List ℕ) → stack ≡ []
+pub goes_nowhere : (tables : code_flat.Tables) (conts : List Cont) (stack : List Dot) (a : List ℕ) → stack ≡ []
     → Adds conts (Goes tables stack) a a
 goes_nowhere tables conts stack a none =
     adds_none conts (Goes tables stack) a (λ s g. subst (λ v. Goes tables v s) none g)

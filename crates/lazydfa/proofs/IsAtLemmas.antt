@@ -6,10 +6,10 @@ use Rattle.std.proofs.Common.{◌∙◌, ap}
 use Rattle.std.proofs.Common.{subst, arith, ◌⊎◌, inl, inr, ◌↔◌, append-nil}
 use Rattle.std.proofs.lemmas.Bool.{cases_lt}
 use Rattle.std.specs.Prelude.{slice_get, Option, Some, None, Contains}
-use Rattle.flatgrammar.specs.Flat.{Flat, Place, at}
-use Rattle.flatgrammar.specs.Blocks.{begin_count}
+use Rattle.flatgrammar.specs.Flat.{Flat, Dot, at}
+use Rattle.flatgrammar.specs.ItemClosures.{begin_count}
 use Rattle.flatgrammar.specs.NodeSteps.{flat_of}
-use Rattle.flatgrammar.specs.TableViews.{GiveRoots, whole_root}
+use Rattle.flatgrammar.specs.TableViews.{GiveTargets, start_target}
 use Rattle.flatgrammar.specs.declared.tables.Tables as code_flat
 use Rattle.flatgrammar.proofs.CallOfLemmas.{begun_starts}
 use Rattle.lazydfa.specs.declared.conts.Cont.{Cont}
@@ -17,7 +17,7 @@ use Rattle.lazydfa.specs.declared.cache.State.{State}
 use Rattle.letterclasses.specs.Stacks as st
 use Rattle.letterclasses.specs.Stacks.{IsDoneAt, Moves, Led, led, moves, Reach, Accepts, ReadBy, IsReading, reading}
 use Rattle.letterclasses.specs.Stacks.{Lifted}
-use Rattle.letterclasses.specs.Stacks.{IsFront, IsPlain, AreAlike, Empties}
+use Rattle.letterclasses.specs.Stacks.{IsStackClosure, IsPlain, AreAlike, Empties}
 use Rattle.lazydfa.specs.Conts.{stack_of, last_of, AreKept, Adds, Begun}
 use Rattle.lazydfa.specs.Conts.{IsStackOf, TopReads, GoesOn, here, on, EndsAlone}
 use Rattle.lazydfa.specs.Conts.{IsClosure, AreReaders, ReadsFrom, IsTransition}
@@ -33,37 +33,37 @@ use Rattle.lazydfa.proofs.AreCachedLemmas.{cached_state, cached_conts}
 use Rattle.lazydfa.proofs.MoveLemmas.{whole_begun, from_goes, to_goes, done_reported, reported_done}
 use Rattle.letterclasses.proofs.LiftLemmas.{rests_empty}
 use Rattle.lazydfa.proofs.ReportLemmas.{transition_next, reported_top, top_reported, to_read, from_read}
-use Rattle.letterclasses.proofs.FrontLemmas.{taken_by_tops, next_front, nothing_below, not_ended, split_plain}
+use Rattle.letterclasses.proofs.StackClosureLemmas.{taken_by_tops, next_closure, nothing_below, not_ended, split_plain}
 use Rattle.lazydfa.proofs.AreCachedLemmas.{stack_on, stack_off, goes_as, grown_at}
 
-pub begun_within : (tables : code_flat.Tables) (root : ℕ) (mid : List Cont) (ids read : List ℕ) (under : List Place)
-    → ids ≡ [] → Adds mid (Begun root (begin_count tables root) under) ids read → (id : ℕ) → Contains read id
+pub begun_within : (tables : code_flat.Tables) (target : ℕ) (mid : List Cont) (ids read : List ℕ) (under : List Dot)
+    → ids ≡ [] → Adds mid (Begun target (begin_count tables target) under) ids read → (id : ℕ) → Contains read id
     → id ≤ length mid
-begun_within tables root mid ids read under none adds id h =
+begun_within tables target mid ids read under none adds id h =
     (adds.sound id (subst (λ v. Contains v id) (adds.grown ∙ ap (λ v. v ++ adds.added) none) h)).0
 
 -- what began, closed, and of that what reads
-module _ (tables : code_flat.Tables) (root : ℕ) (mid conts : List Cont) (ids read all next : List ℕ) (ended : Bool)
-    (is_root : whole_root tables ≡ Some root) (under : List Place) (none_under : under ≡ []) (none : ids ≡ [])
-    (adds : Adds mid (Begun root (begin_count tables root) under) ids read)
+module _ (tables : code_flat.Tables) (target : ℕ) (mid conts : List Cont) (ids read all next : List ℕ) (ended : Bool)
+    (is_target : start_target tables ≡ Some target) (under : List Dot) (none_under : under ≡ []) (none : ids ≡ [])
+    (adds : Adds mid (Begun target (begin_count tables target) under) ids read)
     (closure : IsClosure tables mid read conts all ended) (readers : AreReaders tables conts all next) where
   reads_added : (id : ℕ) → Contains read id → Contains adds.added id
   reads_added id h = subst (λ v. Contains v id) (adds.grown ∙ ap (λ v. v ++ adds.added) none) h
 
-  to_begun : (s : List Place) → IsStackOf mid read s → IsBegun tables s
+  to_begun : (s : List Dot) → IsStackOf mid read s → IsBegun tables s
   to_begun s h = record {
-    root = root;
-    is = is_root;
-    begun = subst (λ v. Begun root (begin_count tables root) v s) none_under
-        (subst (λ v. Begun root (begin_count tables root) under v) (sym h.is) (adds.sound h.id
+    target = target;
+    is = is_target;
+    begun = subst (λ v. Begun target (begin_count tables target) v s) none_under
+        (subst (λ v. Begun target (begin_count tables target) under v) (sym h.is) (adds.sound h.id
         (reads_added h.id h.stands)).1);
   }
 
-  of_begun : (s : List Place) → IsBegun tables s → IsStackOf mid read s
+  of_begun : (s : List Dot) → IsBegun tables s → IsStackOf mid read s
   of_begun s b =
-      let both : Some b.root ≡ Some root = sym b.is ∙ is_root in
-      let same : b.root ≡ root = cc both in
-      let w = adds.whole s (subst (λ v. Begun root (begin_count tables root) v s) (sym none_under)
+      let both : Some b.target ≡ Some target = sym b.is ∙ is_target in
+      let same : b.target ≡ target = cc both in
+      let w = adds.whole s (subst (λ v. Begun target (begin_count tables target) v s) (sym none_under)
       (subst (λ v. Begun v (begin_count tables v) [] s) same b.begun)) in
       record { id = w.0; stands = w.1; is = sym w.2.is }
 
@@ -77,7 +77,7 @@ module _ (tables : code_flat.Tables) (root : ℕ) (mid conts : List Cont) (ids r
     );
   }
     where
-      there : (stack : List Place) → IsStackOf conts next stack → TopReads tables stack
+      there : (stack : List Dot) → IsStackOf conts next stack → TopReads tables stack
           × GoesOn tables (IsBegun tables) stack
       there stack s =
           let o = readers.only s.id s.stands in (
@@ -86,7 +86,7 @@ module _ (tables : code_flat.Tables) (root : ℕ) (mid conts : List Cont) (ids r
                 (record { id = s.id; stands = o.0; is = s.is })),
           )
 
-      back : (stack : List Place) → TopReads tables stack → GoesOn tables (IsBegun tables) stack
+      back : (stack : List Dot) → TopReads tables stack → GoesOn tables (IsBegun tables) stack
           → IsStackOf conts next stack
       back stack reads h =
           let s = (closure.stacks stack).1 (goes_as tables _ _ of_begun stack h) in
@@ -96,72 +96,72 @@ module _ (tables : code_flat.Tables) (root : ℕ) (mid conts : List Cont) (ids r
             is = s.is;
           }
 
--- a front by other words
-pub front_as : (flat : Flat) (last : Place → Bool) (x : List ℕ) (j : ℕ) (P Q : List Place → Type 0) (ended : Bool)
-    (below : List Place) → ((s : List Place) → P s → Q s) → ((s : List Place) → Q s → P s)
-    → IsFront flat last x j P ended below → IsFront flat last x j Q ended below
-front_as flat last x j P Q ended below to of f = record {
+-- a closure by other words
+pub closure_as : (flat : Flat) (last : Dot → Bool) (x : List ℕ) (j : ℕ) (P Q : List Dot → Type 0) (ended : Bool)
+    (below : List Dot) → ((s : List Dot) → P s → Q s) → ((s : List Dot) → Q s → P s)
+    → IsStackClosure flat last x j P ended below → IsStackClosure flat last x j Q ended below
+closure_as flat last x j P Q ended below to of f = record {
   reading = λ stack r. (λ h. there stack ((f.reading stack r).0 h), λ h. (f.reading stack r).1 (back stack h));
   all_read = λ top h. f.all_read top (of top h);
   accepts = f.accepts;
 }
   where
-    there : (stack : List Place) → Lifted P below stack ⊎ ((ended ≡ true) × Led flat last (λ v. below ≡ v) stack)
+    there : (stack : List Dot) → Lifted P below stack ⊎ ((ended ≡ true) × Led flat last (λ v. below ≡ v) stack)
         → Lifted Q below stack ⊎ ((ended ≡ true) × Led flat last (λ v. below ≡ v) stack)
     there stack (inl h) = inl (record { top = h.top; is = to h.top h.is; stack_is = h.stack_is })
     there stack (inr h) = inr h
 
-    back : (stack : List Place) → Lifted Q below stack ⊎ ((ended ≡ true) × Led flat last (λ v. below ≡ v) stack)
+    back : (stack : List Dot) → Lifted Q below stack ⊎ ((ended ≡ true) × Led flat last (λ v. below ≡ v) stack)
         → Lifted P below stack ⊎ ((ended ≡ true) × Led flat last (λ v. below ≡ v) stack)
     back stack (inl h) = inl (record { top = h.top; is = of h.top h.is; stack_is = h.stack_is })
     back stack (inr h) = inr h
 
 -- what reads is on the tops alone
-pub plain_front : (flat : Flat) (last : Place → Bool) (x : List ℕ) (j : ℕ) (P : List Place → Type 0) (ended : Bool)
-    (below : List Place) → (ended ≡ true → below ≡ []) → IsFront flat last x j P ended below
+pub plain_closure : (flat : Flat) (last : Dot → Bool) (x : List ℕ) (j : ℕ) (P : List Dot → Type 0) (ended : Bool)
+    (below : List Dot) → (ended ≡ true → below ≡ []) → IsStackClosure flat last x j P ended below
     → IsPlain flat last x j P below
-plain_front flat last x j P true below none f =
+plain_closure flat last x j P true below none f =
     subst (λ v. IsPlain flat last x j P v) (sym (none refl))
-    (nothing_below flat last x j P true (subst (λ v. IsFront flat last x j P true v) (none refl) f))
-plain_front flat last x j P false below none f = not_ended flat last x j P below f
+    (nothing_below flat last x j P true (subst (λ v. IsStackClosure flat last x j P true v) (none refl) f))
+plain_closure flat last x j P false below none f = not_ended flat last x j P below f
 
 -- what all tops stand on is below them
-pub split_front : (flat : Flat) (last : Place → Bool) (x : List ℕ) (j : ℕ) (P Q : List Place → Type 0)
-    (part below : List Place) → IsFront flat last x j P false below
-    → ((top : List Place) → P top ↔ Lifted Q part top) → ((top : List Place) → Q top → IsReading flat top)
-    → IsFront flat last x j Q false (part ++ below)
-split_front flat last x j P Q part below f is reads =
-    let plain = split_plain flat last x j P Q part below (not_ended flat last x j P below f) is reads in
+pub split_closure : (flat : Flat) (last : Dot → Bool) (x : List ℕ) (j : ℕ) (P Q : List Dot → Type 0)
+    (suffix below : List Dot) → IsStackClosure flat last x j P false below
+    → ((top : List Dot) → P top ↔ Lifted Q suffix top) → ((top : List Dot) → Q top → IsReading flat top)
+    → IsStackClosure flat last x j Q false (suffix ++ below)
+split_closure flat last x j P Q suffix below f is reads =
+    let plain = split_plain flat last x j P Q suffix below (not_ended flat last x j P below f) is reads in
     record {
       reading = λ stack r. (λ h. inl ((plain.reading stack r).0 h), λ h. back stack r plain h);
       all_read = reads;
       accepts = (λ a. absurd (let e = (f.accepts.0 a).0 in cc e), λ h. absurd (let e = h.0 in cc e));
     }
   where
-    back : (stack : List Place) → IsReading flat stack → IsPlain flat last x j Q (part ++ below)
-        → Lifted Q (part ++ below) stack
-        ⊎ ((false ≡ true) × Led flat last (λ v. part ++ below ≡ v) stack) → Reach flat last x j stack
+    back : (stack : List Dot) → IsReading flat stack → IsPlain flat last x j Q (suffix ++ below)
+        → Lifted Q (suffix ++ below) stack
+        ⊎ ((false ≡ true) × Led flat last (λ v. suffix ++ below ≡ v) stack) → Reach flat last x j stack
     back stack r plain (inl l) = (plain.reading stack r).1 l
     back stack r plain (inr h) = absurd (let e = h.0 in cc e)
 
 -- after a set that nothing reaches nothing is reached
-reach_past : (flat : Flat) (last : Place → Bool) (x : List ℕ) (j : ℕ) {k : ℕ} {a : List Place}
-    → Reach flat last x k a → j < k → (b : List Place) × Reach flat last x (j + 1) b
+reach_past : (flat : Flat) (last : Dot → Bool) (x : List ℕ) (j : ℕ) {k : ℕ} {a : List Dot}
+    → Reach flat last x k a → j < k → (b : List Dot) × Reach flat last x (j + 1) b
 reach_past flat last x j (st.begins h) lt = absurd (omega (arith, lt))
 reach_past flat last x j (st.moved h m) lt = reach_past flat last x j h lt
 reach_past flat last x j (st.has_read {j = i} {r = r} {below = below} h rd is lies) lt =
     by (λ less. reach_past flat last x j h less) (cases_lt j i)
   where
-    by : (j < i → (b : List Place) × Reach flat last x (j + 1) b) → (j < i) ⊎ (i ≤ j)
-        → (b : List Place) × Reach flat last x (j + 1) b
+    by : (j < i → (b : List Dot) × Reach flat last x (j + 1) b) → (j < i) ⊎ (i ≤ j)
+        → (b : List Dot) × Reach flat last x (j + 1) b
     by ih (inl less) = ih less
     by ih (inr le) =
         let same : i ≡ j = omega (arith, le, lt) in
         (r ∷ below, subst (λ v. Reach flat last x (v + 1) (r ∷ below)) same (st.has_read h rd is lies))
 
-module _ (tables : code_flat.Tables) (roots : GiveRoots (flat_of tables) tables.roots.items) where
+module _ (tables : code_flat.Tables) (targets : GiveTargets (flat_of tables) tables.targets.items) where
   module _ (x : List ℕ) (old new : List Cont) (states more : List State) (kept : AreKept old new)
-      (grown : AreGrown states more) (s j c d : ℕ) (below : List Place) (at_j : IsAt tables old states s x j below)
+      (grown : AreGrown states more) (s j c d : ℕ) (below : List Dot) (at_j : IsAt tables old states s x j below)
       (plain : at_j.state.ended ≡ true → below ≡ [])
       (within : (id : ℕ) → Contains at_j.state.tops.items id → id ≤ length old)
       (letter : slice_get x j ≡ Some c) (alike : AreAlike (flat_of tables) c d) where
@@ -172,36 +172,38 @@ module _ (tables : code_flat.Tables) (roots : GiveRoots (flat_of tables) tables.
 
     plain_at : IsPlain (flat_of tables) (last_of tables) x j (IsStackOf new at_j.state.tops.items) below
     plain_at =
-        plain_front (flat_of tables) (last_of tables) x j (IsStackOf new at_j.state.tops.items) at_j.state.ended below
+        plain_closure (flat_of tables) (last_of tables) x j (IsStackOf new at_j.state.tops.items) at_j.state.ended below
         plain
-        (front_as (flat_of tables) (last_of tables) x j (IsStackOf old at_j.state.tops.items)
+        (closure_as (flat_of tables) (last_of tables) x j (IsStackOf old at_j.state.tops.items)
         (IsStackOf new at_j.state.tops.items) at_j.state.ended below
         (stack_on old new kept at_j.state.tops.items within) (stack_off old new kept at_j.state.tops.items within)
-        at_j.front)
+        at_j.closure)
 
     pub at_next : (t : ℕ) → IsStep tables d new more s t → IsAt tables new more t x (j + 1) below
     at_next t step = record {
       state = step.to;
       is = step.to_is;
-      front = next_front (flat_of tables) (last_of tables) x j c d letter alike (IsStackOf new at_j.state.tops.items)
+      closure = next_closure (flat_of tables) (last_of tables) x j c d letter alike
+          (IsStackOf new at_j.state.tops.items)
           below plain_at (IsStackOf new step.to.tops.items) step.to.ended
-          (transition_next tables roots d new at_j.state.tops.items new step.to.tops.items step.to.ended
+          (transition_next tables targets d new at_j.state.tops.items new step.to.tops.items step.to.ended
           (subst (λ v. IsTransition tables d new v.tops.items new step.to.tops.items step.to.ended)
           (sym (same_state step.from step.from_is)) step.is));
     }
 
-    pub at_push : (t part : ℕ) → IsPush tables d new more s t part
-        → IsAt tables new more t x (j + 1) (stack_of new part ++ below)
-    at_push t part push = record {
+    pub at_push : (t suffix : ℕ) → IsPush tables d new more s t suffix
+        → IsAt tables new more t x (j + 1) (stack_of new suffix ++ below)
+    at_push t suffix push = record {
       state = push.to;
       is = push.to_is;
-      front = subst (λ v. IsFront (flat_of tables) (last_of tables) x (j + 1) (IsStackOf new push.to.tops.items) v
-          (stack_of new part ++ below)) (sym push.runs)
-          (split_front (flat_of tables) (last_of tables) x (j + 1) (IsStackOf new push.read)
-          (IsStackOf new push.to.tops.items) (stack_of new part) below
-          (next_front (flat_of tables) (last_of tables) x j c d letter alike (IsStackOf new at_j.state.tops.items)
+      closure = subst (λ v. IsStackClosure (flat_of tables) (last_of tables) x (j + 1)
+          (IsStackOf new push.to.tops.items) v
+          (stack_of new suffix ++ below)) (sym push.runs)
+          (split_closure (flat_of tables) (last_of tables) x (j + 1) (IsStackOf new push.read)
+          (IsStackOf new push.to.tops.items) (stack_of new suffix) below
+          (next_closure (flat_of tables) (last_of tables) x j c d letter alike (IsStackOf new at_j.state.tops.items)
           below plain_at (IsStackOf new push.read) false
-          (transition_next tables roots d new at_j.state.tops.items new push.read false
+          (transition_next tables targets d new at_j.state.tops.items new push.read false
           (subst (λ v. IsTransition tables d new v.tops.items new push.read false)
           (sym (same_state push.from push.from_is)) push.is)))
           push.split.tops_are
@@ -210,13 +212,13 @@ module _ (tables : code_flat.Tables) (roots : GiveRoots (flat_of tables) tables.
     }
 
     pub next_reached : (from : State) → slice_get more s ≡ Some from
-        → (stack : List Place) × ReadsFrom tables d new from.tops.items stack
+        → (stack : List Dot) × ReadsFrom tables d new from.tops.items stack
         → IsReached (flat_of tables) (last_of tables) x (j + 1)
     next_reached from is some =
         (taken_by_tops (flat_of tables) (last_of tables) x j c d letter alike (IsStackOf new at_j.state.tops.items)
         below plain_at).1 (
           some.0,
-          to_read tables roots d new at_j.state.tops.items
+          to_read tables targets d new at_j.state.tops.items
               (subst (λ v. ReadsFrom tables d new v.tops.items some.0) (sym (same_state from is)) some.1),
         )
 
@@ -227,45 +229,45 @@ module _ (tables : code_flat.Tables) (roots : GiveRoots (flat_of tables) tables.
         (IsStackOf new at_j.state.tops.items) below
         plain_at).0 r in
         dead.none t.0 (subst (λ v. ReadsFrom tables d new v.tops.items t.0) (same_state dead.from dead.from_is)
-        (from_read tables roots d new at_j.state.tops.items t.1))
+        (from_read tables targets d new at_j.state.tops.items t.1))
 
-  join_is : (o : Option (Option ℕ)) (root : ℕ) → o ≡ Some (Some root) → option_flatten o ≡ Some root
-  join_is o root h = ap option_flatten h
+  join_is : (o : Option (Option ℕ)) (target : ℕ) → o ≡ Some (Some target) → option_flatten o ≡ Some target
+  join_is o target h = ap option_flatten h
 
-  is_joined : (o : Option (Option ℕ)) (root : ℕ) → option_flatten o ≡ Some root → o ≡ Some (Some root)
-  is_joined None root h = absurd (cc h)
-  is_joined (Some o) root h = ap (λ v. Some v) h
+  is_joined : (o : Option (Option ℕ)) (target : ℕ) → option_flatten o ≡ Some target → o ≡ Some (Some target)
+  is_joined None target h = absurd (cc h)
+  is_joined (Some o) target h = ap (λ v. Some v) h
 
   module _ (x : List ℕ) where
-    from_reach : {k : ℕ} {a : List Place} → Reach (flat_of tables) (last_of tables) x k a → k ≡ 0
+    from_reach : {k : ℕ} {a : List Dot} → Reach (flat_of tables) (last_of tables) x k a → k ≡ 0
         → GoesOn tables (IsBegun tables) a
     from_reach (st.begins h) none =
-        let b = whole_begun tables roots h in
-        here (record { root = b.0; is = join_is _ b.0 b.1; begun = b.2 })
-    from_reach (st.moved h m) none = on (from_reach h none) (to_goes tables roots m)
+        let b = whole_begun tables targets h in
+        here (record { target = b.0; is = join_is _ b.0 b.1; begun = b.2 })
+    from_reach (st.moved h m) none = on (from_reach h none) (to_goes tables targets m)
     from_reach (st.has_read h rd is lies) none = absurd (omega (arith, none))
 
-    start_reach : (a : List Place) → IsBegun tables a → Reach (flat_of tables) (last_of tables) x 0 a
+    start_reach : (a : List Dot) → IsBegun tables a → Reach (flat_of tables) (last_of tables) x 0 a
     start_reach a b =
         subst (λ v. Reach (flat_of tables) (last_of tables) x 0 v) (sym b.begun.is)
-        (st.begins (begun_starts tables roots b.root b.begun.step tables.whole
-        (slice_get tables.nodes.items b.root) refl b.begun.begins
-        ((roots tables.whole b.root).0 (is_joined _ b.root b.is))))
+        (st.begins (begun_starts tables targets b.target b.begun.step tables.start
+        (slice_get tables.nodes.items b.target) refl b.begun.begins
+        ((targets tables.start b.target).0 (is_joined _ b.target b.is))))
 
-    to_reach : {a : List Place} → GoesOn tables (IsBegun tables) a → Reach (flat_of tables) (last_of tables) x 0 a
+    to_reach : {a : List Dot} → GoesOn tables (IsBegun tables) a → Reach (flat_of tables) (last_of tables) x 0 a
     to_reach (here {stack = s} h) = start_reach s h
-    to_reach (on {stack = s} h g) = st.moved (to_reach h) (from_goes tables roots s g)
+    to_reach (on {stack = s} h g) = st.moved (to_reach h) (from_goes tables targets s g)
 
-    ends_so : (p : Place) → IsDoneAt (flat_of tables) p → EndsAlone tables (p ∷ [])
-    ends_so (at n k) d = (done_reported tables roots d, refl)
+    ends_so : (p : Dot) → IsDoneAt (flat_of tables) p → EndsAlone tables (p ∷ [])
+    ends_so (at n k) d = (done_reported tables targets d, refl)
 
-    accepted_so : (stack : List Place) → Reach (flat_of tables) (last_of tables) x 0 stack → EndsAlone tables stack
+    accepted_so : (stack : List Dot) → Reach (flat_of tables) (last_of tables) x 0 stack → EndsAlone tables stack
         → Accepts (flat_of tables) (last_of tables) x 0
     accepted_so [] h e = absurd e
     accepted_so (at n k ∷ below) h e = record {
-      place = at n k;
+      position = at n k;
       reached = subst (λ v. Reach (flat_of tables) (last_of tables) x 0 (at n k ∷ v)) e.1 h;
-      done = reported_done tables roots n k (slice_get tables.nodes.items n) refl e.0;
+      done = reported_done tables targets n k (slice_get tables.nodes.items n) refl e.0;
     }
 
     pub at_start : (conts : List Cont) (states : List State) (t : ℕ) → IsStartAt tables conts states t
@@ -273,7 +275,7 @@ module _ (tables : code_flat.Tables) (roots : GiveRoots (flat_of tables) tables.
     at_start conts states t s = record {
       state = s.state;
       is = s.is;
-      front = record {
+      closure = record {
         reading = λ stack r. (
           λ h. inl (record {
             top = stack;
@@ -284,13 +286,13 @@ module _ (tables : code_flat.Tables) (roots : GiveRoots (flat_of tables) tables.
         );
         all_read = λ top h. reported_top tables top ((s.start.tops_are top).0 h).0;
         accepts = (
-          λ a. (s.start.ended_is.1 (a.place ∷ [], from_reach a.reached refl, ends_so a.place a.done), inl refl),
+          λ a. (s.start.ended_is.1 (a.position ∷ [], from_reach a.reached refl, ends_so a.position a.done), inl refl),
           λ h. let e = s.start.ended_is.0 h.0 in accepted_so e.0 (to_reach e.1) e.2,
         );
       };
     }
       where
-        back : (stack : List Place) → IsReading (flat_of tables) stack
+        back : (stack : List Dot) → IsReading (flat_of tables) stack
             → Lifted (IsStackOf conts s.state.tops.items) [] stack
             ⊎ ((s.state.ended ≡ true) × Led (flat_of tables) (last_of tables) (λ v. [] ≡ v) stack)
             → Reach (flat_of tables) (last_of tables) x 0 stack
@@ -302,7 +304,7 @@ module _ (tables : code_flat.Tables) (roots : GiveRoots (flat_of tables) tables.
             (top_reported tables r))
 
   module _ (x : List ℕ) (old new : List Cont) (states more : List State) (kept : AreKept old new)
-      (grown : AreGrown states more) (s j c k : ℕ) (below : List Place) (at_j : IsAt tables old states s x j below)
+      (grown : AreGrown states more) (s j c k : ℕ) (below : List Dot) (at_j : IsAt tables old states s x j below)
       (plain : at_j.state.ended ≡ true → below ≡ []) (samples : List ℕ) (cells : List Cell)
       (cached : AreCached tables samples old states cells) (letter : slice_get x j ≡ Some c)
       (class : IsClassOf (flat_of tables) samples c k) (cell : Cell)
@@ -318,20 +320,22 @@ module _ (tables : code_flat.Tables) (roots : GiveRoots (flat_of tables) tables.
         at_next x old new states more kept grown s j c class.sample below at_j plain within_at letter class.alike t
         (is_cell (To t) to)
 
-    pub step_push : (t part : ℕ) → cell ≡ Push t part → IsAt tables new more t x (j + 1) (stack_of new part ++ below)
-    step_push t part push =
-        at_push x old new states more kept grown s j c class.sample below at_j plain within_at letter class.alike t part
-        (is_cell (Push t part) push)
+    pub step_push : (t suffix : ℕ) → cell ≡ Push t suffix
+        → IsAt tables new more t x (j + 1) (stack_of new suffix ++ below)
+    step_push t suffix push =
+        at_push x old new states more kept grown s j c class.sample below at_j plain within_at letter class.alike t
+        suffix
+        (is_cell (Push t suffix) push)
 
-    pub pushed_part : (t part : ℕ) → cell ≡ Push t part
-        → (part ≤ length new) × (stack_of new part ≡ [] → ⊥)
-    pushed_part t part push =
-        let p = is_cell (Push t part) push in (p.split.within, p.split.full)
+    pub pushed_suffix : (t suffix : ℕ) → cell ≡ Push t suffix
+        → (suffix ≤ length new) × (stack_of new suffix ≡ [] → ⊥)
+    pushed_suffix t suffix push =
+        let p = is_cell (Push t suffix) push in (p.split.within, p.split.full)
 
-    pub push_runs : (t part : ℕ) → cell ≡ Push t part → (got : State) → slice_get more t ≡ Some got
+    pub push_runs : (t suffix : ℕ) → cell ≡ Push t suffix → (got : State) → slice_get more t ≡ Some got
         → got.ended ≡ false
-    push_runs t part push got there =
-        let p = is_cell (Push t part) push in
+    push_runs t suffix push got there =
+        let p = is_cell (Push t suffix) push in
         let both : Some p.to ≡ Some got = sym p.to_is ∙ there in
         let same : p.to ≡ got = cc both in
         ap (λ v. v.ended) (sym same) ∙ p.runs
@@ -342,9 +346,9 @@ module _ (tables : code_flat.Tables) (roots : GiveRoots (flat_of tables) tables.
         next_reached x old new states more kept grown s j c class.sample below at_j plain within_at letter class.alike
         h.from h.from_is h.some
 
-    pub push_reached : (t part : ℕ) → cell ≡ Push t part → IsReached (flat_of tables) (last_of tables) x (j + 1)
-    push_reached t part push =
-        let h = is_cell (Push t part) push in
+    pub push_reached : (t suffix : ℕ) → cell ≡ Push t suffix → IsReached (flat_of tables) (last_of tables) x (j + 1)
+    push_reached t suffix push =
+        let h = is_cell (Push t suffix) push in
         next_reached x old new states more kept grown s j c class.sample below at_j plain within_at letter class.alike
         h.from h.from_is h.some
 

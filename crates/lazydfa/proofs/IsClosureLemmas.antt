@@ -7,7 +7,7 @@ use Rattle.std.proofs.lemmas.Bool.{cases_lt}
 use Rattle.std.proofs.lemmas.List.Elements.{Contains-append_left, Contains-append_cases}
 use Rattle.std.proofs.lemmas.Option.{slice_get_within, slice_get-get_or}
 use Rattle.std.specs.Prelude.{slice_get, Some, Contains, IsTrue}
-use Rattle.flatgrammar.specs.Flat.{Place}
+use Rattle.flatgrammar.specs.Flat.{Dot}
 use Rattle.flatgrammar.specs.declared.tables.Tables as code_flat
 use Rattle.lazydfa.specs.declared.conts.Cont.{Cont}
 use Rattle.lazydfa.specs.Conts.{stack_of, AreKept, Adds, Goes, EndsAlone, GoesOn, here, on, IsStackOf, IsClosing}
@@ -26,11 +26,11 @@ contains_at (x ∷ xs) (suc k) id is =
     let h = contains_at xs k id is in (suc h.0, (let lt = h.1 in omega (arith, lt)), h.2)
 
 pub record StandsAt (xs : List ℕ) (id : ℕ) : Type 0 where
-  pub place : ℕ
-  pub is : slice_get xs place ≡ Some id
+  pub position : ℕ
+  pub is : slice_get xs position ≡ Some id
 
 pub stands_at : (xs : List ℕ) (id : ℕ) → Contains xs id → StandsAt xs id
-stands_at xs id h = record { place = h.0; is = slice_get-get_or xs h.0 id h.1 ∙ ap (λ v. Some v) h.2 }
+stands_at xs id h = record { position = h.0; is = slice_get-get_or xs h.0 id h.1 ∙ ap (λ v. Some v) h.2 }
 
 module _ (tables : code_flat.Tables) (first : List Cont) (given : List ℕ) where
   pub closing_none : ((id : ℕ) → Contains given id → id ≤ length first)
@@ -83,7 +83,7 @@ module _ (tables : code_flat.Tables) (first : List Cont) (given : List ℕ) wher
       still : (k other : ℕ) → slice_get ids k ≡ Some other → stack_of new other ≡ stack_of conts other
       still k other is = kept_stack conts new kept other (c.within other (contains_at ids k other is))
 
-      moved : {stack : List Place} → IsStackOf conts ids stack → IsStackOf new more stack
+      moved : {stack : List Dot} → IsStackOf conts ids stack → IsStackOf new more stack
       moved s = record {
         id = s.id;
         stands = subst (λ v. Contains v s.id) (sym adds.grown) (Contains-append_left ids adds.added s.id s.stands);
@@ -96,7 +96,7 @@ module _ (tables : code_flat.Tables) (first : List Cont) (given : List ℕ) wher
           let both : Some id ≡ Some other = sym at_count ∙ subst (λ v. slice_get ids v ≡ Some other) here is in cc both
 
       closed : (k other : ℕ) → (k < count) ⊎ (count ≤ k) → k < count + 1 → slice_get ids k ≡ Some other
-          → (stack : List Place) → Goes tables (stack_of new other) stack → IsStackOf new more stack
+          → (stack : List Dot) → Goes tables (stack_of new other) stack → IsStackOf new more stack
       closed k other (inl less) lt is stack g =
           moved (c.closed k other less is stack (subst (λ v. Goes tables v stack) (still k other is) g))
       closed k other (inr le) lt is stack g =
@@ -162,7 +162,7 @@ module _ (tables : code_flat.Tables) (first : List Cont) (given : List ℕ) wher
     ended_is = (λ h. to_end (c.ended_is.0 h), λ h. from_end h.0 h.1 h.2);
   }
     where
-      back : {stack : List Place} → GoesOn tables (IsStackOf first given) stack → IsStackOf conts ids stack
+      back : {stack : List Dot} → GoesOn tables (IsStackOf first given) stack → IsStackOf conts ids stack
       back (here s) = record {
         id = s.id;
         stands = c.given_stand s.id s.stands;
@@ -171,20 +171,20 @@ module _ (tables : code_flat.Tables) (first : List Cont) (given : List ℕ) wher
       back (on {stack = stack} {next = next} h g) =
           let s = back h in
           let t = stands_at ids s.id s.stands in
-          c.closed t.place s.id (let w = slice_get_within ids t.place s.id t.is in omega (arith, w, le)) t.is next
+          c.closed t.position s.id (let w = slice_get_within ids t.position s.id t.is in omega (arith, w, le)) t.is next
           (subst (λ v. Goes tables v next) s.is g)
 
       to_end : (k : ℕ) × (id : ℕ) × (k < count) × (slice_get ids k ≡ Some id) × EndsAlone tables (stack_of conts id)
-          → (stack : List Place) × IsStackOf conts ids stack × EndsAlone tables stack
+          → (stack : List Dot) × IsStackOf conts ids stack × EndsAlone tables stack
       to_end e = (stack_of conts e.1, record { id = e.1; stands = contains_at ids e.0 e.1 e.3; is = refl }, e.4)
 
-      from_end : (stack : List Place) → IsStackOf conts ids stack → EndsAlone tables stack → ended ≡ true
+      from_end : (stack : List Dot) → IsStackOf conts ids stack → EndsAlone tables stack → ended ≡ true
       from_end stack s e =
           let t = stands_at ids s.id s.stands in
           c.ended_is.1 (
-            t.place,
+            t.position,
             s.id,
-            (let w = slice_get_within ids t.place s.id t.is in omega (arith, w, le)),
+            (let w = slice_get_within ids t.position s.id t.is in omega (arith, w, le)),
             t.is,
             subst (λ v. EndsAlone tables v) s.is e,
           )

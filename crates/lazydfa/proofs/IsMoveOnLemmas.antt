@@ -7,35 +7,35 @@ use Rattle.std.proofs.lemmas.List.{append-nil}
 use Rattle.std.proofs.lemmas.List.Elements.{Contains-append_left, Contains-push, Contains-push_cases}
 use Rattle.std.proofs.lemmas.Option.{slice_get_within}
 use Rattle.std.specs.Prelude.{slice_get, Some, Contains}
-use Rattle.flatgrammar.specs.Flat.{Place, at}
+use Rattle.flatgrammar.specs.Flat.{Dot, at}
 use Rattle.lazydfa.specs.declared.conts.Cont.{Cont}
 use Rattle.lazydfa.specs.Conts.{stack_of, AreKept}
-use Rattle.lazydfa.specs.Spines.{places_of, IsMoveOn, MovesOn, AreMoved}
+use Rattle.lazydfa.specs.Spines.{positions_of, IsMoveOn, MovesOn, AreMoved}
 use Rattle.lazydfa.proofs.ContsLemmas.{kept_stack, kept_within}
 use Rattle.lazydfa.proofs.IsClosureLemmas.{stands_at}
 
-spine_end : (xs : List Cont) (c : Cont) (s : List Place)
-    → places_of (xs ++ c ∷ []) ++ s ≡ places_of xs ++ (at c.node c.step ∷ s)
+spine_end : (xs : List Cont) (c : Cont) (s : List Dot)
+    → positions_of (xs ++ c ∷ []) ++ s ≡ positions_of xs ++ (at c.node c.step ∷ s)
 spine_end [] c s = refl
 spine_end (x ∷ xs) c s = ap (λ v. at x.node x.step ∷ v) (spine_end xs c s)
 
--- one place more was taken
-pub spine_taken : (conts : List Cont) (id next : ℕ) (spine new : List Cont) (c : Cont) (whole : List Place)
+-- one dotted rule more was taken
+pub spine_taken : (conts : List Cont) (id next : ℕ) (spine new : List Cont) (c : Cont) (whole : List Dot)
     → new ≡ spine ++ c ∷ [] → next ≡ c.next → stack_of conts id ≡ at c.node c.step ∷ stack_of conts c.next
-    → whole ≡ places_of spine ++ stack_of conts id → whole ≡ places_of new ++ stack_of conts next
+    → whole ≡ positions_of spine ++ stack_of conts id → whole ≡ positions_of new ++ stack_of conts next
 spine_taken conts id next spine new c whole grown is_next is before =
-    before ∙ (ap (λ v. places_of spine ++ v) is
+    before ∙ (ap (λ v. positions_of spine ++ v) is
     ∙ (sym (spine_end spine c (stack_of conts c.next))
-    ∙ (ap (λ v. places_of v ++ stack_of conts c.next) (sym grown)
-    ∙ ap (λ v. places_of new ++ stack_of conts v) (sym is_next))))
+    ∙ (ap (λ v. positions_of v ++ stack_of conts c.next) (sym grown)
+    ∙ ap (λ v. positions_of new ++ stack_of conts v) (sym is_next))))
 
--- one place more was put
-pub spine_put : (conts more : List Cont) (id next : ℕ) (old new : List Cont) (c : Cont) (whole : List Place)
+-- one dotted rule more was put
+pub spine_put : (conts more : List Cont) (id next : ℕ) (old new : List Cont) (c : Cont) (whole : List Dot)
     → old ≡ new ++ c ∷ [] → stack_of more next ≡ at c.node c.step ∷ stack_of conts id
-    → whole ≡ places_of old ++ stack_of conts id → whole ≡ places_of new ++ stack_of more next
+    → whole ≡ positions_of old ++ stack_of conts id → whole ≡ positions_of new ++ stack_of more next
 spine_put conts more id next old new c whole grown is before =
-    before ∙ (ap (λ v. places_of v ++ stack_of conts id) grown
-    ∙ (spine_end new c (stack_of conts id) ∙ ap (λ v. places_of new ++ v) (sym is)))
+    before ∙ (ap (λ v. positions_of v ++ stack_of conts id) grown
+    ∙ (spine_end new c (stack_of conts id) ∙ ap (λ v. positions_of new ++ v) (sym is)))
 
 -- of the first so many
 pub record AreMovedTo (first : List Cont) (tops : List ℕ) (off : ℕ) (conts : List Cont) (old new : List ℕ)
@@ -124,5 +124,5 @@ moved_all first conts tops off on old new count le m = record {
   only = m.only;
   all = λ top h.
       let t = stands_at tops top h in
-      m.all t.place top (let w = slice_get_within tops t.place top t.is in omega (arith, w, le)) t.is;
+      m.all t.position top (let w = slice_get_within tops t.position top t.is in omega (arith, w, le)) t.is;
 }

@@ -5,17 +5,17 @@ use Rattle.std.proofs.Common.{subst, arith, ◌⊎◌, inl, inr}
 use Rattle.std.proofs.lemmas.Bool.{cases_lt}
 use Rattle.std.proofs.lemmas.List.{append-nil}
 use Rattle.std.specs.Prelude.{slice_get, Some, Contains}
-use Rattle.flatgrammar.specs.Flat.{Place}
+use Rattle.flatgrammar.specs.Flat.{Dot}
 use Rattle.flatgrammar.specs.declared.tables.Tables as code_flat
 use Rattle.letterclasses.specs.Stacks.{Lifted}
 use Rattle.lazydfa.specs.declared.conts.Cont.{Cont}
 use Rattle.lazydfa.specs.Conts.{stack_of, AreKept, AreOlder, IsStackOf, TopReads}
 use Rattle.lazydfa.specs.Spines.{IsMoveOn, AreMoved}
-use Rattle.lazydfa.specs.StackParts.{IsSplitOff}
+use Rattle.lazydfa.specs.StackSuffixes.{IsSplitOff}
 use Rattle.lazydfa.proofs.ContsLemmas.{kept_stack, kept_within, cont_found, stack_none}
 use Rattle.lazydfa.proofs.IsAtLemmas.{some_at}
 
--- an id that is not that of nothing has a place on top
+-- an id that is not that of nothing has a dotted rule on top
 pub stack_full : (conts : List Cont) (id : ℕ) → AreOlder conts → 0 < id → id ≤ length conts → stack_of conts id ≡ [] → ⊥
 stack_full conts id older some within none =
     let got = some_at conts (id - 1) (omega (arith, some, within)) in
@@ -23,37 +23,37 @@ stack_full conts id older some within none =
     cc (is, none)
 
 module _ (tables : code_flat.Tables) (first conts : List Cont) (kept : AreKept first conts) (older : AreOlder first)
-    (tops base : List ℕ) (part : ℕ) (within : (id : ℕ) → Contains tops id → id ≤ length first) (some : 0 < part)
-    (part_in : part ≤ length first) (none : List ℕ) (is_none : none ≡ [])
-    (moved : AreMoved first tops part conts none base 0)
+    (tops base : List ℕ) (suffix : ℕ) (within : (id : ℕ) → Contains tops id → id ≤ length first) (some : 0 < suffix)
+    (suffix_in : suffix ≤ length first) (none : List ℕ) (is_none : none ≡ [])
+    (moved : AreMoved first tops suffix conts none base 0)
     (reads : (id : ℕ) → Contains base id → TopReads tables (stack_of conts id)) where
-  same_part : stack_of conts part ≡ stack_of first part
-  same_part = kept_stack first conts kept part part_in
+  same_suffix : stack_of conts suffix ≡ stack_of first suffix
+  same_suffix = kept_stack first conts kept suffix suffix_in
 
   added_is : base ≡ moved.added
   added_is = moved.grown ∙ ap (λ v. v ++ moved.added) is_none
 
-  base_is : (top id : ℕ) (m : IsMoveOn first top part conts id 0) → stack_of conts id ≡ m.base
+  base_is : (top id : ℕ) (m : IsMoveOn first top suffix conts id 0) → stack_of conts id ≡ m.base
   base_is top id m = m.is ∙ (ap (λ v. m.base ++ v) (stack_none first 0 refl) ∙ append-nil m.base)
 
-  put_together : (top id : ℕ) → Contains tops top → IsMoveOn first top part conts id 0
-      → stack_of conts top ≡ stack_of conts id ++ stack_of conts part
+  put_together : (top id : ℕ) → Contains tops top → IsMoveOn first top suffix conts id 0
+      → stack_of conts top ≡ stack_of conts id ++ stack_of conts suffix
   put_together top id h m =
       kept_stack first conts kept top (within top h) ∙ (m.was
-      ∙ (ap (λ v. v ++ stack_of first part) (sym (base_is top id m))
-      ∙ ap (λ v. stack_of conts id ++ v) (sym same_part)))
+      ∙ (ap (λ v. v ++ stack_of first suffix) (sym (base_is top id m))
+      ∙ ap (λ v. stack_of conts id ++ v) (sym same_suffix)))
 
-  pub is_split_off : IsSplitOff tables conts tops base part
+  pub is_split_off : IsSplitOff tables conts tops base suffix
   is_split_off = record {
-    within = kept_within first conts kept part part_in;
+    within = kept_within first conts kept suffix suffix_in;
     base_within = λ id h. (moved.only id (subst (λ v. Contains v id) added_is h)).2.within;
-    full = λ empty. stack_full first part older some part_in (sym same_part ∙ empty);
+    full = λ empty. stack_full first suffix older some suffix_in (sym same_suffix ∙ empty);
     tops_are = λ stack. (λ h. there stack h, λ h. back stack h);
     all_read = reads;
   }
     where
-      there : (stack : List Place) → IsStackOf conts tops stack
-          → Lifted (IsStackOf conts base) (stack_of conts part) stack
+      there : (stack : List Dot) → IsStackOf conts tops stack
+          → Lifted (IsStackOf conts base) (stack_of conts suffix) stack
       there stack h =
           let m = moved.all h.id h.stands in
           record {
@@ -62,14 +62,14 @@ module _ (tables : code_flat.Tables) (first conts : List Cont) (kept : AreKept f
             stack_is = h.is ∙ put_together h.id m.0 h.stands m.2;
           }
 
-      back : (stack : List Place) → Lifted (IsStackOf conts base) (stack_of conts part) stack
+      back : (stack : List Dot) → Lifted (IsStackOf conts base) (stack_of conts suffix) stack
           → IsStackOf conts tops stack
       back stack l =
           let m = moved.only l.is.id (subst (λ v. Contains v l.is.id) added_is l.is.stands) in
           record {
             id = m.0;
             stands = m.1;
-            is = l.stack_is ∙ (ap (λ v. v ++ stack_of conts part) l.is.is
+            is = l.stack_is ∙ (ap (λ v. v ++ stack_of conts suffix) l.is.is
                 ∙ sym (put_together m.0 l.is.id m.1 m.2));
           }
 

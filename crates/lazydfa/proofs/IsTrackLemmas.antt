@@ -6,7 +6,7 @@ use Rattle.std.proofs.lemmas.Bool.{cases_lt}
 use Rattle.std.proofs.lemmas.Option.{slice_get_within}
 use Rattle.std.specs.Prelude.{slice_get, Some, if◌then◌else◌}
 use Rattle.flatgrammar.specs.NodeSteps.{flat_of}
-use Rattle.flatgrammar.specs.TableViews.{GiveRoots}
+use Rattle.flatgrammar.specs.TableViews.{GiveTargets}
 use Rattle.flatgrammar.specs.declared.tables.Tables as code_flat
 use Rattle.flatgrammar.specs.declared.verdict.Verdict.TheVariants.{Yes, No}
 use Rattle.lazydfa.specs.declared.conts.Cont.{Cont}
@@ -21,7 +21,7 @@ use Rattle.lazydfa.specs.declared.memo.Memo.{Memo}
 use Rattle.lazydfa.specs.Transitions.{IsEndAt, IsTransitionTo, IsTaken, StaysBy, StaysOver, last_word}
 use Rattle.lazydfa.specs.Memos.{IsEndOf, IsMemo, IsOver, IsSettled, IsRunStop, IsTrack}
 use Rattle.lazydfa.specs.RunVerdicts.{IsReached, IsRunVerdict}
-use Rattle.lazydfa.specs.StackParts.{below_of}
+use Rattle.lazydfa.specs.StackSuffixes.{below_of}
 use Rattle.lazydfa.proofs.ContsLemmas.{kept_same}
 use Rattle.lazydfa.proofs.AreCachedLemmas.{grown_same, row_is, class_is}
 use Rattle.lazydfa.proofs.IsAtLemmas.{some_at, step_to, step_reached}
@@ -29,29 +29,31 @@ use Rattle.lazydfa.proofs.IsOverLemmas.{over_kept, plain_below, settled_running}
 use Rattle.lazydfa.proofs.IsRunVerdictLemmas.{end_verdict}
 
 -- by a letter that is known to lead to a state
-module _ (tables : code_flat.Tables) (roots : GiveRoots (flat_of tables) tables.roots.items) (samples : List ℕ)
+module _ (tables : code_flat.Tables) (targets : GiveTargets (flat_of tables) tables.targets.items) (samples : List ℕ)
     (conts : List Cont) (states : List State) (cells : List Cell) (cached : AreCached tables samples conts states cells)
-    (parts : List ℕ) (x : List ℕ) (s j c k t : ℕ) (runs : IsSettled tables conts states parts s x j)
+    (suffixes : List ℕ) (x : List ℕ) (s j c k t : ℕ) (runs : IsSettled tables conts states suffixes s x j)
     (letter : slice_get x j ≡ Some c) (class : IsClassOf (flat_of tables) samples c k)
     (known : (d : ℕ) → slice_get samples k ≡ Some d → IsCell tables d conts states s (To t)) where
-  over_next : IsOver tables conts states parts t x (j + 1)
+  over_next : IsOver tables conts states suffixes t x (j + 1)
   over_next =
-      over_kept tables conts conts states states (kept_same conts) (grown_same states) cached.within parts t x (j + 1)
-      (step_to tables roots x conts conts states states (kept_same conts) (grown_same states) s j c k
-      (below_of conts parts) runs.over.at (plain_below conts parts runs.over.at.state.ended runs.plain) samples cells
-      cached letter class (To t) known t refl) runs.over.parts_are
+      over_kept tables conts conts states states (kept_same conts) (grown_same states) cached.within suffixes t x
+      (j + 1)
+      (step_to tables targets x conts conts states states (kept_same conts) (grown_same states) s j c k
+      (below_of conts suffixes) runs.over.at
+      (plain_below conts suffixes runs.over.at.state.ended runs.plain) samples cells
+      cached letter class (To t) known t refl) runs.over.suffixes_are
 
-  next_bare : parts ≡ [] → IsSettled tables conts states parts t x (j + 1)
+  next_bare : suffixes ≡ [] → IsSettled tables conts states suffixes t x (j + 1)
   next_bare none = record { over = over_next; plain = λ ended. none }
 
   next_running : (there : State) → slice_get states t ≡ Some there → there.ended ≡ false
-      → IsSettled tables conts states parts t x (j + 1)
+      → IsSettled tables conts states suffixes t x (j + 1)
   next_running there there_is runs_on =
-      settled_running tables conts states parts t x (j + 1) there.ended
+      settled_running tables conts states suffixes t x (j + 1) there.ended
       (λ got is. let both : Some there ≡ Some got = sym there_is ∙ is in let same : there ≡ got = cc both in
       ap (λ v. v.ended) same) runs_on over_next
 
-  next_same : t ≡ s → IsSettled tables conts states parts t x (j + 1)
+  next_same : t ≡ s → IsSettled tables conts states suffixes t x (j + 1)
   next_same same = record {
     over = over_next;
     plain = λ ended. runs.plain (
@@ -63,12 +65,13 @@ module _ (tables : code_flat.Tables) (roots : GiveRoots (flat_of tables) tables.
 
   next_reached : IsReached (flat_of tables) (last_of tables) x (j + 1)
   next_reached =
-      step_reached tables roots x conts conts states states (kept_same conts) (grown_same states) s j c k
-      (below_of conts parts) runs.over.at (plain_below conts parts runs.over.at.state.ended runs.plain) samples cells
+      step_reached tables targets x conts conts states states (kept_same conts) (grown_same states) s j c k
+      (below_of conts suffixes) runs.over.at
+      (plain_below conts suffixes runs.over.at.state.ended runs.plain) samples cells
       cached letter class (To t) known t refl
 
 -- a word below 2 ^ 31 in the place of a class
-module _ (tables : code_flat.Tables) (roots : GiveRoots (flat_of tables) tables.roots.items) (samples : List ℕ)
+module _ (tables : code_flat.Tables) (targets : GiveTargets (flat_of tables) tables.targets.items) (samples : List ℕ)
     (memo : Memo) (is_memo : IsMemo tables samples memo) (x : List ℕ) (row j c k next : ℕ)
     (before : IsTrack tables samples memo x (record { row = row; at = j })) (letter : slice_get x j ≡ Some c)
     (class : IsClassOf (flat_of tables) samples c k) (word : slice_get memo.transitions.items (row + k) ≡ Some next)
@@ -79,11 +82,11 @@ module _ (tables : code_flat.Tables) (roots : GiveRoots (flat_of tables) tables.
   class_fits : k < length samples + 1
   class_fits = let w = class_within in omega (arith, w)
 
-  word_place : row + k ≡ before.state * (length samples + 1) + k
-  word_place = ap (λ v. v + k) before.row
+  word_position : row + k ≡ before.state * (length samples + 1) + k
+  word_position = ap (λ v. v + k) before.row
 
   word_class : (row + k) % (length samples + 1) ≡ k
-  word_class = class_is before.state k (length samples + 1) (row + k) class_fits word_place
+  word_class = class_is before.state k (length samples + 1) (row + k) class_fits word_position
 
   transition_is : IsTransitionTo tables samples memo.cache.conts.items.items memo.cache.states.items (row + k) next
   transition_is =
@@ -94,42 +97,44 @@ module _ (tables : code_flat.Tables) (roots : GiveRoots (flat_of tables) tables.
       → IsCell tables d memo.cache.conts.items.items memo.cache.states.items before.state (To transition_is.to)
   cell_known d sample =
       subst (λ v. IsCell tables d memo.cache.conts.items.items memo.cache.states.items v (To transition_is.to))
-      (row_is before.state k (length samples + 1) (row + k) class_fits word_place)
+      (row_is before.state k (length samples + 1) (row + k) class_fits word_position)
       (transition_is.leads d (subst (λ v. slice_get samples v ≡ Some d) (sym word_class) sample))
 
-  track_to : IsSettled tables memo.cache.conts.items.items memo.cache.states.items memo.parts.items transition_is.to x
+  track_to : IsSettled tables memo.cache.conts.items.items memo.cache.states.items memo.suffixes.items transition_is.to
+      x
       (j + 1)
       → IsTrack tables samples memo x (record { row = next; at = j + 1 })
   track_to settled = record {
     state = transition_is.to;
     row = transition_is.row;
     runs = settled;
-    reached = λ _. next_reached tables roots samples memo.cache.conts.items.items memo.cache.states.items
-        memo.cache.cells.items is_memo.cached memo.parts.items x before.state j c k transition_is.to before.runs letter
+    reached = λ _. next_reached tables targets samples memo.cache.conts.items.items memo.cache.states.items
+        memo.cache.cells.items is_memo.cached memo.suffixes.items x before.state j c k transition_is.to before.runs
+        letter
         class
         cell_known;
   }
 
-  track_bare : memo.parts.items ≡ [] → IsTrack tables samples memo x (record { row = next; at = j + 1 })
+  track_bare : memo.suffixes.items ≡ [] → IsTrack tables samples memo x (record { row = next; at = j + 1 })
   track_bare none =
-      track_to (next_bare tables roots samples memo.cache.conts.items.items memo.cache.states.items
-      memo.cache.cells.items is_memo.cached memo.parts.items x before.state j c k transition_is.to before.runs letter
+      track_to (next_bare tables targets samples memo.cache.conts.items.items memo.cache.states.items
+      memo.cache.cells.items is_memo.cached memo.suffixes.items x before.state j c k transition_is.to before.runs letter
       class
       cell_known none)
 
   track_running : slice_get memo.transitions.items (next + length samples) ≡ Some 0
       → IsTrack tables samples memo x (record { row = next; at = j + 1 })
   track_running last =
-      let place : next + length samples ≡ transition_is.to * (length samples + 1) + length samples =
+      let position : next + length samples ≡ transition_is.to * (length samples + 1) + length samples =
       ap (λ v. v + length samples) transition_is.row in
       let wider : length samples < length samples + 1 = omega arith in
       let end = (is_memo.transitions (next + length samples) 0 last).runs
-      (class_is transition_is.to (length samples) (length samples + 1) (next + length samples) wider place) refl in
-      track_to (next_running tables roots samples memo.cache.conts.items.items memo.cache.states.items
-      memo.cache.cells.items is_memo.cached memo.parts.items x before.state j c k transition_is.to before.runs letter
+      (class_is transition_is.to (length samples) (length samples + 1) (next + length samples) wider position) refl in
+      track_to (next_running tables targets samples memo.cache.conts.items.items memo.cache.states.items
+      memo.cache.cells.items is_memo.cached memo.suffixes.items x before.state j c k transition_is.to before.runs letter
       class
       cell_known end.state (subst (λ v. slice_get memo.cache.states.items v ≡ Some end.state)
-      (row_is transition_is.to (length samples) (length samples + 1) (next + length samples) wider place) end.is)
+      (row_is transition_is.to (length samples) (length samples + 1) (next + length samples) wider position) end.is)
       end.ended_is)
 
   track_same : next ≡ row → IsTrack tables samples memo x (record { row = next; at = j + 1 })
@@ -137,15 +142,15 @@ module _ (tables : code_flat.Tables) (roots : GiveRoots (flat_of tables) tables.
       let wider : 0 < length samples + 1 = omega arith in
       let there : next ≡ transition_is.to * (length samples + 1) + 0 = let r = transition_is.row in omega (arith, r) in
       let here : next ≡ before.state * (length samples + 1) + 0 = let r = before.row in omega (arith, r, back) in
-      track_to (next_same tables roots samples memo.cache.conts.items.items memo.cache.states.items
-      memo.cache.cells.items is_memo.cached memo.parts.items x before.state j c k transition_is.to before.runs letter
+      track_to (next_same tables targets samples memo.cache.conts.items.items memo.cache.states.items
+      memo.cache.cells.items is_memo.cached memo.suffixes.items x before.state j c k transition_is.to before.runs letter
       class
       cell_known (sym (row_is transition_is.to 0 (length samples + 1) next wider there)
       ∙ row_is before.state 0 (length samples + 1) next wider here))
 
-module _ (tables : code_flat.Tables) (roots : GiveRoots (flat_of tables) tables.roots.items) (samples : List ℕ)
+module _ (tables : code_flat.Tables) (targets : GiveTargets (flat_of tables) tables.targets.items) (samples : List ℕ)
     (memo : Memo) (is_memo : IsMemo tables samples memo) (x : List ℕ) where
-  pub transition_taken : (row j c k next : ℕ) (bare : Bool) → (bare ≡ true → memo.parts.items ≡ [])
+  pub transition_taken : (row j c k next : ℕ) (bare : Bool) → (bare ≡ true → memo.suffixes.items ≡ [])
       → IsTrack tables samples memo x (record { row = row; at = j }) → slice_get x j ≡ Some c
       → IsClassOf (flat_of tables) samples c k → IsTaken memo.transitions.items (length samples) bare (row + k) next
       → IsTrack tables samples memo x (record { row = next; at = j + 1 })
@@ -154,9 +159,9 @@ module _ (tables : code_flat.Tables) (roots : GiveRoots (flat_of tables) tables.
       by : (bare ≡ true) ⊎ (slice_get memo.transitions.items (next + length samples) ≡ Some 0)
           → IsTrack tables samples memo x (record { row = next; at = j + 1 })
       by (inl is) =
-          track_bare tables roots samples memo is_memo x row j c k next before letter class taken.0 taken.1 (none is)
+          track_bare tables targets samples memo is_memo x row j c k next before letter class taken.0 taken.1 (none is)
       by (inr last) =
-          track_running tables roots samples memo is_memo x row j c k next before letter class taken.0 taken.1 last
+          track_running tables targets samples memo is_memo x row j c k next before letter class taken.0 taken.1 last
 
   -- by symbols that lead from a row to that row
   module _ (low : List ℕ) (classes : AreClasses (flat_of tables) low samples) (row from : ℕ) (below : row < 2 ^ 31)
@@ -172,7 +177,7 @@ module _ (tables : code_flat.Tables) (roots : GiveRoots (flat_of tables) tables.
           let before = stays_more n (omega (arith, within)) (λ j c le lt. stays j c le (omega (arith, lt))) track in
           subst (λ v. IsTrack tables samples memo x (record { row = row; at = v }))
           (let e : from + n + 1 ≡ from + suc n = omega arith in e)
-          (track_same tables roots samples memo is_memo x row (from + n) some.0 by.0 row before some.1 by.1 by.2 below
+          (track_same tables targets samples memo is_memo x row (from + n) some.0 by.0 row before some.1 by.1 by.2 below
           refl)
 
       pub stays_taken : (to : ℕ) → from ≤ to → to ≤ length x
@@ -227,12 +232,12 @@ module _ (low samples transitions x : List ℕ) (row : ℕ) where
 -- the row of a state stands for the state
 module _ (tables : code_flat.Tables) (samples : List ℕ) (memo : Memo) (x : List ℕ) where
   pub track_of : (row state stride j : ℕ) → stride ≡ length samples + 1 → row ≡ state * stride + 0
-      → IsSettled tables memo.cache.conts.items.items memo.cache.states.items memo.parts.items state x j
+      → IsSettled tables memo.cache.conts.items.items memo.cache.states.items memo.suffixes.items state x j
       → (0 < j → IsReached (flat_of tables) (last_of tables) x j)
       → IsTrack tables samples memo x (record { row = row; at = j })
-  track_of row state stride j wide place runs reached = record {
+  track_of row state stride j wide position runs reached = record {
     state = state;
-    row = let e : row ≡ state * (length samples + 1) + 0 = subst (λ v. row ≡ state * v + 0) wide place in
+    row = let e : row ≡ state * (length samples + 1) + 0 = subst (λ v. row ≡ state * v + 0) wide position in
         omega (arith, e);
     runs = runs;
     reached = reached;
@@ -240,22 +245,22 @@ module _ (tables : code_flat.Tables) (samples : List ℕ) (memo : Memo) (x : Lis
 
   pub runs_by_row : (row stride j : ℕ) → stride ≡ length samples + 1
       → IsTrack tables samples memo x (record { row = row; at = j })
-      → IsSettled tables memo.cache.conts.items.items memo.cache.states.items memo.parts.items (row / stride) x j
+      → IsSettled tables memo.cache.conts.items.items memo.cache.states.items memo.suffixes.items (row / stride) x j
   runs_by_row row stride j wide track =
       let first : row ≡ track.state * (length samples + 1) + 0 = let r = track.row in omega (arith, r) in
-      subst (λ v. IsSettled tables memo.cache.conts.items.items memo.cache.states.items memo.parts.items v x j)
+      subst (λ v. IsSettled tables memo.cache.conts.items.items memo.cache.states.items memo.suffixes.items v x j)
       (sym (row_is track.state 0 (length samples + 1) row (omega arith) first) ∙ ap (λ v. row / v) (sym wide))
       track.runs
 
   -- .. and over another memo, if the state does
   pub stays_at : (new : Memo) (track : Track) → IsTrack tables samples memo x track
-      → IsSettled tables new.cache.conts.items.items new.cache.states.items new.parts.items
+      → IsSettled tables new.cache.conts.items.items new.cache.states.items new.suffixes.items
       (track.row / (length samples + 1)) x track.at → IsTrack tables samples new x track
   stays_at new track t runs = record {
     state = t.state;
     row = t.row;
     runs = let first : track.row ≡ t.state * (length samples + 1) + 0 = let r = t.row in omega (arith, r) in
-        subst (λ v. IsSettled tables new.cache.conts.items.items new.cache.states.items new.parts.items v x track.at)
+        subst (λ v. IsSettled tables new.cache.conts.items.items new.cache.states.items new.suffixes.items v x track.at)
         (row_is t.state 0 (length samples + 1) track.row (omega arith) first) runs;
     reached = t.reached;
   }
@@ -268,24 +273,24 @@ module _ (tables : code_flat.Tables) (samples : List ℕ) (memo : Memo) (x : Lis
       let within = is.within in
       let end : stop.at ≡ length x = omega (arith, within, le) in
       end_verdict tables memo.cache.conts.items.items memo.cache.states.items is.tracks.state x stop.at
-      (below_of memo.cache.conts.items.items memo.parts.items) is.tracks.runs.over.at
-      (plain_below memo.cache.conts.items.items memo.parts.items is.tracks.runs.over.at.state.ended
+      (below_of memo.cache.conts.items.items memo.suffixes.items) is.tracks.runs.over.at
+      (plain_below memo.cache.conts.items.items memo.suffixes.items is.tracks.runs.over.at.state.ended
       is.tracks.runs.plain) end is.tracks.reached stop.at end ended (ends tables is_memo is.tracks.state
       is.tracks.row is.tracks.runs.over.at.state is.tracks.runs.over.at.is)
 
 pub row_state : (s row stride n : ℕ) → stride ≡ n + 1 → row ≡ s * (n + 1) → row / stride ≡ s
-row_state s row stride n wide place =
-    ap (λ v. row / v) wide ∙ row_is s 0 (n + 1) row (omega arith) (omega (arith, place))
+row_state s row stride n wide position =
+    ap (λ v. row / v) wide ∙ row_is s 0 (n + 1) row (omega arith) (omega (arith, position))
 
 -- the last word of a row
 module _ (tables : code_flat.Tables) (samples : List ℕ) (memo : Memo) (is_memo : IsMemo tables samples memo)
-    (row s : ℕ) (place : row ≡ s * (length samples + 1)) (got : State)
+    (row s : ℕ) (position : row ≡ s * (length samples + 1)) (got : State)
     (there : slice_get memo.cache.states.items s ≡ Some got) where
   end_says : (ended : Bool) → IsEndAt samples memo.cache.states.items (row + length samples) ended → ended ≡ got.ended
   end_says ended end =
       let wider : length samples < length samples + 1 = omega arith in
       let at_end : row + length samples ≡ s * (length samples + 1) + length samples =
-      ap (λ v. v + length samples) place in
+      ap (λ v. v + length samples) position in
       let both : Some end.state ≡ Some got =
       sym (subst (λ v. slice_get memo.cache.states.items v ≡ Some end.state)
       (row_is s (length samples) (length samples + 1) (row + length samples) wider at_end) end.is) ∙ there in
@@ -295,7 +300,7 @@ module _ (tables : code_flat.Tables) (samples : List ℕ) (memo : Memo) (is_memo
   last_class : (row + length samples) % (length samples + 1) ≡ length samples
   last_class =
       class_is s (length samples) (length samples + 1) (row + length samples) (omega arith)
-      (ap (λ v. v + length samples) place)
+      (ap (λ v. v + length samples) position)
 
   pub last_says : (ended : Bool)
       → slice_get memo.transitions.items (row + length samples) ≡ Some (last_word ended) → ended ≡ got.ended

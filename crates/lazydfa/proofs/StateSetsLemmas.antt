@@ -8,12 +8,12 @@ use Rattle.std.proofs.lemmas.List.Sorted.{Contains-permutation, IsPermutation-sy
 use Rattle.std.proofs.lemmas.Option.{slice_get-get_or}
 use Rattle.std.specs.List.Sorted.{IsPermutation}
 use Rattle.std.specs.Prelude.{slice_get, Some, Contains}
-use Rattle.flatgrammar.specs.Flat.{Flat, Place}
+use Rattle.flatgrammar.specs.Flat.{Flat, Dot}
 use Rattle.flatgrammar.specs.NodeSteps.{flat_of}
-use Rattle.flatgrammar.specs.TableViews.{GiveRoots}
+use Rattle.flatgrammar.specs.TableViews.{GiveTargets}
 use Rattle.flatgrammar.specs.declared.tables.Tables as code_flat
 use Rattle.flatgrammar.proofs.CallOfLemmas.{get_map, get_unmap}
-use Rattle.letterclasses.specs.Stacks.{IsFront, IsNext, Led, led, moves, LedToEnd, ReadBy}
+use Rattle.letterclasses.specs.Stacks.{IsStackClosure, IsNext, Led, led, moves, LedToEnd, ReadBy}
 use Rattle.lazydfa.specs.declared.conts.Cont.{Cont}
 use Rattle.lazydfa.specs.declared.cache.State.{State}
 use Rattle.lazydfa.specs.Conts.{stack_of, last_of, AreKept, IsStackOf, IsTransition}
@@ -22,7 +22,7 @@ use Rattle.lazydfa.specs.StateSets.{AreMoreStates, IsLed, IsNextState, IsStartSt
 use Rattle.lazydfa.specs.StateSets.{StateSet, StateSets}
 use Rattle.lazydfa.proofs.AreCachedLemmas.{grown_at, transition_kept}
 use Rattle.lazydfa.proofs.ContsLemmas.{kept_same, kept_stack}
-use Rattle.lazydfa.proofs.IsAtLemmas.{at_start, front_as}
+use Rattle.lazydfa.proofs.IsAtLemmas.{at_start, closure_as}
 use Rattle.lazydfa.proofs.ReportLemmas.{transition_next}
 
 pub contained_at : {A : Type 0} (xs : List A) (k : ℕ) (x : A) → slice_get xs k ≡ Some x → Contains xs x
@@ -35,19 +35,19 @@ pub got_at : {A : Type 0} (xs : List A) (x : A) (h : Contains xs x) → slice_ge
 got_at xs x h = slice_get-get_or xs h.0 x h.1 ∙ ap (λ v. Some v) h.2
 
 module _ (conts : List Cont) (ids : List ℕ) where
-  to_list : (s : List Place) → IsStackOf conts ids s → Contains (map (stack_of conts) ids) s
+  to_list : (s : List Dot) → IsStackOf conts ids s → Contains (map (stack_of conts) ids) s
   to_list s h =
       subst (λ v. Contains (map (stack_of conts) ids) v) (sym h.is)
       (contained_at (map (stack_of conts) ids) h.stands.0 (stack_of conts h.id)
       (get_map (stack_of conts) ids h.stands.0 (got_at ids h.id h.stands)))
 
-  from_list : (s : List Place) → Contains (map (stack_of conts) ids) s → IsStackOf conts ids s
+  from_list : (s : List Dot) → Contains (map (stack_of conts) ids) s → IsStackOf conts ids s
   from_list s h =
       let u = get_unmap (stack_of conts) ids h.0 s (got_at (map (stack_of conts) ids) s h) in
       record { id = u.from; stands = contained_at ids h.0 u.from u.at; is = sym u.is }
 
 -- the stacks of states stay
-map_same : (f g : ℕ → List Place) (ids : List ℕ) → ((id : ℕ) → Contains ids id → f id ≡ g id) → map f ids ≡ map g ids
+map_same : (f g : ℕ → List Dot) (ids : List ℕ) → ((id : ℕ) → Contains ids id → f id ≡ g id) → map f ids ≡ map g ids
 map_same f g [] same = refl
 map_same f g (x ∷ ids) same =
     ap (λ v. v ∷ map f ids) (same x (0, omega arith, refl))
@@ -79,26 +79,26 @@ module _ (old new : List Cont) (kept : AreKept old new) where
   }
 
 -- a transition by other words
-module _ (flat : Flat) (last : Place → Bool) where
-  led_as : (P Q : List Place → Type 0) → ((s : List Place) → P s → Q s) → {s : List Place} → Led flat last P s
+module _ (flat : Flat) (last : Dot → Bool) where
+  led_as : (P Q : List Dot → Type 0) → ((s : List Dot) → P s → Q s) → {s : List Dot} → Led flat last P s
       → Led flat last Q s
   led_as P Q to {s} (led h) = led (to s h)
   led_as P Q to (moves h m) = moves (led_as P Q to h) m
 
-  module _ (c : ℕ) (P Q : List Place → Type 0) where
-    read_as : ((s : List Place) → P s → Q s) → (s : List Place) → ReadBy flat last P c s → ReadBy flat last Q c s
+  module _ (c : ℕ) (P Q : List Dot → Type 0) where
+    read_as : ((s : List Dot) → P s → Q s) → (s : List Dot) → ReadBy flat last P c s → ReadBy flat last Q c s
     read_as to s (ReadBy.reads {q = q} {below = below} h rd lies) = ReadBy.reads (to (q ∷ below) h) rd lies
 
-    after_as : ((s : List Place) → P s → Q s) → {s : List Place} → Led flat last (ReadBy flat last P c) s
+    after_as : ((s : List Dot) → P s → Q s) → {s : List Dot} → Led flat last (ReadBy flat last P c) s
         → Led flat last (ReadBy flat last Q c) s
     after_as to h = led_as (ReadBy flat last P c) (ReadBy flat last Q c) (read_as to) h
 
-    end_as : ((s : List Place) → P s → Q s) → LedToEnd flat last (ReadBy flat last P c)
+    end_as : ((s : List Dot) → P s → Q s) → LedToEnd flat last (ReadBy flat last P c)
         → LedToEnd flat last (ReadBy flat last Q c)
-    end_as to h = record { place = h.place; led_to = after_as to h.led_to; done = h.done }
+    end_as to h = record { position = h.position; led_to = after_as to h.led_to; done = h.done }
 
-  next_as : (c : ℕ) (P Q N M : List Place → Type 0) (ended : Bool) → ((s : List Place) → P s → Q s)
-      → ((s : List Place) → Q s → P s) → ((s : List Place) → N s → M s) → ((s : List Place) → M s → N s)
+  next_as : (c : ℕ) (P Q N M : List Dot → Type 0) (ended : Bool) → ((s : List Dot) → P s → Q s)
+      → ((s : List Dot) → Q s → P s) → ((s : List Dot) → N s → M s) → ((s : List Dot) → M s → N s)
       → IsNext flat last P c N ended → IsNext flat last Q c M ended
   next_as c P Q N M ended to of on off h = record {
     tops_are = λ top. (
@@ -108,7 +108,7 @@ module _ (flat : Flat) (last : Place → Bool) where
     ended_is = (λ e. end_as c P Q to (h.ended_is.0 e), λ e. h.ended_is.1 (end_as c Q P of e));
   }
 
-module _ (tables : code_flat.Tables) (roots : GiveRoots (flat_of tables) tables.roots.items) (conts : List Cont)
+module _ (tables : code_flat.Tables) (targets : GiveTargets (flat_of tables) tables.targets.items) (conts : List Cont)
     (states : List State) where
   abbrev Sets : StateSets
   Sets = record { tables = tables; states = sets_of conts states }
@@ -123,24 +123,26 @@ module _ (tables : code_flat.Tables) (roots : GiveRoots (flat_of tables) tables.
         (Contains (map (stack_of conts) l.from.tops.items)) (IsStackOf conts l.to.tops.items)
         (Contains (map (stack_of conts) l.to.tops.items)) l.to.ended (to_list conts l.from.tops.items)
         (from_list conts l.from.tops.items) (to_list conts l.to.tops.items) (from_list conts l.to.tops.items)
-        (transition_next tables roots c conts l.from.tops.items conts l.to.tops.items l.to.ended l.is);
+        (transition_next tables targets c conts l.from.tops.items conts l.to.tops.items l.to.ended l.is);
   }
 
   pub start_state : (t : ℕ) → IsStartAt tables conts states t → IsStartState Sets t
   start_state t s = record {
     state = state_set_of conts s.state;
     is = get_map (state_set_of conts) states t s.is;
-    front = λ x. front_as (flat_of tables) (last_of tables) x 0 (IsStackOf conts s.state.tops.items)
+    closure = λ x. closure_as (flat_of tables) (last_of tables) x 0 (IsStackOf conts s.state.tops.items)
         (Contains (map (stack_of conts) s.state.tops.items)) s.state.ended [] (to_list conts s.state.tops.items)
-        (from_list conts s.state.tops.items) (first x (at_start tables roots x conts states t s));
+        (from_list conts s.state.tops.items) (first x (at_start tables targets x conts states t s));
   }
     where
-      first : (x : List ℕ) (a : IsAt tables conts states t x 0 []) → IsFront (flat_of tables) (last_of tables) x 0
+      first : (x : List ℕ) (a : IsAt tables conts states t x 0 [])
+          → IsStackClosure (flat_of tables) (last_of tables) x 0
           (IsStackOf conts s.state.tops.items) s.state.ended []
       first x a =
           let same : a.state ≡ s.state = cc (a.is, s.is) in
-          subst (λ v. IsFront (flat_of tables) (last_of tables) x 0 (IsStackOf conts v.tops.items) v.ended []) same
-          a.front
+          subst (λ v. IsStackClosure (flat_of tables) (last_of tables) x 0 (IsStackOf conts v.tops.items) v.ended [])
+          same
+          a.closure
 
 -- the ids of a transition in another order
 pub tops_reordered : (tables : code_flat.Tables) (c : ℕ) (first : List Cont) (tops : List ℕ) (conts : List Cont)
@@ -179,11 +181,11 @@ module _ (tables : code_flat.Tables) (conts mid new : List Cont) (states more : 
   })
 
 -- a state without ids has no stack
-to_empty : (f : ℕ → List Place) (ids : List ℕ) → length ids ≡ 0 → map f ids ≡ []
+to_empty : (f : ℕ → List Dot) (ids : List ℕ) → length ids ≡ 0 → map f ids ≡ []
 to_empty f [] none = refl
 to_empty f (x ∷ ids) none = absurd (omega (arith, none))
 
-from_empty : (f : ℕ → List Place) (ids : List ℕ) → map f ids ≡ [] → length ids ≡ 0
+from_empty : (f : ℕ → List Dot) (ids : List ℕ) → map f ids ≡ [] → length ids ≡ 0
 from_empty f [] none = refl
 from_empty f (x ∷ ids) none = absurd (cc none)
 

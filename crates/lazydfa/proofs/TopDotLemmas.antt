@@ -5,10 +5,10 @@ use Rattle.std.proofs.Common.{◌⊎◌, inl, inr}
 use Rattle.std.proofs.lemmas.Bool.{cases_lt}
 use Rattle.std.proofs.lemmas.Option.{slice_get_within}
 use Rattle.std.specs.Prelude.{slice_get, Some, Contains}
-use Rattle.flatgrammar.specs.Blocks.{dot}
-use Rattle.flatgrammar.specs.Flat.{Place, at}
-use Rattle.flatgrammar.specs.Places.{In}
-use Rattle.flatgrammar.specs.declared.block.DottedRule.{DottedRule}
+use Rattle.flatgrammar.specs.ItemClosures.{dot}
+use Rattle.flatgrammar.specs.Flat.{Dot, at}
+use Rattle.flatgrammar.specs.Positions.{In}
+use Rattle.flatgrammar.specs.declared.closure.DottedRule.{DottedRule}
 use Rattle.flatgrammar.proofs.InLemmas.{in_left, at_end, before_end}
 use Rattle.lazydfa.specs.declared.conts.Cont.{Cont}
 use Rattle.lazydfa.specs.Conts.{stack_of, AreTopsOf}
@@ -18,9 +18,9 @@ use Rattle.lazydfa.proofs.IsClosureLemmas.{contains_at, stands_at}
 module _ (conts : List Cont) (ids : List ℕ) where
   -- of the first so many ids
   pub record AreFirstTops (count : ℕ) (dots : List DottedRule) : Type 0 where
-    pub sound : (s : DottedRule) → In s dots → (id : ℕ) × Contains ids id × (below : List Place)
+    pub sound : (s : DottedRule) → In s dots → (id : ℕ) × Contains ids id × (below : List Dot)
         × (stack_of conts id ≡ at s.node s.step ∷ below)
-    pub whole : (s : DottedRule) (k id : ℕ) (below : List Place) → k < count → slice_get ids k ≡ Some id
+    pub whole : (s : DottedRule) (k id : ℕ) (below : List Dot) → k < count → slice_get ids k ≡ Some id
         → stack_of conts id ≡ at s.node s.step ∷ below → In s dots
 
   pub no_tops : (none : List DottedRule) → none ≡ [] → AreFirstTops 0 none
@@ -45,7 +45,7 @@ module _ (conts : List Cont) (ids : List ℕ) where
     whole = λ s k other below lt at_k stack. by s k other below lt at_k stack (cases_lt k count);
   }
     where
-      by : (s : DottedRule) (k other : ℕ) (below : List Place) → k < count + 1 → slice_get ids k ≡ Some other
+      by : (s : DottedRule) (k other : ℕ) (below : List Dot) → k < count + 1 → slice_get ids k ≡ Some other
           → stack_of conts other ≡ at s.node s.step ∷ below → (k < count) ⊎ (count ≤ k) → In s dots
       by s k other below lt at_k stack (inl less) = are.whole s k other below less at_k stack
       by s k other below lt at_k stack (inr le) =
@@ -53,7 +53,7 @@ module _ (conts : List Cont) (ids : List ℕ) where
           let empty : [] ≡ at s.node s.step ∷ below = sym (stack_none conts other (sym same ∙ none)) ∙ stack in
           absurd (cc empty)
 
-  pub top_added : (count id : ℕ) (dots new : List DottedRule) (one : DottedRule) (under : List Place)
+  pub top_added : (count id : ℕ) (dots new : List DottedRule) (one : DottedRule) (under : List Dot)
       → slice_get ids count ≡ Some id → stack_of conts id ≡ at one.node one.step ∷ under → new ≡ dots ++ one ∷ []
       → AreFirstTops count dots → AreFirstTops (count + 1) new
   top_added count id dots new one under is top grown are = record {
@@ -62,7 +62,7 @@ module _ (conts : List Cont) (ids : List ℕ) where
         (by s k other below lt at_k stack (cases_lt k count));
   }
     where
-      from : (s : DottedRule) → In s dots ⊎ (s ≡ one) → (id : ℕ) × Contains ids id × (below : List Place)
+      from : (s : DottedRule) → In s dots ⊎ (s ≡ one) → (id : ℕ) × Contains ids id × (below : List Dot)
           × (stack_of conts id ≡ at s.node s.step ∷ below)
       from s (inl h) = are.sound s h
       from s (inr same) = (
@@ -73,7 +73,7 @@ module _ (conts : List Cont) (ids : List ℕ) where
             (sym same) top,
       )
 
-      by : (s : DottedRule) (k other : ℕ) (below : List Place) → k < count + 1 → slice_get ids k ≡ Some other
+      by : (s : DottedRule) (k other : ℕ) (below : List Dot) → k < count + 1 → slice_get ids k ≡ Some other
           → stack_of conts other ≡ at s.node s.step ∷ below → (k < count) ⊎ (count ≤ k) → In s (dots ++ one ∷ [])
       by s k other below lt at_k stack (inl less) = in_left (one ∷ []) (are.whole s k other below less at_k stack)
       by s k other below lt at_k stack (inr le) =
@@ -93,5 +93,6 @@ module _ (conts : List Cont) (ids : List ℕ) where
     sound = are.sound;
     whole = λ s id below stands stack.
         let t = stands_at ids id stands in
-        are.whole s t.place id below (let w = slice_get_within ids t.place id t.is in omega (arith, w, le)) t.is stack;
+        are.whole s t.position id below
+        (let w = slice_get_within ids t.position id t.is in omega (arith, w, le)) t.is stack;
   }

@@ -7,8 +7,8 @@ use Rattle.std.proofs.lemmas.Bool.{cases_lt}
 use Rattle.std.proofs.lemmas.List.Elements.{Contains-append_left, Contains-append_right, Contains-append_cases}
 use Rattle.std.proofs.lemmas.Option.{slice_get_within}
 use Rattle.std.specs.Prelude.{slice_get, Some, Contains}
-use Rattle.flatgrammar.specs.Flat.{Place, at}
-use Rattle.flatgrammar.specs.Blocks.{item_at, dot}
+use Rattle.flatgrammar.specs.Flat.{Dot, at}
+use Rattle.flatgrammar.specs.ItemClosures.{item_at, dot}
 use Rattle.flatgrammar.specs.NodeSteps.{IfSomeSet}
 use Rattle.flatgrammar.specs.TableViews.{read_of}
 use Rattle.flatgrammar.specs.declared.tables.Tables as code_flat
@@ -19,18 +19,18 @@ use Rattle.lazydfa.proofs.ContsLemmas.{adds_none, adds_one, kept_id, kept_stack,
 use Rattle.lazydfa.proofs.IsClosureLemmas.{contains_at, stands_at}
 
 module _ (tables : code_flat.Tables) (c : ℕ) where
-  pub reads_nowhere : (conts : List Cont) (stack : List Place) (a : List ℕ) → stack ≡ []
+  pub reads_nowhere : (conts : List Cont) (stack : List Dot) (a : List ℕ) → stack ≡ []
       → Adds conts (ReadsOn tables c stack) a a
   reads_nowhere conts stack a none =
       adds_none conts (ReadsOn tables c stack) a (λ s g. subst (λ v. ReadsOn tables c v s) none g)
 
-  pub reads_not : (conts : List Cont) (stack : List Place) (n k : ℕ) (below : List Place) (a : List ℕ)
+  pub reads_not : (conts : List Cont) (stack : List Dot) (n k : ℕ) (below : List Dot) (a : List ℕ)
       → stack ≡ at n k ∷ below → (IfSomeSet (read_of tables (item_at 0 (dot n k))) c → ⊥) →
       Adds conts (ReadsOn tables c stack) a a
   reads_not conts stack n k below a is never =
       adds_none conts (ReadsOn tables c stack) a (λ s g. never (subst (λ v. ReadsOn tables c v s) is g).0)
 
-  pub reads_one : (old new : List Cont) (stack : List Place) (n k : ℕ) (below : List Place) (id : ℕ) (a b : List ℕ)
+  pub reads_one : (old new : List Cont) (stack : List Dot) (n k : ℕ) (below : List Dot) (id : ℕ) (a b : List ℕ)
       → stack ≡ at n k ∷ below → AreKept old new → IfSomeSet (read_of tables (item_at 0 (dot n k))) c
       → IsIdOf new id (at n (k + 1) ∷ below) → IsAdded a b id → Adds new (ReadsOn tables c stack) a b
   reads_one old new stack n k below id a b is kept reads is_id one =
@@ -39,20 +39,20 @@ module _ (tables : code_flat.Tables) (c : ℕ) where
       (adds_none old (λ s. ⊥) a (λ s h. h)) is_id one (λ s h. absurd h) (reads, refl) (λ s g. inr g.1))
 
   -- from the first so many of the ids
-  pub record ReadsFirst (conts : List Cont) (ids : List ℕ) (count : ℕ) (next : List Place) : Type 0 where
-    pub place : ℕ
+  pub record ReadsFirst (conts : List Cont) (ids : List ℕ) (count : ℕ) (next : List Dot) : Type 0 where
+    pub position : ℕ
     pub id : ℕ
-    pub before : place < count
-    pub stands : slice_get ids place ≡ Some id
+    pub before : position < count
+    pub stands : slice_get ids position ≡ Some id
     pub reads : ReadsOn tables c (stack_of conts id) next
 
   pub first_none : (conts : List Cont) (ids a : List ℕ) → Adds conts (ReadsFirst conts ids 0) a a
   first_none conts ids a =
       adds_none conts (ReadsFirst conts ids 0) a (λ s r. let lt = r.before in omega (arith, lt))
 
-  adds_both : (mid new : List Cont) (P Q R : List Place → Type 0) (a b d : List ℕ) → AreKept mid new → Adds mid P a b
-      → Adds new Q b d → ((s : List Place) → P s → R s) → ((s : List Place) → Q s → R s)
-      → ((s : List Place) → R s → P s ⊎ Q s) → Adds new R a d
+  adds_both : (mid new : List Cont) (P Q R : List Dot → Type 0) (a b d : List ℕ) → AreKept mid new → Adds mid P a b
+      → Adds new Q b d → ((s : List Dot) → P s → R s) → ((s : List Dot) → Q s → R s)
+      → ((s : List Dot) → R s → P s ⊎ Q s) → Adds new R a d
   adds_both mid new P Q R a b d kept p q p_in q_in split = record {
     added = p.added ++ q.added;
     grown = q.grown ∙ (ap (λ v. v ++ q.added) p.grown ∙ append_assoc a p.added q.added);
@@ -66,7 +66,7 @@ module _ (tables : code_flat.Tables) (c : ℕ) where
           (kept_within mid new kept id s.0, subst (λ v. R v) (sym (kept_stack mid new kept id s.0)) (p_in _ s.1))
       by id (inr h) = let s = q.sound id h in (s.0, q_in _ s.1)
 
-      which : (s : List Place) → P s ⊎ Q s → (id : ℕ) × Contains d id × IsIdOf new id s
+      which : (s : List Dot) → P s ⊎ Q s → (id : ℕ) × Contains d id × IsIdOf new id s
       which s (inl h) =
           let w = p.whole s h in (
             w.0,
@@ -83,27 +83,28 @@ module _ (tables : code_flat.Tables) (c : ℕ) where
       adds_both mid new (ReadsFirst first ids count) (ReadsOn tables c (stack_of mid id))
       (ReadsFirst first ids (count + 1)) a b d more p q
       (λ s r. record {
-        place = r.place;
+        position = r.position;
         id = r.id;
         before = (let lt = r.before in omega (arith, lt));
         stands = r.stands;
         reads = r.reads;
       })
       (λ s r. record {
-        place = count;
+        position = count;
         id = id;
         before = omega arith;
         stands = is;
         reads = subst (λ v. ReadsOn tables c v s) (kept_stack first mid kept id le) r;
       })
-      (λ s r. split s r (cases_lt r.place count))
+      (λ s r. split s r (cases_lt r.position count))
     where
-      split : (s : List Place) (r : ReadsFirst first ids (count + 1) s) → (r.place < count) ⊎ (count ≤ r.place)
+      split : (s : List Dot) (r : ReadsFirst first ids (count + 1) s) → (r.position < count) ⊎ (count ≤ r.position)
           → ReadsFirst first ids count s ⊎ ReadsOn tables c (stack_of mid id) s
-      split s r (inl lt) = inl (record { place = r.place; id = r.id; before = lt; stands = r.stands; reads = r.reads })
+      split s r (inl lt) = inl
+          (record { position = r.position; id = r.id; before = lt; stands = r.stands; reads = r.reads })
       split s r (inr at_end) =
           let lt = r.before in
-          let here : r.place ≡ count = omega (arith, at_end, lt) in
+          let here : r.position ≡ count = omega (arith, at_end, lt) in
           let both : Some r.id ≡ Some id = sym r.stands ∙ (ap (λ v. slice_get ids v) here ∙ is) in
           let same : r.id ≡ id = cc both in
           inr (subst (λ v. ReadsOn tables c v s) (ap (λ v. stack_of first v) same
@@ -119,16 +120,16 @@ module _ (tables : code_flat.Tables) (c : ℕ) where
       s.0,
       record {
         id = s.1.id;
-        stands = contains_at ids s.1.place s.1.id s.1.stands;
+        stands = contains_at ids s.1.position s.1.id s.1.stands;
         reads = s.1.reads;
       },
     );
     whole = λ s r.
         let t = stands_at ids r.id r.stands in
         p.whole s (record {
-          place = t.place;
+          position = t.position;
           id = r.id;
-          before = (let w = slice_get_within ids t.place r.id t.is in omega (arith, w, le));
+          before = (let w = slice_get_within ids t.position r.id t.is in omega (arith, w, le));
           stands = t.is;
           reads = r.reads;
         });
@@ -155,19 +156,19 @@ module _ (tables : code_flat.Tables) (c : ℕ) where
       added : (id : ℕ) → Contains read id → Contains adds.added id
       added id h = subst (λ v. Contains v id) (adds.grown ∙ ap (λ v. v ++ adds.added) none) h
 
-      from_given : {s : List Place} → GoesOn tables (IsStackOf mid read) s
+      from_given : {s : List Dot} → GoesOn tables (IsStackOf mid read) s
           → GoesOn tables (ReadsFrom tables c first tops) s
       from_given (here h) =
           here (subst (λ v. ReadsFrom tables c first tops v) (sym h.is) (adds.sound h.id (added h.id h.stands)).1)
       from_given (on h g) = on (from_given h) g
 
-      to_given : {s : List Place} → GoesOn tables (ReadsFrom tables c first tops) s
+      to_given : {s : List Dot} → GoesOn tables (ReadsFrom tables c first tops) s
           → GoesOn tables (IsStackOf mid read) s
       to_given (here {stack = s} h) = let w = adds.whole s h in
           here (record { id = w.0; stands = w.1; is = sym w.2.is })
       to_given (on h g) = on (to_given h) g
 
-      there : {stack : List Place} → IsStackOf conts next stack → TopReads tables stack
+      there : {stack : List Dot} → IsStackOf conts next stack → TopReads tables stack
           × GoesOn tables (ReadsFrom tables c first tops) stack
       there {stack} s =
           let o = readers.only s.id s.stands in (
@@ -175,7 +176,7 @@ module _ (tables : code_flat.Tables) (c : ℕ) where
             from_given ((closure.stacks stack).0 (record { id = s.id; stands = o.0; is = s.is })),
           )
 
-      back : (stack : List Place) → TopReads tables stack → GoesOn tables (ReadsFrom tables c first tops) stack
+      back : (stack : List Dot) → TopReads tables stack → GoesOn tables (ReadsFrom tables c first tops) stack
           → IsStackOf conts next stack
       back stack reads h =
           let s = (closure.stacks stack).1 (to_given h) in
@@ -202,7 +203,7 @@ module _ (tables : code_flat.Tables) (conts : List Cont) (ids : List ℕ) where
   readers_done count readers le r = record {
     only = r.only;
     all = λ id h t. let s = stands_at ids id h in
-        r.all s.place id (let w = slice_get_within ids s.place id s.is in omega (arith, w, le)) s.is t;
+        r.all s.position id (let w = slice_get_within ids s.position id s.is in omega (arith, w, le)) s.is t;
   }
 
   same_here : (count k id other : ℕ) → count ≤ k → k < count + 1 → slice_get ids count ≡ Some id
@@ -230,7 +231,7 @@ module _ (tables : code_flat.Tables) (conts : List Cont) (ids : List ℕ) where
           )
         where
           one : Contains (id ∷ []) other → id ≡ other
-          one h = by (stands_at (id ∷ []) other h).place (stands_at (id ∷ []) other h).is
+          one h = by (stands_at (id ∷ []) other h).position (stands_at (id ∷ []) other h).is
             where
               by : (k : ℕ) → slice_get (id ∷ []) k ≡ Some other → id ≡ other
               by zero h = cc h

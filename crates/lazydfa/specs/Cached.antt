@@ -1,9 +1,9 @@
 -- States and cells that are kept.
 use Rattle.std.specs.Prelude.{◌≡◌, ◌↔◌, ◌⊎◌, ℕ, ◌≤◌, ◌/◌, ◌%◌, Bool, true, false, List, [], ◌++◌, length, slice_get}
 use Rattle.std.specs.Prelude.{Some, Contains}
-use Rattle.flatgrammar.specs.Flat.{Place}
-use Rattle.flatgrammar.specs.Blocks.{begin_count}
-use Rattle.flatgrammar.specs.TableViews.{whole_root}
+use Rattle.flatgrammar.specs.Flat.{Dot}
+use Rattle.flatgrammar.specs.ItemClosures.{begin_count}
+use Rattle.flatgrammar.specs.TableViews.{start_target}
 use Rattle.flatgrammar.specs.declared.tables.Tables as code_flat
 use Rattle.lazydfa.specs.declared.conts.Cont.{Cont}
 use Rattle.lazydfa.specs.declared.cache.State.{State}
@@ -11,23 +11,23 @@ use Rattle.lazydfa.specs.declared.cache.Cell.{Cell}
 use Rattle.lazydfa.specs.declared.cache.Cell.TheVariants.{Unknown, Over, Dead, To, Push}
 use Rattle.lazydfa.specs.declared.cache.Cache.{Cache}
 use Rattle.flatgrammar.specs.NodeSteps.{flat_of}
-use Rattle.letterclasses.specs.Stacks.{IsFront}
+use Rattle.letterclasses.specs.Stacks.{IsStackClosure}
 use Rattle.lazydfa.specs.Conts.{last_of, AreOlder, AreKept, Begun, IsStackOf, TopReads, GoesOn, EndsAlone, ReadsFrom}
 use Rattle.lazydfa.specs.Conts.{IsTransition}
-use Rattle.lazydfa.specs.StackParts.{IsSplitOff}
+use Rattle.lazydfa.specs.StackSuffixes.{IsSplitOff}
 
--- the whole begins
-pub record IsBegun (tables : code_flat.Tables) (stack : List Place) : Type 0 where
-  pub root : ℕ
-  pub is : whole_root tables ≡ Some root
-  pub begun : Begun root (begin_count tables root) [] stack
+-- the augmented start begins
+pub record IsBegun (tables : code_flat.Tables) (stack : List Dot) : Type 0 where
+  pub target : ℕ
+  pub is : start_target tables ≡ Some target
+  pub begun : Begun target (begin_count tables target) [] stack
 
--- what the whole's starts lead to without a symbol
+-- what the augmented start's starts lead to without a symbol
 pub record IsStart (tables : code_flat.Tables) (conts : List Cont) (tops : List ℕ) (ended : Bool) : Type 0 where
   pub within : (id : ℕ) → Contains tops id → id ≤ length conts
-  pub tops_are : (stack : List Place) → IsStackOf conts tops stack
+  pub tops_are : (stack : List Dot) → IsStackOf conts tops stack
       ↔ (TopReads tables stack × GoesOn tables (IsBegun tables) stack)
-  pub ended_is : (ended ≡ true) ↔ ((stack : List Place) × GoesOn tables (IsBegun tables) stack × EndsAlone tables stack)
+  pub ended_is : (ended ≡ true) ↔ ((stack : List Dot) × GoesOn tables (IsBegun tables) stack × EndsAlone tables stack)
 
 -- states were added
 pub record AreGrown (old new : List State) : Type 0 where
@@ -55,10 +55,10 @@ pub record IsStep (tables : code_flat.Tables) (d : ℕ) (conts : List Cont) (sta
   pub from_is : slice_get states s ≡ Some from
   pub to_is : slice_get states t ≡ Some to
   pub is : IsTransition tables d conts from.tops.items conts to.tops.items to.ended
-  pub some : (stack : List Place) × ReadsFrom tables d conts from.tops.items stack
+  pub some : (stack : List Dot) × ReadsFrom tables d conts from.tops.items stack
 
--- .. and over a part that is pushed below it
-pub record IsPush (tables : code_flat.Tables) (d : ℕ) (conts : List Cont) (states : List State) (s t part : ℕ)
+-- .. and over a suffix that is pushed below it
+pub record IsPush (tables : code_flat.Tables) (d : ℕ) (conts : List Cont) (states : List State) (s t suffix : ℕ)
     : Type 0 where
   pub from : State
   pub to : State
@@ -66,22 +66,22 @@ pub record IsPush (tables : code_flat.Tables) (d : ℕ) (conts : List Cont) (sta
   pub from_is : slice_get states s ≡ Some from
   pub to_is : slice_get states t ≡ Some to
   pub is : IsTransition tables d conts from.tops.items conts read false
-  pub some : (stack : List Place) × ReadsFrom tables d conts from.tops.items stack
-  pub split : IsSplitOff tables conts read to.tops.items part
+  pub some : (stack : List Dot) × ReadsFrom tables d conts from.tops.items stack
+  pub split : IsSplitOff tables conts read to.tops.items suffix
   pub runs : to.ended ≡ false
 
 -- no top reads the symbol
 pub record IsDead (tables : code_flat.Tables) (d : ℕ) (conts : List Cont) (states : List State) (s : ℕ) : Type 0 where
   pub from : State
   pub from_is : slice_get states s ≡ Some from
-  pub none : (stack : List Place) → ReadsFrom tables d conts from.tops.items stack → ⊥
+  pub none : (stack : List Dot) → ReadsFrom tables d conts from.tops.items stack → ⊥
 
 abbrev pub IsCell : code_flat.Tables → ℕ → List Cont → List State → ℕ → Cell → Type 0
 IsCell tables d conts states s Unknown = Unit {0}
 IsCell tables d conts states s Over = Unit {0}
 IsCell tables d conts states s Dead = IsDead tables d conts states s
 IsCell tables d conts states s (To t) = IsStep tables d conts states s t
-IsCell tables d conts states s (Push t part) = IsPush tables d conts states s t part
+IsCell tables d conts states s (Push t suffix) = IsPush tables d conts states s t suffix
 
 -- the cell i is that of the state i / n and the class i % n, where n classes have samples
 pub record AreCached (tables : code_flat.Tables) (samples : List ℕ) (conts : List Cont) (states : List State)
@@ -113,9 +113,10 @@ pub record IsStartAt (tables : code_flat.Tables) (conts : List Cont) (states : L
   pub is : slice_get states t ≡ Some state
   pub start : IsStart tables conts state.tops.items state.ended
 
--- the number of a state that is the front after the first j symbols, over what is below
+-- the number of a state that is the closure after the first j symbols, over what is below
 pub record IsAt (tables : code_flat.Tables) (conts : List Cont) (states : List State) (s : ℕ) (x : List ℕ) (j : ℕ)
-    (below : List Place) : Type 0 where
+    (below : List Dot) : Type 0 where
   pub state : State
   pub is : slice_get states s ≡ Some state
-  pub front : IsFront (flat_of tables) (last_of tables) x j (IsStackOf conts state.tops.items) state.ended below
+  pub closure : IsStackClosure (flat_of tables) (last_of tables) x j
+      (IsStackOf conts state.tops.items) state.ended below

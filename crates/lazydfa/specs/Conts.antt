@@ -1,23 +1,23 @@
--- Continuations by id: the place on top, and the id of what is below it.
+-- Continuations by id: the dotted rule on top, and the id of what is below it.
 use Rattle.std.specs.Prelude.{◌≡◌, ◌≢◌, ◌↔◌, ◌⊎◌, ℕ, ◌+◌, ◌<◌, ◌≤◌, Bool, true, false, eqb, if◌then◌else◌, List, []}
 use Rattle.std.specs.Prelude.{◌∷◌, ◌++◌}
 use Rattle.std.specs.Prelude.{length, reverse, slice_get, Option, Some, None, Contains}
-use Rattle.flatgrammar.specs.Flat.{Place, at, Set}
-use Rattle.flatgrammar.specs.Blocks.{begin_count, item_at, dot}
+use Rattle.flatgrammar.specs.Flat.{Dot, at, Set}
+use Rattle.flatgrammar.specs.ItemClosures.{begin_count, item_at, dot}
 use Rattle.flatgrammar.specs.NodeSteps.{IfSomeSet}
-use Rattle.flatgrammar.specs.Places.{In}
+use Rattle.flatgrammar.specs.Positions.{In}
 use Rattle.flatgrammar.specs.TableViews.{call_of, done_of, read_of}
-use Rattle.flatgrammar.specs.declared.block.DottedRule.{DottedRule}
+use Rattle.flatgrammar.specs.declared.closure.DottedRule.{DottedRule}
 use Rattle.flatgrammar.specs.declared.tables.Tables as code_flat
 use Rattle.lazydfa.specs.declared.conts.Cont.{Cont}
 
 -- the stack of an id, of continuations from the last on: 0 is that of nothing
-abbrev pub stack_back : List Cont → ℕ → List Place
+abbrev pub stack_back : List Cont → ℕ → List Dot
 stack_back [] id = []
 stack_back (c ∷ older) id =
     if eqb id (length older + 1) then at c.node c.step ∷ stack_back older c.next else stack_back older id
 
-abbrev pub stack_of : List Cont → ℕ → List Place
+abbrev pub stack_of : List Cont → ℕ → List Dot
 stack_of conts id = stack_back (reverse conts) id
 
 -- what is below is older
@@ -31,16 +31,16 @@ pub record AreKept (old new : List Cont) : Type 0 where
   pub older : AreOlder old → AreOlder new
 
 -- an id of a stack
-pub record IsIdOf (conts : List Cont) (id : ℕ) (stack : List Place) : Type 0 where
+pub record IsIdOf (conts : List Cont) (id : ℕ) (stack : List Dot) : Type 0 where
   pub within : id ≤ length conts
   pub is : stack_of conts id ≡ stack
 
 -- ids were added, of these stacks alone
-pub record Adds (conts : List Cont) (P : List Place → Type 0) (old new : List ℕ) : Type 0 where
+pub record Adds (conts : List Cont) (P : List Dot → Type 0) (old new : List ℕ) : Type 0 where
   pub added : List ℕ
   pub grown : new ≡ old ++ added
   pub sound : (id : ℕ) → Contains added id → (id ≤ length conts) × P (stack_of conts id)
-  pub whole : (stack : List Place) → P stack → (id : ℕ) × Contains new id × IsIdOf conts id stack
+  pub whole : (stack : List Dot) → P stack → (id : ℕ) × Contains new id × IsIdOf conts id stack
 
 -- an id was added, if it was not there
 pub record IsAdded (old new : List ℕ) (id : ℕ) : Type 0 where
@@ -50,7 +50,7 @@ pub record IsAdded (old new : List ℕ) (id : ℕ) : Type 0 where
   pub has : Contains new id
 
 -- the node at one of its first steps, over what is below
-pub record Begun (node count : ℕ) (below stack : List Place) : Type 0 where
+pub record Begun (node count : ℕ) (below stack : List Dot) : Type 0 where
   pub step : ℕ
   pub begins : step < count
   pub is : stack ≡ at node step ∷ below
@@ -62,40 +62,40 @@ last_by None true (Some set) = false
 last_by None false set = false
 last_by (Some called) done set = false
 
-abbrev pub last_of : code_flat.Tables → Place → Bool
+abbrev pub last_of : code_flat.Tables → Dot → Bool
 last_of tables (at n k) =
     last_by (call_of tables (item_at 0 (dot n k))) (done_of tables (item_at 0 (dot n k)))
     (read_of tables (item_at 0 (dot n k)))
 
 -- what is left to do in a node, before what is below
-abbrev pub after : code_flat.Tables → ℕ → ℕ → List Place → List Place
+abbrev pub after : code_flat.Tables → ℕ → ℕ → List Dot → List Dot
 after tables n next below = if last_of tables (at n next) then below else at n next ∷ below
 
--- what a place calls begins
-pub record CallMoves (tables : code_flat.Tables) (n k : ℕ) (below stack : List Place) : Type 0 where
-  pub root : ℕ
+-- what a dotted rule calls begins
+pub record CallMoves (tables : code_flat.Tables) (n k : ℕ) (below stack : List Dot) : Type 0 where
+  pub target : ℕ
   pub next : ℕ
-  pub called : call_of tables (item_at 0 (dot n k)) ≡ Some (root, next)
-  pub begun : Begun root (begin_count tables root) (after tables n next below) stack
+  pub called : call_of tables (item_at 0 (dot n k)) ≡ Some (target, next)
+  pub begun : Begun target (begin_count tables target) (after tables n next below) stack
 
 -- what a stack goes on to without a symbol
-abbrev pub Goes : code_flat.Tables → List Place → List Place → Type 0
+abbrev pub Goes : code_flat.Tables → List Dot → List Dot → Type 0
 Goes tables [] stack = ⊥
 Goes tables (at n k ∷ below) stack = CallMoves tables n k below stack
     ⊎ ((done_of tables (item_at 0 (dot n k)) ≡ true) × (stack ≡ below) × (below ≡ [] → ⊥))
 
--- one place alone, where its node is done
-abbrev pub EndsAlone : code_flat.Tables → List Place → Type 0
+-- one dotted rule alone, where its node is done
+abbrev pub EndsAlone : code_flat.Tables → List Dot → Type 0
 EndsAlone tables [] = ⊥
 EndsAlone tables (at n k ∷ below) = (done_of tables (item_at 0 (dot n k)) ≡ true) × (below ≡ [])
 
 -- what is led to from stacks without a symbol
-pub data GoesOn (tables : code_flat.Tables) (from : List Place → Type 0) : List Place → Type 0 where
-  here : {stack : List Place} → from stack → GoesOn tables from stack
-  on : {stack next : List Place} → GoesOn tables from stack → Goes tables stack next → GoesOn tables from next
+pub data GoesOn (tables : code_flat.Tables) (from : List Dot → Type 0) : List Dot → Type 0 where
+  here : {stack : List Dot} → from stack → GoesOn tables from stack
+  on : {stack next : List Dot} → GoesOn tables from stack → Goes tables stack next → GoesOn tables from next
 
 -- the stacks of ids
-pub record IsStackOf (conts : List Cont) (ids : List ℕ) (stack : List Place) : Type 0 where
+pub record IsStackOf (conts : List Cont) (ids : List ℕ) (stack : List Dot) : Type 0 where
   pub id : ℕ
   pub stands : Contains ids id
   pub is : stack ≡ stack_of conts id
@@ -107,33 +107,33 @@ pub record IsClosing (tables : code_flat.Tables) (first : List Cont) (given : Li
   pub within : (id : ℕ) → Contains ids id → id ≤ length conts
   pub sound : (id : ℕ) → Contains ids id → GoesOn tables (IsStackOf first given) (stack_of conts id)
   pub given_stand : (id : ℕ) → Contains given id → Contains ids id
-  pub closed : (k id : ℕ) → k < count → slice_get ids k ≡ Some id → (stack : List Place)
+  pub closed : (k id : ℕ) → k < count → slice_get ids k ≡ Some id → (stack : List Dot)
       → Goes tables (stack_of conts id) stack → IsStackOf conts ids stack
   pub ended_is : (ended ≡ true) ↔ ((k : ℕ) × (id : ℕ) × (k < count) × (slice_get ids k ≡ Some id)
       × EndsAlone tables (stack_of conts id))
 
--- all that ids go on to without a symbol, and whether a place alone is done
+-- all that ids go on to without a symbol, and whether a dotted rule alone is done
 pub record IsClosure (tables : code_flat.Tables) (first : List Cont) (given : List ℕ) (conts : List Cont)
     (ids : List ℕ) (ended : Bool) : Type 0 where
   pub within : (id : ℕ) → Contains ids id → id ≤ length conts
-  pub stacks : (stack : List Place) → IsStackOf conts ids stack ↔ GoesOn tables (IsStackOf first given) stack
-  pub ended_is : (ended ≡ true) ↔ ((stack : List Place) × IsStackOf conts ids stack × EndsAlone tables stack)
+  pub stacks : (stack : List Dot) → IsStackOf conts ids stack ↔ GoesOn tables (IsStackOf first given) stack
+  pub ended_is : (ended ≡ true) ↔ ((stack : List Dot) × IsStackOf conts ids stack × EndsAlone tables stack)
 
 -- what a stack comes to by a symbol
-abbrev pub ReadsOn : code_flat.Tables → ℕ → List Place → List Place → Type 0
+abbrev pub ReadsOn : code_flat.Tables → ℕ → List Dot → List Dot → Type 0
 ReadsOn tables c [] next = ⊥
 ReadsOn tables c (at n k ∷ below) next = IfSomeSet (read_of tables (item_at 0 (dot n k))) c
     × (next ≡ at n (k + 1) ∷ below)
 
 -- a symbol leads on from one of the ids
-pub record ReadsFrom (tables : code_flat.Tables) (c : ℕ) (conts : List Cont) (ids : List ℕ) (next : List Place)
+pub record ReadsFrom (tables : code_flat.Tables) (c : ℕ) (conts : List Cont) (ids : List ℕ) (next : List Dot)
     : Type 0 where
   pub id : ℕ
   pub stands : Contains ids id
   pub reads : ReadsOn tables c (stack_of conts id) next
 
 -- something is read on top
-abbrev pub TopReads : code_flat.Tables → List Place → Type 0
+abbrev pub TopReads : code_flat.Tables → List Dot → Type 0
 TopReads tables [] = ⊥
 TopReads tables (at n k ∷ below) = read_of tables (item_at 0 (dot n k)) ≢ None
 
@@ -146,14 +146,14 @@ pub record AreReaders (tables : code_flat.Tables) (conts : List Cont) (ids reade
 pub record IsTransition (tables : code_flat.Tables) (c : ℕ) (first : List Cont) (tops : List ℕ) (conts : List Cont)
     (next : List ℕ) (ended : Bool) : Type 0 where
   pub within : (id : ℕ) → Contains next id → id ≤ length conts
-  pub tops_are : (stack : List Place) → IsStackOf conts next stack ↔ (TopReads tables stack
+  pub tops_are : (stack : List Dot) → IsStackOf conts next stack ↔ (TopReads tables stack
       × GoesOn tables (ReadsFrom tables c first tops) stack)
-  pub ended_is : (ended ≡ true) ↔ ((stack : List Place) × GoesOn tables (ReadsFrom tables c first tops) stack
+  pub ended_is : (ended ≡ true) ↔ ((stack : List Dot) × GoesOn tables (ReadsFrom tables c first tops) stack
       × EndsAlone tables stack)
 
 -- the dotted rules on top of the stacks of ids
 pub record AreTopsOf (conts : List Cont) (ids : List ℕ) (dots : List DottedRule) : Type 0 where
-  pub sound : (s : DottedRule) → In s dots → (id : ℕ) × Contains ids id × (below : List Place)
+  pub sound : (s : DottedRule) → In s dots → (id : ℕ) × Contains ids id × (below : List Dot)
       × (stack_of conts id ≡ at s.node s.step ∷ below)
-  pub whole : (s : DottedRule) (id : ℕ) (below : List Place) → Contains ids id
+  pub whole : (s : DottedRule) (id : ℕ) (below : List Dot) → Contains ids id
       → stack_of conts id ≡ at s.node s.step ∷ below → In s dots

@@ -5,5 +5,5 @@ pub mod Transitions
 pub mod Memos
 pub mod RunVerdicts
 pub mod Spines
-pub mod StackParts
+pub mod StackSuffixes
 pub mod StateSets

@@ -1,12 +1,12 @@
 -- What is kept from line to line beside the cache, and where a run over a line stands.
 use Rattle.std.specs.Prelude.{◌≡◌, ℕ, ◌+◌, ◌*◌, ◌<◌, ◌≤◌, Bool, true, List, [], length, slice_get, Some}
 use Rattle.flatgrammar.specs.NodeSteps.{flat_of}
-use Rattle.flatgrammar.specs.TableViews.{GiveRoots}
+use Rattle.flatgrammar.specs.TableViews.{GiveTargets}
 use Rattle.flatgrammar.specs.declared.tables.Tables as code_flat
 use Rattle.lazydfa.specs.declared.conts.Cont.{Cont}
 use Rattle.lazydfa.specs.declared.cache.State.{State}
 use Rattle.lazydfa.specs.declared.memo.Memo.{Memo}
-use Rattle.lazydfa.specs.declared.memo.Unfold.{Unfold}
+use Rattle.lazydfa.specs.declared.memo.ResumedState.{ResumedState}
 use Rattle.lazydfa.specs.declared.glide.Track.{Track}
 use Rattle.lazydfa.specs.declared.run.RunStep.{RunStep}
 use Rattle.lazydfa.specs.declared.run.RunStep.TheVariants.{To, Dead, Over}
@@ -14,54 +14,55 @@ use Rattle.lazydfa.specs.Conts.{last_of}
 use Rattle.lazydfa.specs.Cached.{IsCache, IsAt}
 use Rattle.letterclasses.specs.ClassBounds.{AreClasses}
 use Rattle.lazydfa.specs.Transitions.{AreTransitions}
-use Rattle.lazydfa.specs.StackParts.{PutsBack, AreParts, below_of}
+use Rattle.lazydfa.specs.StackSuffixes.{PutsBack, AreSuffixes, below_of}
 use Rattle.lazydfa.specs.RunVerdicts.{IsReached}
 
--- a state and a part below it are another state
-pub record IsUnfold (tables : code_flat.Tables) (conts : List Cont) (states : List State) (s part t : ℕ) : Type 0 where
+-- a state and a suffix below it are another state
+pub record IsResumedState (tables : code_flat.Tables) (conts : List Cont) (states : List State)
+    (s suffix t : ℕ) : Type 0 where
   pub from : State
   pub to : State
   pub from_is : slice_get states s ≡ Some from
   pub to_is : slice_get states t ≡ Some to
-  pub part_within : part ≤ length conts
-  pub is : PutsBack tables conts from.tops.items part conts to.tops.items to.ended
+  pub suffix_within : suffix ≤ length conts
+  pub is : PutsBack tables conts from.tops.items suffix conts to.tops.items to.ended
 
--- a state and a part are listed with that state
-pub record IsKnown (unfolds : List Unfold) (s part t : ℕ) : Type 0 where
-  pub place : ℕ
-  pub listed : Unfold
-  pub is : slice_get unfolds place ≡ Some listed
+-- a state and a suffix are listed with that state
+pub record IsKnown (resumes : List ResumedState) (s suffix t : ℕ) : Type 0 where
+  pub position : ℕ
+  pub listed : ResumedState
+  pub is : slice_get resumes position ≡ Some listed
   pub state_is : listed.state ≡ s
-  pub part_is : listed.part ≡ part
+  pub suffix_is : listed.suffix ≡ suffix
   pub to_is : listed.to ≡ t
 
-abbrev pub AreUnfolds : code_flat.Tables → List Cont → List State → List Unfold → Type 0
-AreUnfolds tables conts states unfolds = (k : ℕ) (u : Unfold) → slice_get unfolds k ≡ Some u
-    → IsUnfold tables conts states u.state u.part u.to
+abbrev pub AreResumes : code_flat.Tables → List Cont → List State → List ResumedState → Type 0
+AreResumes tables conts states resumes = (k : ℕ) (u : ResumedState) → slice_get resumes k ≡ Some u
+    → IsResumedState tables conts states u.state u.suffix u.to
 
 pub record IsMemo (tables : code_flat.Tables) (samples : List ℕ) (memo : Memo) : Type 0 where
   pub cached : IsCache tables samples memo.cache
-  pub unfolds : AreUnfolds tables memo.cache.conts.items.items memo.cache.states.items memo.unfolds.items
+  pub resumes : AreResumes tables memo.cache.conts.items.items memo.cache.states.items memo.resumes.items
   pub transitions : AreTransitions tables samples memo.cache.conts.items.items memo.cache.states.items
       memo.transitions.items
 
--- a state is the front after the first j symbols, over the parts
-pub record IsOver (tables : code_flat.Tables) (conts : List Cont) (states : List State) (parts : List ℕ) (s : ℕ)
+-- a state is the closure after the first j symbols, over the suffixes
+pub record IsOver (tables : code_flat.Tables) (conts : List Cont) (states : List State) (suffixes : List ℕ) (s : ℕ)
     (x : List ℕ) (j : ℕ) : Type 0 where
-  pub parts_are : AreParts conts parts
-  pub at : IsAt tables conts states s x j (below_of conts parts)
+  pub suffixes_are : AreSuffixes conts suffixes
+  pub at : IsAt tables conts states s x j (below_of conts suffixes)
 
--- .. and it has not ended, or stands on no part
-pub record IsSettled (tables : code_flat.Tables) (conts : List Cont) (states : List State) (parts : List ℕ) (s : ℕ)
+-- .. and it has not ended, or stands on no suffix
+pub record IsSettled (tables : code_flat.Tables) (conts : List Cont) (states : List State) (suffixes : List ℕ) (s : ℕ)
     (x : List ℕ) (j : ℕ) : Type 0 where
-  pub over : IsOver tables conts states parts s x j
-  pub plain : over.at.state.ended ≡ true → parts ≡ []
+  pub over : IsOver tables conts states suffixes s x j
+  pub plain : over.at.state.ended ≡ true → suffixes ≡ []
 
 abbrev pub RunsOver : code_flat.Tables → Memo → ℕ → List ℕ → ℕ → Type 0
-RunsOver tables memo = IsOver tables memo.cache.conts.items.items memo.cache.states.items memo.parts.items
+RunsOver tables memo = IsOver tables memo.cache.conts.items.items memo.cache.states.items memo.suffixes.items
 
 abbrev pub RunsAt : code_flat.Tables → Memo → ℕ → List ℕ → ℕ → Type 0
-RunsAt tables memo = IsSettled tables memo.cache.conts.items.items memo.cache.states.items memo.parts.items
+RunsAt tables memo = IsSettled tables memo.cache.conts.items.items memo.cache.states.items memo.suffixes.items
 
 -- a run goes on from there, and some symbols led to something; its state is given by its row
 pub record IsTrack (tables : code_flat.Tables) (samples : List ℕ) (memo : Memo) (x : List ℕ) (track : Track) : Type 0
@@ -73,7 +74,7 @@ pub record IsTrack (tables : code_flat.Tables) (samples : List ℕ) (memo : Memo
 
 -- where a run goes on, it goes on to there, by any grammar that the memo is of
 abbrev pub GlidesOver : List ℕ → List ℕ → Memo → List ℕ → Track → Track → Type 0
-GlidesOver low samples memo x from to = (tables : code_flat.Tables) → GiveRoots (flat_of tables) tables.roots.items
+GlidesOver low samples memo x from to = (tables : code_flat.Tables) → GiveTargets (flat_of tables) tables.targets.items
     → AreClasses (flat_of tables) low samples → IsMemo tables samples memo → IsTrack tables samples memo x from
     → IsTrack tables samples memo x to
 

@@ -1,18 +1,18 @@
 -- Continuations that are taken off what is below them, and put on something else.
 use Rattle.std.specs.Prelude.{◌≡◌, ℕ, ◌≤◌, List, [], ◌∷◌, ◌++◌, length, Contains}
-use Rattle.flatgrammar.specs.Flat.{Place, at}
+use Rattle.flatgrammar.specs.Flat.{Dot, at}
 use Rattle.lazydfa.specs.declared.conts.Cont.{Cont}
 use Rattle.lazydfa.specs.Conts.{stack_of}
 
--- the places of continuations
-abbrev pub places_of : List Cont → List Place
-places_of [] = []
-places_of (c ∷ cs) = at c.node c.step ∷ places_of cs
+-- the dotted rules of continuations
+abbrev pub positions_of : List Cont → List Dot
+positions_of [] = []
+positions_of (c ∷ cs) = at c.node c.step ∷ positions_of cs
 
--- the same places stand on another stack
+-- the same dotted rules stand on another stack
 pub record IsMoveOn (first : List Cont) (top off : ℕ) (conts : List Cont) (id on : ℕ) : Type 0 where
   pub within : id ≤ length conts
-  pub base : List Place
+  pub base : List Dot
   pub was : stack_of first top ≡ base ++ stack_of first off
   pub is : stack_of conts id ≡ base ++ stack_of first on
 

@@ -1,20 +1,20 @@
 -- States by number, each a list of stacks.
 use Rattle.std.specs.Prelude.{◌≡◌, ℕ, Bool, List, [], ◌++◌, map, slice_get, Some, Contains}
-use Rattle.flatgrammar.specs.Flat.{Flat, Place}
+use Rattle.flatgrammar.specs.Flat.{Flat, Dot}
 use Rattle.flatgrammar.specs.NodeSteps.{flat_of}
 use Rattle.flatgrammar.specs.declared.tables.Tables as code_flat
-use Rattle.letterclasses.specs.Stacks.{AreUncounted, IsFront, IsNext, MarksLast}
+use Rattle.letterclasses.specs.Stacks.{AreUncounted, IsStackClosure, IsNext, MarksLast}
 use Rattle.lazydfa.specs.declared.conts.Cont.{Cont}
 use Rattle.lazydfa.specs.declared.cache.State.{State}
 use Rattle.lazydfa.specs.Conts.{last_of, stack_of, IsTransition}
 use Rattle.lazydfa.specs.RunVerdicts.{IsOne}
 
--- the stacks whose top reads a symbol, and whether the whole is done
+-- the stacks whose top reads a symbol, and whether the augmented start is done
 pub record StateSet : Type 0 where
-  pub stacks : List (List Place)
+  pub stacks : List (List Dot)
   pub ended : Bool
 
--- the states of a grammar that were reached; the tables say at which places nothing is left to do
+-- the states of a grammar that were reached; the tables say at which dotted rules nothing is left to do
 pub record StateSets : Type 0 where
   pub tables : code_flat.Tables
   pub states : List StateSet
@@ -22,7 +22,7 @@ pub record StateSets : Type 0 where
 abbrev pub grammar_of : StateSets → Flat
 grammar_of sets = flat_of sets.tables
 
-abbrev pub last_in : StateSets → Place → Bool
+abbrev pub last_in : StateSets → Dot → Bool
 last_in sets = last_of sets.tables
 
 -- no state of that grammar was reached, and its stacks accept exactly the lines that it derives
@@ -31,7 +31,7 @@ pub record AreStatesOf (flat : Flat) (sets : StateSets) : Type 0 where
   pub none : sets.states ≡ []
   pub one : IsOne flat
   pub uncounted : AreUncounted flat
-  pub tail_places : MarksLast flat (last_in sets)
+  pub tail_positions : MarksLast flat (last_in sets)
 
 -- states were added
 pub record AreMoreStates (old new : StateSets) : Type 0 where
@@ -43,7 +43,8 @@ pub record AreMoreStates (old new : StateSets) : Type 0 where
 pub record IsStartState (sets : StateSets) (t : ℕ) : Type 0 where
   pub state : StateSet
   pub is : slice_get sets.states t ≡ Some state
-  pub front : (x : List ℕ) → IsFront (grammar_of sets) (last_in sets) x 0 (Contains state.stacks) state.ended []
+  pub closure : (x : List ℕ)
+      → IsStackClosure (grammar_of sets) (last_in sets) x 0 (Contains state.stacks) state.ended []
 
 -- a symbol leads from one state to another
 pub record IsNextState (sets : StateSets) (c s t : ℕ) : Type 0 where

@@ -36,7 +36,7 @@ abbrev pub AreTransitions : code_flat.Tables → List ℕ → List Cont → List
 AreTransitions tables samples conts states transitions = (i word : ℕ) → slice_get transitions i ≡ Some word
     → IsCachedTransition tables samples conts states i word
 
--- the word i leads to the row r, and where parts are left its state has not ended
+-- the word i leads to the row r, and where suffixes are left its state has not ended
 abbrev pub IsTaken : List ℕ → ℕ → Bool → ℕ → ℕ → Type 0
 IsTaken transitions classes bare i r = (slice_get transitions i ≡ Some r) × (r < 2 ^ 31)
     × ((bare ≡ true) ⊎ (slice_get transitions (r + classes) ≡ Some 0))
@@ -68,7 +68,7 @@ IsTransitionPut old new at word = (i other : ℕ) → slice_get new i ≡ Some o
 -- a word that leads from a state to another, where there are so many classes
 pub record IsTransitionMade (classes s k t i word : ℕ) : Type 0 where
   pub within : k < classes
-  pub place : i ≡ s * (classes + 1) + k
+  pub position : i ≡ s * (classes + 1) + k
   pub is : word ≡ t * (classes + 1)
 
 -- the last word of a state's row
@@ -78,7 +78,7 @@ last_word false = 0
 
 -- .. and where it was written
 pub record IsEndMade (states : List State) (classes t i word : ℕ) : Type 0 where
-  pub place : i ≡ t * (classes + 1) + classes
+  pub position : i ≡ t * (classes + 1) + classes
   pub state : State
   pub there : slice_get states t ≡ Some state
   pub is : word ≡ last_word state.ended

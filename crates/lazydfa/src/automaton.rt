@@ -1,7 +1,7 @@
 //! A lazily built automaton.
 ghost use Rattle.std.specs.Prelude.{◌≡◌, ◌↔◌, ◌∷◌, ℕ, [], IsTrue, IfOk, IfSome, map};
 ghost use Rattle.std.specs.Prelude.{Some};
-ghost use Rattle.flatgrammar.specs.Flat.{Concat, Turns};
+ghost use Rattle.flatgrammar.specs.Flat.{Concat, Iterations};
 ghost use Rattle.flatgrammar.specs.FlatVerdicts.{DerivesLine, IsFlatVerdict};
 ghost use Rattle.flatgrammar.specs.FlatViews.{node_of};
 ghost use Rattle.flatgrammar.specs.NodeSteps.{flat_of};
@@ -46,7 +46,7 @@ pub struct Automaton {
 impl Model for Automaton {
     ghost use Rattle.flatgrammar.specs.Flat as spec;
     ghost use Rattle.flatgrammar.specs.NodeSteps.{flat_of};
-    ghost use Rattle.flatgrammar.specs.TableViews.{GiveRoots};
+    ghost use Rattle.flatgrammar.specs.TableViews.{GiveTargets};
     ghost use Rattle.letterclasses.specs.Stacks.{AreUncounted};
     ghost use Rattle.letterclasses.specs.ClassBounds.{AreClasses};
     ghost use Rattle.lazydfa.specs.Memos.{IsMemo};
@@ -56,17 +56,18 @@ impl Model for Automaton {
 
     ghost view = { λ a. flat_of a.tables.value };
 
-    ghost invariant = { λ a. (GiveRoots (flat_of a.tables.value) a.tables.value.roots.items) × (AreUncounted (flat_of
+    ghost invariant = { λ a. (GiveTargets (flat_of a.tables.value) a.tables.value.targets.items)
+        × (AreUncounted (flat_of
         a.tables.value)) × (IsOne (flat_of a.tables.value)) × (AreClasses (flat_of a.tables.value)
         a.classes.low a.classes.samples.items) × (IsMemo a.tables.value a.classes.samples.items a.memo) };
 }
 
 // Returns whether iterations that take a symbol are counted at a node.
-fn counts_turns(node: &Node) -> bool
-    ensures { IsTrue result ↔ ((b : ℕ) × (m : ℕ) × (node_of node.now ≡ Turns (Some b) m)) }
+fn counts_iterations(node: &Node) -> bool
+    ensures { IsTrue result ↔ ((b : ℕ) × (m : ℕ) × (node_of node.now ≡ Iterations (Some b) m)) }
 {
     match node {
-        Node::Turns {
+        Node::Iterations {
             most: Some(_),
             operand: _,
         } => true,
@@ -79,18 +80,18 @@ fn are_uncounted(tables: &Tables) -> bool
     ensures { IsTrue result → AreUncounted (flat_of tables.now) }
 {
     for node in &tables.nodes {
-        if counts_turns(node) {
+        if counts_iterations(node) {
             return false;
         }
     }
     true
 }
 
-// Returns whether the whole is a concatenation of one.
+// Returns whether the augmented start is a concatenation of one.
 fn is_one(tables: &Tables) -> bool
     ensures { IsTrue result → IsOne (flat_of tables.now) }
 {
-    match tables.nodes.get(tables.whole) {
+    match tables.nodes.get(tables.start) {
         Some(Node::Concat(members)) => members.len() == 1,
         _ => false,
     }
@@ -103,13 +104,14 @@ pub(crate) fn are_served(tables: &Tables) -> bool
     are_uncounted(tables) && is_one(tables)
 }
 
-/// Returns a memo with no state and no unfold, of a grammar of so many nodes, in such a room. It takes no memory.
+/// Returns a memo with no state and no resumed state, of a grammar of so many nodes, in such a room. It takes no
+/// memory.
 pub(crate) fn empty_memo(alloc: Global, nodes: usize, room: usize) -> Memo
     ensures conts { result.cache.conts.items.items ≡ [] }
     ensures states { result.cache.states.items ≡ [] }
     ensures cells { result.cache.cells.items ≡ [] }
     ensures transitions { result.transitions.items ≡ [] }
-    ensures unfolds { result.unfolds.items ≡ [] }
+    ensures resumes { result.resumes.items ≡ [] }
 {
     let most = nodes.saturating_mul(4).saturating_add(16_384);
     Memo {
@@ -129,9 +131,9 @@ pub(crate) fn empty_memo(alloc: Global, nodes: usize, room: usize) -> Memo
             budget: Budget::of(nodes, room),
         },
         transitions: Vec::new(alloc),
-        unfolds: Vec::new(alloc),
+        resumes: Vec::new(alloc),
         chains: HashChains::new(alloc),
-        parts: Vec::new(alloc),
+        suffixes: Vec::new(alloc),
     }
 }
 
@@ -145,7 +147,7 @@ impl Automaton {
     }
 
     /// Returns an automaton as `new` does, which fills no cell once it keeps `room` tops of states, continuations,
-    /// cells and unfolds. With no room it answers nothing, and with little it answers for some lines.
+    /// cells and resumed states. With no room it answers nothing, and with little it answers for some lines.
     pub fn with_room(alloc: Global, flat: &Flat, room: usize) -> Result<Option<Automaton>, Memory>
         ensures { IfOk result (λ made. IfSome made (λ automaton. automaton ≡ flat.now)) }
     {

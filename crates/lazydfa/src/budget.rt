@@ -1,11 +1,11 @@
 //! The budget for filling cells.
 
-/// The most entries that an automaton keeps by default: continuations, cells, states and unfolds. Four tops of a state
-/// count as one more.
+/// The most entries that an automaton keeps by default: continuations, cells, states and resumed states. Four tops of a
+/// state count as one more.
 pub(crate) const ROOM: usize = 2_000_000;
 
-/// A symbol earns one turn, and `TURNS` more until those are `GIFT`.
-const TURNS: usize = 1024;
+/// A symbol earns one iteration, and `ITERATIONS` more until those are `GIFT`.
+const ITERATIONS: usize = 1024;
 
 const GIFT: usize = 2_097_152;
 
@@ -16,12 +16,12 @@ const GIFT: usize = 2_097_152;
 #[derive(Drop)]
 pub(crate) struct Budget {
     /// How many turns there are before a line is read.
-    turns: usize,
+    iterations: usize,
     /// How many symbols the lines have had.
     letters: usize,
-    /// How many turns fills have spent.
+    /// How many iterations fills have spent.
     spent: usize,
-    /// The number of tops of all states, with four more for each state and each unfold.
+    /// The number of tops of all states, with four more for each state and each resumed state.
     tops: usize,
     /// How many entries may be kept.
     room: usize,
@@ -33,7 +33,7 @@ impl Budget {
     /// Returns the budget of a grammar of `nodes` nodes before a line is read, with room for `room` entries.
     pub(crate) fn of(nodes: usize, room: usize) -> Budget {
         Budget {
-            turns: nodes.saturating_mul(128).saturating_add(65_536),
+            iterations: nodes.saturating_mul(128).saturating_add(65_536),
             letters: 0,
             spent: 0,
             tops: 0,
@@ -48,21 +48,24 @@ impl Budget {
         self.letters = self.letters.saturating_add(letters);
     }
 
-    /// Counts spent turns.
-    pub(crate) fn spend(&mut self, turns: usize) {
-        self.spent = self.spent.saturating_add(turns);
+    /// Counts spent iterations.
+    pub(crate) fn spend(&mut self, iterations: usize) {
+        self.spent = self.spent.saturating_add(iterations);
     }
 
-    /// Notes a new state with so many tops, or an unfold, which has none.
+    /// Notes a new state with so many tops, or an resumed state, which has none.
     pub(crate) fn note(&mut self, tops: usize) {
         self.tops = self.tops.saturating_add(tops).saturating_add(4);
     }
 
     /// Returns whether so many iterations may be spent while there are so many continuations and cells.
-    pub(crate) fn allows(&self, turns: usize, entries: usize) -> bool {
-        let gift = self.letters.saturating_mul(TURNS).min(GIFT);
-        let earned = self.turns.saturating_add(gift).saturating_add(self.letters);
-        let has_turns = turns <= earned.saturating_sub(self.spent);
-        !self.is_shut && has_turns && (self.tops / 4).saturating_add(entries) < self.room
+    pub(crate) fn allows(&self, iterations: usize, entries: usize) -> bool {
+        let gift = self.letters.saturating_mul(ITERATIONS).min(GIFT);
+        let earned = self
+            .iterations
+            .saturating_add(gift)
+            .saturating_add(self.letters);
+        let has_iterations = iterations <= earned.saturating_sub(self.spent);
+        !self.is_shut && has_iterations && (self.tops / 4).saturating_add(entries) < self.room
     }
 }

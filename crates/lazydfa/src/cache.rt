@@ -1,7 +1,7 @@
 //! States and cells that are made when first asked for, and kept.
 ghost use Rattle.std.specs.Prelude.{◌≡◌, ◌↔◌, ◌≤◌, ◌<◌, ◌+◌, ◌*◌, ◌∷◌, ℕ, true, false, List, [], IsTrue, IfOk};
 ghost use Rattle.std.specs.Prelude.{IfSome, length, slice_get, Some, Contains};
-ghost use Rattle.flatgrammar.specs.Flat.{Place};
+ghost use Rattle.flatgrammar.specs.Flat.{Dot};
 ghost use Rattle.lazydfa.specs.Conts.{AreKept, AreOlder, ReadsOn, ReadsFrom, stack_of};
 ghost use Rattle.lazydfa.specs.Cached.{AreCached, IsCache, IsCell, IsStart, IsStateOf, IsInterned, AreGrown};
 ghost use Rattle.lazydfa.specs.Cached.{AreAddedUnknown, Grows};
@@ -76,9 +76,9 @@ pub(crate) fn forget(cache: &mut Cache)
 fn cont_reads(tables: &Tables, id: usize, value: u32, conts: &Conts) -> bool
     requires within { id ≤ length conts.now.items.items }
     requires older { AreOlder conts.now.items.items }
-    ensures some { result ≡ true → (stack : List Place) × ReadsOn tables.now value (stack_of conts.now.items.items id)
+    ensures some { result ≡ true → (stack : List Dot) × ReadsOn tables.now value (stack_of conts.now.items.items id)
         stack }
-    ensures none { result ≡ false → (stack : List Place) → ReadsOn tables.now value (stack_of conts.now.items.items id)
+    ensures none { result ≡ false → (stack : List Dot) → ReadsOn tables.now value (stack_of conts.now.items.items id)
         stack → ⊥ }
 {
     if id == 0 {
@@ -100,9 +100,9 @@ fn cont_reads(tables: &Tables, id: usize, value: u32, conts: &Conts) -> bool
 pub(crate) fn any_reads(tables: &Tables, tops: &[usize], value: u32, conts: &Conts) -> bool
     requires within { (id : ℕ) → Contains tops.now id → id ≤ length conts.now.items.items }
     requires older { AreOlder conts.now.items.items }
-    ensures some { result ≡ true → (stack : List Place) × ReadsFrom tables.now value conts.now.items.items tops.now
+    ensures some { result ≡ true → (stack : List Dot) × ReadsFrom tables.now value conts.now.items.items tops.now
         stack }
-    ensures none { result ≡ false → (stack : List Place) → ReadsFrom tables.now value conts.now.items.items tops.now
+    ensures none { result ≡ false → (stack : List Dot) → ReadsFrom tables.now value conts.now.items.items tops.now
         stack → ⊥ }
 {
     for top in tops {
@@ -181,20 +181,21 @@ fn add_cells(count: usize, cells: &mut Vec<Cell>) -> Result<(), Memory>
 }
 
 /// Returns the number of a state, which is added if it is not found. `Memory` if an allocation fails.
-pub(crate) fn state_of(cache: &mut Cache, classes: usize, front: Closure) -> Result<usize, Memory>
+pub(crate) fn state_of(cache: &mut Cache, classes: usize, closure: Closure) -> Result<usize, Memory>
     ensures conts { IfOk result (λ t. cache.new.conts ≡ cache.old.conts) }
-    ensures is { IfOk result (λ t. IsInterned cache.old.states.items cache.new.states.items front.tops.items front.ended
+    ensures is { IfOk result
+        (λ t. IsInterned cache.old.states.items cache.new.states.items closure.tops.items closure.ended
         t) }
     ensures cells { IfOk result (λ t. AreAddedUnknown cache.old.cells.items cache.new.cells.items) }
 {
-    if let Some(t) = find(&cache.states, &cache.chains, &front.tops, front.ended) {
+    if let Some(t) = find(&cache.states, &cache.chains, &closure.tops, closure.ended) {
         return Ok(t);
     }
     let t = cache.states.len();
-    cache.budget.note(front.tops.len());
+    cache.budget.note(closure.tops.len());
     cache.states.push(State {
-        tops: front.tops,
-        ended: front.ended,
+        tops: closure.tops,
+        ended: closure.ended,
     })?;
     chain_last(&cache.states, &mut cache.chains)?;
     add_cells(classes, &mut cache.cells)?;

@@ -1,8 +1,8 @@
 //! Where one continuation goes on without a symbol.
 ghost use Rattle.std.specs.Prelude.{◌≡◌, ◌↔◌, ◌||◌, ◌<◌, ◌≤◌, ◌∷◌, ◌+◌, ℕ, true, List, [], IsTrue, IfOk, IfSome};
 ghost use Rattle.std.specs.Prelude.{length, slice_get, Some, Contains};
-ghost use Rattle.flatgrammar.specs.Flat.{Place};
-ghost use Rattle.flatgrammar.specs.Blocks.{begin_count};
+ghost use Rattle.flatgrammar.specs.Flat.{Dot};
+ghost use Rattle.flatgrammar.specs.ItemClosures.{begin_count};
 ghost use Rattle.lazydfa.specs.Conts.{AreKept, AreOlder, Adds, IsAdded, stack_of, Begun, IsIdOf, CallMoves, last_of};
 ghost use Rattle.lazydfa.specs.Conts.{after, Goes, EndsAlone, IsClosure};
 
@@ -67,10 +67,10 @@ pub(crate) fn add(ids: &mut Ids, id: usize) -> Result<(), Memory>
     Ok(())
 }
 
-/// Adds the continuations where a root begins, before what is below.
+/// Adds the continuations where a target begins, before what is below.
 pub(crate) fn enter(
     tables: &Tables,
-    root: usize,
+    target: usize,
     below: usize,
     conts: &mut Conts,
     ids: &mut Ids,
@@ -78,14 +78,14 @@ pub(crate) fn enter(
     requires within { below ≤ length conts.old.items.items }
     requires older { AreOlder conts.old.items.items }
     ensures kept { IfOk result (λ done. AreKept conts.old.items.items conts.new.items.items) }
-    ensures adds { IfOk result (λ done. Adds conts.new.items.items (Begun root (begin_count tables.now root)
+    ensures adds { IfOk result (λ done. Adds conts.new.items.items (Begun target (begin_count tables.now target)
         (stack_of conts.old.items.items below)) ids.old.items.items ids.new.items.items) }
 {
-    for step in 0..begin_steps(tables, root) {
+    for step in 0..begin_steps(tables, target) {
         let id = id_of(
             conts,
             Cont {
-                node: root,
+                node: target,
                 step,
                 next: below,
             },
@@ -97,7 +97,7 @@ pub(crate) fn enter(
 
 /// Returns whether nothing is left to do at a dotted rule.
 fn is_last(tables: &Tables, node: usize, step: usize) -> bool
-    ensures { result ≡ last_of tables.now (Place.at node step) }
+    ensures { result ≡ last_of tables.now (Dot.at node step) }
 {
     let operation = operation_of(
         tables,
@@ -153,9 +153,9 @@ fn call_on(tables: &Tables, cont: Cont, conts: &mut Conts, ids: &mut Ids) -> Res
             origin: 0,
         },
     );
-    if let Some((root, next)) = operation.called {
+    if let Some((target, next)) = operation.called {
         let below = after(tables, cont.node, next, cont.next, conts)?;
-        enter(tables, root, below, conts, ids)?;
+        enter(tables, target, below, conts, ids)?;
     }
     Ok(())
 }
@@ -166,7 +166,7 @@ pub(crate) fn cont_at(conts: &Conts, id: usize) -> Cont
     requires within { id ≤ length conts.now.items.items }
     requires older { AreOlder conts.now.items.items }
     ensures next { result.next ≤ length conts.now.items.items }
-    ensures is { stack_of conts.now.items.items id ≡ Place.at result.node result.step
+    ensures is { stack_of conts.now.items.items id ≡ Dot.at result.node result.step
         ∷ stack_of conts.now.items.items result.next }
 {
     conts.items[id - 1]

@@ -1,7 +1,7 @@
 //! Continuations.
 ghost use Rattle.std.specs.Prelude.{◌≡◌, ◌↔◌, ◌<◌, ◌≤◌, ◌∷◌, ◌+◌, ◌^◌, ℕ, IsTrue, IfOk, IfSome, length, slice_get};
 ghost use Rattle.std.specs.Prelude.{Some};
-ghost use Rattle.flatgrammar.specs.Flat.{Place};
+ghost use Rattle.flatgrammar.specs.Flat.{Dot};
 ghost use Rattle.lazydfa.specs.Conts.{AreKept, AreOlder, IsIdOf, stack_of};
 
 use crate::chains::HashChains;
@@ -78,7 +78,7 @@ pub(crate) fn id_of(conts: &mut Conts, cont: Cont) -> Result<usize, Memory>
     requires within { cont.next ≤ length conts.old.items.items }
     requires older { AreOlder conts.old.items.items }
     ensures kept { IfOk result (λ id. AreKept conts.old.items.items conts.new.items.items) }
-    ensures is { IfOk result (λ id. IsIdOf conts.new.items.items id (Place.at cont.node cont.step
+    ensures is { IfOk result (λ id. IsIdOf conts.new.items.items id (Dot.at cont.node cont.step
         ∷ stack_of conts.old.items.items cont.next)) }
 {
     if let Some(id) = find(&conts.items, &conts.chains, cont) {

@@ -5,7 +5,7 @@ ghost use Rattle.lazydfa.specs.Conts.{AreKept, AreOlder};
 ghost use Rattle.lazydfa.specs.Cached.{IsCache, IsCell, Grows};
 
 use crate::cache::{Cache, Cell, any_reads, state_of};
-use crate::parts::split_off;
+use crate::suffixes::split_off;
 use crate::transition::{Closure, transition};
 use flatgrammar::Tables;
 use ruletable::Memory;
@@ -44,7 +44,7 @@ pub(crate) fn look(
     }
 }
 
-/// Keeps the cell of a state and a class, if it has a place.
+/// Keeps the cell of a state and a class, if it has a dotted rule.
 fn write(
     tables: &Tables,
     samples: &[u32],
@@ -95,18 +95,18 @@ fn lead(
         return Ok(Cell::Dead);
     }
     let reported = transition(alloc, tables, tops, value, &mut cache.conts, &mut cache.ids)?;
-    let Some(front) = reported else {
+    let Some(closure) = reported else {
         return Ok(Cell::Over);
     };
-    if let Some(split) = split_off(alloc, tables, &mut cache.conts, &front)? {
+    if let Some(split) = split_off(alloc, tables, &mut cache.conts, &closure)? {
         let base = Closure {
             tops: split.tops,
             ended: false,
         };
         let t = state_of(cache, samples.len(), base)?;
-        return Ok(Cell::Push(t, split.part));
+        return Ok(Cell::Push(t, split.suffix));
     }
-    let t = state_of(cache, samples.len(), front)?;
+    let t = state_of(cache, samples.len(), closure)?;
     Ok(Cell::To(t))
 }
 
@@ -116,7 +116,7 @@ pub(crate) fn may_fill(cache: &Cache) -> bool {
     cache.budget.allows(cache.ids.most, entries)
 }
 
-// Takes off what filling a cell of a state took: as many turns as it has tops, and as there were ids to go over.
+// Takes off what filling a cell of a state took: as many iterations as it has tops, and as there were ids to go over.
 fn charge(cache: &mut Cache, state: usize, cell: Cell)
     ensures conts { cache.new.conts ≡ cache.old.conts }
     ensures states { cache.new.states ≡ cache.old.states }

@@ -1,4 +1,4 @@
-//! The inner loop of a run: it fills no cell, and pushes or puts back no part.
+//! The inner loop of a run: it fills no cell, and pushes or puts back no suffix.
 ghost use Rattle.std.specs.Prelude.{◌≡◌, ◌≤◌, ◌<◌, ◌+◌, ◌^◌, [], IsTrue, length, map};
 ghost use Rattle.lazydfa.specs.Memos.{GlidesOver};
 ghost use Rattle.lazydfa.specs.Transitions.{StaysBy, StaysOver};
@@ -86,7 +86,7 @@ fn stay_on<L: Letter>(
     at
 }
 
-// Runs as `glide` does, symbol by symbol; with `is_bare` there is no part.
+// Runs as `glide` does, symbol by symbol; with `is_bare` there is no suffix.
 #[inline(always)]
 fn glide_short<L: Letter>(
     memo: &Memo,
@@ -96,7 +96,7 @@ fn glide_short<L: Letter>(
     from: Track,
     is_bare: bool,
 ) -> Track
-    requires bare { IsTrue is_bare → memo.now.parts.items ≡ [] }
+    requires bare { IsTrue is_bare → memo.now.suffixes.items ≡ [] }
     requires within { from.at ≤ length line.now }
     ensures within { result.at ≤ length line.now }
     ensures further { from.at ≤ result.at }
@@ -131,7 +131,7 @@ fn glide_long<L: Letter>(
     ensures further { from.at ≤ result.at }
     ensures glides { GlidesOver low.now samples.now memo.now (map L.number line.now) from result }
 {
-    let is_bare = memo.parts.len() == 0;
+    let is_bare = memo.suffixes.len() == 0;
     let transitions = memo.transitions.as_slice();
     let mut track = from;
     while track.at < line.len() {
@@ -152,7 +152,7 @@ fn glide_long<L: Letter>(
     track
 }
 
-/// Runs over symbols of a line while their transitions are cached and no part is pushed or put back, and returns
+/// Runs over symbols of a line while their transitions are cached and no suffix is pushed or put back, and returns
 /// where that stops.
 #[inline(always)]
 pub(crate) fn glide<L: Letter>(
@@ -170,7 +170,7 @@ pub(crate) fn glide<L: Letter>(
     if line.len() >= LONG {
         return glide_long(memo, low, samples, line, from);
     }
-    if memo.parts.len() == 0 {
+    if memo.suffixes.len() == 0 {
         return glide_short(memo, low, samples, line, from, true);
     }
     glide_short(memo, low, samples, line, from, false)

@@ -11,10 +11,10 @@ mod expected;
 mod fill;
 mod glide;
 mod memo;
-mod parts;
 mod run;
 mod spines;
 mod states;
+mod suffixes;
 mod transition;
 mod transitions;
 

@@ -2,7 +2,7 @@
 ghost use Rattle.std.specs.Prelude.{◌≡◌, ◌↔◌, ◌≤◌, ◌<◌, ◌+◌, ℕ, true, List, [], IsTrue, IfOk, IfSome, length};
 ghost use Rattle.std.specs.Prelude.{slice_get, Some, Contains, map};
 ghost use Rattle.flatgrammar.specs.NodeSteps.{flat_of};
-ghost use Rattle.flatgrammar.specs.TableViews.{GiveRoots};
+ghost use Rattle.flatgrammar.specs.TableViews.{GiveTargets};
 ghost use Rattle.flatgrammar.specs.declared.tables.Tables.{Tables as the_tables};
 ghost use Rattle.lazydfa.specs.Conts.{AreKept, AreOlder, last_of};
 ghost use Rattle.lazydfa.specs.Cached.{IsCache, IsCell, Grows, IsStart, IsStartAt};
@@ -16,10 +16,10 @@ use crate::close::{Ids, close, empty, enter};
 use crate::conts::Conts;
 use crate::fill::{dot, fill, look, may_fill};
 use crate::glide::{Track, glide};
-use crate::memo::{Memo, forget_all, unfolded};
+use crate::memo::{Memo, forget_all, resumed};
 use crate::transition::{Closure, readers};
 use crate::transitions::{end_of, note_transition};
-use flatgrammar::{Tables, Verdict, whole_root};
+use flatgrammar::{Tables, Verdict, start_target};
 use letterclasses::class_of;
 use letters::Letter;
 use ruletable::Memory;
@@ -27,7 +27,7 @@ use std::alloc::Global;
 
 /// Returns the closure of the augmented start; `None` if that visits more ids than it may. `Memory` if an allocation
 /// fails.
-fn first_front(
+fn first_closure(
     alloc: Global,
     tables: &Tables,
     conts: &mut Conts,
@@ -35,15 +35,15 @@ fn first_front(
 ) -> Result<Option<Closure>, Memory>
     requires older { AreOlder conts.old.items.items }
     ensures kept { IfOk result (λ reported. AreKept conts.old.items.items conts.new.items.items) }
-    ensures is { IfOk result (λ reported. IfSome reported (λ front. IsStart tables.now conts.new.items.items
-        front.tops.items
-        front.ended)) }
+    ensures is { IfOk result (λ reported. IfSome reported (λ closure. IsStart tables.now conts.new.items.items
+        closure.tops.items
+        closure.ended)) }
 {
-    let Some(root) = whole_root(tables) else {
+    let Some(target) = start_target(tables) else {
         return Ok(None);
     };
     empty(ids);
-    enter(tables, root, 0, conts, ids)?;
+    enter(tables, target, 0, conts, ids)?;
     let Some(ended) = close(tables, conts, ids)? else {
         return Ok(None);
     };
@@ -70,12 +70,12 @@ fn make_start(
     if !may_fill(cache) {
         return Ok(false);
     }
-    let reported = first_front(alloc, tables, &mut cache.conts, &mut cache.ids)?;
-    let Some(front) = reported else {
+    let reported = first_closure(alloc, tables, &mut cache.conts, &mut cache.ids)?;
+    let Some(closure) = reported else {
         cache.budget.is_shut = true;
         return Ok(false);
     };
-    state_of(cache, samples.len(), front)?;
+    state_of(cache, samples.len(), closure)?;
     Ok(true)
 }
 
@@ -123,7 +123,7 @@ fn cell_of(
     }
 }
 
-/// Puts parts back below a state while it has ended, and returns the state of that; `None` if that takes more than
+/// Puts suffixes back below a state while it has ended, and returns the state of that; `None` if that takes more than
 /// there may be. `Memory` if an allocation fails.
 #[inline(always)]
 fn settle(
@@ -133,21 +133,21 @@ fn settle(
     memo: &mut Memo,
     state: usize,
 ) -> Result<Option<usize>, Memory>
-    requires roots { GiveRoots (flat_of tables.now) tables.now.roots.items }
+    requires targets { GiveTargets (flat_of tables.now) tables.now.targets.items }
     requires memo { IsMemo tables.now samples.now memo.old }
     ensures memo { IfOk result (λ reported. IsMemo tables.now samples.now memo.new) }
     ensures settled { IfOk result (λ reported. IfSome reported (λ t. (x : List ℕ) (j : ℕ) →
         RunsOver tables.now memo.old state x j → RunsAt tables.now memo.new t x j)) }
 {
     let mut now = state;
-    'parts: while memo.parts.len() > 0 {
+    'suffixes: while memo.suffixes.len() > 0 {
         if !has_ended(&memo.cache, now) {
             return Ok(Some(now));
         }
-        let Some(part) = memo.parts.pop() else {
+        let Some(suffix) = memo.suffixes.pop() else {
             return Ok(Some(now));
         };
-        let Some(t) = unfolded(alloc, tables, samples, memo, now, part)? else {
+        let Some(t) = resumed(alloc, tables, samples, memo, now, suffix)? else {
             return Ok(None);
         };
         now = t;
@@ -173,7 +173,7 @@ fn take_step(
     state: usize,
     class: usize,
 ) -> Result<RunStep, Memory>
-    requires roots { GiveRoots (flat_of tables.now) tables.now.roots.items }
+    requires targets { GiveTargets (flat_of tables.now) tables.now.targets.items }
     requires memo { IsMemo tables.now samples.now memo.old }
     ensures memo { IfOk result (λ step. IsMemo tables.now samples.now memo.new) }
     ensures taken { IfOk result (λ step. (x : List ℕ) (j c : ℕ) → slice_get x j ≡ Some c →
@@ -195,8 +195,8 @@ fn take_step(
                 None => Ok(RunStep::Over),
             }
         }
-        Cell::Push(t, part) => {
-            memo.parts.push(part)?;
+        Cell::Push(t, suffix) => {
+            memo.suffixes.push(suffix)?;
             Ok(RunStep::To(t))
         }
         Cell::Dead => Ok(RunStep::Dead),
@@ -211,10 +211,10 @@ fn prepare(memo: &mut Memo, letters: usize)
     ensures states { memo.new.cache.states ≡ memo.old.cache.states }
     ensures cells { memo.new.cache.cells ≡ memo.old.cache.cells }
     ensures transitions { memo.new.transitions ≡ memo.old.transitions }
-    ensures unfolds { memo.new.unfolds ≡ memo.old.unfolds }
-    ensures parts { memo.new.parts.items ≡ [] }
+    ensures resumes { memo.new.resumes ≡ memo.old.resumes }
+    ensures suffixes { memo.new.suffixes.items ≡ [] }
 {
-    memo.parts.clear();
+    memo.suffixes.clear();
     memo.cache.budget.earn(letters);
 }
 
@@ -264,7 +264,7 @@ fn go_on<L: Letter>(
     line: &[L],
     from: Track,
 ) -> Result<Option<Track>, Memory>
-    requires roots { GiveRoots (flat_of tables.now) tables.now.roots.items }
+    requires targets { GiveTargets (flat_of tables.now) tables.now.targets.items }
     requires classes { AreClasses (flat_of tables.now) classes.low.now classes.samples.now }
     requires memo { IsMemo tables.now classes.samples.now memo.old }
     requires within { from.at ≤ length line.now }
@@ -311,7 +311,7 @@ fn follow<L: Letter>(
     memo: &mut Memo,
     line: &[L],
 ) -> Result<Option<Track>, Memory>
-    requires roots { GiveRoots (flat_of tables.now) tables.now.roots.items }
+    requires targets { GiveTargets (flat_of tables.now) tables.now.targets.items }
     requires classes { AreClasses (flat_of tables.now) classes.low.now classes.samples.now }
     requires memo { IsMemo tables.now classes.samples.now memo.old }
     ensures memo { IfOk result (λ reported. IsMemo tables.now classes.entry.samples.now memo.new) }
@@ -339,7 +339,7 @@ pub(crate) fn run<L: Letter>(
     memo: &mut Memo,
     line: &[L],
 ) -> Result<Option<Track>, Memory>
-    requires roots { GiveRoots (flat_of tables.now) tables.now.roots.items }
+    requires targets { GiveTargets (flat_of tables.now) tables.now.targets.items }
     requires classes { AreClasses (flat_of tables.now) classes.low.now classes.samples.now }
     requires memo { IsMemo tables.now classes.samples.now memo.old }
     ensures memo { IsMemo tables.now classes.entry.samples.now memo.new }

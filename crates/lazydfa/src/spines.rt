@@ -1,7 +1,7 @@
 //! Continuations that are moved from one suffix to another.
 ghost use Rattle.std.specs.Prelude.{◌≡◌, ◌≤◌, ◌++◌, ◌∷◌, ℕ, true, List, [], IfOk, length, Contains};
 ghost use Rattle.lazydfa.specs.Conts.{AreKept, AreOlder, IsIdOf, stack_of};
-ghost use Rattle.lazydfa.specs.Spines.{AreMoved, IsMoveOn, MovesOn, places_of};
+ghost use Rattle.lazydfa.specs.Spines.{AreMoved, IsMoveOn, MovesOn, positions_of};
 
 use crate::close::cont_at;
 use crate::conts::{Cont, Conts, id_of};
@@ -21,7 +21,7 @@ pub(crate) struct Move {
 fn take_spine(conts: &Conts, top: usize, off: usize, spine: &mut Vec<Cont>) -> Result<bool, Memory>
     requires within { top ≤ length conts.now.items.items }
     requires older { AreOlder conts.now.items.items }
-    ensures { IfOk result (λ yes. yes ≡ true → stack_of conts.now.items.items top ≡ places_of spine.new.items
+    ensures { IfOk result (λ yes. yes ≡ true → stack_of conts.now.items.items top ≡ positions_of spine.new.items
         ++ stack_of conts.now.items.items off) }
 {
     spine.clear();
@@ -45,7 +45,7 @@ fn put_spine(conts: &mut Conts, spine: &mut Vec<Cont>, on: usize) -> Result<usiz
     requires within { on ≤ length conts.old.items.items }
     requires older { AreOlder conts.old.items.items }
     ensures kept { IfOk result (λ id. AreKept conts.old.items.items conts.new.items.items) }
-    ensures is { IfOk result (λ id. IsIdOf conts.new.items.items id (places_of spine.old.items
+    ensures is { IfOk result (λ id. IsIdOf conts.new.items.items id (positions_of spine.old.items
         ++ stack_of conts.old.items.items on)) }
 {
     let mut id = on;

@@ -33,7 +33,7 @@ pub struct States {
 impl Model for States {
     ghost use Rattle.std.specs.Prelude.{[]};
     ghost use Rattle.flatgrammar.specs.NodeSteps.{flat_of};
-    ghost use Rattle.flatgrammar.specs.TableViews.{GiveRoots};
+    ghost use Rattle.flatgrammar.specs.TableViews.{GiveTargets};
     ghost use Rattle.lazydfa.specs.Cached.{IsCache};
     ghost use Rattle.lazydfa.specs.StateSets.{StateSets, sets_of};
 
@@ -45,20 +45,21 @@ impl Model for States {
           s.cache.states.items;
     } };
 
-    ghost invariant = { λ s. (GiveRoots (flat_of s.tables.value) s.tables.value.roots.items) × (IsCache s.tables.value
+    ghost invariant = { λ s. (GiveTargets (flat_of s.tables.value) s.tables.value.targets.items)
+        × (IsCache s.tables.value
         [] s.cache) };
 }
 
-// Returns a front with its ids in ascending order.
-fn in_order(front: Closure) -> Closure
-    ensures tops { IsPermutation front.tops.items result.tops.items }
-    ensures ended { result.ended ≡ front.ended }
+// Returns a closure with its ids in ascending order.
+fn in_order(closure: Closure) -> Closure
+    ensures tops { IsPermutation closure.tops.items result.tops.items }
+    ensures ended { result.ended ≡ closure.ended }
 {
-    let mut tops = front.tops;
+    let mut tops = closure.tops;
     tops.sort_unstable();
     Closure {
         tops,
-        ended: front.ended,
+        ended: closure.ended,
     }
 }
 
@@ -82,10 +83,10 @@ fn lead_whole(
     }
     let tops = cache.states[state].tops.as_slice();
     let reported = transition(alloc, tables, tops, value, &mut cache.conts, &mut cache.ids)?;
-    let Some(front) = reported else {
+    let Some(closure) = reported else {
         return Ok(None);
     };
-    let t = state_of(cache, 0, in_order(front))?;
+    let t = state_of(cache, 0, in_order(closure))?;
     Ok(Some(t))
 }
 

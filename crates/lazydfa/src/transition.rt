@@ -143,9 +143,10 @@ pub(crate) fn transition(
     requires within { (id : ℕ) → Contains tops.now id → id ≤ length conts.old.items.items }
     requires older { AreOlder conts.old.items.items }
     ensures kept { IfOk result (λ reported. AreKept conts.old.items.items conts.new.items.items) }
-    ensures is { IfOk result (λ reported. IfSome reported (λ front. IsTransition tables.now value conts.old.items.items
+    ensures is { IfOk result
+        (λ reported. IfSome reported (λ closure. IsTransition tables.now value conts.old.items.items
         tops.now
-        conts.new.items.items front.tops.items front.ended)) }
+        conts.new.items.items closure.tops.items closure.ended)) }
 {
     empty(ids);
     read_all(tables, tops, value, conts, ids)?;

@@ -13,10 +13,10 @@ use crate::cache::{Cache, State};
 use crate::fill::dot;
 use ruletable::Memory;
 
-/// A word from here on says nothing. A word below it in the place of a class is the place of a row.
-const PLACES: u32 = 0x8000_0000;
+/// A word from here on says nothing. A word below it in the place of a class is the dotted rule of a row.
+const POSITIONS: u32 = 0x8000_0000;
 
-/// Returns the row of the state that a class leads to, from the state of a given row, if that is known and no part is
+/// Returns the row of the state that a class leads to, from the state of a given row, if that is known and no suffix is
 /// to be put back there. A row has a word for each class, and a last one: 0 for a state that has not ended, 1 for one
 /// that has.
 #[inline(always)]
@@ -31,7 +31,7 @@ pub(crate) fn next_row(
 {
     let at = row.checked_add(class)?;
     match transitions.get(at) {
-        Some(next) if *next < PLACES => {
+        Some(next) if *next < POSITIONS => {
             let next = *next as usize;
             if is_bare {
                 return Some(next);
@@ -106,8 +106,8 @@ fn end_word(state: &State) -> u32
     if state.ended { 1 } else { 0 }
 }
 
-/// Keeps that a class leads from a state to another, and whether that has ended, if that is not known and the place of
-/// its row is below 2 ^ 32. `Memory` if an allocation fails.
+/// Keeps that a class leads from a state to another, and whether that has ended, if that is not known and the dotted
+/// rule of its row is below 2 ^ 32. `Memory` if an allocation fails.
 #[inline(always)]
 pub(crate) fn note_transition(
     cache: &Cache,
@@ -128,7 +128,7 @@ pub(crate) fn note_transition(
         return Ok(());
     };
     match transitions.get(at) {
-        Some(known) if *known < PLACES => return Ok(()),
+        Some(known) if *known < POSITIONS => return Ok(()),
         _ => {}
     }
     let (Some(there), Some(row)) = (cache.states.get(to), dot(to, stride, 0)) else {

@@ -17,7 +17,7 @@ use Rattle.std.proofs.lemmas.Map.Keys.{IsStrictlyIncreasing-dedup}
 use Rattle.std.specs.List.Retain.{IsFiltered, DiffersFromLast}
 use Rattle.std.specs.List.Sorted.{IsNonDecreasing, IsPartitionPoint, IsPermutation, IsSorted, IsStrictlyIncreasing}
 use Rattle.std.specs.Ordering.{nat_cmp}
-use Rattle.flatgrammar.specs.Flat.{Flat, Node, Letters, Place, Set, Has, letter, Reads, reads}
+use Rattle.flatgrammar.specs.Flat.{Flat, Node, Letters, Dot, Set, Has, letter, Reads, reads}
 use Rattle.letterclasses.specs.Stacks.{AreAlike}
 use Rattle.letterclasses.specs.ClassBounds.{IsFree, AreMoreBounds, IsBoundAdded, IsSplit, IsNodeSplit, AreNodesSplit}
 use Rattle.letterclasses.specs.ClassBounds.{AreJoined, AreParted, IsClassOf, HaveClasses, AreLow, AreClasses}
@@ -80,12 +80,12 @@ module _ {A B : Type 0} (f : A → B) (P : List ℕ → B → Type 0)
 
 -- numbers that are taken or rejected together
 module _ (flat : Flat) (bounds : List ℕ) (split : AreNodesSplit bounds flat.nodes) where
-  next_alike : (c : ℕ) → c + 1 < 2 ^ 32 → IsFree bounds (c + 1) → {q r : Place} {set : Set} → Reads flat q set r
+  next_alike : (c : ℕ) → c + 1 < 2 ^ 32 → IsFree bounds (c + 1) → {q r : Dot} {set : Set} → Reads flat q set r
       → Has set c ↔ Has set (c + 1)
   next_alike c fits free (reads {s = s} at_s (letter {sets = sets} {k = k} {set = set} at_k)) =
       split s (Letters sets) at_s sets refl k set at_k c fits free
 
-  row_alike : (n d : ℕ) → d + n < 2 ^ 32 → ((i : ℕ) → d < i → i ≤ d + n → IsFree bounds i) → {q r : Place} {set : Set}
+  row_alike : (n d : ℕ) → d + n < 2 ^ 32 → ((i : ℕ) → d < i → i ≤ d + n → IsFree bounds i) → {q r : Dot} {set : Set}
       → Reads flat q set r → Has set (d + n) ↔ Has set d
   row_alike zero d fits free {set = set} rd =
       let e : d ≡ d + 0 = omega arith in subst (λ v. Has set v ↔ Has set d) e (λ h. h, λ h. h)

@@ -2,4 +2,4 @@ pub mod AreClassesLemmas
 pub mod StacksLemmas
 pub mod LeadOnLemmas
 pub mod LiftLemmas
-pub mod FrontLemmas
+pub mod StackClosureLemmas

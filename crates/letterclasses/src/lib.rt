@@ -7,4 +7,4 @@ mod classes;
 mod stacks;
 
 pub use classes::{Classes, class_of, find_classes};
-pub use stacks::{a_letter_leads_on, parts_are_moved, stacks_decide};
+pub use stacks::{a_letter_leads_on, stacks_decide, suffixes_are_moved};

@@ -2,4 +2,4 @@
 
 mod laws;
 
-pub use laws::{a_letter_leads_on, parts_are_moved, stacks_decide};
+pub use laws::{a_letter_leads_on, stacks_decide, suffixes_are_moved};

@@ -32,7 +32,7 @@ pub record IsText (line : List ℕ) : Type 0 where
   pub points : List ℕ
   pub spelled : Spells points line
 
--- the line's first n bytes are its longest beginning that is UTF-8
+-- the line's first n bytes are its longest prefix that is UTF-8
 pub record IsLongestText (line : List ℕ) (n : ℕ) : Type 0 where
   pub within : n ≤ length line
   pub text : IsText (take n line)

@@ -1,4 +1,4 @@
--- The first token of a text is found in one way, where two tokens of one place and one end are of one kind.
+-- The first token of a text is found in one way, where two tokens of one position and one end are of one kind.
 -- Serves: Kind::are_cut, AbnfKind::are_cut, read_peg, read_abnf
 use Rattle.std.proofs.Common.{◌≡◌, ℕ, ◌<◌, Bool, true, false, List, [], ◌∷◌, ◌++◌, length, drop, refl, sym, ap, arith}
 use Rattle.std.proofs.Common.{length-append, append_assoc, ◌∙◌, ◌⊎◌, inl, inr}

@@ -49,10 +49,10 @@ module _ {K : Type 0} (White : List ℕ → List ℕ → Type 0) (First : K → 
       let token : h.token ≡ k.token = one.1 in
       let slice : slice_of x ≡ slice_of y = append_cancel_right (slice_of x) (slice_of y) s
       (ap (λ (z : List ℕ). slice_of x ++ z) (sym one.2) ∙ sym h.cut ∙ token ∙ k.cut) in
-      let place : start_of x ≡ start_of y = (let e = ap length token in let p = h.place in let q = k.place in
+      let position : start_of x ≡ start_of y = (let e = ap length token in let p = h.position in let q = k.position in
       omega arith) in
       let end : end_of x ≡ end_of y = (let e = ap length slice in let p = h.size in let q = k.size in omega arith) in
-      ((let kind = one.0 in same-token x y kind slice place end), one.2)
+      ((let kind = one.0 in same-token x y kind slice position end), one.2)
 
   pub tokens-one : {total : ℕ} {t : List ℕ} {xs ys : List (Tok K)} → AreTokens White First is_end total t xs
       → AreTokens White First is_end total t ys → xs ≡ ys
@@ -107,7 +107,7 @@ module _ {K : Type 0} (White : List ℕ → List ℕ → Type 0) (First : K → 
     white = w;
     first = f;
     cut = cut-front b;
-    place = (let h = end-shorter a in omega arith);
+    position = (let h = end-shorter a in omega arith);
     size = (let h = length-front b in omega (arith, h));
   }
 

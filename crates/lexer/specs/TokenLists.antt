@@ -35,7 +35,7 @@ module _ {K : Type 0} (White : List ℕ → List ℕ → Type 0) (First : K → 
     pub white : White t token
     pub first : First (kind_of x) token r
     pub cut : token ≡ slice_of x ++ r
-    pub place : start_of x + length token ≡ total
+    pub position : start_of x + length token ≡ total
     pub size : end_of x ≡ start_of x + length (slice_of x)
 
 -- The tokens of t, the end of a text of `total` bytes: as many as there are, and the end.

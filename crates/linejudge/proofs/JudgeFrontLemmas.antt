@@ -14,7 +14,7 @@ use Rattle.linejudge.specs.InputLines.{
   GoesBy,
   Lines,
   StandsAt,
-  position_after,
+  next_position,
   kept_line,
   kept_size,
   printed_line,
@@ -57,19 +57,19 @@ module _ (Reported : List ℕ → Answer → Type 0) (asked : Bool) (Refusal : L
   reported_on : asked ≡ false → (lacks : Bool) (at : LinePosition) (reported line : List ℕ) (n : ℕ) (said : Answer)
       → ReportedUpTo Reported asked Refusal form input lacks at reported → GoesBy form input at line n
       → Reported line said
-      → ReportedUpTo Reported asked Refusal form input lacks (position_after at n said) reported
+      → ReportedUpTo Reported asked Refusal form input lacks (next_position at n said) reported
   reported_on not false at reported line n said r stands says =
-      subst (λ t. Refusals Reported asked Refusal form input (position_after at n said) t) (append-nil reported)
+      subst (λ t. Refusals Reported asked Refusal form input (next_position at n said) t) (append-nil reported)
       (one_reported at reported line n said [] r stands says
       (if_not_asked (is_reported asked at.refused said) (Refusal line (at.count + 1)) (rw not refl)))
   reported_on not true at reported line n said r stands says = none_after at reported line n said r stands says
 
   pub goes_one_on : asked ≡ false → (old at : LinePosition) (added line : List ℕ) (n : ℕ) (said : Answer)
       → AddsLines Reported asked Refusal form input old at added → GoesBy form input at line n → Reported line said
-      → AddsLines Reported asked Refusal form input old (position_after at n said)
+      → AddsLines Reported asked Refusal form input old (next_position at n said)
       (added ++ printed_line form (at.count + 1) line said)
   goes_one_on not old at added line n said goes stands says = record {
-    lines = λ text l. subst (λ t. Lines Reported form input (position_after at n said) t)
+    lines = λ text l. subst (λ t. Lines Reported form input (next_position at n said) t)
         (append_assoc text added (printed_line form (at.count + 1) line said))
         (one_more at (text ++ added) line n said (goes.lines text l) stands says);
     refusals = λ lacks reported r. reported_on not lacks at reported line n said
@@ -77,9 +77,10 @@ module _ (Reported : List ℕ → Answer → Type 0) (asked : Bool) (Refusal : L
   }
 
   -- a batch of lines that was judged in bytes at the front of what is held
-  pub batch_goes : {flow : Flow} (before items front added : List ℕ) (at next : LinePosition) → length before ≡ at.place
+  pub batch_goes : {flow : Flow} (before items front added : List ℕ) (at next : LinePosition) → length before
+      ≡ at.position
       → IsPrefixOf front items → Agrees (before ++ items) flow input →
-      ((input : Input) (rest : List ℕ) → drop at.place input.bytes ≡ front ++ rest
+      ((input : Input) (rest : List ℕ) → drop at.position input.bytes ≡ front ++ rest
       → AddsLines Reported asked Refusal form input at next added) →
       AddsLines Reported asked Refusal form input at next added
   batch_goes before items front added at next here (rest, is) agrees goes =

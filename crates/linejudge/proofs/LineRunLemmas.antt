@@ -35,8 +35,8 @@ use Rattle.toolrun.specs.declared.stop.Stop.{Stop}
 use Rattle.toolrun.specs.declared.stop.Stop.TheVariants.{NoMemory}
 use Rattle.toolrun.proofs.ExplainedIfLemmas.{if_asked, if_not_asked, not_asked_nothing}
 use Rattle.toolrun.proofs.StopsAsLemmas.{run_reported, did_not_report}
-use Rattle.linejudge.specs.InputLines.{GoesBy, LinesEnd, Lines, at_front, position_after, printed_line, none, one_more}
-use Rattle.linejudge.specs.InputLines.{place_taken, taken_at}
+use Rattle.linejudge.specs.InputLines.{GoesBy, LinesEnd, Lines, at_front, next_position, printed_line, none, one_more}
+use Rattle.linejudge.specs.InputLines.{position_taken, taken_at}
 use Rattle.linejudge.specs.LineRefusals.{CutRefusals, EndsAt, LinesReply, LinesStates, LinesTo, NeverLacks, Refusals}
 use Rattle.linejudge.specs.LineRefusals.{
   RunPoint,
@@ -115,21 +115,21 @@ module _ (Reported : List ℕ → Answer → Type 0) (asked : Bool) (Refusal : L
   reported_more : (o b : Bool) (at : LinePosition) (line : List ℕ) (n : ℕ) (said : Answer) (old new : List ℕ)
       → ReportedUpTo Reported asked Refusal form input o at old → GoesBy form input at line n → Reported line said
       → AddsBy Reported asked Refusal o b at line said old new
-      → ReportedUpTo Reported asked Refusal form input b (position_after at n said) new
+      → ReportedUpTo Reported asked Refusal form input b (next_position at n said) new
   reported_more false false at line n said old new lines stands says adds =
-      subst (λ t. Refusals Reported asked Refusal form input (position_after at n said) t) (sym adds.added)
+      subst (λ t. Refusals Reported asked Refusal form input (next_position at n said) t) (sym adds.added)
       (one_reported at old line n said adds.text lines stands says adds.is)
   reported_more false true at line n said old new lines stands says (is, same) =
-      subst (λ t. CutRefusals Reported asked Refusal form input (position_after at n said) t) (sym same)
+      subst (λ t. CutRefusals Reported asked Refusal form input (next_position at n said) t) (sym same)
       (one_lacks at old line n said lines stands says is)
   reported_more true false at line n said old new lines stands says (lacks, same) = absurd (cc)
   reported_more true true at line n said old new lines stands says (lacks, same) =
-      subst (λ t. CutRefusals Reported asked Refusal form input (position_after at n said) t) (sym same)
+      subst (λ t. CutRefusals Reported asked Refusal form input (next_position at n said) t) (sym same)
       (none_after at old line n said lines stands says)
 
   -- a reply, at a point
   on_point : (b : Bool) (reply : Reply)
-      → Replies (Lines Reported form input) (LinesEnd form input) (place_taken form.limit input) reply
+      → Replies (Lines Reported form input) (LinesEnd form input) (position_taken form.limit input) reply
       → Replies (LinesTo Reported form input) (EndsAt form input) (taken_by form.limit input) reply
   on_point b reply r = record {
     point = record { at = r.point; lacks = b };
@@ -147,7 +147,7 @@ module _ (Reported : List ℕ → Answer → Type 0) (asked : Bool) (Refusal : L
   -- .. and without its point
   off_point : (reply : Reply) → Replies (LinesTo Reported form input) (EndsAt form input)
       (taken_by form.limit input) reply
-      → Replies (Lines Reported form input) (LinesEnd form input) (place_taken form.limit input) reply
+      → Replies (Lines Reported form input) (LinesEnd form input) (position_taken form.limit input) reply
   off_point reply r = record {
     point = r.point.at;
     before = r.before;
@@ -187,7 +187,8 @@ module _ (Reported : List ℕ → Answer → Type 0) (asked : Bool) (Refusal : L
 
   -- where no allocation fails but in an explanation, a run states its reply without explanations, but for these
   pub same_but_why : (reply : Reply) → LinesStates Reported asked Refusal form input reply → reply.status ≢ 5 →
-      (plain : Reply) × Replies (Lines Reported form input) (LinesEnd form input) (place_taken form.limit input) plain
+      (plain : Reply) × Replies (Lines Reported form input) (LinesEnd form input)
+      (position_taken form.limit input) plain
       × SameButWhy asked reply plain
   same_but_why reply (replied_reported r g) ample = (
     g.plain,
@@ -216,8 +217,8 @@ module _ (Reported : List ℕ → Answer → Type 0) (asked : Bool) (Refusal : L
 
       pub one_more_line : (new : Option (List ℕ)) (more : Explanations) (said : Answer) (n : ℕ)
           → IsStep Reported asked Refusal form input at mid new reported more (Ok (Answers said n)) →
-          (longer : List ℕ) × Lines Reported form input (position_after at n said) longer
-          × ReportedUpTo Reported asked Refusal form input more.lacks (position_after at n said) more.text.items
+          (longer : List ℕ) × Lines Reported form input (next_position at n said) longer
+          × ReportedUpTo Reported asked Refusal form input more.lacks (next_position at n said) more.text.items
           × Appends old new longer
       one_more_line new more said n (line, stands, says, adds, writes) = (
         text ++ printed_line form (at.count + 1) line said,
@@ -305,7 +306,7 @@ module _ (Reported : List ℕ → Answer → Type 0) (asked : Bool) (Refusal : L
           → (asked ≡ false → ending ≡ Plain stop)
           → (asked ≡ true → IsReportedEnding more.lacks
           (more.text.items ++ more_refused (count_untold (not more.lacks) at.refused)) stop ending)
-          → taken ≡ taken_at form.limit input at.place → Runs taken old new (Ok ending)
+          → taken ≡ taken_at form.limit input at.position → Runs taken old new (Ok ending)
       stops_there new more taken stop ending (same, either) plain reported_so took =
           let ends : asked ≡ true → IsReportedEnding reported.lacks
           (reported.text.items ++ more_refused (count_untold (not reported.lacks) at.refused)) stop ending =
@@ -334,13 +335,13 @@ module _ (Reported : List ℕ → Answer → Type 0) (asked : Bool) (Refusal : L
 
       -- the output fails in the text of more lines
       module _ (decided : (line : List ℕ) → (said : Answer) × Reported line said) (new : Option (List ℕ)) (taken : ℕ)
-          (fault : WriteFault) (took : taken ≤ taken_at form.limit input at.place) where
-        fails_at : (next : LinePosition) (b : Bool) (added more : List ℕ) → at.place ≤ next.place
+          (fault : WriteFault) (took : taken ≤ taken_at form.limit input at.position) where
+        fails_at : (next : LinePosition) (b : Bool) (added more : List ℕ) → at.position ≤ next.position
             → Lines Reported form input next (text ++ added)
             → ReportedUpTo Reported asked Refusal form input b next more → AppendsPart mid new added
             → Runs taken old new (Err fault)
         fails_at next b added more le further reported_there part =
-            let goes = goes_further Reported form input decided at.place next (text ++ added) le further in
+            let goes = goes_further Reported form input decided at.position next (text ++ added) le further in
             let all : List ℕ = more ++ more_refused (count_untold (asked && not b) next.refused) in (
               text ++ added,
               record {
@@ -365,7 +366,7 @@ module _ (Reported : List ℕ → Answer → Type 0) (asked : Bool) (Refusal : L
               out = text ++ last;
               err = message_of stop;
               status = code_of (status_of stop);
-              taken = taken_at form.limit input at.place;
+              taken = taken_at form.limit input at.position;
             } in (
               text ++ last,
               record {
@@ -400,7 +401,7 @@ module _ (Reported : List ℕ → Answer → Type 0) (asked : Bool) (Refusal : L
             added
             → AppendsPart mid new added → Runs taken old new (Err fault)
         fails_in added more (of_line line n said stands says adds) part =
-            fails_at (position_after at n said) more.lacks added more.text.items (omega arith)
+            fails_at (next_position at n said) more.lacks added more.text.items (omega arith)
             (one_more at text line n said lines stands says)
             (reported_more reported.lacks more.lacks at line n said reported.text.items more.text.items refusals stands
             says adds)
@@ -412,7 +413,7 @@ module _ (Reported : List ℕ → Answer → Type 0) (asked : Bool) (Refusal : L
             → Runs taken old new (Err fault)
         fails_there more (added, texts, part) = fails_in added more texts part
 
-        pub fails_further : (next : LinePosition) (added : List ℕ) → at.place ≤ next.place
+        pub fails_further : (next : LinePosition) (added : List ℕ) → at.position ≤ next.position
             → AddsLines Reported asked Refusal form input at next added → AppendsPart mid new added
             → Runs taken old new (Err fault)
         fails_further next added le goes part =

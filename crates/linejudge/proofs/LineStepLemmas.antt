@@ -26,7 +26,7 @@ use Rattle.linejudge.proofs.KeptLineLemmas.{kept_is}
 module _ (Reported : List ℕ → Answer → Type 0) (asked : Bool) (Refusal : List ℕ → ℕ → List ℕ → Type 0) (form : LineForm)
     (input : Input) (at : LinePosition) (old new : Option (List ℕ)) (reported more : Explanations) where
   abbrev rest : List ℕ
-  rest = drop at.place input.bytes
+  rest = drop at.position input.bytes
 
   abbrev IsAnswered : List ℕ → List ℕ → Answer → Type 0
   IsAnswered line text = Answered Reported asked Refusal form at line reported more text
@@ -43,32 +43,32 @@ module _ (Reported : List ℕ → Answer → Type 0) (asked : Bool) (Refusal : L
 
   -- a line and its end
   pub whole_is : (n : ℕ) (held text : List ℕ) (answered : Result Answer Memory) (r : Result LineStep WriteFault)
-      → is_over form at ≡ false → held ≡ take (kept_size form n) rest → IsNext form input at.place (line.Whole n)
+      → is_over form at ≡ false → held ≡ take (kept_size form n) rest → IsNext form input at.position (line.Whole n)
       → IfOk answered (IsAnswered held text) → OnErr answered (more ≡ reported)
       → StepsAfter (n + 1) old new text answered r → IsStep Reported asked Refusal form input at old new reported more r
   whole_is n held text answered r goes is next answers fails steps =
       let judged : List ℕ = kept_line form (take n rest) in
-      let stands : StandsAt form input at.place judged (n + 1) =
-      subst (λ (k : ℕ). StandsAt form input at.place judged (k + 1)) next.1 (with_end (take n rest) next.0) in
+      let stands : StandsAt form input at.position judged (n + 1) =
+      subst (λ (k : ℕ). StandsAt form input at.position judged (k + 1)) next.1 (with_end (take n rest) next.0) in
       let all : held ≡ judged = is ∙ kept_is form n rest (take n rest) next.0.after next.0.cut next.1 in
       line_is judged (n + 1) text answered r (record { goes = goes; stands = stands }) (rw all at answers) fails steps
 
   -- a last line without an end
   pub last_is : (n : ℕ) (held text : List ℕ) (answered : Result Answer Memory) (r : Result LineStep WriteFault)
-      → is_over form at ≡ false → held ≡ take n rest → IsNext form input at.place (line.Last n)
+      → is_over form at ≡ false → held ≡ take n rest → IsNext form input at.position (line.Last n)
       → IfOk answered (IsAnswered held text)
       → OnErr answered (more ≡ reported) → StepsAfter n old new text answered r
       → IsStep Reported asked Refusal form input at old new reported more r
   last_is n held text answered r goes is next answers fails steps =
       let all : held ≡ rest = is ∙ take_all n rest (let len = next.1 in omega (arith, len)) in
-      let stands : StandsAt form input at.place rest n =
-      subst (λ (k : ℕ). StandsAt form input at.place rest k) next.1 (without_end next.0) in
+      let stands : StandsAt form input at.position rest n =
+      subst (λ (k : ℕ). StandsAt form input at.position rest k) next.1 (without_end next.0) in
       line_is rest n text answered r (record { goes = goes; stands = stands }) (rw all at answers) fails steps
 
 module _ (Reported : List ℕ → Answer → Type 0) (asked : Bool) (Refusal : List ℕ → ℕ → List ℕ → Type 0) (form : LineForm)
     (input : Input) (at : LinePosition) (old new : Option (List ℕ)) (reported : Explanations) where
   -- no line
-  pub long_is : is_over form at ≡ false → IsNext form input at.place line.Overlong
+  pub long_is : is_over form at ≡ false → IsNext form input at.position line.Overlong
       → IsStep Reported asked Refusal form input at old old reported reported
       (Ok (Stops (LongLine (at.count + 1) form.limit)))
   long_is goes next = (refl, inr ([], overlong goes next, Appends-same old))
@@ -80,6 +80,6 @@ module _ (Reported : List ℕ → Answer → Type 0) (asked : Bool) (Refusal : L
   end_is (Ok step) ends writes same = rw same (refl, inr (printed_last form.printed at, ends, writes))
   end_is (Err fault) ends part same = (printed_last form.printed at, of_end _ _ ends refl, part)
 
-  pub broken_is : is_over form at ≡ false → IsNext form input at.place line.Broken
+  pub broken_is : is_over form at ≡ false → IsNext form input at.position line.Broken
       → IsStep Reported asked Refusal form input at old old reported reported (Ok (Stops stop.Broken))
   broken_is goes next = (refl, inr ([], broken goes next, Appends-same old))

@@ -1,4 +1,4 @@
--- A run of lines goes on from each place, as each line has an answer.
+-- A run of lines goes on from each position, as each line has an answer.
 -- Serves: run_lines
 use Rattle.std.proofs.Common.{◌≡◌, ◌≢◌, ℕ, suc, zero, ◌+◌, ◌<◌, ◌≤◌, Bool, true, false, List, [], ◌∷◌, ◌++◌}
 use Rattle.std.proofs.Common.{length, drop, refl, ap, arith, inl, inr, ◌⊎◌, length-drop, length-append}
@@ -15,8 +15,9 @@ use Rattle.toolrun.specs.declared.stop.Stop.{Stop}
 use Rattle.toolrun.specs.declared.stop.Stop.TheVariants.{Quiet, LongLine, Broken}
 use Rattle.linejudge.specs.InputLines.{HasNoEnd, IsEndAt, kept_line, printed_line, printed_last, refused_by}
 use Rattle.linejudge.specs.InputLines.{status_after}
-use Rattle.linejudge.specs.InputLines.{place_taken, taken_at, with_end, without_end, Lines, one_more, LinesEnd, broken}
-use Rattle.linejudge.specs.InputLines.{position_after, overlong, finished, is_over, rejected}
+use Rattle.linejudge.specs.InputLines.{position_taken, taken_at, with_end, without_end, Lines, one_more, LinesEnd}
+use Rattle.linejudge.specs.InputLines.{broken}
+use Rattle.linejudge.specs.InputLines.{next_position, overlong, finished, is_over, rejected}
 use Rattle.linejudge.specs.declared.answers.Answer.{Answer}
 use Rattle.linejudge.specs.declared.answers.Answer.TheVariants.{Yes, No, NoAfter}
 use Rattle.linejudge.specs.declared.line.LineForm.{LineForm}
@@ -47,7 +48,7 @@ refused_by-one (NoAfter n) = omega arith
 
 -- at the end of the input a run ends so, whether it was over before or not
 pub ends_quietly : (form : LineForm) (input : Input) (at : LinePosition) (b : Bool) → is_over form at ≡ b
-    → IsEndAt form input at.place → LinesEnd form input at (printed_last form.printed at)
+    → IsEndAt form input at.position → LinesEnd form input at (printed_last form.printed at)
     (Quiet (status_after at.refused))
 ends_quietly form input at true over is = rejected over
 ends_quietly form input at false goes is = finished goes is
@@ -57,7 +58,7 @@ module _ (Reported : List ℕ → Answer → Type 0) (form : LineForm) (input : 
   rest s = drop s input.bytes
 
   abbrev pub Goes : ℕ → List ℕ → Type 0
-  Goes s text = Begins (Lines Reported form input) (LinesEnd form input) (place_taken form.limit input)
+  Goes s text = Begins (Lines Reported form input) (LinesEnd form input) (position_taken form.limit input)
       (taken_at form.limit input s) text
 
   takes_more : (s t n : ℕ) → s ≤ t → taken_at form.limit input t ≤ n → taken_at form.limit input s ≤ n
@@ -68,13 +69,13 @@ module _ (Reported : List ℕ → Answer → Type 0) (form : LineForm) (input : 
       omega (arith, m, h)
 
   pub goes_to_stop : (at : LinePosition) (text last : List ℕ) (stop : Stop) → Lines Reported form input at text
-      → LinesEnd form input at last stop → Goes at.place (text ++ last)
+      → LinesEnd form input at last stop → Goes at.position (text ++ last)
   goes_to_stop at text last stop lines ends = record {
     reply = record {
       out = text ++ last;
       err = message_of stop;
       status = code_of (status_of stop);
-      taken = taken_at form.limit input at.place;
+      taken = taken_at form.limit input at.position;
     };
     replies = record {
       point = at;
@@ -102,35 +103,35 @@ module _ (Reported : List ℕ → Answer → Type 0) (form : LineForm) (input : 
 
   module _ (decided : (line : List ℕ) → (said : Answer) × Reported line said) where
     -- the input ends there
-    goes_at_end : (at : LinePosition) (text : List ℕ) → Lines Reported form input at text → rest at.place ≡ []
+    goes_at_end : (at : LinePosition) (text : List ℕ) → Lines Reported form input at text → rest at.position ≡ []
         → input.fault ≡ false
-        → Goes at.place text
+        → Goes at.position text
     goes_at_end at text lines empty fine =
         let last = printed_last form.printed at in
-        goes_from at.place at.place text last (omega arith)
+        goes_from at.position at.position text last (omega arith)
         (goes_to_stop at text last (Quiet (status_after at.refused)) lines
         (ends_quietly form input at (is_over form at) refl (empty, fine)))
 
     -- after the last line it does
     goes_after_last : (at : LinePosition) (text : List ℕ) → Lines Reported form input at text → is_over form at ≡ false
-        → HasNoEnd form.end (rest at.place) → 0 < length (rest at.place) → length (rest at.place) ≤ form.limit
-        → input.fault ≡ false → Goes at.place text
+        → HasNoEnd form.end (rest at.position) → 0 < length (rest at.position) → length (rest at.position) ≤ form.limit
+        → input.fault ≡ false → Goes at.position text
     goes_after_last at text lines goes free some le fine =
-        let d = decided (rest at.place) in
-        let n : ℕ = length (rest at.place) in
-        let l = length-drop at.place input.bytes in
-        let more = printed_line form (at.count + 1) (rest at.place) d.0 in
-        goes_from at.place (at.place + n) text more (omega arith)
-        (goes_at_end (position_after at n d.0) (text ++ more)
-        (one_more at text (rest at.place) n d.0 lines
+        let d = decided (rest at.position) in
+        let n : ℕ = length (rest at.position) in
+        let l = length-drop at.position input.bytes in
+        let more = printed_line form (at.count + 1) (rest at.position) d.0 in
+        goes_from at.position (at.position + n) text more (omega arith)
+        (goes_at_end (next_position at n d.0) (text ++ more)
+        (one_more at text (rest at.position) n d.0 lines
         (record { goes = goes; stands = without_end (free, some, le, fine) }) d.1)
-        (drop_all (at.place + n) input.bytes (omega (arith, l))) fine)
+        (drop_all (at.position + n) input.bytes (omega (arith, l))) fine)
 
     goes_ended : (at : LinePosition) (text : List ℕ) → Lines Reported form input at text → is_over form at ≡ false
-        → HasNoEnd form.end (rest at.place) → length (rest at.place) ≤ form.limit → (fault : Bool)
+        → HasNoEnd form.end (rest at.position) → length (rest at.position) ≤ form.limit → (fault : Bool)
         → input.fault ≡ fault →
-        (bytes : List ℕ) → rest at.place ≡ bytes → Goes at.place text
-    goes_ended at text lines goes free le true is bytes same = goes_from at.place at.place text [] (omega arith)
+        (bytes : List ℕ) → rest at.position ≡ bytes → Goes at.position text
+    goes_ended at text lines goes free le true is bytes same = goes_from at.position at.position text [] (omega arith)
         (goes_to_stop at text [] Broken lines (broken goes (free, le, is)))
     goes_ended at text lines goes free le false is [] same = goes_at_end at text lines same is
     goes_ended at text lines goes free le false is (b ∷ bytes) same =
@@ -138,17 +139,17 @@ module _ (Reported : List ℕ → Answer → Type 0) (form : LineForm) (input : 
 
     lines_go : (fuel : ℕ) (b : Bool) (at : LinePosition) (text : List ℕ) → Lines Reported form input at text
         → is_over form at ≡ b
-        → length (rest at.place) < fuel → Goes at.place text
+        → length (rest at.position) < fuel → Goes at.position text
     lines_go zero b at text lines is room = absurd (omega (arith, room))
     lines_go (suc fuel) true at text lines over room =
         let last = printed_last form.printed at in
-        goes_from at.place at.place text last (omega arith)
+        goes_from at.position at.position text last (omega arith)
         (goes_to_stop at text last (Quiet (status_after at.refused)) lines (rejected over))
-    lines_go (suc fuel) false at text lines goes room = elim (split_line form.end (rest at.place)) [
+    lines_go (suc fuel) false at text lines goes room = elim (split_line form.end (rest at.position)) [
       | inl (line, after, cut, one) ↦ elim (cases_lt form.limit (length line)) [
         | inl over ↦
             let l = ap length cut in
-            goes_from at.place at.place text [] (omega arith)
+            goes_from at.position at.position text [] (omega arith)
             (goes_to_stop at text [] (LongLine (at.count + 1) form.limit) lines (overlong goes (
               rw (cut, take-append-le (suc form.limit) line (form.end ∷ after) (omega arith))
                   (All-take (λ b. b ≢ form.end) (suc form.limit) line one),
@@ -160,8 +161,8 @@ module _ (Reported : List ℕ → Answer → Type 0) (form : LineForm) (input : 
             let n : ℕ = length line + 1 in
             let l = ap length cut in
             let more = printed_line form (at.count + 1) judged d.0 in
-            goes_from at.place (at.place + n) text more (omega arith)
-            (lines_go fuel (is_over form (position_after at n d.0)) (position_after at n d.0) (text ++ more)
+            goes_from at.position (at.position + n) text more (omega arith)
+            (lines_go fuel (is_over form (next_position at n d.0)) (next_position at n d.0) (text ++ more)
             (one_more at text judged n d.0 lines (record {
               goes = goes;
               stands = with_end line (record { after = after; cut = cut; one = one; within = omega arith });
@@ -171,29 +172,29 @@ module _ (Reported : List ℕ → Answer → Type 0) (form : LineForm) (input : 
               room,
               l,
               length-append line (form.end ∷ after),
-              length-drop at.place input.bytes,
-              length-drop (at.place + n) input.bytes,
+              length-drop at.position input.bytes,
+              length-drop (at.position + n) input.bytes,
             )))
       ]
-      | inr free ↦ elim (cases_lt form.limit (length (rest at.place))) [
-        | inl over ↦ goes_from at.place at.place text [] (omega arith)
+      | inr free ↦ elim (cases_lt form.limit (length (rest at.position))) [
+        | inl over ↦ goes_from at.position at.position text [] (omega arith)
             (goes_to_stop at text [] (LongLine (at.count + 1) form.limit) lines
-            (overlong goes (All-take (λ b. b ≢ form.end) (suc form.limit) (rest at.place) free, over)))
-        | inr le ↦ goes_ended at text lines goes free (omega arith) input.fault refl (rest at.place) refl
+            (overlong goes (All-take (λ b. b ≢ form.end) (suc form.limit) (rest at.position) free, over)))
+        | inr le ↦ goes_ended at text lines goes free (omega arith) input.fault refl (rest at.position) refl
       ]
     ]
 
-    pub lines_go_on : (at : LinePosition) (text : List ℕ) → Lines Reported form input at text → Goes at.place text
+    pub lines_go_on : (at : LinePosition) (text : List ℕ) → Lines Reported form input at text → Goes at.position text
     lines_go_on at text lines =
-        lines_go (suc (length (rest at.place))) (is_over form at) at text lines refl (omega arith)
+        lines_go (suc (length (rest at.position))) (is_over form at) at text lines refl (omega arith)
 
     -- after more lines no fewer bytes are taken
-    pub goes_further : (s : ℕ) (at : LinePosition) (text : List ℕ) → s ≤ at.place → Lines Reported form input at text
+    pub goes_further : (s : ℕ) (at : LinePosition) (text : List ℕ) → s ≤ at.position → Lines Reported form input at text
         → Goes s text
     goes_further s at text le lines =
         let goes = lines_go_on at text lines in record {
           reply = goes.reply;
           replies = goes.replies;
           front = goes.front;
-          taken = takes_more s at.place goes.reply.taken le goes.taken;
+          taken = takes_more s at.position goes.reply.taken le goes.taken;
         }

@@ -16,7 +16,8 @@ use Rattle.toolrun.proofs.ExplainedIfLemmas.{if-explained}
 use Rattle.toolrun.specs.Status.{code_of}
 use Rattle.toolrun.specs.Stop.{message_of, status_of}
 use Rattle.toolrun.specs.declared.stop.Stop.{Stop}
-use Rattle.linejudge.specs.InputLines.{HasNoEnd, printed_line, position_after, place_taken, IsLine, IsLastAt, StandsAt}
+use Rattle.linejudge.specs.InputLines.{HasNoEnd, printed_line, next_position, position_taken, IsLine, IsLastAt}
+use Rattle.linejudge.specs.InputLines.{StandsAt}
 use Rattle.linejudge.specs.InputLines.{with_end, without_end, Lines, none, one_more, LinesEnd, broken, overlong}
 use Rattle.linejudge.specs.InputLines.{GoesBy, finished, is_over, kept_line, rejected}
 use Rattle.linejudge.specs.LineRefusals.{
@@ -64,7 +65,7 @@ has_end_within end n xs line after cut le h =
     (omega (arith, l, le, length-take (suc n) xs, length-append line (end ∷ after))) h here
 
 module _ (form : LineForm) (input : Input) where
-  -- one line with its end at a place
+  -- one line with its end at a position
   one_line : (s : ℕ) (a b : List ℕ) → IsLine form input s a → IsLine form input s b → a ≡ b
   one_line s a b h k = one_front form.end a b h.after k.after h.one k.one (sym h.cut ∙ k.cut)
 
@@ -72,7 +73,7 @@ module _ (form : LineForm) (input : Input) where
   not_both : (s : ℕ) (line : List ℕ) → IsLine form input s line → IsLastAt form input s → ⊥
   not_both s line is (free, some, short, fine) = has_end form.end (drop s input.bytes) line is.after is.cut free
 
-  -- two lines at a place are the same, and take as many bytes
+  -- two lines at a position are the same, and take as many bytes
   record OneStands (a b : List ℕ) (n m : ℕ) : Type 0 where
     lines : a ≡ b
     sizes : n ≡ m
@@ -88,12 +89,12 @@ module _ (form : LineForm) (input : Input) where
 
   -- no run ends where it goes on by a line
   no_end : (at : LinePosition) (line last : List ℕ) (n : ℕ) (why : Stop) → is_over form at ≡ false
-      → StandsAt form input at.place line n → LinesEnd form input at last why → ⊥
+      → StandsAt form input at.position line n → LinesEnd form input at last why → ⊥
   no_end at line last n why on (with_end it is) (rejected over) = absurd (cc)
   no_end at line last n why on (with_end it is) (broken goes (free, short, fault)) =
-      has_end form.end (drop at.place input.bytes) it is.after is.cut free
+      has_end form.end (drop at.position input.bytes) it is.after is.cut free
   no_end at line last n why on (with_end it is) (overlong goes (free, long)) =
-      has_end_within form.end form.limit (drop at.place input.bytes) it is.after is.cut is.within free
+      has_end_within form.end form.limit (drop at.position input.bytes) it is.after is.cut is.within free
   no_end at line last n why on (with_end it is) (finished goes (empty, fine)) =
       let l = ap length is.cut in
       let m = ap length empty in
@@ -143,45 +144,45 @@ module _ (Reported : List ℕ → Answer → Type 0) (one_answer : (line : List 
   abbrev LinesTo : LinePosition → List ℕ → Type 0
   LinesTo at text = Lines Reported form input at text
 
-  -- two places, and the answers up to them, are the same
+  -- two positions, and the answers up to them, are the same
   record Same (at other : LinePosition) (text more : List ℕ) : Type 0 where
-    places : at ≡ other
+    positions : at ≡ other
     texts : text ≡ more
 
   -- both go on by a line
   same_next : (at other : LinePosition) (text more line next : List ℕ) (n m : ℕ) (said reported : Answer)
       → Same at other text more
-      → StandsAt form input at.place line n → StandsAt form input other.place next m → Reported line said
+      → StandsAt form input at.position line n → StandsAt form input other.position next m → Reported line said
       → Reported next reported
-      → Same (position_after at n said) (position_after other m reported)
+      → Same (next_position at n said) (next_position other m reported)
       (text ++ printed_line form (at.count + 1) line said)
       (more ++ printed_line form (other.count + 1) next reported)
   same_next at other text more line next n m said reported same h k s t =
-      let place = same.places in
+      let position = same.positions in
       let words = same.texts in
-      let one = one_stands form input at.place line next n m h
-      (subst (λ (v : LinePosition). StandsAt form input v.place next m) (sym place) k) in
+      let one = one_stands form input at.position line next n m h
+      (subst (λ (v : LinePosition). StandsAt form input v.position next m) (sym position) k) in
       let lines = one.lines in
       let sizes = one.sizes in
       let answers : said ≡ reported = one_answer line said reported s
       (subst (λ (l : List ℕ). Reported l reported) (sym lines) t) in
-      let numbers : at.count + 1 ≡ other.count + 1 = ap (λ (v : LinePosition). v.count + 1) place in
+      let numbers : at.count + 1 ≡ other.count + 1 = ap (λ (v : LinePosition). v.count + 1) position in
       let shown : printed_line form (at.count + 1) line said ≡ printed_line form (other.count + 1) next reported =
       ap (λ k. printed_line form k line said) numbers ∙ ap (λ l. printed_line form (other.count + 1) l said) lines
       ∙ ap (printed_line form (other.count + 1) next) answers in
-      record { places = cc; texts = cc }
+      record { positions = cc; texts = cc }
 
-  -- as many lines lead to one place
-  same_place : (at : LinePosition) (text : List ℕ) → LinesTo at text → (other : LinePosition) (more : List ℕ)
+  -- as many lines lead to one position
+  same_position : (at : LinePosition) (text : List ℕ) → LinesTo at text → (other : LinePosition) (more : List ℕ)
       → LinesTo other more
       → at.count ≡ other.count → Same at other text more
-  same_place at text none other more none e = record { places = refl; texts = refl }
-  same_place at text none other more (one_more before front line n said u is says) e = absurd (omega (arith, e))
-  same_place at text (one_more before front line n said u is says) other more none e = absurd (omega (arith, e))
-  same_place at text (one_more before front line n said u is says) other more
+  same_position at text none other more none e = record { positions = refl; texts = refl }
+  same_position at text none other more (one_more before front line n said u is says) e = absurd (omega (arith, e))
+  same_position at text (one_more before front line n said u is says) other more none e = absurd (omega (arith, e))
+  same_position at text (one_more before front line n said u is says) other more
       (one_more prior begun next m reported v has reports) e =
       same_next before prior front begun line next n m said reported
-      (same_place before front u prior begun v (omega (arith, e))) is.stands has.stands says reports
+      (same_position before front u prior begun v (omega (arith, e))) is.stands has.stands says reports
 
   -- after so many lines there is a further one
   record GoesOn (count : ℕ) : Type 0 where
@@ -213,15 +214,15 @@ module _ (Reported : List ℕ → Answer → Type 0) (one_answer : (line : List 
       → LinesEnd form input at last why → LinesTo other more → at.count < other.count → ⊥
   no_earlier_end at other text more last why lines ends further lt =
       let g = goes_on at.count other more further lt in
-      let same = same_place at text lines g.at g.text g.lines (sym g.here) in
+      let same = same_position at text lines g.at g.text g.lines (sym g.here) in
       let by : GoesBy form input at g.line g.size =
-      subst (λ (v : LinePosition). GoesBy form input v g.line g.size) (sym same.places) g.is in
+      subst (λ (v : LinePosition). GoesBy form input v g.line g.size) (sym same.positions) g.is in
       no_end form input at g.line last g.size why by.goes by.stands ends
 
   abbrev HasReply : Reply → Type 0
-  HasReply reply = Replies (Lines Reported form input) (LinesEnd form input) (place_taken form.limit input) reply
+  HasReply reply = Replies (Lines Reported form input) (LinesEnd form input) (position_taken form.limit input) reply
 
-  -- two replies end at one place, in one way
+  -- two replies end at one position, in one way
   record OneReply (a b : Reply) (r : HasReply a) (q : HasReply b) : Type 0 where
     same : Same r.point q.point r.before q.before
     ends : OneEnd form input r.last q.last r.stop q.stop
@@ -231,7 +232,7 @@ module _ (Reported : List ℕ → Answer → Type 0) (one_answer : (line : List 
   ends_there a b r q same = record {
     same = same;
     ends = one_end form input r.point r.last q.last r.stop q.stop r.ends
-        (subst (λ (v : LinePosition). LinesEnd form input v q.last q.stop) (sym same.places) q.ends);
+        (subst (λ (v : LinePosition). LinesEnd form input v q.last q.stop) (sym same.positions) q.ends);
   }
 
   -- one reply, but for what is explained
@@ -240,21 +241,21 @@ module _ (Reported : List ℕ → Answer → Type 0) (one_answer : (line : List 
     | inl lt ↦ absurd (no_earlier_end r.point q.point r.before q.before r.last r.stop r.steps r.ends q.steps lt)
     | inr ge ↦ elim (cases_lt q.point.count r.point.count) [
       | inl lt ↦ absurd (no_earlier_end q.point r.point q.before r.before q.last q.stop q.steps q.ends r.steps lt)
-      | inr le ↦ ends_there a b r q (same_place r.point r.before r.steps q.point q.before q.steps
+      | inr le ↦ ends_there a b r q (same_position r.point r.before r.steps q.point q.before q.steps
           (omega (arith, ge, le)))
     ]
   ]
 
   same_reply : (a b : Reply) (r : HasReply a) (q : HasReply b) → OneReply a b r q → a ≡ b
   same_reply a b r q one =
-      let place = one.same.places in
+      let position = one.same.positions in
       let last = one.ends.lasts in
       let why = one.ends.stops in
       let out : a.out ≡ b.out = r.out ∙ ap (λ t. t ++ r.last) one.same.texts ∙ ap (λ t. q.before ++ t) last
       ∙ sym q.out in
       let err : a.err ≡ b.err = r.err ∙ ap (λ w. message_of w) why ∙ sym q.err in
       let status : a.status ≡ b.status = r.status ∙ ap (λ w. code_of (status_of w)) why ∙ sym q.status in
-      let taken : a.taken ≡ b.taken = r.taken ∙ ap (λ (v : LinePosition). place_taken form.limit input v) place
+      let taken : a.taken ≡ b.taken = r.taken ∙ ap (λ (v : LinePosition). position_taken form.limit input v) position
       ∙ sym q.taken in
       let is : record { out = a.out; err = a.err; status = a.status; taken = a.taken }
       ≡ record { out = b.out; err = b.err; status = b.status; taken = b.taken } = cc in
@@ -271,15 +272,15 @@ module _ (Reported : List ℕ → Answer → Type 0) (one_answer : (line : List 
     -- both go on by a line, which one text explains
     reports_next : (at other : LinePosition) (text more line next : List ℕ) (n m : ℕ) (said reported : Answer)
         (why lines : List ℕ)
-        → Same at other text more → StandsAt form input at.place line n → StandsAt form input other.place next m
+        → Same at other text more → StandsAt form input at.position line n → StandsAt form input other.position next m
         → Reported line said → Reported next reported
         → ExplainedIf (is_reported asked at.refused said) (Refusal line (at.count + 1)) why
         → ExplainedIf (is_reported asked other.refused reported) (Refusal next (other.count + 1)) lines
-        → Same (position_after at n said) (position_after other m reported) (text ++ why) (more ++ lines)
+        → Same (next_position at n said) (next_position other m reported) (text ++ why) (more ++ lines)
     reports_next at other text more line next n m said reported why lines same h k s t w v =
         let step = same_next at other text more line next n m said reported same h k s t in
-        let one = one_stands form input at.place line next n m h
-        (subst (λ (u : LinePosition). StandsAt form input u.place next m) (sym same.places) k) in
+        let one = one_stands form input at.position line next n m h
+        (subst (λ (u : LinePosition). StandsAt form input u.position next m) (sym same.positions) k) in
         let answers : said ≡ reported = one_answer line said reported s
         (subst (λ (l : List ℕ). Reported l reported) (sym one.lines) t) in
         let other_reported = subst (λ (a : Answer). ExplainedIf (is_reported asked at.refused a)
@@ -288,17 +289,17 @@ module _ (Reported : List ℕ → Answer → Type 0) (one_answer : (line : List 
         (sym one.lines)
         (subst (λ (u : LinePosition). ExplainedIf (is_reported asked u.refused reported)
         (Refusal next (u.count + 1)) lines)
-        (sym same.places) v)) in
+        (sym same.positions) v)) in
         let texts : why ≡ lines = if-explained (is_reported asked at.refused said) (Refusal line (at.count + 1))
         (one_refusal line (at.count + 1)) why lines w other_reported in
         let words = same.texts in
-        record { places = step.places; texts = cc }
+        record { positions = step.positions; texts = cc }
 
     -- one text explains the lines to a position
     same_reported : (at : LinePosition) (text : List ℕ) → ReportedTo at text → (other : LinePosition) (more : List ℕ)
         → ReportedTo other more
         → at.count ≡ other.count → Same at other text more
-    same_reported at text none_reported other more none_reported e = record { places = refl; texts = refl }
+    same_reported at text none_reported other more none_reported e = record { positions = refl; texts = refl }
     same_reported at text none_reported other more (one_reported before front line n said why u is says reports) e =
         absurd (omega (arith, e))
     same_reported at text (one_reported before front line n said why u is says reports) other more none_reported e =
@@ -315,14 +316,14 @@ module _ (Reported : List ℕ → Answer → Type 0) (one_answer : (line : List 
     one_lines_reply a b r q =
         let one = one_plain_reply r.plain q.plain r.replies q.replies in
         let plain : r.plain ≡ q.plain = same_reply r.plain q.plain r.replies q.replies one in
-        let place = one.same.places in
+        let position = one.same.positions in
         let stops = one.ends.stops in
         let reported = same_reported r.replies.point r.reports.first r.reports.refusals q.replies.point q.reports.first
-        q.reports.refusals (ap (λ (v : LinePosition). v.count) place) in
+        q.reports.refusals (ap (λ (v : LinePosition). v.count) position) in
         let first = reported.texts in
         let before : r.before ≡ q.before = r.reports.is
         ∙ ap (λ t. t ++ more_refused (count_untold asked r.replies.point.refused)) first
-        ∙ ap (λ (v : LinePosition). q.reports.first ++ more_refused (count_untold asked v.refused)) place
+        ∙ ap (λ (v : LinePosition). q.reports.first ++ more_refused (count_untold asked v.refused)) position
         ∙ sym q.reports.is in
         let why : r.why ≡ q.why = if-explained asked (λ t. t ≡ stop_lines r.replies.stop) (λ x y h k. h ∙ sym k)
         r.why q.why r.explains

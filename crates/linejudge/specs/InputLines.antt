@@ -84,12 +84,12 @@ status_after refused = if refused == 0 then Done else NoMatch
 
 -- before the first line
 abbrev pub at_front : LinePosition
-at_front = record { place = 0; count = 0; refused = 0 }
+at_front = record { position = 0; count = 0; refused = 0 }
 
 -- after a line that takes n bytes
-abbrev pub position_after : LinePosition → ℕ → Answer → LinePosition
-position_after at n said = record {
-  place = at.place + n;
+abbrev pub next_position : LinePosition → ℕ → Answer → LinePosition
+next_position at n said = record {
+  position = at.position + n;
   count = at.count + 1;
   refused = at.refused + refused_by said;
 }
@@ -114,8 +114,8 @@ printed_last printed.Nothing at = []
 abbrev pub taken_at : ℕ → Input → ℕ → ℕ
 taken_at limit input s = min (length input.bytes) (s + limit + 1)
 
-abbrev pub place_taken : ℕ → Input → LinePosition → ℕ
-place_taken limit input at = taken_at limit input at.place
+abbrev pub position_taken : ℕ → Input → LinePosition → ℕ
+position_taken limit input at = taken_at limit input at.position
 
 module _ (form : LineForm) (input : Input) where
   -- at s stand this line of at most so many bytes, and its end
@@ -185,7 +185,7 @@ line_without held.Fault len = Broken
 -- the run goes on at a position, and this is judged of the line there, which takes so many bytes
 pub record GoesBy (form : LineForm) (input : Input) (at : LinePosition) (line : List ℕ) (n : ℕ) : Type 0 where
   pub goes : is_over form at ≡ false
-  pub stands : StandsAt form input at.place line n
+  pub stands : StandsAt form input at.position line n
 
 -- Reported says which answer is that of a line.
 module _ (Reported : List ℕ → Answer → Type 0) (form : LineForm) (input : Input) where
@@ -194,14 +194,14 @@ module _ (Reported : List ℕ → Answer → Type 0) (form : LineForm) (input : 
     none : Lines at_front []
     one_more : (at : LinePosition) (before line : List ℕ) (n : ℕ) (said : Answer) → Lines at before
         → GoesBy form input at line n → Reported line said
-        → Lines (position_after at n said) (before ++ printed_line form (at.count + 1) line said)
+        → Lines (next_position at n said) (before ++ printed_line form (at.count + 1) line said)
 
 -- how a run ends there, and what is printed then
 pub data LinesEnd (form : LineForm) (input : Input) (at : LinePosition) : List ℕ → Stop → Type 0 where
-  broken : is_over form at ≡ false → IsBrokenAt form input at.place → LinesEnd form input at [] stop.Broken
-  overlong : is_over form at ≡ false → IsOverlongAt form input at.place
+  broken : is_over form at ≡ false → IsBrokenAt form input at.position → LinesEnd form input at [] stop.Broken
+  overlong : is_over form at ≡ false → IsOverlongAt form input at.position
       → LinesEnd form input at [] (stop.LongLine (at.count + 1) form.limit)
-  finished : is_over form at ≡ false → IsEndAt form input at.place
+  finished : is_over form at ≡ false → IsEndAt form input at.position
       → LinesEnd form input at (printed_last form.printed at) (stop.Quiet (status_after at.refused))
   rejected : is_over form at ≡ true
       → LinesEnd form input at (printed_last form.printed at) (stop.Quiet (status_after at.refused))

@@ -9,7 +9,7 @@ use Rattle.toolrun.specs.RunSteps as steps
 use Rattle.toolrun.specs.declared.stop.Stop.{Stop}
 use Rattle.toolrun.specs.declared.stop.Stop.TheVariants.{Quiet, NoMatch, LongUnit, LongLine, Broken, NoMemory, Refused}
 use Rattle.toolrun.specs.declared.stop.Stop.TheVariants.{Unreadable}
-use Rattle.linejudge.specs.InputLines.{GoesBy, LinesEnd, Lines, at_front, position_after, place_taken, says_yes}
+use Rattle.linejudge.specs.InputLines.{GoesBy, LinesEnd, Lines, at_front, next_position, position_taken, says_yes}
 use Rattle.linejudge.specs.declared.answers.Answer.{Answer}
 use Rattle.linejudge.specs.declared.line.LineForm.{LineForm}
 use Rattle.linejudge.specs.declared.reached.LinePosition.{LinePosition}
@@ -64,7 +64,7 @@ EndsAt form input point last stop = LinesEnd form input point.at last stop
 
 -- how many bytes are taken where the last line is looked for there
 abbrev pub taken_by : ℕ → Input → RunPoint → ℕ
-taken_by limit input point = place_taken limit input point.at
+taken_by limit input point = position_taken limit input point.at
 
 -- What explains a stop at a point, where that is asked. It makes no allocation that can fail then. Nothing explains
 -- it after an explanation that is missing.
@@ -89,16 +89,16 @@ module _ (Reported : List ℕ → Answer → Type 0) (asked : Bool) (Refusal : L
       one_reported : (at : LinePosition) (before line : List ℕ) (n : ℕ) (said : Answer) (text : List ℕ)
           → Refusals at before
           → GoesBy form input at line n → Reported line said → ReportsLine at line said text
-          → Refusals (position_after at n said) (before ++ text)
+          → Refusals (next_position at n said) (before ++ text)
 
     -- the explanations of the lines before one that would be explained, a line in place of its explanation, and nothing
     -- of the lines after it
     pub data CutRefusals : LinePosition → List ℕ → Type 0 where
       one_lacks : (at : LinePosition) (before line : List ℕ) (n : ℕ) (said : Answer) → Refusals at before
           → GoesBy form input at line n → Reported line said → is_reported asked at.refused said ≡ true
-          → CutRefusals (position_after at n said) (before ++ unexplained_line (at.count + 1))
+          → CutRefusals (next_position at n said) (before ++ unexplained_line (at.count + 1))
       none_after : (at : LinePosition) (reported line : List ℕ) (n : ℕ) (said : Answer) → CutRefusals at reported
-          → GoesBy form input at line n → Reported line said → CutRefusals (position_after at n said) reported
+          → GoesBy form input at line n → Reported line said → CutRefusals (next_position at n said) reported
 
     -- the explanations of the lines up to a position: all of them, or those before one that is missing
     abbrev pub ReportedUpTo : Bool → LinePosition → List ℕ → Type 0
@@ -125,7 +125,7 @@ module _ (Reported : List ℕ → Answer → Type 0) (asked : Bool) (Refusal : L
     -- fails
     abbrev pub LinesReply : Reply → Type 0
     LinesReply reply = steps.RepliesReported (Lines Reported form input) (LinesEnd form input)
-        (place_taken form.limit input)
+        (position_taken form.limit input)
         Reports WhyStopped (λ at stop. ⊥) reply
 
     -- So a run states its reply. Where an allocation fails in an explanation, that one is missing and none follows, but

@@ -37,15 +37,15 @@ pub(crate) fn judge_front<W, J: Judge<W>>(
 ) -> LinePosition
     requires served { kept_size form form.limit ≤ J.served judge.now }
     requires work { J.works_in judge.now work.old }
-    requires within { at.place + length front.now ≤ input_limit }
-    requires counted { at.count ≤ at.place }
+    requires within { at.position + length front.now ≤ input_limit }
+    requires counted { at.count ≤ at.position }
     requires refused { at.refused ≤ at.count }
     ensures work { J.works_in judge.now work.new }
-    ensures ahead { at.place ≤ result.place }
-    ensures within { result.place ≤ at.place + length front.now }
-    ensures counted { result.count ≤ result.place }
+    ensures ahead { at.position ≤ result.position }
+    ensures within { result.position ≤ at.position + length front.now }
+    ensures counted { result.count ≤ result.position }
     ensures refused { result.refused ≤ result.count }
-    ensures goes_on { (input : Input) (rest : List ℕ) → drop at.place input.bytes ≡ front.now ++ rest →
+    ensures goes_on { (input : Input) (rest : List ℕ) → drop at.position input.bytes ≡ front.now ++ rest →
         AddsLines (J.reported judge.now) (J.explains judge.now) (J.refusal judge.now) form input at result
         text.new.items }
 {
@@ -72,7 +72,7 @@ pub(crate) fn judge_front<W, J: Judge<W>>(
             text.clear();
             return at;
         };
-        next = next.position_after(n + 1, said);
+        next = next.next_position(n + 1, said);
         len += n + 1;
     }
     next

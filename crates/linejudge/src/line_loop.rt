@@ -88,8 +88,8 @@ fn next_step<W, J: Judge<W>, R: Source, O: Sink>(
     requires served { kept_size form form.limit ≤ J.served judge.now }
     requires work { J.works_in judge.now work.old }
     requires capacity { capacity_of feed.old ≡ form.limit + 1 }
-    requires counted { reached.old.at.count ≤ reached.old.at.place }
-    requires within { reached.old.at.place ≤ input_limit }
+    requires counted { reached.old.at.count ≤ reached.old.at.position }
+    requires within { reached.old.at.position ≤ input_limit }
     requires reported { IsTrueOfReader R.remaining R.failed R.ended feed.old }
     requires room { J.explains judge.now ≡ true → HasRoom reached.old.reported }
     requires out_is_fresh { O.failed out.old ≡ false }
@@ -99,11 +99,11 @@ fn next_step<W, J: Judge<W>, R: Source, O: Sink>(
     ensures loan { SameLoan feed.old feed.new }
     ensures reported { IsTrueOfReader R.remaining R.failed R.ended feed.new }
     ensures grows { Grows R.remaining feed.old feed.new }
-    ensures follows { (before : List ℕ) (input : Input) → length before ≡ reached.old.at.place → Agrees (before
+    ensures follows { (before : List ℕ) (input : Input) → length before ≡ reached.old.at.position → Agrees (before
         ++ bytes_of feed.new) (flow_of feed.new) input →
         IsStep (J.reported judge.now) (J.explains judge.now) (J.refusal judge.now) form input reached.old.at
         (O.contents out.old) (O.contents out.new) reached.old.reported reached.new.reported result ×
-        (length (before ++ bytes_of feed.new) ≤ taken_at form.limit input reached.old.at.place) }
+        (length (before ++ bytes_of feed.new) ≤ taken_at form.limit input reached.old.at.position) }
     ensures fits { FitsIn (length (bytes_of feed.new)) result }
     ensures flag { Flags (O.failed out.old) (O.failed out.new) result }
 {
@@ -223,20 +223,20 @@ fn answer_lines<W, J: Judge<W>, R: Source, O: Sink>(
     loop {
         let at = reached.at;
         let next = judge_front(judge, work, form, feed.front(), at, &mut reached.text);
-        if at.place < next.place {
+        if at.position < next.position {
             // its contract says that no more is held than there is room for
             let _ = feed.len();
             if let Err(fault) = write_whole(out, reached.text.as_slice()) {
                 return Err(fault);
             }
-            feed.skip(next.place - at.place);
+            feed.skip(next.position - at.position);
             reached.at = next;
             continue;
         }
         match next_step(judge, work, form, feed, &mut reached, out) {
             Ok(LineStep::Answers { said, len }) => {
                 feed.skip(len);
-                reached.at = reached.at.position_after(len, said);
+                reached.at = reached.at.next_position(len, said);
             }
             Ok(LineStep::Stops(stop)) => {
                 // a run that stops has taken as much as the greatest line takes there

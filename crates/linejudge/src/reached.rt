@@ -2,7 +2,7 @@
 ghost use Rattle.std.specs.Prelude.{◌≡◌, ◌<◌, ◌+◌, ◌++◌, ◌^◌, [], true, false, IfOk, OnOk, OnErr};
 ghost use Rattle.linejudge.specs.InputLines.{
   at_front,
-  position_after as the_place,
+  next_position as the_position,
   refused_by as count_of,
   status_after,
 };
@@ -25,7 +25,7 @@ pub(crate) const BATCH: usize = 8192;
 #[derive(Clone, Copy)]
 pub struct LinePosition {
     /// How many bytes stand before it.
-    pub place: usize,
+    pub position: usize,
     /// How many lines stand before it.
     pub count: usize,
     /// How many of them were rejected.
@@ -107,7 +107,7 @@ impl Reached {
     {
         let (batch, room) = if asked { (0, ROOM) } else { (BATCH, 0) };
         let at = LinePosition {
-            place: 0,
+            position: 0,
             count: 0,
             refused: 0,
         };
@@ -138,14 +138,14 @@ fn refused_by(said: Answer) -> usize
 
 impl LinePosition {
     /// Returns the position after a line that takes so many bytes.
-    pub(crate) fn position_after(self, len: usize, said: Answer) -> LinePosition
-        requires place { self.place + len < 2 ^ 64 }
+    pub(crate) fn next_position(self, len: usize, said: Answer) -> LinePosition
+        requires position { self.position + len < 2 ^ 64 }
         requires count { self.count + 1 < 2 ^ 64 }
         requires refused { self.refused + 1 < 2 ^ 64 }
-        ensures { result ≡ the_place self len said }
+        ensures { result ≡ the_position self len said }
     {
         LinePosition {
-            place: self.place + len,
+            position: self.position + len,
             count: self.count + 1,
             refused: self.refused + refused_by(said),
         }

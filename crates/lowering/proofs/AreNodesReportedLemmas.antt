@@ -58,7 +58,7 @@ module _ (has : ℕ → Bool) (rules : List Rule) (limit : ℕ) (nodes : List No
   pub derives_null : (s : ℕ) (el : Element) → Spells rules limit nodes s el → Derives has rules el []
       → Nullable nodes numbers s
   derives_null s el sp d =
-      let flat : Flat = record { nodes = nodes; bodies = numbers; whole = s; limit = limit } in
+      let flat : Flat = record { nodes = nodes; bodies = numbers; start = s; limit = limit } in
       let runs = node_runs has rules limit flat are [] (omega arith) d s 0 0 sp (all_of []) in
       ends_null flat runs.end (passes_where_begun flat [] (runs.run (begins runs.start)) refl)
 
@@ -68,7 +68,7 @@ some_node {nodes} (named {s = s} is at null) = get_below nodes s is
 
 pub marks_are_nulls : (rules : List Rule) (limit : ℕ) (nodes : List Node) (numbers : List ℕ) (marks : List Bool)
     (whole : ℕ) → AreBodies rules limit nodes numbers → AreNodesReported rules limit nodes marks
-    → AreNulls (record { nodes = nodes; bodies = numbers; whole = whole; limit = limit }) marks
+    → AreNulls (record { nodes = nodes; bodies = numbers; start = whole; limit = limit }) marks
 marks_are_nulls rules limit nodes numbers marks whole are reported t = (
   (λ is. let h = reported.each t true is in
       derives_null (λ c. true) rules limit nodes numbers are t h.el h.spelled (h.settles.yes refl (λ c. true))),

@@ -186,7 +186,7 @@ null_alike has rules left pruned = record {
   );
 }
 
--- the bodies have no more places
+-- the bodies have no more dotted rules
 body_sized : (has : ℕ → Bool) (rules : List Rule) (limit : ℕ) {el d : Element} → IsLeftBody has rules el d
     → size limit d ≤ size limit el
 body_sized has rules limit (left_body k) = keeps_sized has rules limit k
@@ -203,9 +203,9 @@ sizes_less limit (el ∷ els) (d ∷ ds) count each =
     let rest = sizes_less limit els ds (omega (arith, count)) (λ id c b was is. each (suc id) c b was is) in
     omega (arith, first, rest)
 
-pub places_left : (has : ℕ → Bool) (rules left : List Rule) (limit : ℕ) → ArePruned has rules left
+pub positions_left : (has : ℕ → Bool) (rules left : List Rule) (limit : ℕ) → ArePruned has rules left
     → sizes limit (bodies left) ≤ sizes limit (bodies rules)
-places_left has rules left limit pruned =
+positions_left has rules left limit pruned =
     let all = length-map rules (λ rule. rule.body) in
     let same = length-map left (λ rule. rule.body) in
     let count = pruned.count in

@@ -11,14 +11,16 @@ use Rattle.abnfread.specs.Element.{Element, Elements, none, more, Rule, body_of}
 use Rattle.abnfcheck.specs.Derivable as der
 use Rattle.abnfcheck.specs.Derivable.{AreLetters, Derives, DerivesAll, DerivesSome, DerivesTimes, Spelled, all_done}
 use Rattle.abnfcheck.specs.Derivable.{then, this, later, no_more, one_more}
-use Rattle.flatgrammar.specs.Flat.{Node, Set, Has, Exactly, Between, Letters, Concat, Alt, Rep, Turns, Opt, top, Begins}
+use Rattle.flatgrammar.specs.Flat.{Node, Set, Has, Exactly, Between, Letters, Concat, Alt, Rep, Iterations, Opt, top}
+use Rattle.flatgrammar.specs.Flat.{Begins}
 use Rattle.flatgrammar.proofs.SliceGetLemmas.{get_below}
 use Rattle.flatgrammar.specs.Flat.{IsDone, Reading, Calling, IsTaking, is_taking}
 use Rattle.flatgrammar.specs.Flat.{capped}
 use Rattle.lowering.proofs.CappedMostLemmas.{free_within, counted_within}
 use Rattle.lowering.specs.NullElements.{IsNeverEmpty}
 use Rattle.lowering.specs.Lowered.{letter_set, capped_most, Spells, Shows, shows_text, shows_values, shows_range}
-use Rattle.lowering.specs.Lowered.{shows_concat, shows_alt, shows_rep, shows_turns, shows_opt, SpellAll, spell_none}
+use Rattle.lowering.specs.Lowered.{shows_concat, shows_alt, shows_rep, shows_iterations, shows_opt, SpellAll}
+use Rattle.lowering.specs.Lowered.{spell_none}
 use Rattle.lowering.specs.Lowered.{spell_more}
 
 -- letters that lie in sets, one by one
@@ -67,12 +69,12 @@ pub values_fit : (vs : List ℕ) → Fit (map Exactly vs) vs
 values_fit [] = fit_none
 values_fit (v ∷ vs) = fit_more refl (values_fit vs)
 
--- how many turns were taken where the step is k
+-- how many iterations were taken where the step is k
 abbrev pub Turned : ℕ → Option ℕ → ℕ → ℕ → Type 0
 Turned least None j k = k ≡ min j least
 Turned least (Some most) j k = k ≡ j
 
--- turns that are not counted take a letter each
+-- iterations that are not counted take a letter each
 abbrev pub Few : Option ℕ → ℕ → List ℕ → Type 0
 Few None j w = j ≤ length w
 Few (Some most) j w = Unit {0}
@@ -89,7 +91,7 @@ pub few_counted : (b : Option ℕ) (j k : ℕ) (w : List ℕ) → k < top 0 b �
 few_counted None j k w lt = absurd (omega (arith, lt))
 few_counted (Some b) j k w lt = tt
 
--- a further turn is within the bounds of the element
+-- a further iteration is within the bounds of the element
 pub next_within : (limit a j k : ℕ) (b d : Option ℕ) → d ≡ capped_most limit b → j ≤ limit → k < top a d
     → Turned a d j k → der.AtMost (suc j) b
 next_within limit a j k b None is under lt turned = free_within limit j b is under
@@ -154,9 +156,9 @@ module _ (has : ℕ → Bool) (rules : List Rule) where
     alt_done : {ms : List ℕ} {es : Elements} {el : Element} {k : ℕ} {w : List ℕ} (m : ℕ) → k ≡ length ms + m
         → nth es m ≡ Some el → Derives has rules el w →
         Before (Alt ms) (e.Alt es) k w
-    in_turns : {m j k : ℕ} {c : ℕ} {b d : Option ℕ} {el : Element} {w : List ℕ} → DerivesTimes has rules el j w
+    in_iterations : {m j k : ℕ} {c : ℕ} {b d : Option ℕ} {el : Element} {w : List ℕ} → DerivesTimes has rules el j w
         → Turned 0 b j k → Few b j w → der.AtMost j d →
-        Before (Turns b m) (e.Rep c d el) k w
+        Before (Iterations b m) (e.Rep c d el) k w
     in_rep : {a c m j k : ℕ} {b d : Option ℕ} {el : Element} {w : List ℕ} → DerivesTimes has rules el j w
         → Turned a b j k → der.AtMost j d →
         Before (Rep a b m) (e.Rep c d el) k w
@@ -167,8 +169,8 @@ module _ (has : ℕ → Bool) (rules : List Rule) where
   start_part_rep : (a c m : ℕ) (b d : Option ℕ) (el : Element) → Before (Rep a b m) (e.Rep c d el) 0 []
   start_part_rep a c m b d el = in_rep no_more (turned_none a b) (none_within d)
 
-  start_part_turns : (c m : ℕ) (b d : Option ℕ) (el : Element) → Before (Turns b m) (e.Rep c d el) 0 []
-  start_part_turns c m b d el = in_turns no_more (turned_none 0 b) (few_none b) (none_within d)
+  start_part_iterations : (c m : ℕ) (b d : Option ℕ) (el : Element) → Before (Iterations b m) (e.Rep c d el) 0 []
+  start_part_iterations c m b d el = in_iterations no_more (turned_none 0 b) (few_none b) (none_within d)
 
   pub read_part : {node : Node} {el : Element} {k l : ℕ} {set : Set} {w : List ℕ} (c : ℕ) → Reading node k set l
       → Has set c → Before node el k w → Before node el l (w ++ c ∷ [])
@@ -176,15 +178,15 @@ module _ (has : ℕ → Bool) (rules : List Rule) where
       let one : suc k ≡ k + 1 = omega arith in
       subst (λ v. Before (Letters sets) el v (w ++ c ∷ [])) one (in_letters (fit_snoc sets k w c f is h))
 
-  -- turns of an element that never derives the empty list take as many letters at least
-  pub turns_most : {el : Element} {k : ℕ} {w : List ℕ} → IsNeverEmpty rules el → DerivesTimes has rules el k w
+  -- iterations of an element that never derives the empty list take as many letters at least
+  pub iterations_most : {el : Element} {k : ℕ} {w : List ℕ} → IsNeverEmpty rules el → DerivesTimes has rules el k w
       → k ≤ length w
-  turns_most never no_more = omega arith
-  turns_most never (one_more {w = []} d ds) = absurd (never has d)
-  turns_most never (one_more {k = k} {w = c ∷ w} {v = v} d ds) =
-      let rest = turns_most never ds in let all = length-append w v in omega (arith, rest, all)
+  iterations_most never no_more = omega arith
+  iterations_most never (one_more {w = []} d ds) = absurd (never has d)
+  iterations_most never (one_more {k = k} {w = c ∷ w} {v = v} d ds) =
+      let rest = iterations_most never ds in let all = length-append w v in omega (arith, rest, all)
 
-  -- where an element derives the empty list, more turns of it change nothing
+  -- where an element derives the empty list, more iterations of it change nothing
   pub padded_times : {el : Element} {w : List ℕ} {k : ℕ} (n : ℕ) → Derives has rules el []
       → DerivesTimes has rules el k w
       → DerivesTimes has rules el (n + k) w
@@ -202,8 +204,8 @@ module _ (has : ℕ → Bool) (rules : List Rule) where
     start_part (Begins.alt lt) (shows_alt all) = alt_begun lt
     start_part Begins.rep (shows_rep {a = a} {c = c} {m = m} {b = b} {d = d} {el = el} low high bounds never s) =
         start_part_rep c a m d b el
-    start_part Begins.turns (shows_turns {a = a} {m = m} {b = b} {d = d} {el = el} high within empty s) =
-        start_part_turns a m d b el
+    start_part Begins.iterations (shows_iterations {a = a} {m = m} {b = b} {d = d} {el = el} high within empty s) =
+        start_part_iterations a m d b el
     start_part Begins.opt (shows_opt s) = opt_begun
     start_part Begins.opt_empty (shows_opt s) = opt_passed
 
@@ -238,28 +240,30 @@ module _ (has : ℕ → Bool) (rules : List Rule) where
         let h = member_at k s all is in alt_done k refl h.is (from h.el h.spelled)
     call_part (Calling.alternative {ms = ms} {k = k} is) (shows_alt all) (alt_done m same at d) short some from =
         absurd (omega (arith, get_below ms k is))
-    call_part {w = w} (Calling.turn {a = a} {k = k} {b = d} lt) (shows_rep {b = b} {el = el} low high bounds never s)
+    call_part {w = w} (Calling.iteration {a = a} {k = k} {b = d} lt)
+        (shows_rep {b = b} {el = el} low high bounds never s)
         (in_rep {j = j} ds is within) short some from =
-        let few = turns_most never ds in
+        let few = iterations_most never ds in
         let under : j ≤ limit = omega (arith, few, short) in
         in_rep (times_snoc ds (from el s)) (turned_more a j k d lt is) (next_within limit a j k b d high under lt is)
-    call_part {w = w} (Calling.turn_uncounted {a = a}) (shows_rep {b = b} {el = el} low high bounds never s)
+    call_part {w = w} (Calling.iteration_uncounted {a = a}) (shows_rep {b = b} {el = el} low high bounds never s)
         (in_rep {j = j} ds is within) short some from =
-        let few = turns_most never ds in
+        let few = iterations_most never ds in
         let under : j ≤ limit = omega (arith, few, short) in
         let enough : a ≡ min (suc j) a = omega arith in
         in_rep (times_snoc ds (from el s)) enough (free_within limit j b high under)
-    call_part {w = w} {v = v} (Calling.takes {k = k} {b = d} lt) (shows_turns {b = b} {el = el} high bounds empty s)
-        (in_turns {j = j} ds is few within) short some from =
-        in_turns (times_snoc ds (from el s)) (turned_more 0 j k d lt is) (few_counted d (suc j) k (w ++ v) lt)
+    call_part {w = w} {v = v} (Calling.takes {k = k} {b = d} lt)
+        (shows_iterations {b = b} {el = el} high bounds empty s)
+        (in_iterations {j = j} ds is few within) short some from =
+        in_iterations (times_snoc ds (from el s)) (turned_more 0 j k d lt is) (few_counted d (suc j) k (w ++ v) lt)
         (next_counted limit j k b d high lt is)
-    call_part {w = w} {v = v} Calling.takes_uncounted (shows_turns {b = b} {el = el} high bounds empty s)
-        (in_turns {j = j} ds is few within) short some from =
+    call_part {w = w} {v = v} Calling.takes_uncounted (shows_iterations {b = b} {el = el} high bounds empty s)
+        (in_iterations {j = j} ds is few within) short some from =
         let enough : 0 ≡ min (suc j) 0 = omega arith in
         let long = length-append w v in
         let one = some is_taking in
         let more : suc j ≤ length (w ++ v) = omega (arith, long, one, few) in
-        in_turns (times_snoc ds (from el s)) enough more (free_within limit j b high (omega (arith, few, short)))
+        in_iterations (times_snoc ds (from el s)) enough more (free_within limit j b high (omega (arith, few, short)))
     call_part Calling.operand (shows_opt {el = el} s) opt_begun short some from = opt_done (from el s)
 
     pub end_part : {node : Node} {el : Element} {k : ℕ} {w : List ℕ} → IsDone node k → Shows rules limit nodes node el
@@ -288,14 +292,14 @@ module _ (has : ℕ → Bool) (rules : List Rule) where
     end_part (IsDone.rep {a = c} {k = k} {b = d} low high) (shows_rep {a = a} least most bounds never s) letters short
         (in_rep {j = j} ds is within) =
         let h = turned_enough c j k d low high is in
-        let few = turns_most never ds in
+        let few = iterations_most never ds in
         let under : j ≤ limit = omega (arith, few, short) in
         der.rep (uncapped a c j least under h.0) within ds
       where
         uncapped : (a c j : ℕ) → c ≡ capped limit a → j ≤ limit → c ≤ j → a ≤ j
         uncapped a c j is under le = omega (arith, is, under, le)
-    end_part (IsDone.turns high) (shows_turns {a = a} {b = b} {el = el} most bounds empty s) letters short
-        (in_turns {j = j} {w = w} ds is few within) =
+    end_part (IsDone.iterations high) (shows_iterations {a = a} {b = b} {el = el} most bounds empty s) letters short
+        (in_iterations {j = j} {w = w} ds is few within) =
         by (cases_lt j a)
       where
         by : ((j < a) ⊎ (a ≤ j)) → Derives has rules (e.Rep a b el) w

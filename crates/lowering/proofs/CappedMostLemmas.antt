@@ -22,7 +22,7 @@ module _ (limit : ℕ) where
       by true is = sym is
       by false is = absurd (cc is)
 
-  -- one more turn than the limit is within a bound that is above it
+  -- one more iteration than the limit is within a bound that is above it
   pub free_within : (j : ℕ) (b : Option ℕ) → None ≡ capped_most limit b → j ≤ limit → AtMost (suc j) b
   free_within j None is le = tt
   free_within j (Some m) is le = by (leb m limit) refl is

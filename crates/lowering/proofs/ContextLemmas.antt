@@ -12,15 +12,15 @@ use Rattle.abnfcheck.specs.Derivable.{AreLetters, Derives, DerivesAll, all_done,
 use Rattle.abnfcheck.proofs.IsPathLemmas.{here, step}
 use Rattle.abnfcheck.proofs.LiesLemmas.{Lies, are_letters}
 use Rattle.abnfcheck.proofs.YieldsLemmas.{letters_both}
-use Rattle.flatgrammar.specs.Flat.{Node, Flat, Name, Place, at, Calling, Starts, starts, name_starts, reads, Calls}
+use Rattle.flatgrammar.specs.Flat.{Node, Flat, Name, Dot, at, Calling, Starts, starts, name_starts, reads, Calls}
 use Rattle.flatgrammar.specs.Flat.{calls}
 use Rattle.flatgrammar.specs.Holds.{Holds, begins, called, has_read, returned}
 use Rattle.lowering.specs.Lowered.{Spells, spells, Shows, shows_name, shows_concat, spell_none, spell_more}
 use Rattle.lowering.specs.Lowered.{IsLowered}
-use Rattle.flatgrammar.specs.Places.{width}
+use Rattle.flatgrammar.specs.Positions.{width}
 use Rattle.flatgrammar.specs.Holds.{HasItem}
 use Rattle.lowering.proofs.OnLineLemmas.{short_on_line}
-use Rattle.flatgrammar.proofs.PlacesLemmas.{holds_place, calling_within}
+use Rattle.flatgrammar.proofs.PositionsLemmas.{holds_position, calling_within}
 use Rattle.lowering.proofs.ReachedLemmas.{Reached, holds_reached}
 use Rattle.lowering.proofs.RuleNodeLemmas.{body_of_number}
 use Rattle.lowering.specs.Pruned.{IsProductive}
@@ -72,7 +72,7 @@ module _ (has : ℕ → Bool) (rules : List Rule) (judged : ℕ) (flat : Flat) (
     tail_letters : AreLetters has tail
     derived : RuleDerives has rules judged ((take i x ++ v) ++ tail)
 
-  -- node s spells an element in whose place whatever it derives from i on goes on to a list that the judged rule
+  -- node s spells an element in whose dotted rule whatever it derives from i on goes on to a list that the judged rule
   -- derives
   record Context (i s : ℕ) : Type 0 where
     el : Element
@@ -80,7 +80,7 @@ module _ (has : ℕ → Bool) (rules : List Rule) (judged : ℕ) (flat : Flat) (
     alive : IsLive has rules el
     on : (v : List ℕ) → AreLetters has v → Derives has rules el v → BeginsAfter i v
 
-  abbrev ContextAt : ℕ → Place → Type 0
+  abbrev ContextAt : ℕ → Dot → Type 0
   ContextAt i (at s k) = Context i s
 
   -- where a node starts in another, what is derived there is derived by the other's element
@@ -123,7 +123,7 @@ module _ (has : ℕ → Bool) (rules : List Rule) (judged : ℕ) (flat : Flat) (
             up = λ v d. der.name body.1 (inside.up v d);
           }
 
-  begun_context : {p : Place} → Starts flat flat.whole p → ContextAt 0 p
+  begun_context : {p : Dot} → Starts flat flat.start p → ContextAt 0 p
   begun_context {p = at t k} st =
       let body = lowered.spelled.spelled judged lowered.body lowered.body_is in
       let alive = live.whole body.0 body.1 in
@@ -150,7 +150,7 @@ module _ (has : ℕ → Bool) (rules : List Rule) (judged : ℕ) (flat : Flat) (
       one : {el : Element} {w : List ℕ} → Derives has rules (e.Concat (more el none)) w → Derives has rules el w
       one (der.concat d) = alone d
 
-  called_context : {i j s : ℕ} {p q r : Place} → Holds flat x j q i → Calls flat q s r → Starts flat s p → ContextAt i q
+  called_context : {i j s : ℕ} {p q r : Dot} → Holds flat x j q i → Calls flat q s r → Starts flat s p → ContextAt i q
       → ContextAt j p
   called_context {i = i} {j = j} {p = at t m} h (calls {s = u} {k = k} {t = callee} {l = l} {node = outer} at_u c) st
       context = by context.spelled
@@ -186,20 +186,20 @@ module _ (has : ℕ → Bool) (rules : List Rule) (judged : ℕ) (flat : Flat) (
                 };
           }
 
-  context_at : {i j : ℕ} {p : Place} → Holds flat x j p i → ContextAt i p
+  context_at : {i j : ℕ} {p : Dot} → Holds flat x j p i → ContextAt i p
   context_at (begins st) = begun_context st
   context_at (called h c st) = called_context h c st (context_at h)
   context_at (has_read h (reads is r) letter lies) = context_at h
   context_at (returned h e g (calls is c) takes) = context_at g
 
   pub items_go_on : (j : ℕ) → HasItem flat x j → BeginsMember has rules judged x j
-  items_go_on j h = by h.place h.origin h.held
+  items_go_on j h = by h.position h.origin h.held
     where
-      by : (p : Place) (i : ℕ) → Holds flat x j p i → BeginsMember has rules judged x j
+      by : (p : Dot) (i : ℕ) → Holds flat x j p i → BeginsMember has rules judged x j
       by (at s k) i held = own (context_at held).spelled
         where
-          place : (node : Node) × (slice_get flat.nodes s ≡ Some node) × (k < width node)
-          place = holds_place flat held
+          position : (node : Node) × (slice_get flat.nodes s ≡ Some node) × (k < width node)
+          position = holds_position flat held
 
           reached : Reached has rules flat.limit flat lowered.spelled x letters line i j (at s k)
           reached = holds_reached has rules flat.limit flat lowered.spelled x letters line held
@@ -209,8 +209,8 @@ module _ (has : ℕ → Bool) (rules : List Rule) (judged : ℕ) (flat : Flat) (
 
           own : Spells rules flat.limit flat.nodes s there.el → BeginsMember has rules judged x j
           own (spells {node = node} is shown) =
-              let same : place.0 ≡ node = cc (place.1, is) in
-              let lt = subst (λ v. k < width v) same place.2 in
+              let same : position.0 ≡ node = cc (position.1, is) in
+              let lt = subst (λ v. k < width v) same position.2 in
               let all = are_letters x has letters reached.lies in
               let f = goes_on has rules flat.limit flat.nodes shown there.alive lt all
               (reached.part node there.el is shown) in

@@ -14,14 +14,14 @@ use Rattle.abnfread.specs.AbnfViews.{elements, elements_of, element_of}
 use Rattle.abnfread.specs.declared.elem.Elem.{Elem}
 use Rattle.flatgrammar.specs.Flat.{Node}
 use Rattle.lowering.specs.Lowered.{Spells, spells, Shows, SpellAll, spell_none, spell_more}
-use Rattle.flatgrammar.specs.Places.{width, places}
+use Rattle.flatgrammar.specs.Positions.{width, positions}
 use Rattle.lowering.specs.Sizes.{size, size_all, count}
 use Rattle.flatgrammar.specs.declared.flat_node.Node as declared
 use Rattle.flatgrammar.specs.FlatViews.{node_of, nodes_of}
 use Rattle.lowering.specs.Numbers.{Numbers, NumbersAll}
 use Rattle.flatgrammar.specs.Operands.{IsOperand, AreOrdered}
 use Rattle.lowering.specs.Numbers.{IsNodeReported, AreNodesReported}
-use Rattle.lowering.proofs.SpellAllLemmas.{still_shows, still_spells, still_spell_all, places_push}
+use Rattle.lowering.proofs.SpellAllLemmas.{still_shows, still_spells, still_spell_all, positions_push}
 use Rattle.lowering.proofs.SpellAllLemmas.{operand_below}
 use Rattle.flatgrammar.proofs.SliceGetLemmas.{push_cases}
 
@@ -81,7 +81,7 @@ module _ {rules : List Rule} {limit : ℕ} (nodes : List declared.Node) {more : 
   one_more : (first added : List Node) (were : List Bool) → nodes_of nodes ≡ first ++ added
       → (AreOrdered first → AreOrdered (nodes_of nodes))
       → (AreNodesReported rules limit first were → AreNodesReported rules limit (nodes_of nodes) marks)
-      → places (nodes_of nodes) + width (node_of v) ≤ places first
+      → positions (nodes_of nodes) + width (node_of v) ≤ positions first
       + size limit el → Shows rules limit (nodes_of nodes) (node_of v) el → Settles rules empty el →
       Numbers rules limit first (nodes_of more) were more_marks n empty el
   one_more first added were grown ordered reported_before sized shown reported =
@@ -92,7 +92,7 @@ module _ {rules : List Rule} {limit : ℕ} (nodes : List declared.Node) {more : 
         grown = ap (λ w. w ++ node_of v ∷ []) grown ∙ append_assoc first added (node_of v ∷ []);
         spelled = spells (subst (λ k. slice_get (nodes_of nodes ++ node_of v ∷ []) k ≡ Some (node_of v)) (sym number)
             at) (still_shows rules limit (nodes_of nodes) (node_of v ∷ []) shown);
-        sized = (let all = places_push (nodes_of nodes) (node_of v) in omega (arith, all, sized));
+        sized = (let all = positions_push (nodes_of nodes) (node_of v) in omega (arith, all, sized));
         settles = reported;
         ordered = λ o. ordered_push (nodes_of nodes) (node_of v) (ordered o)
             (λ m h. operand_below rules limit (nodes_of nodes) shown m h);

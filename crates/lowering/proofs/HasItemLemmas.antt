@@ -12,16 +12,16 @@ use Rattle.abnfcheck.specs.Derivable.{AreLetters, Derives, DerivesAll, DerivesSo
 use Rattle.abnfcheck.specs.Derivable.{later, no_more, one_more, RuleDerives}
 use Rattle.abnfcheck.proofs.IsPathLemmas.{here, step, path_splits}
 use Rattle.abnfcheck.proofs.LiesLemmas.{OnLine, Lies, all_of}
-use Rattle.flatgrammar.specs.Flat.{Node, Flat, Letters, Concat, Alt, Rep, Place, at, Set, Has, Reading, Calling, Begins}
+use Rattle.flatgrammar.specs.Flat.{Node, Flat, Letters, Concat, Alt, Rep, Dot, at, Set, Has, Reading, Calling, Begins}
 use Rattle.flatgrammar.specs.Flat.{Starts, starts, name_starts, reads, calls}
 use Rattle.flatgrammar.specs.Holds.{Holds, begins, called, has_read}
 use Rattle.lowering.specs.Lowered.{capped_most, Spells, spells, shows_text, shows_values, shows_range, shows_concat}
-use Rattle.lowering.specs.Lowered.{shows_alt, shows_rep, shows_turns, shows_reversed, shows_opt, shows_name}
+use Rattle.lowering.specs.Lowered.{shows_alt, shows_rep, shows_iterations, shows_reversed, shows_opt, shows_name}
 use Rattle.lowering.specs.Lowered.{SpellAll, spell_none, spell_more, AreBodies, IsLowered}
 use Rattle.flatgrammar.specs.Holds.{HasItem}
 use Rattle.lowering.proofs.BeforeLemmas.{Fit, fit_none, fit_more, text_fits, values_fit, Turned, turned_none}
 use Rattle.lowering.specs.NullElements.{IsNeverEmpty}
-use Rattle.lowering.proofs.NodeRunsLemmas.{next_of, turn_on, take_on, within_same, fewer_within}
+use Rattle.lowering.proofs.NodeRunsLemmas.{next_of, iteration_on, take_on, within_same, fewer_within}
 use Rattle.lowering.proofs.NodeRunsLemmas.{node_runs, call_step, plain_node}
 use Rattle.lowering.proofs.CappedMostLemmas.{most_is}
 use Rattle.lowering.proofs.OnLineLemmas.{lies_count}
@@ -40,16 +40,16 @@ append_splits (c ∷ w) v (b ∷ u) r h =
 
 module _ (has : ℕ → Bool) (rules : List Rule) (limit : ℕ) (flat : Flat)
     (bodies : AreBodies rules limit flat.nodes flat.bodies) (x : List ℕ) (line : length x ≤ limit) where
-  ended_item : {i o : ℕ} {p : Place} (u r : List ℕ) (j : ℕ) → [] ≡ u ++ r → Lies x i u j → Holds flat x i p o
+  ended_item : {i o : ℕ} {p : Dot} (u r : List ℕ) (j : ℕ) → [] ≡ u ++ r → Lies x i u j → Holds flat x i p o
       → HasItem flat x j
-  ended_item {i = i} {o = o} {p = p} [] r j same here h = record { place = p; origin = o; held = h }
+  ended_item {i = i} {o = o} {p = p} [] r j same here h = record { position = p; origin = o; held = h }
   ended_item (c ∷ u) r j same l h = absurd (cc same)
 
   reach_letters : (s : ℕ) (sets : List Set) → slice_get flat.nodes s ≡ Some (Letters sets)
       → {left : List Set} {v : List ℕ} → Fit left v →
       (k i j o : ℕ) → drop k sets ≡ left → (u r : List ℕ) → v ≡ u ++ r → Lies x i u j → Holds flat x i (at s k) o
       → HasItem flat x j
-  reach_letters s sets is f k i j o left u r same here h = record { place = at s k; origin = o; held = h }
+  reach_letters s sets is f k i j o left u r same here h = record { position = at s k; origin = o; held = h }
   reach_letters s sets is fit_none k i j o left u r same (step on l) h = absurd (cc same)
   reach_letters s sets is (fit_more {set = set} {c = c} {w = w} lies f) k i j o left (b ∷ u) r same
       (step {k = after} on l) h =
@@ -60,13 +60,13 @@ module _ (has : ℕ → Bool) (rules : List Rule) (limit : ℕ) (flat : Flat)
       (has_read h (reads is (Reading.letter n.is)) on.0 (subst (λ v. Has set v) one lies)) in
       reach_letters s sets is f (k + 1) after j o n.rest u r rest l once
 
-  -- a further turn is counted, since those before took a letter each
-  turn_room : (t k : ℕ) (b d : Option ℕ) → d ≡ capped_most limit b → t ≤ limit → der.AtMost (t + suc k) b
+  -- a further iteration is counted, since those before took a letter each
+  iteration_room : (t k : ℕ) (b d : Option ℕ) → d ≡ capped_most limit b → t ≤ limit → der.AtMost (t + suc k) b
       → der.AtMost (suc t) d
-  turn_room t k None None is le within = tt
-  turn_room t k None (Some d) is le within = absurd (cc is)
-  turn_room t k (Some b) None is le within = tt
-  turn_room t k (Some b) (Some d) is le within = let one : Some b ≡ Some d = most_is limit (Some b) d is in
+  iteration_room t k None None is le within = tt
+  iteration_room t k None (Some d) is le within = absurd (cc is)
+  iteration_room t k (Some b) None is le within = tt
+  iteration_room t k (Some b) (Some d) is le within = let one : Some b ≡ Some d = most_is limit (Some b) d is in
       let same : b ≡ d = cc one in omega (arith, same, within)
 
   some_letter : {el : Element} {w : List ℕ} → IsNeverEmpty rules el → Derives has rules el w → 0 < length w
@@ -76,7 +76,7 @@ module _ (has : ℕ → Bool) (rules : List Rule) (limit : ℕ) (flat : Flat)
   mutual
     pub item_reached : {el : Element} {v : List ℕ} → Derives has rules el v → (s i j : ℕ) → j ≤ length x
         → Spells rules limit flat.nodes s el → (u r : List ℕ) → v ≡ u ++ r → Lies x i u j →
-        ((p : Place) → Starts flat s p → Holds flat x i p i) → HasItem flat x j
+        ((p : Dot) → Starts flat s p → Holds flat x i p i) → HasItem flat x j
     item_reached (der.text {w = w} d) s i j le (spells is (shows_text {sets = sets} same)) u r cut l begin =
         reach_letters s sets is (subst (λ v. Fit v w) (sym same) (text_fits d)) 0 i j i refl u r cut l
         (begin (at s 0) (starts is Begins.letters))
@@ -101,9 +101,10 @@ module _ (has : ℕ → Bool) (rules : List Rule) (limit : ℕ) (flat : Flat)
     item_reached (der.rep low within d) s i j le (spells is (shows_reversed lt)) u r cut l begin =
         absurd (omega (arith, low, within, lt))
     item_reached (der.rep {k = count} low within d) s i j le
-        (spells is (shows_turns {m = m} {b = b} {d = d'} most some empty sp)) u r cut l begin =
-        reach_turns d s m b d' most is sp 0 0 i j i le (turned_none 0 d') (none_within d') (from_none count b within)
-        (omega arith) u r cut l (begin (at s 0) (starts is Begins.turns))
+        (spells is (shows_iterations {m = m} {b = b} {d = d'} most some empty sp)) u r cut l begin =
+        reach_iterations d s m b d' most is sp 0 0 i j i le (turned_none 0 d') (none_within d')
+        (from_none count b within)
+        (omega arith) u r cut l (begin (at s 0) (starts is Begins.iterations))
       where
         from_none : (k : ℕ) (b : Option ℕ) → der.AtMost k b → der.AtMost (0 + k) b
         from_none k None h = tt
@@ -146,7 +147,7 @@ module _ (has : ℕ → Bool) (rules : List Rule) (limit : ℕ) (flat : Flat)
         → SpellAll rules limit flat.nodes left es →
         (s : ℕ) (ms : List ℕ) → slice_get flat.nodes s ≡ Some (Alt ms) → (k i j : ℕ) → j ≤ length x → drop k ms ≡ left
         → (u r : List ℕ) → v ≡ u ++ r → Lies x i u j →
-        ((p : Place) → Starts flat s p → Holds flat x i p i) → HasItem flat x j
+        ((p : Dot) → Starts flat s p → Holds flat x i p i) → HasItem flat x j
     reach_some (this d) (spell_more {m = m} sp all) s ms is k i j le left u r cut l begin =
         let n = next_of ms k left in
         item_reached d m i j le sp u r cut l (λ p st. called (begin (at s k) (starts is (Begins.alt n.below)))
@@ -163,7 +164,7 @@ module _ (has : ℕ → Bool) (rules : List Rule) (limit : ℕ) (flat : Flat)
     reach_times (one_more {k = k} {w = w} {v = v} e ds) s c m b d most is sp never t f i j o le turned within few u r
         cut l h =
         let on = lies_count x l in
-        let n = turn_on c d m t f turned (turn_room t k b d most (omega (arith, few, on, le, line)) within) in
+        let n = iteration_on c d m t f turned (iteration_room t k b d most (omega (arith, few, on, le, line)) within) in
         ⊎_elim
         (λ after.
         let at_mid = path_splits (OnLine x) w (subst (λ z. Lies x i z j) after.1 l) in
@@ -177,17 +178,21 @@ module _ (has : ℕ → Bool) (rules : List Rule) (limit : ℕ) (flat : Flat)
         (λ inside. item_reached e m i j le sp u inside.0 inside.1 l (λ p st. called h (calls is n.calling) st))
         (append_splits w v u r cut)
 
-    reach_turns : {el : Element} {count : ℕ} {v : List ℕ} → DerivesTimes has rules el count v
-        → (s m : ℕ) (b d : Option ℕ) → d ≡ capped_most limit b → slice_get flat.nodes s ≡ Some (Node.Turns d m) →
+    reach_iterations : {el : Element} {count : ℕ} {v : List ℕ} → DerivesTimes has rules el count v
+        → (s m : ℕ) (b d : Option ℕ) → d ≡ capped_most limit b → slice_get flat.nodes s ≡ Some (Node.Iterations d m) →
         Spells rules limit flat.nodes m el → (t f i j o : ℕ) → j ≤ length x → Turned 0 d t f → der.AtMost t d
         → der.AtMost (t + count) b → t ≤ i →
         (u r : List ℕ) → v ≡ u ++ r → Lies x i u j → Holds flat x i (at s f) o → HasItem flat x j
-    reach_turns no_more s m b d most is sp t f i j o le turned counted within few u r cut l h = ended_item u r j cut l h
-    reach_turns (one_more {k = k} {w = []} e ds) s m b d most is sp t f i j o le turned counted within few u r cut l h =
-        reach_turns ds s m b d most is sp t f i j o le turned counted (fewer_within t k b within) few u r cut l h
-    reach_turns (one_more {w = c ∷ w} e ds) s m b d most is sp t f i j o le turned counted within few u r cut here h =
-        record { place = at s f; origin = o; held = h }
-    reach_turns (one_more {k = k} {w = c ∷ w} {v = v} e ds) s m b d most is sp t f i j o le turned counted within few
+    reach_iterations no_more s m b d most is sp t f i j o le turned counted within few u r cut l h = ended_item u r j
+        cut l h
+    reach_iterations (one_more {k = k} {w = []} e ds) s m b d most is sp t f i j o le turned counted within few u r cut
+        l h =
+        reach_iterations ds s m b d most is sp t f i j o le turned counted (fewer_within t k b within) few u r cut l h
+    reach_iterations (one_more {w = c ∷ w} e ds) s m b d most is sp t f i j o le turned counted within few u r cut here
+        h =
+        record { position = at s f; origin = o; held = h }
+    reach_iterations (one_more {k = k} {w = c ∷ w} {v = v} e ds) s m b d most is sp t f i j o le turned counted within
+        few
         (a ∷ u) r cut (step at_i l) h =
         let on = lies_count x (step at_i l) in
         let n = take_on limit t k b d m f most (omega (arith, few, on, le, line)) within turned in
@@ -198,7 +203,8 @@ module _ (has : ℕ → Bool) (rules : List Rule) (limit : ℕ) (flat : Flat)
         let once = call_step has rules limit flat bodies x line (calls is n.calling)
         (λ t. let lt : i < at_mid.mid = omega (arith, long) in lt)
         (node_runs has rules limit flat bodies x line e m i at_mid.mid sp at_mid.left) o h in
-        reach_turns ds s m b d most is sp (suc t) n.to at_mid.mid j o le n.turned n.within (within_same t k b within)
+        reach_iterations ds s m b d most is sp (suc t) n.to at_mid.mid j o le n.turned n.within
+        (within_same t k b within)
         (omega (arith, few, long)) after.0 r after.2 at_mid.right once)
         (λ inside. item_reached e m i j le sp (a ∷ u) inside.0 inside.1 (step at_i l)
         (λ p st. called h (calls is n.calling) st))

@@ -37,7 +37,7 @@ pub values_marked : (rules : List Rule) (vs : List ℕ) (mark : Bool) → (mark 
 values_marked rules vs mark is = values_settle rules vs mark (λ m. empty_of_length vs (is.0 m))
     (λ m e. absurd (cc (is.1 (ap length e), m)))
 
--- what no number of turns meets
+-- what no number of iterations meets
 pub reversed_is_nothing : (rules : List Rule) (limit : ℕ) (nodes : List Node) (least : ℕ) (most : Option ℕ)
     (el : Element)
     → (b : ℕ) × (most ≡ Some b) × (b < least) → Shows rules limit nodes Nothing (e.Rep least most el)

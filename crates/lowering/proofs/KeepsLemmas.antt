@@ -166,7 +166,7 @@ module _ (has : ℕ → Bool) (rules left : List Rule)
     back_times no_more keeps = no_more
     back_times (one_more d rest) keeps = one_more (derives_back d keeps) (back_times rest keeps)
 
--- it has no more places
+-- it has no more dotted rules
 module _ (has : ℕ → Bool) (rules : List Rule) (limit : ℕ) where
   all_counted : {es ds : Elements} → KeepsAll has rules es ds → count ds ≡ count es
   all_counted keep_none = refl

@@ -10,16 +10,16 @@ use Rattle.abnfcheck.specs.Derivable as der
 use Rattle.abnfcheck.specs.Derivable.{AreLetters, Derives, DerivesAll, DerivesTimes, all_done, then, this, no_more}
 use Rattle.abnfcheck.specs.Derivable.{one_more}
 use Rattle.abnfcheck.proofs.YieldsLemmas.{letters_both}
-use Rattle.flatgrammar.specs.Flat.{Node, Concat, Set, Turns, Between, Calling}
+use Rattle.flatgrammar.specs.Flat.{Node, Concat, Set, Iterations, Between, Calling}
 use Rattle.lowering.specs.Lowered.{Spells, Shows, shows_text, shows_values, shows_range, shows_concat, shows_alt}
-use Rattle.lowering.specs.Lowered.{shows_rep, shows_turns, shows_reversed, shows_opt, shows_name, shows_prose}
+use Rattle.lowering.specs.Lowered.{shows_rep, shows_iterations, shows_reversed, shows_opt, shows_name, shows_prose}
 use Rattle.lowering.specs.Lowered.{SpellAll, spell_none, spell_more}
-use Rattle.flatgrammar.specs.Places.{width}
+use Rattle.flatgrammar.specs.Positions.{width}
 use Rattle.lowering.proofs.CappedMostLemmas.{free_within}
 use Rattle.lowering.proofs.BeforeLemmas.{Fit, fit_none, fit_more, fit_text, fit_values, text_fits, values_fit, first}
-use Rattle.lowering.proofs.BeforeLemmas.{nth, turned_more, turns_most, few_counted, next_within, next_counted}
+use Rattle.lowering.proofs.BeforeLemmas.{nth, turned_more, iterations_most, few_counted, next_within, next_counted}
 use Rattle.lowering.proofs.BeforeLemmas.{all_snoc, times_snoc, some_of, Before, in_letters, in_concat, alt_begun}
-use Rattle.lowering.proofs.BeforeLemmas.{alt_done, in_rep, in_turns, opt_begun, opt_done, opt_passed, member_at}
+use Rattle.lowering.proofs.BeforeLemmas.{alt_done, in_rep, in_iterations, opt_begun, opt_done, opt_passed, member_at}
 use Rattle.flatgrammar.proofs.SliceGetLemmas.{get_below}
 use Rattle.lowering.specs.Pruned.{IsProductive}
 
@@ -93,15 +93,16 @@ module _ (has : ℕ → Bool) (rules : List Rule) where
             (append_assoc u u' r.rest)) (then d r.derives);
       }
 
-  -- n more turns
-  record TurnsGoOn (el : Element) (w : List ℕ) (count : ℕ) : Type 0 where
+  -- n more iterations
+  record IterationsGoOn (el : Element) (w : List ℕ) (count : ℕ) : Type 0 where
     rest : List ℕ
     letters : AreLetters has rest
     derives : DerivesTimes has rules el count (w ++ rest)
 
-  more_turns : {el : Element} {j : ℕ} {w : List ℕ} (n : ℕ) → IsProductive has rules el → DerivesTimes has rules el j w
-      → TurnsGoOn el w (n + j)
-  more_turns {el = el} {j = j} {w = w} zero one d =
+  more_iterations : {el : Element} {j : ℕ} {w : List ℕ} (n : ℕ) → IsProductive has rules el
+      → DerivesTimes has rules el j w
+      → IterationsGoOn el w (n + j)
+  more_iterations {el = el} {j = j} {w = w} zero one d =
       let same : j ≡ zero + j = omega arith in
       record {
         rest = [];
@@ -109,8 +110,8 @@ module _ (has : ℕ → Bool) (rules : List Rule) where
         derives = subst (λ v. DerivesTimes has rules el v (w ++ [])) same (subst
             (λ v. DerivesTimes has rules el j v) (sym (append-nil w)) d);
       }
-  more_turns {el = el} {j = j} {w = w} (suc n) one d =
-      let r = more_turns n one d in
+  more_iterations {el = el} {j = j} {w = w} (suc n) one d =
+      let r = more_iterations n one d in
       let same : suc (n + j) ≡ suc n + j = omega arith in
       record {
         rest = r.rest ++ one.word;
@@ -120,7 +121,7 @@ module _ (has : ℕ → Bool) (rules : List Rule) where
             (times_snoc has rules r.derives one.derives));
       }
 
-  -- as many turns as are asked for, at least
+  -- as many iterations as are asked for, at least
   rep_rest : (a j : ℕ) (b : Option ℕ) {el : Element} {w : List ℕ} → der.AtMost a b → der.AtMost j b
       → IsProductive has rules el →
       DerivesTimes has rules el j w → GoesOn (e.Rep a b el) w
@@ -128,7 +129,7 @@ module _ (has : ℕ → Bool) (rules : List Rule) where
     where
       by : ((j < a) ⊎ (a ≤ j)) → GoesOn (e.Rep a b el) w
       by (inl less) =
-          let r = more_turns (a - j) one d in
+          let r = more_iterations (a - j) one d in
           let all : a - j + j ≡ a = omega (arith, less) in
           record {
             rest = r.rest;
@@ -196,8 +197,8 @@ module _ (has : ℕ → Bool) (rules : List Rule) where
     goes_on (shows_rep {a = a} {b = b} least most bounds never sp) (live_rep within one l) lt letters
         (in_rep {j = j} ds turned inside) =
         rep_rest a j b within inside one ds
-    goes_on (shows_turns {a = a} {b = b} most some empty sp) (live_rep within one l) lt letters
-        (in_turns {j = j} ds turned few inside) =
+    goes_on (shows_iterations {a = a} {b = b} most some empty sp) (live_rep within one l) lt letters
+        (in_iterations {j = j} ds turned few inside) =
         rep_rest a j b within inside one ds
     goes_on (shows_reversed less) live lt letters part = absurd (omega (arith, lt))
     goes_on (shows_name is) live lt letters part = absurd (omega (arith, lt))
@@ -237,9 +238,9 @@ module _ (has : ℕ → Bool) (rules : List Rule) where
         record { of = h.el; spelled = h.spelled; live = live_at k ls h.is; on = λ v c. alt_done k refl h.is c }
     part_of (Calling.alternative {ms = ms} {k = k} is) (shows_alt all) live (alt_done m same found d) short =
         absurd (let lt = get_below ms k is in omega (arith, lt, same))
-    part_of (Calling.turn {a = a} {k = k} {b = d} lt) (shows_rep {b = b} {el = el} least most bounds never s)
+    part_of (Calling.iteration {a = a} {k = k} {b = d} lt) (shows_rep {b = b} {el = el} least most bounds never s)
         (live_rep within one l) (in_rep {j = j} ds is inside) short =
-        let few = turns_most has rules never ds in
+        let few = iterations_most has rules never ds in
         let under : j ≤ limit = omega (arith, few, short) in
         record {
           of = el;
@@ -248,9 +249,9 @@ module _ (has : ℕ → Bool) (rules : List Rule) where
           on = λ v c. in_rep (times_snoc has rules ds c) (turned_more a j k d lt
               is) (next_within limit a j k b d most under lt is);
         }
-    part_of (Calling.turn_uncounted {a = a}) (shows_rep {b = b} {el = el} least most bounds never s)
+    part_of (Calling.iteration_uncounted {a = a}) (shows_rep {b = b} {el = el} least most bounds never s)
         (live_rep within one l) (in_rep {j = j} ds is inside) short =
-        let few = turns_most has rules never ds in
+        let few = iterations_most has rules never ds in
         let under : j ≤ limit = omega (arith, few, short) in
         record {
           of = el;
@@ -259,27 +260,28 @@ module _ (has : ℕ → Bool) (rules : List Rule) where
           on = λ v c. in_rep (times_snoc has rules ds c) (omega
               (arith, is)) (free_within limit j b most under);
         }
-    part_of {w = w} (Calling.takes {k = k} {b = d} lt) (shows_turns {b = b} {el = el} most some empty s)
-        (live_rep within one l) (in_turns {j = j} ds is few inside) short =
+    part_of {w = w} (Calling.takes {k = k} {b = d} lt) (shows_iterations {b = b} {el = el} most some empty s)
+        (live_rep within one l) (in_iterations {j = j} ds is few inside) short =
         record {
           of = el;
           spelled = s;
           live = l;
-          on = λ v c. in_turns (times_snoc has rules ds c) (turned_more 0 j k d lt is)
+          on = λ v c. in_iterations (times_snoc has rules ds c) (turned_more 0 j k d lt is)
               (few_counted d (suc j) k (w ++ v) lt) (next_counted limit j k b d most lt is);
         }
-    part_of {w = w} (Calling.takes_uncounted {m = m}) (shows_turns {a = a} {b = b} {el = el} most some empty s)
-        (live_rep within one l) (in_turns {j = j} ds is few inside) short =
+    part_of {w = w} (Calling.takes_uncounted {m = m}) (shows_iterations {a = a} {b = b} {el = el} most some empty s)
+        (live_rep within one l) (in_iterations {j = j} ds is few inside) short =
         record { of = el; spelled = s; live = l; on = on }
       where
-        -- a turn without a letter is none
-        on : (v : List ℕ) → Derives has rules el v → Before has rules (Turns None m) (e.Rep a b el) 0 (w ++ v)
-        on [] c = subst (λ u. Before has rules (Turns None m) (e.Rep a b el) 0 u) (sym (append-nil w))
-            (in_turns ds is few inside)
+        -- an iteration without a letter is none
+        on : (v : List ℕ) → Derives has rules el v → Before has rules (Iterations None m) (e.Rep a b el) 0 (w ++ v)
+        on [] c = subst (λ u. Before has rules (Iterations None m) (e.Rep a b el) 0 u) (sym (append-nil w))
+            (in_iterations ds is few inside)
         on (x ∷ v) c =
             let long = length-append w (x ∷ v) in
             let more : suc j ≤ length (w ++ x ∷ v) = omega (arith, long, few) in
             let enough : 0 ≡ min (suc j) 0 = omega arith in
-            in_turns (times_snoc has rules ds c) enough more (free_within limit j b most (omega (arith, few, short)))
+            in_iterations (times_snoc has rules ds c) enough more
+            (free_within limit j b most (omega (arith, few, short)))
     part_of Calling.operand (shows_opt {el = el} s) (live_opt l) opt_begun short =
         record { of = el; spelled = s; live = l; on = λ v c. opt_done c }

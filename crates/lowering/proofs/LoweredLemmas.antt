@@ -1,4 +1,4 @@
--- A grammar whose bodies are cut, with the whole as its last node.
+-- A grammar whose bodies are cut, with the augmented start as its last node.
 -- Serves: lower, lower_viable, find_following.
 use Rattle.std.proofs.Common.{◌≡◌, ◌↔◌, ℕ, zero, suc, ◌+◌, ◌<◌, ◌≤◌, Bool, true, List, [], ◌∷◌, ◌++◌, length, take}
 use Rattle.std.proofs.Common.{get_or}
@@ -10,11 +10,11 @@ use Rattle.abnfcheck.specs.Derivable.{AreLetters, Derives, RuleDerives}
 use Rattle.abnfread.specs.Element as e
 use Rattle.abnfread.specs.Element.{Element, Rule, bodies}
 use Rattle.flatgrammar.specs.Flat as flat
-use Rattle.flatgrammar.specs.Flat.{Node, Flat, Place}
+use Rattle.flatgrammar.specs.Flat.{Node, Flat, Dot}
 use Rattle.flatgrammar.specs.Holds.{Holds}
 use Rattle.lowering.specs.Lowered.{shows_concat, spell_none, spell_more, IsLowered}
 use Rattle.lowering.specs.NullElements.{Settles}
-use Rattle.flatgrammar.specs.Places.{places}
+use Rattle.flatgrammar.specs.Positions.{positions}
 use Rattle.lowering.specs.Sizes.{sizes}
 use Rattle.lowering.proofs.AreNodesReportedLemmas.{marks_are_nulls}
 use Rattle.lowering.proofs.RuleDerivesLemmas as judge
@@ -26,7 +26,7 @@ use Rattle.lowering.specs.Numbers.{AreCut}
 use Rattle.flatgrammar.specs.Operands.{AreOrdered}
 use Rattle.flatgrammar.specs.FlatViews.{node_of, nodes_of}
 use Rattle.lowering.proofs.FlatNumbersLemmas.{at_end, nodes_pushed, ordered_push, reported_push}
-use Rattle.lowering.proofs.SpellAllLemmas.{still_spells, places_push, spells_below}
+use Rattle.lowering.proofs.SpellAllLemmas.{still_spells, positions_push, spells_below}
 
 -- what two clauses say of one value
 pub ok_both : {T E : Type 0} (r : Result T E) (P Q : T → Type 0) → IfOk r P → IfOk r Q → IfOk r (λ x. P x × Q x)
@@ -49,7 +49,7 @@ module _ (rules : List Rule) (limit : ℕ) (judged count n b d : ℕ) (old new :
       nodes ∙ nodes_pushed old new (code.Concat members) is_new ∙ ap (λ v. nodes_of old ++ flat.Concat v ∷ []) alone
 
   pub is_lowered : f.limit ≡ limit → b ≡ get_or numbers judged d → judged < length rules → n ≡ length old
-      → f.bodies ≡ numbers → f.whole ≡ n → IsLowered rules judged f
+      → f.bodies ≡ numbers → f.start ≡ n → IsLowered rules judged f
   is_lowered is_limit body within last is_bodies is_whole = record {
     spelled = rw (is_bodies, shapes_of_whole, is_limit) (record {
       count = cut.long ∙ all;
@@ -65,16 +65,16 @@ module _ (rules : List Rule) (limit : ℕ) (judged count n b d : ℕ) (old new :
         (at_end (nodes_of old) (flat.Concat (b ∷ []))));
   }
 
-  pub places_sized : places f.nodes ≤ sizes limit (bodies rules) + 2
-  places_sized =
-      let whole = places_push (nodes_of old) (flat.Concat (b ∷ [])) in
+  pub positions_sized : positions f.nodes ≤ sizes limit (bodies rules) + 2
+  positions_sized =
+      let whole = positions_push (nodes_of old) (flat.Concat (b ∷ [])) in
       let before = cut.sized in
       let size = length-map rules (λ rule. rule.body) in
       let taken : sizes limit (take count (bodies rules)) ≡ sizes limit (bodies rules) =
       ap (sizes limit) (take_all (bodies rules) count (omega (arith, all, size))) in
       rw shapes_of_whole (omega (arith, whole, before, taken))
 
--- the whole comes after its one member
+-- the augmented start comes after its one member
 pub are_ordered : (rules : List Rule) (limit judged count b d : ℕ) (old new : List declared.Node)
     (members : Vec ℕ Global) (marks : List Bool)
     (numbers : List ℕ) → AreCut rules limit count (nodes_of old) marks numbers → count ≡ length rules →
@@ -105,7 +105,7 @@ bodies_within rules limit count old new node marks numbers cut is_new id m h =
     subst (λ v. m < length v) (sym is_new) (let short : m < length (old ++ node ∷ []) = omega (arith, lt, long, more) in
     short)
 
--- the whole derives what its one member does
+-- the augmented start derives what its one member does
 whole_settles : (rules : List Rule) (judged : ℕ) (null : Bool) (el : Element) → slice_get (bodies rules) judged
     ≡ Some el
     → ((has : ℕ → Bool) → (null ≡ true) ↔ RuleDerives has rules judged [])
@@ -124,7 +124,7 @@ pub nulls_reported : (rules : List Rule) (limit judged count b d whole : ℕ) (o
     new ≡ old ++ code.Concat members ∷ [] → members.items ≡ b ∷ [] → more ≡ marks ++ null ∷ []
     → b ≡ get_or numbers judged d → judged < length rules
     → ((has : ℕ → Bool) → (null ≡ true) ↔ RuleDerives has rules judged [])
-    → AreNulls (record { nodes = nodes_of new; bodies = numbers; whole = whole; limit = limit }) more
+    → AreNulls (record { nodes = nodes_of new; bodies = numbers; start = whole; limit = limit }) more
 nulls_reported rules limit judged count b d whole old new members marks more null numbers cut all is_new alone is_more
     body
     within is =
@@ -148,5 +148,5 @@ nulls_reported rules limit judged count b d whole old new members marks more nul
 pub lowered_settles : (rules : List Rule) (judged : ℕ) (f : Flat) → IsLowered rules judged f
     → (has : ℕ → Bool) (x : List ℕ)
     → length x ≤ f.limit → AreLetters has x →
-    Holds f x (length x) (flat.at f.whole 1) 0 ↔ RuleDerives has rules judged x
+    Holds f x (length x) (flat.at f.start 1) 0 ↔ RuleDerives has rules judged x
 lowered_settles rules judged f low has x line letters = judge.derives_exactly has rules judged f low x line letters

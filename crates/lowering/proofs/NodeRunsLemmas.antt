@@ -9,12 +9,12 @@ use Rattle.abnfread.specs.Element.{Element, Elements, Rule}
 use Rattle.abnfcheck.specs.Derivable as der
 use Rattle.abnfcheck.specs.Derivable.{AreLetters, Derives, DerivesAll, DerivesSome, DerivesTimes, all_done, then, this}
 use Rattle.abnfcheck.specs.Derivable.{later, no_more, one_more}
-use Rattle.flatgrammar.specs.Flat.{Node, Flat, Letters, Concat, Alt, Rep, Place, at, Set, IsTaking, Takes, in_turns}
+use Rattle.flatgrammar.specs.Flat.{Node, Flat, Letters, Concat, Alt, Rep, Dot, at, Set, IsTaking, Takes, in_iterations}
 use Rattle.flatgrammar.specs.Flat.{Reading, Calling, IsDone, Begins, Starts, starts, name_starts, Ends, ends, name_ends}
 use Rattle.flatgrammar.specs.Flat.{reads, Calls, calls}
 use Rattle.flatgrammar.specs.Holds.{Holds, called, has_read, returned}
 use Rattle.lowering.specs.Lowered.{capped_most, Spells, spells, shows_text, shows_values, shows_range, shows_concat}
-use Rattle.lowering.specs.Lowered.{shows_alt, shows_rep, shows_turns, shows_reversed, shows_opt, shows_name}
+use Rattle.lowering.specs.Lowered.{shows_alt, shows_rep, shows_iterations, shows_reversed, shows_opt, shows_name}
 use Rattle.lowering.specs.Lowered.{SpellAll, spell_none, spell_more, AreBodies}
 use Rattle.abnfcheck.proofs.RuleIdLemmas.{body_at_id}
 use Rattle.lowering.proofs.RuleNodeLemmas.{node_of_rule}
@@ -23,14 +23,14 @@ use Rattle.abnfcheck.proofs.LiesLemmas.{OnLine, Lies}
 use Rattle.lowering.proofs.CappedMostLemmas.{most_is}
 use Rattle.lowering.proofs.OnLineLemmas.{short_on_line, lies_count}
 use Rattle.lowering.proofs.BeforeLemmas.{Fit, fit_none, fit_more, text_fits, values_fit, Turned, turned_none}
-use Rattle.lowering.proofs.BeforeLemmas.{turns_most}
+use Rattle.lowering.proofs.BeforeLemmas.{iterations_most}
 
 pub record Next {A : Type 0} (xs : List A) (k : ℕ) (y : A) (ys : List A) : Type 0 where
   pub is : slice_get xs k ≡ Some y
   pub rest : drop (k + 1) xs ≡ ys
   pub below : k < length xs
 
--- the first of what is left stands at that place
+-- the first of what is left stands at that dotted rule
 pub next_of : {A : Type 0} (xs : List A) (k : ℕ) {y : A} {ys : List A} → drop k xs ≡ y ∷ ys → Next xs k y ys
 next_of [] zero h = absurd cc
 next_of [] (suc k) h = absurd cc
@@ -47,30 +47,30 @@ next_of (z ∷ xs) (suc k) {ys = ys} h =
       below = omega (arith, n.below);
     }
 
--- one more turn of a repetition, after t turns, at step f
-pub record Turn (a : ℕ) (b : Option ℕ) (m t f : ℕ) : Type 0 where
+-- one more iteration of a repetition, after t iterations, at step f
+pub record Iteration (a : ℕ) (b : Option ℕ) (m t f : ℕ) : Type 0 where
   pub to : ℕ
   pub calling : Calling (Rep a b m) f m to
   pub turned : Turned a b (suc t) to
 
-pub turn_on : (a : ℕ) (b : Option ℕ) (m t f : ℕ) → Turned a b t f → der.AtMost (suc t) b → Turn a b m t f
-turn_on a (Some most) m t f is within = record {
+pub iteration_on : (a : ℕ) (b : Option ℕ) (m t f : ℕ) → Turned a b t f → der.AtMost (suc t) b → Iteration a b m t f
+iteration_on a (Some most) m t f is within = record {
   to = f + 1;
-  calling = Calling.turn (omega arith);
+  calling = Calling.iteration (omega arith);
   turned = omega arith;
 }
-turn_on a None m t f is within = by (cases_lt t a)
+iteration_on a None m t f is within = by (cases_lt t a)
   where
-    by : ((t < a) ⊎ (a ≤ t)) → Turn a None m t f
+    by : ((t < a) ⊎ (a ≤ t)) → Iteration a None m t f
     by (inl lt) =
         let turned : f + 1 ≡ min (suc t) a = omega arith in
-        record { to = f + 1; calling = Calling.turn (omega arith); turned = turned }
+        record { to = f + 1; calling = Calling.iteration (omega arith); turned = turned }
     by (inr le) =
         let top_is : a ≡ f = omega arith in
         let turned : a ≡ min (suc t) a = omega arith in
         record {
           to = a;
-          calling = subst (λ v. Calling (Rep a None m) v m a) top_is Calling.turn_uncounted;
+          calling = subst (λ v. Calling (Rep a None m) v m a) top_is Calling.iteration_uncounted;
           turned = turned;
         }
 
@@ -86,10 +86,10 @@ rep_done : (a k f m : ℕ) (b : Option ℕ) → a ≤ k → der.AtMost k b → T
 rep_done a k f m None low within is = IsDone.rep (omega arith) (omega arith)
 rep_done a k f m (Some b) low within is = IsDone.rep (omega arith) (omega arith)
 
--- one more turn that takes a letter
-pub record TurnOn (d : Option ℕ) (m t f : ℕ) : Type 0 where
+-- one more iteration that takes a letter
+pub record IterationOn (d : Option ℕ) (m t f : ℕ) : Type 0 where
   pub to : ℕ
-  pub calling : Calling (Node.Turns d m) f m to
+  pub calling : Calling (Node.Iterations d m) f m to
   pub turned : Turned 0 d (suc t) to
   pub within : der.AtMost (suc t) d
 
@@ -97,9 +97,10 @@ pub fewer_within : (t k : ℕ) (b : Option ℕ) → der.AtMost (t + suc k) b →
 fewer_within t k None h = tt
 fewer_within t k (Some b) h = omega (arith, h)
 
-turns_done : (count f m : ℕ) (d : Option ℕ) → der.AtMost count d → Turned 0 d count f → IsDone (Node.Turns d m) f
-turns_done count f m None within is = IsDone.turns (omega (arith, is))
-turns_done count f m (Some d) within is = IsDone.turns (omega (arith, within, is))
+iterations_done : (count f m : ℕ) (d : Option ℕ) → der.AtMost count d → Turned 0 d count f
+    → IsDone (Node.Iterations d m) f
+iterations_done count f m None within is = IsDone.iterations (omega (arith, is))
+iterations_done count f m (Some d) within is = IsDone.iterations (omega (arith, within, is))
 
 module _ (limit : ℕ) where
   cap_within : (b d : Option ℕ) (k : ℕ) → d ≡ capped_most limit b → k ≤ limit → der.AtMost k b → der.AtMost k d
@@ -110,13 +111,13 @@ module _ (limit : ℕ) where
       let same : b ≡ d = cc one in omega (arith, same, within)
 
   pub take_on : (t k : ℕ) (b d : Option ℕ) (m f : ℕ) → d ≡ capped_most limit b → t + 1 ≤ limit
-      → der.AtMost (t + suc k) b → Turned 0 d t f → TurnOn d m t f
+      → der.AtMost (t + suc k) b → Turned 0 d t f → IterationOn d m t f
   take_on t k b None m f is under within turned =
       let zero_is : 0 ≡ f = omega (arith, turned) in
       let after : 0 ≡ min (suc t) 0 = omega arith in
       record {
         to = 0;
-        calling = subst (λ v. Calling (Node.Turns None m) v m 0) zero_is Calling.takes_uncounted;
+        calling = subst (λ v. Calling (Node.Iterations None m) v m 0) zero_is Calling.takes_uncounted;
         turned = after;
         within = tt;
       }
@@ -134,24 +135,24 @@ module _ (limit : ℕ) where
 module _ (has : ℕ → Bool) (rules : List Rule) (limit : ℕ) (flat : Flat)
     (bodies : AreBodies rules limit flat.nodes flat.bodies) (x : List ℕ) (line : length x ≤ limit) where
   -- whatever stands at q in set i goes on to r in set j
-  abbrev pub Steps : Place → ℕ → Place → ℕ → Type 0
+  abbrev pub Steps : Dot → ℕ → Dot → ℕ → Type 0
   Steps q i r j = (o : ℕ) → Holds flat x i q o → Holds flat x j r o
 
   -- the node can be run through from i to j
   pub record Runs (s i j : ℕ) : Type 0 where
-    pub from : Place
-    pub to : Place
+    pub from : Dot
+    pub to : Dot
     pub start : Starts flat s from
     pub end : Ends flat to s
     pub run : Holds flat x i from i → Holds flat x j to i
 
-  pub call_step : {q r : Place} {s i j : ℕ} → Calls flat q s r → (Takes flat q → i < j) → Runs s i j → Steps q i r j
+  pub call_step : {q r : Dot} {s i j : ℕ} → Calls flat q s r → (Takes flat q → i < j) → Runs s i j → Steps q i r j
   call_step c takes run = λ o h. returned (run.run (called h c run.start)) run.end h c takes
 
   -- a node of another kind asks for nothing
   pub plain_node : {A : Type 0} {s k : ℕ} {node : Node} → slice_get flat.nodes s ≡ Some node → (IsTaking node → ⊥)
       → Takes flat (at s k) → A
-  plain_node is none (in_turns {node = node'} is' t) =
+  plain_node is none (in_iterations {node = node'} is' t) =
       absurd (none (let same : node' ≡ _ = cc (is, is') in subst IsTaking same t))
 
   -- a node that begins at step k and is done at step l
@@ -184,12 +185,12 @@ module _ (has : ℕ → Bool) (rules : List Rule) (limit : ℕ) (flat : Flat)
     below : one < length ms
     steps : Steps (at s one) i (at s (length ms + one)) j
 
-  record Turns (s a : ℕ) (b : Option ℕ) (t f i j : ℕ) : Type 0 where
+  record Iterations (s a : ℕ) (b : Option ℕ) (t f i j : ℕ) : Type 0 where
     to : ℕ
     turned : Turned a b t to
     steps : Steps (at s f) i (at s to) j
 
-  -- counted turns
+  -- counted iterations
   record Counted (s : ℕ) (b : Option ℕ) (f i j : ℕ) : Type 0 where
     count : ℕ
     to : ℕ
@@ -214,7 +215,7 @@ module _ (has : ℕ → Bool) (rules : List Rule) (limit : ℕ) (flat : Flat)
         let h = run_some d all s ms is 0 i j refl l in runs_through is (Begins.alt h.below) (IsDone.alt h.below) h.steps
     node_runs (der.rep {a = a} {k = k} {b = b} {w = w} low within d) s i j
         (spells is (shows_rep {c = c} {m = m} {d = d'} least most bounds never sp)) l =
-        let few = turns_most has rules never d in
+        let few = iterations_most has rules never d in
         let all = short_on_line x l in
         let under : k ≤ limit = omega (arith, few, all, line) in
         let low' : c ≤ k = omega (arith, least, low) in
@@ -227,11 +228,11 @@ module _ (has : ℕ → Bool) (rules : List Rule) (limit : ℕ) (flat : Flat)
         within_start k (Some b) h = omega arith
     node_runs (der.rep low within d) s i j (spells is (shows_reversed lt)) l = absurd (omega (arith, low, within, lt))
     node_runs (der.rep {a = a} {k = k} {b = b} {w = w} low within d) s i j
-        (spells is (shows_turns {m = m} {b = b'} {d = d'} most some empty sp)) l =
+        (spells is (shows_iterations {m = m} {b = b'} {d = d'} most some empty sp)) l =
         let all = short_on_line x l in
-        let h = run_turns d s m b' d' is most sp 0 0 i j (turned_none 0 d') (start_cap d') (start_most k b' within)
+        let h = run_iterations d s m b' d' is most sp 0 0 i j (turned_none 0 d') (start_cap d') (start_most k b' within)
         (omega (arith, all, line)) l in
-        runs_through is Begins.turns (turns_done h.count h.to m d' h.within h.turned) h.steps
+        runs_through is Begins.iterations (iterations_done h.count h.to m d' h.within h.turned) h.steps
       where
         start_cap : (d : Option ℕ) → der.AtMost 0 d
         start_cap None = tt
@@ -290,12 +291,12 @@ module _ (has : ℕ → Bool) (rules : List Rule) (limit : ℕ) (flat : Flat)
     run_times : {el : Element} {k : ℕ} {w : List ℕ} → DerivesTimes has rules el k w → (s a m : ℕ) (b : Option ℕ)
         → slice_get flat.nodes s ≡ Some (Rep a b m) →
         Spells rules limit flat.nodes m el → (t f i j : ℕ) → Turned a b t f → der.AtMost (t + k) b → Lies x i w j
-        → Turns s a b (t + k) f i j
+        → Iterations s a b (t + k) f i j
     run_times no_more s a m b is sp t f i j turned within here =
         let same : t ≡ t + 0 = omega arith in
         record { to = f; turned = subst (λ v. Turned a b v f) same turned; steps = λ o h. h }
     run_times (one_more {k = k} {w = w} d ds) s a m b is sp t f i j turned within l =
-        let n = turn_on a b m t f turned (within_less t k b within) in
+        let n = iteration_on a b m t f turned (within_less t k b within) in
         let cut = path_splits (OnLine x) w l in
         let once = call_step (calls is n.calling) (plain_node is (λ t. elim t [ ]))
         (node_runs d m i cut.mid sp cut.left) in
@@ -307,15 +308,16 @@ module _ (has : ℕ → Bool) (rules : List Rule) (limit : ℕ) (flat : Flat)
           steps = λ o h. on.steps o (once o h);
         }
 
-    run_turns : {el : Element} {k : ℕ} {w : List ℕ} → DerivesTimes has rules el k w → (s m : ℕ) (b d : Option ℕ)
-        → slice_get flat.nodes s ≡ Some (Node.Turns d m) → d ≡ capped_most limit b →
+    run_iterations : {el : Element} {k : ℕ} {w : List ℕ} → DerivesTimes has rules el k w → (s m : ℕ) (b d : Option ℕ)
+        → slice_get flat.nodes s ≡ Some (Node.Iterations d m) → d ≡ capped_most limit b →
         Spells rules limit flat.nodes m el → (t f i j : ℕ) → Turned 0 d t f → der.AtMost t d → der.AtMost (t + k) b
         → t + length w ≤ limit → Lies x i w j → Counted s d f i j
-    run_turns no_more s m b d is most sp t f i j turned counted within under here =
+    run_iterations no_more s m b d is most sp t f i j turned counted within under here =
         record { count = t; to = f; turned = turned; within = counted; steps = λ o h. h }
-    run_turns (one_more {k = k} {w = []} e ds) s m b d is most sp t f i j turned counted within under l =
-        run_turns ds s m b d is most sp t f i j turned counted (fewer_within t k b within) under l
-    run_turns (one_more {k = k} {w = c ∷ w} {v = v} e ds) s m b d is most sp t f i j turned counted within under l =
+    run_iterations (one_more {k = k} {w = []} e ds) s m b d is most sp t f i j turned counted within under l =
+        run_iterations ds s m b d is most sp t f i j turned counted (fewer_within t k b within) under l
+    run_iterations (one_more {k = k} {w = c ∷ w} {v = v} e ds) s m b d is most sp t f i j turned counted within under l
+        =
         let all = length-append w v in
         let one : t + 1 ≤ limit = omega (arith, all, under) in
         let n = take_on limit t k b d m f most one within turned in
@@ -323,7 +325,8 @@ module _ (has : ℕ → Bool) (rules : List Rule) (limit : ℕ) (flat : Flat)
         let ahead = lies_count x cut.left in
         let once = call_step (calls is n.calling) (λ t. let lt : i < cut.mid = omega (arith, ahead) in lt)
         (node_runs e m i cut.mid sp cut.left) in
-        let on = run_turns ds s m b d is most sp (suc t) n.to cut.mid j n.turned n.within (within_same t k b within)
+        let on = run_iterations ds s m b d is most sp (suc t) n.to cut.mid j n.turned n.within
+        (within_same t k b within)
         (omega (arith, all, under)) cut.right in
         record {
           count = on.count;

@@ -68,9 +68,9 @@ module _ (has : ℕ → Bool) (rules : List Rule) where
       → Keeps has rules (e.Rep a b el) (e.Concat none)
   empty_left a b el is not = rw is (empty_rep not)
 
-  pub no_turn : (a : ℕ) (b : Option ℕ) (el : Element) → (a ≡ 0 → ⊥) → (IsProductive has rules el → ⊥)
+  pub no_iteration : (a : ℕ) (b : Option ℕ) (el : Element) → (a ≡ 0 → ⊥) → (IsProductive has rules el → ⊥)
       → IsProductive has rules (e.Rep a b el) → ⊥
-  no_turn a b el some not p = by p.letters p.derives
+  no_iteration a b el some not p = by p.letters p.derives
     where
       times : {k : ℕ} {w : List ℕ} → a ≤ k → AreLetters has w → DerivesTimes has rules el k w → ⊥
       times le all no_more = some (omega (arith, le))

@@ -5,9 +5,9 @@ use Rattle.std.specs.Prelude.{slice_get, Bool, Some}
 use Rattle.abnfread.specs.Element.{Element, Rule}
 use Rattle.abnfcheck.specs.Derivable as der
 use Rattle.abnfcheck.specs.Derivable.{AreLetters, Derives}
-use Rattle.flatgrammar.specs.Flat.{Node, Flat, Place, at, Name, Set, Has, Reading, Calling, IsDone, Begins, Starts}
+use Rattle.flatgrammar.specs.Flat.{Node, Flat, Dot, at, Name, Set, Has, Reading, Calling, IsDone, Begins, Starts}
 use Rattle.flatgrammar.specs.Flat.{starts, name_starts, Ends, ends, name_ends, Reads, reads, Calls, calls, IsTaking}
-use Rattle.flatgrammar.specs.Flat.{Takes, in_turns}
+use Rattle.flatgrammar.specs.Flat.{Takes, in_iterations}
 use Rattle.flatgrammar.specs.Holds.{Holds, begins, called, has_read, returned}
 use Rattle.lowering.specs.Lowered.{Spells, spells, Shows, shows_name, AreBodies}
 use Rattle.abnfcheck.proofs.IsPathLemmas.{here, step, paths_join}
@@ -18,12 +18,12 @@ use Rattle.lowering.proofs.BeforeLemmas.{Before, start_part, read_part, call_par
 
 module _ (has : ℕ → Bool) (rules : List Rule) (limit : ℕ) (flat : Flat)
     (bodies : AreBodies rules limit flat.nodes flat.bodies) where
-  -- w lies before the place, whatever its node spells
-  abbrev pub PartOf : Place → List ℕ → Type 0
+  -- w lies before the dotted rule, whatever its node spells
+  abbrev pub PartOf : Dot → List ℕ → Type 0
   PartOf (at s k) w = (node : Node) (el : Element) → slice_get flat.nodes s ≡ Some node
       → Shows rules limit flat.nodes node el → Before has rules node el k w
 
-  pub starts_empty : {s : ℕ} {p : Place} → Starts flat s p → PartOf p []
+  pub starts_empty : {s : ℕ} {p : Dot} → Starts flat s p → PartOf p []
   starts_empty (starts {k = k} {node = node'} is b) = λ node el is' shown.
       let same : node' ≡ node = cc in start_part has rules limit flat.nodes (subst (λ v. Begins v k) same b) shown
   starts_empty (name_starts is at_r st) = starts_empty st
@@ -39,7 +39,7 @@ module _ (has : ℕ → Bool) (rules : List Rule) (limit : ℕ) (flat : Flat)
       by (shows_name {n = n} {r = r} found) = let h = body_of_number rules limit flat.nodes flat.bodies bodies n r t
           found at_r in der.name h.1 (from h.0 h.2)
 
-  pub ends_derive : {s : ℕ} {p : Place} {w : List ℕ} → Ends flat p s → AreLetters has w → length w ≤ limit → PartOf p w
+  pub ends_derive : {s : ℕ} {p : Dot} {w : List ℕ} → Ends flat p s → AreLetters has w → length w ≤ limit → PartOf p w
       → (el : Element) → Spells rules limit flat.nodes s el → Derives has rules el w
   ends_derive (ends {k = k} {node = node'} is d) letters short part = λ el sp. own is d letters short part sp
     where
@@ -53,27 +53,27 @@ module _ (has : ℕ → Bool) (rules : List Rule) (limit : ℕ) (flat : Flat)
   ends_derive (name_ends is at_r e) letters short part =
       λ el sp. named_derives is at_r sp (ends_derive e letters short part)
 
-  read_on : {q r : Place} {set : Set} (c : ℕ) (w : List ℕ) → Reads flat q set r → Has set c → PartOf q w
+  read_on : {q r : Dot} {set : Set} (c : ℕ) (w : List ℕ) → Reads flat q set r → Has set c → PartOf q w
       → PartOf r (w ++ c ∷ [])
   read_on c w (reads {k = k} {l = l} {set = set} {node = node'} is r) h part = λ node el is' shown.
       let same : node' ≡ node = cc in read_part has rules c (subst (λ v. Reading v k set l) same r) h
       (part node el is' shown)
 
-  pub call_on : {q r : Place} {t : ℕ} (w v : List ℕ) → Calls flat q t r → PartOf q w → length w ≤ limit
+  pub call_on : {q r : Dot} {t : ℕ} (w v : List ℕ) → Calls flat q t r → PartOf q w → length w ≤ limit
       → (Takes flat q → 0 < length v) →
       ((el : Element) → Spells rules limit flat.nodes t el → Derives has rules el v) → PartOf r (w ++ v)
   call_on w v (calls {k = k} {t = t} {l = l} {node = node'} is c) part short some from = λ node el is' shown.
       let same : node' ≡ node = cc in call_part has rules limit flat.nodes (subst (λ v. Calling v k t l) same c) shown
       (part node el is' shown) short
-      (λ t. some (in_turns is (subst (λ v. IsTaking v) (sym same) t))) from
+      (λ t. some (in_iterations is (subst (λ v. IsTaking v) (sym same) t))) from
 
   module _ (x : List ℕ) (letters : AreLetters has x) (within : length x ≤ limit) where
-    pub record Reached (i j : ℕ) (p : Place) : Type 0 where
+    pub record Reached (i j : ℕ) (p : Dot) : Type 0 where
       pub word : List ℕ
       pub lies : Lies x i word j
       pub part : PartOf p word
 
-    pub holds_reached : {i j : ℕ} {p : Place} → Holds flat x j p i → Reached i j p
+    pub holds_reached : {i j : ℕ} {p : Dot} → Holds flat x j p i → Reached i j p
     holds_reached (begins st) = record { word = []; lies = here; part = starts_empty st }
     holds_reached (called h c st) = record { word = []; lies = here; part = starts_empty st }
     holds_reached (has_read {c = c} h r is lies_in) =

@@ -24,7 +24,7 @@ module _ (has : ℕ → Bool) (rules : List Rule) (judged : ℕ) (flat : Flat) (
       one : {w : List ℕ} → DerivesAll has rules (e.more el e.none) w → Derives has rules el w
       one (then {w = w} d all_done) = subst (λ v. Derives has rules el v) (sym (append-nil w)) d
 
-  pub rule_derived : AreLetters has x → Holds flat x (length x) (at flat.whole 1) 0 → RuleDerives has rules judged x
+  pub rule_derived : AreLetters has x → Holds flat x (length x) (at flat.start 1) 0 → RuleDerives has rules judged x
   rule_derived letters h =
       let body = lowered.spelled.spelled judged lowered.body lowered.body_is in
       let reached = holds_reached has rules flat.limit flat lowered.spelled x letters line h in
@@ -38,7 +38,7 @@ module _ (has : ℕ → Bool) (rules : List Rule) (judged : ℕ) (flat : Flat) (
             (all_of x)) d;
       }
 
-  pub whole_holds : RuleDerives has rules judged x → Holds flat x (length x) (at flat.whole 1) 0
+  pub whole_holds : RuleDerives has rules judged x → Holds flat x (length x) (at flat.start 1) 0
   whole_holds d =
       let h = node_of_rule rules flat.limit flat.nodes flat.bodies lowered.spelled judged d.body d.is in
       let same : h.node ≡ lowered.body = cc (h.at, lowered.body_is) in
@@ -48,5 +48,5 @@ module _ (has : ℕ → Bool) (rules : List Rule) (judged : ℕ) (flat : Flat) (
       (subst (λ v. Spells rules flat.limit flat.nodes v d.body) same h.spelled) (all_of x))
       0 (begins (starts lowered.whole Begins.concat))
 
-  pub derives_exactly : AreLetters has x → Holds flat x (length x) (at flat.whole 1) 0 ↔ RuleDerives has rules judged x
+  pub derives_exactly : AreLetters has x → Holds flat x (length x) (at flat.start 1) 0 ↔ RuleDerives has rules judged x
   derives_exactly letters = (rule_derived letters, whole_holds)

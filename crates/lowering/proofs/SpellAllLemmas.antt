@@ -5,9 +5,9 @@ use Rattle.std.specs.Prelude.{slice_get, Some}
 use Rattle.abnfread.specs.Element.{Element, Elements, Rule}
 use Rattle.flatgrammar.specs.Flat.{Node}
 use Rattle.lowering.specs.Lowered.{Spells, spells, Shows, shows_text, shows_values, shows_range, shows_concat}
-use Rattle.lowering.specs.Lowered.{shows_alt, shows_rep, shows_turns, shows_reversed, shows_opt, shows_name}
+use Rattle.lowering.specs.Lowered.{shows_alt, shows_rep, shows_iterations, shows_reversed, shows_opt, shows_name}
 use Rattle.lowering.specs.Lowered.{shows_prose, SpellAll, spell_none, spell_more}
-use Rattle.flatgrammar.specs.Places.{width, places}
+use Rattle.flatgrammar.specs.Positions.{width, positions}
 use Rattle.flatgrammar.specs.Operands.{IsOperand}
 use Rattle.flatgrammar.proofs.SliceGetLemmas.{get_below}
 use Rattle.flatgrammar.proofs.SliceGetLemmas.{get_kept}
@@ -24,7 +24,7 @@ module _ (rules : List Rule) (limit : ℕ) (xs ys : List Node) where
     still_shows (shows_concat all) = shows_concat (still_spell_all all)
     still_shows (shows_alt all) = shows_alt (still_spell_all all)
     still_shows (shows_rep low high bounds never sp) = shows_rep low high bounds never (still_spells sp)
-    still_shows (shows_turns high within empty sp) = shows_turns high within empty (still_spells sp)
+    still_shows (shows_iterations high within empty sp) = shows_iterations high within empty (still_spells sp)
     still_shows (shows_reversed lt) = shows_reversed lt
     still_shows (shows_opt sp) = shows_opt (still_spells sp)
     still_shows (shows_name is) = shows_name is
@@ -35,12 +35,12 @@ module _ (rules : List Rule) (limit : ℕ) (xs ys : List Node) where
     still_spell_all spell_none = spell_none
     still_spell_all (spell_more sp all) = spell_more (still_spells sp) (still_spell_all all)
 
-pub places_more : (xs ys : List Node) → places (xs ++ ys) ≡ places xs + places ys
-places_more [] ys = omega arith
-places_more (x ∷ xs) ys = let rest = places_more xs ys in omega (arith, rest)
+pub positions_more : (xs ys : List Node) → positions (xs ++ ys) ≡ positions xs + positions ys
+positions_more [] ys = omega arith
+positions_more (x ∷ xs) ys = let rest = positions_more xs ys in omega (arith, rest)
 
-pub places_push : (xs : List Node) (node : Node) → places (xs ++ node ∷ []) ≡ places xs + width node
-places_push xs node = let all = places_more xs (node ∷ []) in omega (arith, all)
+pub positions_push : (xs : List Node) (node : Node) → positions (xs ++ node ∷ []) ≡ positions xs + width node
+positions_push xs node = let all = positions_more xs (node ∷ []) in omega (arith, all)
 
 pub spells_below : (rules : List Rule) (limit : ℕ) (xs : List Node) {m : ℕ} {el : Element} → Spells rules limit xs m el
     → m < length xs
@@ -64,7 +64,7 @@ operand_below rules limit xs (shows_concat all) m h = all_below rules limit xs a
 operand_below rules limit xs (shows_alt all) m h = all_below rules limit xs all h.0 m h.1
 operand_below rules limit xs (shows_rep low high bounds never sp) m h =
     subst (λ v. v < length xs) (sym h) (spells_below rules limit xs sp)
-operand_below rules limit xs (shows_turns high within empty sp) m h =
+operand_below rules limit xs (shows_iterations high within empty sp) m h =
     subst (λ v. v < length xs) (sym h) (spells_below rules limit xs sp)
 operand_below rules limit xs (shows_reversed lt) m h = absurd h
 operand_below rules limit xs (shows_opt sp) m h = subst (λ v. v < length xs) (sym h) (spells_below rules limit xs sp)

@@ -4,7 +4,8 @@ use Rattle.std.specs.Prelude.{leb, if◌then◌else◌}
 use Rattle.abnfcheck.specs.Derivable.{AtMost}
 use Rattle.abnfread.specs.Element as e
 use Rattle.abnfread.specs.Element.{Element, Elements, Rule, id_of}
-use Rattle.flatgrammar.specs.Flat.{Node, Flat, Set, Exactly, EitherCase, Between, Letters, Concat, Alt, Rep, Turns, Opt}
+use Rattle.flatgrammar.specs.Flat.{Node, Flat, Set, Exactly, EitherCase, Between, Letters, Concat, Alt, Rep, Iterations}
+use Rattle.flatgrammar.specs.Flat.{Opt}
 use Rattle.flatgrammar.specs.Flat.{Name, Nothing, capped}
 use Rattle.lowering.specs.NullElements.{IsEmpty, IsNeverEmpty}
 
@@ -38,9 +39,10 @@ module _ (rules : List Rule) (limit : ℕ) (nodes : List Node) where
       shows_rep : {a c m : ℕ} {b d : Option ℕ} {el : Element} → c ≡ capped limit a → d ≡ capped_most limit b
           → AtMost a b → IsNeverEmpty rules el → Spells m el →
           Shows (Rep c d m) (e.Rep a b el)
-      shows_turns : {a m : ℕ} {b d : Option ℕ} {el : Element} → d ≡ capped_most limit b → AtMost a b → IsEmpty rules el
+      shows_iterations : {a m : ℕ} {b d : Option ℕ} {el : Element} → d ≡ capped_most limit b → AtMost a b
+          → IsEmpty rules el
           → Spells m el →
-          Shows (Turns d m) (e.Rep a b el)
+          Shows (Iterations d m) (e.Rep a b el)
       shows_reversed : {a b : ℕ} {el : Element} → b < a → Shows Nothing (e.Rep a (Some b) el)
       shows_opt : {m : ℕ} {el : Element} → Spells m el → Shows (Opt m) (e.Opt el)
       shows_name : {n : List ℕ} {r : ℕ} → r ≡ id_of rules n → Shows (Name r) (e.Name n)
@@ -57,9 +59,9 @@ pub record AreBodies (rules : List Rule) (limit : ℕ) (nodes : List Node) (bodi
   pub spelled : (id m : ℕ) → slice_get bodies id ≡ Some m → (el : Element) × (slice_get (e.bodies rules) id ≡ Some el)
       × Spells rules limit nodes m el
 
--- the nodes spell the rules' bodies, and the whole is the judged rule's body alone
+-- the nodes spell the rules' bodies, and the augmented start is the judged rule's body alone
 pub record IsLowered (rules : List Rule) (judged : ℕ) (flat : Flat) : Type 0 where
   pub spelled : AreBodies rules flat.limit flat.nodes flat.bodies
   pub body : ℕ
   pub body_is : slice_get flat.bodies judged ≡ Some body
-  pub whole : slice_get flat.nodes flat.whole ≡ Some (Concat (body ∷ []))
+  pub whole : slice_get flat.nodes flat.start ≡ Some (Concat (body ∷ []))

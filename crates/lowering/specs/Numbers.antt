@@ -5,7 +5,7 @@ use Rattle.abnfread.specs.Element.{Element, Elements, Rule, bodies, id_of}
 use Rattle.flatgrammar.specs.Flat.{Node}
 use Rattle.lowering.specs.Lowered.{Spells, SpellAll}
 use Rattle.lowering.specs.NullElements.{Settles, SettlesAll, SettlesSome}
-use Rattle.flatgrammar.specs.Places.{places}
+use Rattle.flatgrammar.specs.Positions.{positions}
 use Rattle.flatgrammar.specs.Operands.{AreOrdered}
 use Rattle.lowering.specs.Sizes.{size, size_all, sizes}
 
@@ -24,12 +24,12 @@ module _ (rules : List Rule) (limit : ℕ) where
     pub long : length marks ≡ length nodes
     pub each : (s : ℕ) (mark : Bool) → slice_get marks s ≡ Some mark → IsNodeReported nodes s mark
 
-  -- nodes were added, of no more places than the element has, and node n spells it
+  -- nodes were added, of no more dotted rules than the element has, and node n spells it
   pub record Numbers (old new : List Node) (were are : List Bool) (n : ℕ) (empty : Bool) (el : Element) : Type 0 where
     pub added : List Node
     pub grown : new ≡ old ++ added
     pub spelled : Spells rules limit new n el
-    pub sized : places new ≤ places old + size limit el
+    pub sized : positions new ≤ positions old + size limit el
     pub settles : Settles rules empty el
     pub ordered : AreOrdered old → AreOrdered new
     pub reported : AreNodesReported old were → AreNodesReported new are
@@ -40,7 +40,7 @@ module _ (rules : List Rule) (limit : ℕ) where
     pub added : List Node
     pub grown : new ≡ old ++ added
     pub spelled : SpellAll rules limit new ns els
-    pub sized : places new ≤ places old + size_all limit els
+    pub sized : positions new ≤ positions old + size_all limit els
     pub settle_all : SettlesAll rules all els
     pub settle_some : SettlesSome rules any els
     pub ordered : AreOrdered old → AreOrdered new
@@ -51,6 +51,6 @@ module _ (rules : List Rule) (limit : ℕ) where
     pub long : length numbers ≡ count
     pub spelled : (id m : ℕ) → slice_get numbers id ≡ Some m → (el : Element) × (slice_get (bodies rules) id ≡ Some el)
         × Spells rules limit nodes m el
-    pub sized : places nodes ≤ sizes limit (take count (bodies rules))
+    pub sized : positions nodes ≤ sizes limit (take count (bodies rules))
     pub ordered : AreOrdered nodes
     pub reported : AreNodesReported nodes marks

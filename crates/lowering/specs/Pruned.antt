@@ -7,7 +7,7 @@ use Rattle.abnfread.specs.declared.elem.Elem.{Elem}
 use Rattle.abnfcheck.specs.Derivable.{AreLetters, Derives, DerivesAll, AtMost}
 use Rattle.flatgrammar.specs.Flat.{Flat}
 use Rattle.lowering.specs.Lowered.{IsLowered}
-use Rattle.flatgrammar.specs.Places.{places}
+use Rattle.flatgrammar.specs.Positions.{positions}
 use Rattle.lowering.specs.Sizes.{sizes}
 use Rattle.letters.specs.Letters.{HasLetter}
 
@@ -67,12 +67,12 @@ pub record ArePruned (has : ℕ → Bool) (rules left : List Rule) : Type 0 wher
   pub left_of : (id : ℕ) (e d : Element) → slice_get (bodies rules) id ≡ Some e → slice_get (bodies left) id ≡ Some d
       → IsLeftBody has rules e d
 
--- the nodes spell what is left of the rules, and have no more places than that, and two for the whole
+-- the nodes spell what is left of the rules, and have no more dotted rules than that, and two for the augmented start
 pub record SpellsProductive (has : ℕ → Bool) (rules : List Rule) (judged : ℕ) (flat : Flat) : Type 0 where
   pub left : List Rule
   pub pruned : ArePruned has rules left
   pub spelled : IsLowered left judged flat
-  pub within : places flat.nodes ≤ sizes flat.limit (bodies left) + 2
+  pub within : positions flat.nodes ≤ sizes flat.limit (bodies left) + 2
 
 abbrev pub some_element : Option Elem → Option Element
 some_element None = None

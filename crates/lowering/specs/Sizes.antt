@@ -1,4 +1,4 @@
--- How many places the nodes of elements have.
+-- How many dotted rules the nodes of elements have.
 use Rattle.std.specs.Prelude.{ℕ, ◌+◌, ◌*◌, List, [], ◌∷◌, length}
 use Rattle.abnfread.specs.Element as e
 use Rattle.abnfread.specs.Element.{Element, Elements, none, more}
@@ -8,7 +8,7 @@ abbrev pub count : Elements → ℕ
 count none = 0
 count (more el es) = count es + 1
 
--- the places of an element, with all that stand in it, for lines within the limit
+-- the dotted rules of an element, with all that stand in it, for lines within the limit
 abbrev mutual
   pub size : ℕ → Element → ℕ
   size limit (e.Text folds text) = length text + 1

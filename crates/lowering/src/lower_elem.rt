@@ -9,7 +9,7 @@ ghost use Rattle.flatgrammar.specs.Flat as flat;
 ghost use Rattle.flatgrammar.specs.Flat.{Exactly, Between, capped, top};
 ghost use Rattle.lowering.specs.Lowered.{letter_set, capped_most, Spells, Shows};
 ghost use Rattle.lowering.specs.NullElements.{Settles};
-ghost use Rattle.flatgrammar.specs.Places.{width};
+ghost use Rattle.flatgrammar.specs.Positions.{width};
 ghost use Rattle.flatgrammar.specs.FlatViews.{set_of, node_of, nodes_of};
 ghost use Rattle.lowering.specs.Numbers.{NamesSettle, Numbers, NumbersAll, AreCut};
 
@@ -165,7 +165,7 @@ fn repeat(limit: usize, least: u32, most: Option<u32>, made: Made) -> Node
     if is_reversed(least, most) {
         Node::Nothing
     } else if made.empty {
-        Node::Turns {
+        Node::Iterations {
             most: capped_most(limit, most),
             operand: made.number,
         }

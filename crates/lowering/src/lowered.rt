@@ -6,7 +6,7 @@ ghost use Rattle.abnfread.specs.AbnfViews.{rules_of};
 ghost use Rattle.flatgrammar.specs.FlatVerdicts.{DerivesLine};
 ghost use Rattle.lowering.specs.Lowered.{IsLowered};
 ghost use Rattle.lowering.specs.NullElements.{AreNullAlike};
-ghost use Rattle.flatgrammar.specs.Places.{places};
+ghost use Rattle.flatgrammar.specs.Positions.{positions};
 ghost use Rattle.lowering.specs.Sizes.{sizes};
 
 use crate::lower_elem::{Numbered, add, number_bodies};
@@ -37,7 +37,7 @@ pub fn lower_rules(
     requires alike { AreNullAlike (rules_of grammar.now.rules) (rules_of rules.now) }
     ensures limit { IfOk result (λ flat. flat.limit ≡ limit) }
     ensures lowered { IfOk result (IsLowered (rules_of rules.now) grammar.now.judged) }
-    ensures places { IfOk result (λ flat. places flat.nodes ≤ sizes limit (bodies (rules_of rules.now)) + 2) }
+    ensures positions { IfOk result (λ flat. positions flat.nodes ≤ sizes limit (bodies (rules_of rules.now)) + 2) }
 {
     let judged = grammar.judged();
     let marks = nullable_rules(alloc, grammar)?;
@@ -55,7 +55,8 @@ pub fn lower(alloc: Global, grammar: &SoundAbnf, limit: usize) -> Result<Flat, M
     ensures lowered { IfOk result (IsLowered (rules_of grammar.now.rules) grammar.now.judged) }
     ensures derives { IfOk result (λ flat. (has : ℕ → Bool) (x : List ℕ) → length x ≤ limit → AreLetters has x →
         DerivesLine flat x ↔ RuleDerives has (rules_of grammar.now.rules) grammar.now.judged x) }
-    ensures places { IfOk result (λ flat. places flat.nodes ≤ sizes limit (bodies (rules_of grammar.now.rules)) + 2) }
+    ensures positions { IfOk result
+        (λ flat. positions flat.nodes ≤ sizes limit (bodies (rules_of grammar.now.rules)) + 2) }
 {
     lower_rules(alloc, grammar, grammar.rules(), limit)
 }

@@ -2,7 +2,7 @@
 ghost use Rattle.std.specs.Prelude.{◌≡◌, ◌+◌, ◌≤◌, IfOk};
 ghost use Rattle.abnfread.specs.Element.{bodies};
 ghost use Rattle.abnfread.specs.AbnfViews.{rules_of};
-ghost use Rattle.flatgrammar.specs.Places.{places};
+ghost use Rattle.flatgrammar.specs.Positions.{positions};
 ghost use Rattle.lowering.specs.Sizes.{sizes};
 ghost use Rattle.lowering.specs.GivenPrefixes.{GivesPrefixes};
 ghost use Rattle.letters.specs.Letters.{has};
@@ -32,7 +32,8 @@ pub fn lower_viable(
     ensures prefixes { IfOk result (λ flat. GivesPrefixes (has alphabet) (rules_of grammar.now.rules) grammar.now.judged
         flat) }
     ensures parts { IfOk result (SpellsProductive (has alphabet) (rules_of grammar.now.rules) grammar.now.judged) }
-    ensures places { IfOk result (λ flat. places flat.nodes ≤ sizes limit (bodies (rules_of grammar.now.rules)) + 2) }
+    ensures positions { IfOk result
+        (λ flat. positions flat.nodes ≤ sizes limit (bodies (rules_of grammar.now.rules)) + 2) }
 {
     let marks = productive(alloc, grammar, alphabet)?;
     let pruned = prune_rules(alloc, alphabet, grammar.rules(), &marks)?;

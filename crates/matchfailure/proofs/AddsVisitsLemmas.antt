@@ -1,4 +1,4 @@
--- Lists of visited pairs to which pairs are added.
+-- Lists of visited evaluations to which evaluations are added.
 -- Serves: farthest_failure
 use Rattle.std.proofs.Common.{◌≡◌, ◌⊎◌, inl, inr, ℕ, zero, suc, Bool, true, false, ◌&&◌, ◌||◌, ◌==◌, List}
 use Rattle.std.proofs.Common.{[], ◌∷◌, ◌++◌, length, Some, if◌then◌else◌, refl, sym, ◌∙◌, ap}
@@ -11,10 +11,10 @@ use Rattle.matchfailure.specs.VisitLists.{ListsVisit, AreOnce, AddsVisits}
 use Rattle.matchfailure.specs.SeenVisits.{is_visit_at}
 
 abbrev pub visit : ℕ → ℕ → Visit
-visit n p = record { node = n; place = p }
+visit n p = record { node = n; position = p }
 
-pub is_visit : (v : Visit) (n p : ℕ) → v.node ≡ n → v.place ≡ p → v ≡ visit n p
-is_visit v n p a b = λ i. record { node = a i; place = b i }
+pub is_visit : (v : Visit) (n p : ℕ) → v.node ≡ n → v.position ≡ p → v ≡ visit n p
+is_visit v n p a b = λ i. record { node = a i; position = b i }
 
 listed_as : (vs : List Visit) (n p m q : ℕ) → (m ≡ n) × (q ≡ p) → ListsVisit vs (visit n p) → ListsVisit vs (visit m q)
 listed_as vs n p m q h there = (there.0, there.1 ∙ ap Some (sym (is_visit (visit m q) n p h.0 h.1)))
@@ -34,14 +34,14 @@ get_cases (u ∷ vs) w v (suc k) h = elim (get_cases vs w v k h) [
   | inr is ↦ inr (ap suc is.0, is.1)
 ]
 
--- a pair that is not there yet goes last
+-- an evaluation that is not there yet goes last
 pub adds_last : (vs : List Visit) (n p : ℕ) → (ListsVisit vs (visit n p) → ⊥)
     → AddsVisits (λ m q. (m ≡ n) × (q ≡ p)) vs (vs ++ visit n p ∷ [])
 adds_last vs n p new = record {
   kept = λ k v h. get_kept vs (visit n p) v k h;
   only = λ v h. elim (get_cases vs (visit n p) v h.0 h.1) [
     | inl is ↦ inl (h.0, is)
-    | inr is ↦ inr (sym (ap (λ u. u.node) is.1), sym (ap (λ u. u.place) is.1))
+    | inr is ↦ inr (sym (ap (λ u. u.node) is.1), sym (ap (λ u. u.position) is.1))
   ];
   all = λ m q h. listed_as (vs ++ visit n p ∷ []) n p m q h (length vs, get_new vs (visit n p));
   once = λ o i j v h g. by o i j v (get_cases vs (visit n p) v i h) (get_cases vs (visit n p) v j g);
@@ -54,7 +54,7 @@ adds_last vs n p new = record {
     by o i j v (inr h) (inl g) = absurd (new (j, g ∙ ap Some (sym h.1)))
     by o i j v (inr h) (inr g) = h.0 ∙ sym g.0
 
--- a pair that is there already
+-- an evaluation that is there already
 pub adds_none : (vs : List Visit) (n p : ℕ) → ListsVisit vs (visit n p) → AddsVisits (λ m q. (m ≡ n) × (q ≡ p)) vs vs
 adds_none vs n p there = record {
   kept = λ k v h. h;
@@ -66,8 +66,8 @@ adds_none vs n p there = record {
 module _ (n p : ℕ) where
   is_tested : (v : Visit) → is_visit_at n p v ≡ true → v ≡ visit n p
   is_tested v h =
-      let both = and_parts (n == v.node) (p == v.place) h in
-      is_visit v n p (sym (eqb-true n v.node both.0)) (sym (eqb-true p v.place both.1))
+      let both = and_parts (n == v.node) (p == v.position) h in
+      is_visit v n p (sym (eqb-true n v.node both.0)) (sym (eqb-true p v.position both.1))
 
   own_test : is_visit_at n p (visit n p) ≡ true
   own_test = and_from (n == n) (p == p) (eq-eqb n n refl) (eq-eqb p p refl)
@@ -92,7 +92,7 @@ module _ (n p : ℕ) where
       by false is q zero g later = let same : v ≡ visit n p = cc g in cc (is, ap (is_visit_at n p) same, own_test)
       by false is q (suc k) g later = later q k g
 
-  -- a pair that the list has, and one that it has not
+  -- an evaluation that the list has, and one that it has not
   pub adds_known : (vs : List Visit) → list_any (is_visit_at n p) vs ≡ true
       → AddsVisits (λ m q. (m ≡ n) × (q ≡ p)) vs vs
   adds_known vs is = adds_none vs n p (found_in vs is)
@@ -105,12 +105,12 @@ pub lists_kept : {A : ℕ → ℕ → Type 0} {old new : List Visit} (v : Visit)
     → ListsVisit new v
 lists_kept v a h = (h.0, a.kept h.0 v h.1)
 
--- the same pairs, said otherwise
+-- the same evaluations, said otherwise
 pub adds_alike : {A B : ℕ → ℕ → Type 0} {old new : List Visit} → AddsVisits A old new → ((m q : ℕ) → A m q → B m q)
     → ((m q : ℕ) → B m q → A m q) → AddsVisits B old new
 adds_alike a to back = record {
   kept = a.kept;
-  only = λ v h. elim (a.only v h) [ inl is ↦ inl is | inr is ↦ inr (to v.node v.place is) ];
+  only = λ v h. elim (a.only v h) [ inl is ↦ inl is | inr is ↦ inr (to v.node v.position is) ];
   all = λ m q h. a.all m q (back m q h);
   once = a.once;
 }
@@ -138,10 +138,10 @@ adds_both {A = A} {B = B} {old = old} {mid = mid} {new = new} a b = record {
   once = λ o. b.once (a.once o);
 }
 
--- of the pairs of a set all are added but those that are left
+-- of the evaluations of a set all are added but those that are left
 pub record AddsBut (Whole Left : ℕ → ℕ → Type 0) (old new : List Visit) : Type 0 where
   pub kept : (k : ℕ) (v : Visit) → slice_get old k ≡ Some v → slice_get new k ≡ Some v
-  pub only : (v : Visit) → ListsVisit new v → ListsVisit old v ⊎ Whole v.node v.place
+  pub only : (v : Visit) → ListsVisit new v → ListsVisit old v ⊎ Whole v.node v.position
   pub left : (m q : ℕ) → Left m q → Whole m q
   pub done : (m q : ℕ) → Whole m q → ListsVisit new (visit m q) ⊎ Left m q
   pub once : AreOnce old → AreOnce new
@@ -171,7 +171,7 @@ adds_but_step a b among rest parts = record {
   kept = λ k v h. b.kept k v (a.kept k v h);
   only = λ v h. elim (b.only v h) [
     | inl is ↦ a.only v is
-    | inr is ↦ inr (a.left v.node v.place (among v.node v.place is))
+    | inr is ↦ inr (a.left v.node v.position (among v.node v.position is))
   ];
   left = λ m q h. a.left m q (rest m q h);
   done = λ m q h. elim (a.done m q h) [

@@ -1,4 +1,4 @@
--- Cells and frames together are no more than nodes at places.
+-- Cells and frames together are no more than nodes at positions.
 -- Serves: Desk::begin, Desk::step.
 use Rattle.std.proofs.Common.{◌≡◌, inl, inr, ℕ, ◌+◌, ◌*◌, ◌<◌, ◌≤◌, Bool, List, [], ◌∷◌, length, None, refl, arith}
 use Rattle.pegread.specs.Pattern.{Rule}
@@ -31,28 +31,28 @@ module _ (rules : List Rule) (start : ℕ) (nodes : List Shape) (bodies ranks x 
 
   abbrev Low : List FailureFrame → Type 0
   Low [] = Unit {0}
-  Low (f ∷ fs) = (f.place ≤ last_position x more) × Low fs
+  Low (f ∷ fs) = (f.position ≤ last_position x more) × Low fs
 
   all_low : {cells : List Entry} {fs : List FailureFrame} → IsStack rules start nodes bodies x more cells fs → Low fs
   all_low no_frame = tt
   all_low (bottom o at is) = (o.low, tt)
   all_low (above o a s) = (o.low, all_low s)
 
-  not_same : (f g : FailureFrame) → f.place ≤ last_position x more → g.place ≤ last_position x more
+  not_same : (f g : FailureFrame) → f.position ≤ last_position x more → g.position ≤ last_position x more
       → high rules start nodes bodies ranks x more sound f < high rules start nodes bodies ranks x more sound g →
-      code Width f.node f.place ≡ code Width g.node g.place → ⊥
+      code Width f.node f.position ≡ code Width g.node g.position → ⊥
   not_same f g low lo less same =
-      let pair = code_same Width f.node f.place g.node g.place (omega arith) (omega arith) same in
+      let eval = code_same Width f.node f.position g.node g.position (omega arith) (omega arith) same in
       let equal : high rules start nodes bodies ranks x more sound f ≡ high rules start nodes bodies ranks x more sound
-      g = rw (pair.0, pair.1) refl in
+      g = rw (eval.0, eval.1) refl in
       absurd (omega arith)
 
   frame_not_among : (cells : List Entry) → AreCells rules start nodes bodies x more cells → (f : FailureFrame)
-      → f.place ≤ last_position x more → found_at cells f.node f.place ≡ None →
+      → f.position ≤ last_position x more → found_at cells f.node f.position ≡ None →
       (fs : List FailureFrame) → Low fs → AreAbove rules start nodes bodies ranks x more sound
       (high rules start nodes bodies ranks x more sound f) fs →
-      In (code Width f.node f.place) (all_codes Width cells fs) → ⊥
-  frame_not_among cells c f low none [] ls less h = not_among Width cells f.node f.place (cells_low cells c)
+      In (code Width f.node f.position) (all_codes Width cells fs) → ⊥
+  frame_not_among cells c f low none [] ls less h = not_among Width cells f.node f.position (cells_low cells c)
       (omega arith) none h
   frame_not_among cells c f low none (g ∷ fs) ls less h = elim (in_cases h) [
     | inl same ↦ not_same f g low ls.0 less.0 same
@@ -74,27 +74,27 @@ module _ (rules : List Rule) (start : ℕ) (nodes : List Shape) (bodies ranks x 
       → In a (cell_codes Width cells) → a < length nodes * Width
   cells_below cells c a h =
       let of = cell_of Width cells h in
-      let l = cell_there cells c of.node of.place of.has in
-      rw of.is (code_below Width of.node of.place (length nodes) l.0 (omega (arith, l.1)))
+      let l = cell_there cells c of.node of.position of.has in
+      rw of.is (code_below Width of.node of.position (length nodes) l.0 (omega (arith, l.1)))
 
   all_below : (cells : List Entry) → AreCells rules start nodes bodies x more cells → {fs : List FailureFrame}
       → IsStack rules start nodes bodies x more cells fs → (a : ℕ) → In a (all_codes Width cells fs)
       → a < length nodes * Width
   all_below cells c no_frame a h = cells_below cells c a h
   all_below cells c (bottom {f = f} o at is) a h =
-      let l = visited_there rules start nodes bodies ranks x sound f.node f.place
+      let l = visited_there rules start nodes bodies ranks x sound f.node f.position
       (top_visits rules start nodes bodies ranks x more sound cells f []
       (bottom o at is)) in
       elim (in_cases h) [
-        | inl same ↦ rw same (code_below Width f.node f.place (length nodes) l.0 (omega (arith, o.low)))
+        | inl same ↦ rw same (code_below Width f.node f.position (length nodes) l.0 (omega (arith, o.low)))
         | inr later ↦ cells_below cells c a later
       ]
   all_below cells c (above {h = g} {f = k} {fs = fs} o b s) a h =
-      let l = visited_there rules start nodes bodies ranks x sound g.node g.place
+      let l = visited_there rules start nodes bodies ranks x sound g.node g.position
       (top_visits rules start nodes bodies ranks x more sound cells g (k ∷ fs)
       (above o b s)) in
       elim (in_cases h) [
-        | inl same ↦ rw same (code_below Width g.node g.place (length nodes) l.0 (omega (arith, o.low)))
+        | inl same ↦ rw same (code_below Width g.node g.position (length nodes) l.0 (omega (arith, o.low)))
         | inr later ↦ all_below cells c s a later
       ]
 

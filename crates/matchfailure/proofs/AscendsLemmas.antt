@@ -1,4 +1,4 @@
--- A list of pairs in order is known by its pairs.
+-- A list of evaluations in order is known by its evaluations.
 -- Serves: one_farthest
 use Rattle.std.proofs.Common.{◌≡◌, inl, inr, zero, suc, List, [], ◌∷◌, refl, sym, ap, arith}
 use Rattle.matchfailure.specs.declared.farthest.visit.Visit.{Visit}
@@ -6,7 +6,7 @@ use Rattle.matchfailure.specs.VisitLists.{ListsVisit, StandsBefore, Ascends}
 
 not_itself : (v w : Visit) → StandsBefore v w → v ≡ w → ⊥
 not_itself v w (inl less) same = let e = ap (λ u. u.node) same in omega (arith, e)
-not_itself v w (inr both) same = let e = ap (λ u. u.place) same in omega (arith, e, both.1)
+not_itself v w (inr both) same = let e = ap (λ u. u.position) same in omega (arith, e, both.1)
 
 not_both : (v w : Visit) → StandsBefore v w → StandsBefore w v → ⊥
 not_both v w (inl a) (inl b) = omega arith
@@ -17,7 +17,7 @@ not_both v w (inr a) (inr b) = omega (arith, a.1, b.1)
 tail_ascends : (v : Visit) (vs : List Visit) → Ascends (v ∷ vs) → Ascends vs
 tail_ascends v vs a i j u w lt h g = a (suc i) (suc j) u w (omega arith) h g
 
--- the first of two lists with the same pairs is the same
+-- the first of two lists with the same evaluations is the same
 same_first : (v w : Visit) (vs ws : List Visit) → Ascends (v ∷ vs) → Ascends (w ∷ ws) → ListsVisit (w ∷ ws) v
     → ListsVisit (v ∷ vs) w → v ≡ w
 same_first v w vs ws a b (zero, h) g = cc h

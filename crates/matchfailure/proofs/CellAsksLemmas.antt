@@ -1,4 +1,4 @@
--- The cells of all that was evaluated say what each pair asks for.
+-- The cells of all that was evaluated say what each evaluation asks for.
 -- Serves: farthest_failure
 use Rattle.std.proofs.Common.{◌≡◌, inl, inr, ℕ, false, List, Some, refl, sym, subst}
 use Rattle.std.specs.Prelude.{slice_get}

@@ -17,7 +17,7 @@ front_at ms i lt = rw (add-one, drop-cons ms i 0) refl
 pub none_left : (ms : List ℕ) (i : ℕ) → length ms ≤ i → drop i ms ≡ []
 none_left ms i le = drop_all i ms le
 
--- the pair of these numbers
+-- the evaluation of these numbers
 abbrev pub One : ℕ → ℕ → ℕ → ℕ → Type 0
 One n p m q = (m ≡ n) × (q ≡ p)
 
@@ -102,15 +102,15 @@ module _ (cells : List Entry) where
 
   -- what a repetition asks for: its operand, and where that ends the repetition again
   module _ (k s p : ℕ) (old mid : List Visit) (adds : AddsVisits (One k p) old mid) where
-    abbrev Turns : ℕ → ℕ → Type 0
-    Turns m q = One k p m q ⊎ ((m ≡ s) × (found_at cells k p ≡ Some (Took q)))
+    abbrev Steps : ℕ → ℕ → Type 0
+    Steps m q = One k p m q ⊎ ((m ≡ s) × (found_at cells k p ≡ Some (Took q)))
 
-    pub turn_on : (new : List Visit) (r : ℕ) → found_at cells k p ≡ Some (Took r) → AddsVisits (One s r) mid new
-        → AddsVisits Turns old new
-    turn_on new r h more = adds_alike (adds_both adds more)
+    pub step_on : (new : List Visit) (r : ℕ) → found_at cells k p ≡ Some (Took r) → AddsVisits (One s r) mid new
+        → AddsVisits Steps old new
+    step_on new r h more = adds_alike (adds_both adds more)
         (λ m q a. elim a [ inl is ↦ inl is | inr is ↦ inr (is.0, rw is.1 h) ])
         (λ m q a. elim a [ inl is ↦ inl is | inr is ↦ inr (is.0, cc (is.1, h)) ])
 
-    pub turn_stops : ((r : ℕ) → found_at cells k p ≡ Some (Took r) → ⊥) → AddsVisits Turns old mid
-    turn_stops none = adds_alike adds (λ m q a. inl a)
+    pub step_stops : ((r : ℕ) → found_at cells k p ≡ Some (Took r) → ⊥) → AddsVisits Steps old mid
+    step_stops none = adds_alike adds (λ m q a. inl a)
         (λ m q a. elim a [ inl is ↦ is | inr is ↦ absurd (none q is.1) ])

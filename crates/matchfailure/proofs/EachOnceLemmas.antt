@@ -1,4 +1,4 @@
--- Pairs that are reported, each once.
+-- Evaluations that are reported, each once.
 -- Serves: explain_no_match
 use Rattle.std.proofs.Common.{◌≡◌, inl, inr, ℕ, zero, suc, ◌+◌, ◌^◌, ◌<◌, ◌≤◌, Bool, true, false, cond, List}
 use Rattle.std.proofs.Common.{[], ◌∷◌, ◌++◌}
@@ -59,7 +59,7 @@ module _ {E : Type 0} (rules : table.Rules E) (exact : rules.names ≡ Exact) (n
           None) (sym e) ∙ h in cc is)
 
 module _ (text : Visit → List ℕ) (keys : List (List ℕ)) where
-  -- the pairs so far, and what the others add to them
+  -- the evaluations so far, and what the others add to them
   abbrev pub AreAllReported : List (List ℕ) → List Visit → ℕ → Type 0
   AreAllReported seen reported i =
       reported ++ each_once text seen (map visit_of (drop i keys)) ≡ each_once text [] (map visit_of keys)
@@ -100,7 +100,7 @@ module _ (text : Visit → List ℕ) (keys : List (List ℕ)) where
       ∙ once-known seen v (map visit_of (drop (i + 1) keys)) known in
       rw more (ap (λ (ws : List Visit). reported ++ ws) (sym step) ∙ so)
 
-  -- the pair of a key, whose text is new or known
+  -- the evaluation of a key, whose text is new or known
   module _ (old new : table.Rules (Unit {0})) (rule : table.Rule (Unit {0})) (exact : old.names ≡ Exact)
       (reported : List Visit) (i : ℕ) (less : i < length keys) (so : AreAllReported (table.names_of old) reported i)
       (named : rule.name ≡ text (visit_of (get_or keys i []))) where
@@ -127,15 +127,15 @@ module _ (text : Visit → List ℕ) (keys : List (List ℕ)) where
           (known-text old exact rule.name id defines.0)) (ap table.names_of defines.1),
     )
 
--- one pair more that fits
+-- one evaluation more that fits
 pub fits-more : (nodes unit : ℕ) (vs : List Visit) (v : Visit) → AreFitting nodes unit vs
-    → (v.node < nodes) × (unit + v.place < 2 ^ 63) → AreFitting nodes unit (vs ++ v ∷ [])
+    → (v.node < nodes) × (unit + v.position < 2 ^ 63) → AreFitting nodes unit (vs ++ v ∷ [])
 fits-more nodes unit vs v fit one w (k, at) = elim (get_cases vs v w k at) [
   | inl before ↦ fit w (k, before)
-  | inr last ↦ subst (λ u. (u.node < nodes) × (unit + u.place < 2 ^ 63)) last.1 one
+  | inr last ↦ subst (λ u. (u.node < nodes) × (unit + u.position < 2 ^ 63)) last.1 one
 ]
 
--- the keys of pairs that fit, in another order
+-- the keys of evaluations that fit, in another order
 at-key : (keys : List (List ℕ)) (k : ℕ) (v : Visit) → slice_get (map visit_of keys) k ≡ Some v
     → Contains (map visit_of keys) v
 at-key keys k v at =
@@ -157,18 +157,18 @@ keys-fit far nodes bodies count unit vs keys same fit v (k, at) =
     (at-key keys k v at) in
     fit v (there.0, slice_get-get_or vs there.0 v there.1 ∙ ap Some there.2)
 
--- the key of one pair more
+-- the key of one evaluation more
 pub keys-more : (far : List (Option ℕ)) (nodes : List Shape) (bodies : List ℕ) (vs : List Visit) (i : ℕ) (d : Visit)
     (keys new : List (List ℕ)) (uses rule kind : ℕ) → i < length vs → rule ≡ rule_of_node bodies (get_or vs i d).node
     → uses ≡ uses_or (length far) (get_or far rule None) → kind ≡ leaf_kind (slice_get nodes (get_or vs i d).node)
     → keys ≡ map (key_of far nodes bodies) (take i vs)
-    → new ≡ keys ++ (uses ∷ (rule ∷ (kind ∷ ((get_or vs i d).node ∷ ((get_or vs i d).place ∷ []))))) ∷ []
+    → new ≡ keys ++ (uses ∷ (rule ∷ (kind ∷ ((get_or vs i d).node ∷ ((get_or vs i d).position ∷ []))))) ∷ []
     → new ≡ map (key_of far nodes bodies) (take (i + 1) vs)
 keys-more far nodes bodies vs i d keys new uses rule kind less is far_is kind_is so grown =
     let v : Visit = get_or vs i d in
     let near : uses ≡ uses_or (length far) (get_or far (rule_of_node bodies v.node) None) =
     far_is ∙ ap (λ (r : ℕ). uses_or (length far) (get_or far r None)) is in
-    let key : ◌≡◌ {A = List ℕ} (uses ∷ (rule ∷ (kind ∷ (v.node ∷ (v.place ∷ []))))) (key_of far nodes bodies v) =
+    let key : ◌≡◌ {A = List ℕ} (uses ∷ (rule ∷ (kind ∷ (v.node ∷ (v.position ∷ []))))) (key_of far nodes bodies v) =
     cc (near, is, kind_is) in
     let one : take (i + 1) vs ≡ take i vs ++ v ∷ [] = take_more vs i d less in
     grown ∙ ap (λ (k : List ℕ). keys ++ k ∷ []) key

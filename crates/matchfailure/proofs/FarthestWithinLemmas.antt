@@ -1,4 +1,4 @@
--- The farthest failing place lies within the text, and so does what fails there.
+-- The farthest failing position lies within the text, and so does what fails there.
 -- Serves: farthest_is_within
 use Rattle.std.proofs.Common.{ℕ, zero, suc, ◌+◌, ◌≤◌, List, length, ◌∙◌, arith}
 use Rattle.std.proofs.lemmas.Option.{slice_get_within, slice_get-get_or}
@@ -39,8 +39,8 @@ by_shape x node.Close p f s here = absurd s
 module _ (rules : List Rule) (start : ℕ) (nodes : List Shape) (bodies ranks x : List ℕ)
     (sound : IsRanked rules start nodes bodies ranks) (f : ℕ) (vs : List Visit)
     (far : IsFarthest rules nodes bodies x start f vs) where
-  pub place_within : f ≤ length x
-  place_within =
+  pub position_within : f ≤ length x
+  position_within =
       let fails = far.some.2 in
       let there = visited_there rules start nodes bodies ranks x sound far.some.0 far.some.1 (is_visited fails.0) in
       by_shape x fails.1.shape far.some.1 f fails.1.by there.1
@@ -48,4 +48,4 @@ module _ (rules : List Rule) (start : ℕ) (nodes : List Shape) (bodies ranks x 
   pub all_within : AreWithin (length nodes) (length x) vs
   all_within v listed =
       let fails = (far.exact v).0 listed in
-      visited_there rules start nodes bodies ranks x sound v.node v.place (is_visited fails.0)
+      visited_there rules start nodes bodies ranks x sound v.node v.position (is_visited fails.0)

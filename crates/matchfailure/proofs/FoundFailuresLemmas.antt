@@ -22,24 +22,24 @@ use Rattle.matchfailure.specs.NoMatchLines.{opening}
 use Rattle.matchfailure.specs.NodeTexts.{name_of_rule}
 use Rattle.matchfailure.specs.UnitEnds.{EndsSo, outcome_at, takes_no_byte}
 use Rattle.gramcheck.specs.Outcome.{Event, RuleGives}
-use Rattle.matchfailure.specs.InputPlaces.{place_after}
-use Rattle.matchfailure.specs.declared.explain.place.TextPlace.{TextPlace}
+use Rattle.matchfailure.specs.InputPositions.{position_after}
+use Rattle.matchfailure.specs.declared.explain.position.TextPosition.{TextPosition}
 use Rattle.matchfailure.proofs.FoundLinesLemmas.{seen-from}
 
 -- what is found is within what is seen, so that its numbers fit
 pub found-fits : (found : Option Farthest) (nodes count size unit : ℕ) (N : Type 0) (F : ℕ → List Visit → Type 0)
     → ((f : ℕ) (vs : List Visit) → F f vs → f ≤ size) → ((f : ℕ) (vs : List Visit) → F f vs → AreWithin count size vs)
-    → count ≡ nodes → unit + size < 2 ^ 63 → MatchOption found N (λ far. F far.place far.expected.items)
+    → count ≡ nodes → unit + size < 2 ^ 63 → MatchOption found N (λ far. F far.position far.expected.items)
     → IfSome found (IsFitting nodes size unit)
-found-fits None nodes count size unit N F place expected same less m = tt
-found-fits (Some far) nodes count size unit N F place expected same less m = record {
-  place = place far.place far.expected.items m;
-  expected = λ v listed. let within = expected far.place far.expected.items m v listed in
+found-fits None nodes count size unit N F position expected same less m = tt
+found-fits (Some far) nodes count size unit N F position expected same less m = record {
+  position = position far.position far.expected.items m;
+  expected = λ v listed. let within = expected far.position far.expected.items m v listed in
       (omega (arith, same, within.0), omega (arith, less, within.1));
 }
 
-module _ (rules : List Rule) (start : ℕ) (nodes : List Shape) (bodies front seen : List ℕ) (at : TextPlace)
-    (is : at ≡ place_after front) where
+module _ (rules : List Rule) (start : ℕ) (nodes : List Shape) (bodies front seen : List ℕ) (at : TextPosition)
+    (is : at ≡ position_after front) where
   -- what is found in what is seen fails so in the input
   found-failure : (offset : ℕ) (found : Option Farthest) → IsFound rules start nodes bodies (drop offset seen) found
       → IsUnitFailure rules start nodes bodies (front ++ seen) (at.byte + offset)
@@ -48,7 +48,7 @@ module _ (rules : List Rule) (start : ℕ) (nodes : List Shape) (bodies front se
       subst (λ w. NoneFails rules nodes bodies w start) (sym (seen-from front seen at offset is)) f
   found-failure offset (Some far) f = (
     refl,
-    subst (λ w. IsFarthest rules nodes bodies w start far.place far.expected.items)
+    subst (λ w. IsFarthest rules nodes bodies w start far.position far.expected.items)
         (sym (seen-from front seen at offset is)) f,
   )
 

@@ -5,38 +5,39 @@ use Rattle.std.proofs.Common.{◌==◌, true, false, [], ◌∷◌, refl}
 use Rattle.std.proofs.lemmas.Bool.{eqb-true}
 use Rattle.std.proofs.Math.Seq.{drop-append-add, take-append-add, take-length}
 use Rattle.matchfailure.specs.NoMatchLines.{nothing_failed, opening}
-use Rattle.matchfailure.specs.InputPlaces.{place_after}
-use Rattle.matchfailure.specs.declared.explain.place.TextPlace.{TextPlace}
+use Rattle.matchfailure.specs.InputPositions.{position_after}
+use Rattle.matchfailure.specs.declared.explain.position.TextPosition.{TextPosition}
 
--- a slice from a place on
+-- a slice from a position on
 pub slice-from : (seen : List ℕ) (n : ℕ) → take (length seen - n) (drop n seen) ≡ drop n seen
 slice-from seen n =
     ap (λ (k : ℕ). take k (drop n seen)) (sym (length-drop n seen)) ∙ take-length (drop n seen)
 
-pub byte-is : (front : List ℕ) (at : TextPlace) → at ≡ place_after front → at.byte ≡ length front
-byte-is front at e = ap (λ (a : TextPlace). a.byte) e
+pub byte-is : (front : List ℕ) (at : TextPosition) → at ≡ position_after front → at.byte ≡ length front
+byte-is front at e = ap (λ (a : TextPosition). a.byte) e
 
-pub seen-from : (front seen : List ℕ) (at : TextPlace) (offset : ℕ) → at ≡ place_after front
+pub seen-from : (front seen : List ℕ) (at : TextPosition) (offset : ℕ) → at ≡ position_after front
     → drop (at.byte + offset) (front ++ seen) ≡ drop offset seen
 seen-from front seen at offset e =
     ap (λ (n : ℕ). drop (n + offset) (front ++ seen)) (byte-is front at e) ∙ drop-append-add front seen offset
 
-taken-to : (front seen : List ℕ) (at : TextPlace) (offset place : ℕ) → at ≡ place_after front
-    → take ((at.byte + offset) + place) (front ++ seen) ≡ front ++ take (offset + place) seen
-taken-to front seen at offset place e =
+taken-to : (front seen : List ℕ) (at : TextPosition) (offset position : ℕ) → at ≡ position_after front
+    → take ((at.byte + offset) + position) (front ++ seen) ≡ front ++ take (offset + position) seen
+taken-to front seen at offset position e =
     let byte = byte-is front at e in
-    let sum : (at.byte + offset) + place ≡ length front + (offset + place) = omega (arith, byte) in
-    ap (λ (n : ℕ). take n (front ++ seen)) sum ∙ take-append-add front seen (offset + place)
+    let sum : (at.byte + offset) + position ≡ length front + (offset + position) = omega (arith, byte) in
+    ap (λ (n : ℕ). take n (front ++ seen)) sum ∙ take-append-add front seen (offset + position)
 
 -- what holds of what is seen of a unit, and of a position of that, holds of the input
-pub reported-of-input : (reported : List ℕ → TextPlace → List ℕ) (front seen : List ℕ) (at failing : TextPlace)
-    (offset place : ℕ) → at ≡ place_after front → failing ≡ place_after (front ++ take (offset + place) seen)
+pub reported-of-input : (reported : List ℕ → TextPosition → List ℕ) (front seen : List ℕ) (at failing : TextPosition)
+    (offset position : ℕ) → at ≡ position_after front → failing
+    ≡ position_after (front ++ take (offset + position) seen)
     → reported (drop offset seen) failing ≡ reported (drop (at.byte + offset) (front ++ seen))
-    (place_after (take ((at.byte + offset) + place) (front ++ seen)))
-reported-of-input reported front seen at failing offset place e f =
+    (position_after (take ((at.byte + offset) + position) (front ++ seen)))
+reported-of-input reported front seen at failing offset position e f =
     ap (λ (w : List ℕ). reported w failing) (sym (seen-from front seen at offset e))
     ∙ ap (reported (drop (at.byte + offset) (front ++ seen)))
-    (f ∙ ap place_after (sym (taken-to front seen at offset place e)))
+    (f ∙ ap position_after (sym (taken-to front seen at offset position e)))
 
 -- the first line where there are no others
 pub quiet-opening : (name lines : List ℕ) → (length lines == 0) ≡ true → opening false name lines ≡ nothing_failed

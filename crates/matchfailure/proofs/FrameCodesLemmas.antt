@@ -8,7 +8,7 @@ use Rattle.pegmatch.proofs.CodeLemmas.{code, cell_codes, length_cell_codes}
 module _ (w : ℕ) where
   abbrev pub all_codes : List Entry → List FailureFrame → List ℕ
   all_codes cells [] = cell_codes w cells
-  all_codes cells (f ∷ fs) = code w f.node f.place ∷ all_codes cells fs
+  all_codes cells (f ∷ fs) = code w f.node f.position ∷ all_codes cells fs
 
   pub length_codes : (cells : List Entry) (fs : List FailureFrame)
       → length (all_codes cells fs) ≡ length cells + length fs

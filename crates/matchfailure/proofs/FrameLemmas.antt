@@ -43,8 +43,9 @@ reverse-set_last xs top v below h =
 pub comes_on : (xs : List FailureFrame) (top f d : FailureFrame) (below : List FailureFrame) (n i q : ℕ)
     → reverse xs ≡ top ∷ below
     → n ≡ length xs → f ≡ get_or xs (n - 1) d →
-    reverse (set xs (n - 1) (record { node = f.node; place = f.place; next = i; end = q }))
-    ≡ record { node = top.node; place = top.place; next = i; end = q } ∷ below
+    reverse (set xs (n - 1) (record { node = f.node; position = f.position; next = i; end = q }))
+    ≡ record { node = top.node; position = top.position; next = i; end = q } ∷ below
 comes_on xs top f d below n i q h size read =
     let same : f ≡ top = read ∙ last_is xs top d below n h size in
-    rw (same, size) (reverse-set_last xs top (record { node = top.node; place = top.place; next = i; end = q }) below h)
+    rw (same, size) (reverse-set_last xs top
+    (record { node = top.node; position = top.position; next = i; end = q }) below h)

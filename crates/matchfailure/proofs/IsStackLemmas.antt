@@ -9,12 +9,12 @@ use Rattle.gramcheck.specs.Sound.{IsRanked}
 use Rattle.memo.specs.declared.found.Found.{Found}
 use Rattle.memo.specs.Entries.{Entry, found_at}
 use Rattle.matchfailure.specs.declared.desk.frame.FailureFrame.{FailureFrame}
-use Rattle.matchfailure.specs.declared.desk.turn.Turn.TheVariants.{Ask, Answer}
+use Rattle.matchfailure.specs.declared.desk.step.NextStep.TheVariants.{Ask, Answer}
 use Rattle.matchfailure.specs.State.{IsPut, none_taken, none_failed, HasCome, IsUnderWay, IsOpen, IsStack, no_frame}
 use Rattle.matchfailure.specs.State.{bottom, last_position}
 use Rattle.matchfailure.specs.State.{above, AreCells, HasNoFrame, AreUnderWay}
 use Rattle.pegmatch.specs.CellOutcomes.{HasCell}
-use Rattle.matchfailure.specs.Turns.{IsTurn}
+use Rattle.matchfailure.specs.NextSteps.{IsNextStep}
 use Rattle.pegmatch.specs.Visits.{Asks, Visits, first, asked}
 use Rattle.pegmatch.proofs.AsksLemmas.{height, height_falls, is_visited}
 use Rattle.matchfailure.proofs.HaveTakenLemmas.{still_taken, still_failed}
@@ -59,18 +59,18 @@ module _ (rules : List Rule) (start : ℕ) (nodes : List Shape) (bodies ranks x 
   Stack cells frames = IsStack rules start nodes bodies x more cells frames
 
   abbrev pub high : FailureFrame → ℕ
-  high f = height rules start nodes bodies ranks x sound f.node f.place
+  high f = height rules start nodes bodies ranks x sound f.node f.position
 
   stack_visits : {cells : List Entry} {f : FailureFrame} {fs : List FailureFrame} → Stack cells (f ∷ fs)
-      → Visits rules nodes bodies x start f.node f.place
+      → Visits rules nodes bodies x start f.node f.position
   stack_visits (bottom {f = f} o at is) = subst (λ v. Visits rules nodes bodies x start f.node v) (sym is) (first at)
   stack_visits (above o a s) = asked (stack_visits s) a
 
   pub top_visits : (cells : List Entry) (f : FailureFrame) (fs : List FailureFrame) → Stack cells (f ∷ fs)
-      → Visits rules nodes bodies x start f.node f.place
+      → Visits rules nodes bodies x start f.node f.position
   top_visits cells f fs s = stack_visits s
 
-  -- each frame's pair is higher
+  -- each frame's evaluation is higher
   abbrev pub AreAbove : ℕ → List FailureFrame → Type 0
   AreAbove b [] = Unit {0}
   AreAbove b (f ∷ fs) = (b < high f) × AreAbove b fs
@@ -84,7 +84,8 @@ module _ (rules : List Rule) (start : ℕ) (nodes : List Shape) (bodies ranks x 
   are_above (bottom o at is) = tt
   are_above (above {h = h} {f = f} {fs = fs} o a s) =
       let v = is_visited rules start nodes bodies ranks x sound (stack_visits s) in
-      let less = height_falls rules start nodes bodies ranks x sound f.node f.place h.node h.place v.spelled v.high a in
+      let less = height_falls rules start nodes bodies ranks x sound f.node f.position h.node h.position v.spelled
+      v.high a in
       (less, above_more (high f) (high h) fs (omega arith) (are_above s))
 
   no_frame_of : (n p : ℕ) (fs : List FailureFrame) → AreAbove (height rules start nodes bodies ranks x sound n p) fs
@@ -103,20 +104,25 @@ module _ (rules : List Rule) (start : ℕ) (nodes : List Shape) (bodies ranks x 
       → AreUnderWay rules start nodes bodies x cells fs
   under_way no_frame = tt
   under_way (bottom o at is) = (stack_visits (bottom o at is), o.none, tt, tt)
-  under_way (above {h = h} {f = f} {fs = fs} o a s) =
-      (stack_visits (above o a s), o.none, no_frame_of h.node h.place (f ∷ fs) (are_above (above o a s)), under_way s)
+  under_way (above {h = h} {f = f} {fs = fs} o a s) = (
+    stack_visits (above o a s),
+    o.none,
+    no_frame_of h.node h.position (f ∷ fs)
+        (are_above (above o a s)),
+    under_way s,
+  )
 
   still_open : (old new : List Entry) (n p : ℕ) (h : Found) → IsPut old new n p h → (f : FailureFrame)
       → height rules start nodes bodies ranks x sound n p < high f →
       IsOpen rules start nodes bodies x more old f → IsOpen rules start nodes bodies x more new f
   still_open old new n p h put f less o = record {
-    none = elim (put.only f.node f.place) [
+    none = elim (put.only f.node f.position) [
       | inl same ↦ same ∙ o.none
       | inr is ↦ absurd (
           let equal : high f ≡ height rules start nodes bodies ranks x sound n p = rw (is.0, is.1) refl in
           omega arith)
     ];
-    come = λ shape at. still_come old new put.kept shape f.place f.next f.end (o.come shape at);
+    come = λ shape at. still_come old new put.kept shape f.position f.next f.end (o.come shape at);
     low = o.low;
   }
 
@@ -143,28 +149,28 @@ module _ (rules : List Rule) (start : ℕ) (nodes : List Shape) (bodies ranks x 
 
   -- the last frame has come further
   pub come_on : {cells : List Entry} {f : FailureFrame} {fs : List FailureFrame} → Stack cells (f ∷ fs) → (i q : ℕ)
-      → IsUnderWay rules start nodes bodies x more cells f.node f.place i q →
-      Stack cells (record { node = f.node; place = f.place; next = i; end = q } ∷ fs)
+      → IsUnderWay rules start nodes bodies x more cells f.node f.position i q →
+      Stack cells (record { node = f.node; position = f.position; next = i; end = q } ∷ fs)
   come_on (bottom o at is) i q w = bottom (record { none = o.none; come = w; low = o.low }) at is
   come_on (above o a s) i q w = above (record { none = o.none; come = w; low = o.low }) a s
 
   -- a frame is pushed
   pub stack_push : (cells : List Entry) (f : FailureFrame) (fs : List FailureFrame) (m q i r : ℕ) → Stack cells (f ∷ fs)
-      → IsTurn rules start nodes bodies x more cells f.node f.place (Ask m q i r) →
-      Stack cells (record { node = m; place = q; next = 0; end = q }
-      ∷ (record { node = f.node; place = f.place; next = i; end = r } ∷ fs))
+      → IsNextStep rules start nodes bodies x more cells f.node f.position (Ask m q i r) →
+      Stack cells (record { node = m; position = q; next = 0; end = q }
+      ∷ (record { node = f.node; position = f.position; next = i; end = r } ∷ fs))
   stack_push cells f fs m q i r s t =
       above (record { none = t.1; come = λ shape at. begun_has_come cells shape q; low = t.3 }) t.0 (come_on s i r t.2)
 
   -- the last frame is dropped, and has its cell
   pub stack_pop : (old new : List Entry) (f : FailureFrame) (fs : List FailureFrame) (h : Found) → Stack old (f ∷ fs)
-      → IsPut old new f.node f.place h → Stack new fs
-  stack_pop old new f fs h s put = still_stack old new f.node f.place h put (are_above s) (stack_below s)
+      → IsPut old new f.node f.position h → Stack new fs
+  stack_pop old new f fs h s put = still_stack old new f.node f.position h put (are_above s) (stack_below s)
 
   -- all cells are right with one more
   pub cells_put : (old new : List Entry) (n p : ℕ) (h : Found) → AreCells rules start nodes bodies x more old
       → Visits rules nodes bodies x start n p → p ≤ last_position x more →
-      IsTurn rules start nodes bodies x more old n p (Answer h) → IsPut old new n p h
+      IsNextStep rules start nodes bodies x more old n p (Answer h) → IsPut old new n p h
       → AreCells rules start nodes bodies x more new
   cells_put old new n p h c v low t put = record {
     visited = λ m q g at. elim (put.only m q) [
@@ -196,10 +202,10 @@ module _ (rules : List Rule) (start : ℕ) (nodes : List Shape) (bodies ranks x 
   -- the first frame, once it is alone
   pub alone_is_start : (cells : List Entry) (f : FailureFrame) → Stack cells (f ∷ [])
       → (slice_get bodies start ≡ Some f.node)
-      × (f.place ≡ 0)
+      × (f.position ≡ 0)
   alone_is_start cells f s = by s
     where
-      by : {f : FailureFrame} → Stack cells (f ∷ []) → (slice_get bodies start ≡ Some f.node) × (f.place ≡ 0)
+      by : {f : FailureFrame} → Stack cells (f ∷ []) → (slice_get bodies start ≡ Some f.node) × (f.position ≡ 0)
       by (bottom o at is) = (at, is)
 
   -- where the start rule has a cell, all that is visited has one
@@ -214,7 +220,7 @@ module _ (rules : List Rule) (start : ℕ) (nodes : List Shape) (bodies ranks x 
 
   -- the first frame of all
   pub stack_begin : (root : ℕ) → slice_get bodies start ≡ Some root
-      → Stack [] (record { node = root; place = 0; next = 0; end = 0 } ∷ [])
+      → Stack [] (record { node = root; position = 0; next = 0; end = 0 } ∷ [])
   stack_begin root at =
       bottom (record { none = refl; come = λ shape h. begun_has_come [] shape 0; low = omega arith }) at refl
 

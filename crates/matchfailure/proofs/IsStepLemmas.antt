@@ -19,10 +19,10 @@ use Rattle.pegmatch.specs.declared.matcher.Unit.{Unit as UnitAnswer}
 use Rattle.pegmatch.specs.declared.matcher.Unit.TheVariants as unit
 use Rattle.memo.specs.Entries.{Entry, found_at, AreDifferent}
 use Rattle.matchfailure.specs.declared.desk.frame.FailureFrame.{FailureFrame}
-use Rattle.matchfailure.specs.declared.desk.turn.Turn.TheVariants.{Ask, Answer}
+use Rattle.matchfailure.specs.declared.desk.step.NextStep.TheVariants.{Ask, Answer}
 use Rattle.matchfailure.specs.Desk.{View, prefix, Fits, HasFrames, Drops, Ends, IsStep, unit_of}
 use Rattle.matchfailure.specs.State.{IsPut, IsUnderWay, IsStack, last_position}
-use Rattle.matchfailure.specs.Turns.{IsTurn}
+use Rattle.matchfailure.specs.NextSteps.{IsNextStep}
 use Rattle.pegmatch.specs.Visits.{NodeGives, Visits}
 use Rattle.pegmatch.proofs.AsksLemmas.{is_visited}
 use Rattle.pegmatch.proofs.NodeGivesLemmas.{gives_as}
@@ -76,12 +76,12 @@ module _ (g : Grammar) (x : List ℕ) (more : Bool) (sound : IsSoundGrammar g) w
 
   -- what is known of the last frame
   pub record IsTop (d : View) (t : FailureFrame) : Type 0 where
-    pub visits : Visits Rs Ns g.bodies x g.start t.node t.place
+    pub visits : Visits Rs Ns g.bodies x g.start t.node t.position
     pub spelled : SpellsSome Rs Ns t.node
-    pub high : t.place ≤ length x
-    pub low : t.place ≤ last_position x more
-    pub come : IsUnderWay Rs g.start Ns g.bodies x more d.cells t.node t.place t.next t.end
-    pub none : found_at d.cells t.node t.place ≡ None
+    pub high : t.position ≤ length x
+    pub low : t.position ≤ last_position x more
+    pub come : IsUnderWay Rs g.start Ns g.bodies x more d.cells t.node t.position t.next t.end
+    pub none : found_at d.cells t.node t.position ≡ None
 
   is_stacked : (d : View) (t : FailureFrame) (fs : List FailureFrame) → Fits g x more d → d.frames ≡ t ∷ fs
       → IsStack Rs g.start Ns g.bodies x more d.cells (t ∷ fs)
@@ -111,19 +111,19 @@ module _ (g : Grammar) (x : List ℕ) (more : Bool) (sound : IsSoundGrammar g) w
       let most = fits_at_most d f in
       let size = length-map g.nodes shape_of in
       record {
-        pairs = under_way Rs g.start Ns g.bodies g.ranks x more sound f.stack;
+        evals = under_way Rs g.start Ns g.bodies g.ranks x more sound f.stack;
         few = rw (← size) (omega (arith, most, f.count));
       }
 
   pub pushed_step : {old new : View} {t : FailureFrame} {fs : List FailureFrame} {m q i r : ℕ} → Fits g x more old
       → old.frames ≡ t ∷ fs →
-      IsTurn Rs g.start Ns g.bodies x more old.cells t.node t.place (Ask m q i r) → new.cells ≡ old.cells →
-      new.frames ≡ prefix m q ∷ (record { node = t.node; place = t.place; next = i; end = r } ∷ fs)
+      IsNextStep Rs g.start Ns g.bodies x more old.cells t.node t.position (Ask m q i r) → new.cells ≡ old.cells →
+      new.frames ≡ prefix m q ∷ (record { node = t.node; position = t.position; next = i; end = r } ∷ fs)
       → new.begun ≡ old.begun + 1 → IsStep g x more old new None
-  pushed_step {old} {t} {fs} {m} {q} {i} {r} f is turn cells frames begun =
+  pushed_step {old} {t} {fs} {m} {q} {i} {r} f is step cells frames begun =
       let stack = stack_push Rs g.start Ns g.bodies g.ranks x more sound old.cells t fs m q i r
       (is_stacked old t fs f is)
-      turn in
+      step in
       let lengths = ap length frames in
       let before = ap length is in (
         record {
@@ -132,12 +132,12 @@ module _ (g : Grammar) (x : List ℕ) (more : Bool) (sound : IsSoundGrammar g) w
           different = rw cells f.different;
           count = rw cells (omega (arith, begun, f.count, lengths, before));
         },
-        (prefix m q, record { node = t.node; place = t.place; next = i; end = r } ∷ fs, frames),
+        (prefix m q, record { node = t.node; position = t.position; next = i; end = r } ∷ fs, frames),
         inl (record {
           frame = prefix m q;
           top = t;
           below = fs;
-          come = record { node = t.node; place = t.place; next = i; end = r };
+          come = record { node = t.node; position = t.position; next = i; end = r };
           same = (refl, refl);
           was = is;
           is = frames;
@@ -148,8 +148,8 @@ module _ (g : Grammar) (x : List ℕ) (more : Bool) (sound : IsSoundGrammar g) w
 
   module _ (old new : View) (t : FailureFrame) (fs : List FailureFrame) (h : Found) (f : Fits g x more old)
       (is : old.frames ≡ t ∷ fs)
-      (turn : IsTurn Rs g.start Ns g.bodies x more old.cells t.node t.place (Answer h))
-      (put : IsPut old.cells new.cells t.node t.place h) (grown : length new.cells ≡ length old.cells + 1)
+      (step : IsNextStep Rs g.start Ns g.bodies x more old.cells t.node t.position (Answer h))
+      (put : IsPut old.cells new.cells t.node t.position h) (grown : length new.cells ≡ length old.cells + 1)
       (different : AreDifferent new.cells) (frames : new.frames ≡ fs) (begun : new.begun ≡ old.begun) where
     pub drops_top : Drops old new h
     drops_top = record {
@@ -168,8 +168,8 @@ module _ (g : Grammar) (x : List ℕ) (more : Bool) (sound : IsSoundGrammar g) w
         record {
           stack = rw frames (stack_pop Rs g.start Ns g.bodies g.ranks x more sound old.cells new.cells t fs h
               (is_stacked old t fs f is) put);
-          cells = cells_put Rs g.start Ns g.bodies g.ranks x more sound old.cells new.cells t.node t.place h f.cells
-              top.visits top.low turn put;
+          cells = cells_put Rs g.start Ns g.bodies g.ranks x more sound old.cells new.cells t.node t.position h f.cells
+              top.visits top.low step put;
           different = different;
           count = omega (arith, begun, f.count, lengths, before, grown);
         }
@@ -229,7 +229,7 @@ module _ (g : Grammar) (x : List ℕ) (more : Bool) (sound : IsSoundGrammar g) w
       let size = length-map g.nodes shape_of in
       let none = ap length e.done.frames in
       record {
-        pairs = rw e.done.frames tt;
+        evals = rw e.done.frames tt;
         few = rw (← size) (omega (arith, most, e.done.count, e.drops.begun, none));
       }
 

@@ -1,6 +1,6 @@
 pub mod CellMapLemmas
 pub mod HaveTakenLemmas
-pub mod IsTurnLemmas
+pub mod IsNextStepLemmas
 pub mod IsStackLemmas
 pub mod FrameCodesLemmas
 pub mod AreCellsLemmas
@@ -19,7 +19,7 @@ pub mod FailingLeafLemmas
 pub mod AscendsLemmas
 pub mod FarthestWithinLemmas
 pub mod LongerFarthestLemmas
-mod PlaceAfterLemmas
+mod PositionAfterLemmas
 pub mod RuleOfNodeLemmas
 mod ReportOrderLemmas
 mod EachOnceLemmas

@@ -171,7 +171,7 @@ module _ (rules : List Rule) (start : ℕ) (nodes : List Shape) (bodies ranks : 
         asked_outside (outside_too o)
         (a.0, record { shape = a.1.shape; at = a.1.at; by = asks_by (is_visited o) a.1.shape a.1.at m q a.1.by })
 
-    -- an outcome of a pair that is visited
+    -- an outcome of an evaluation that is visited
     stands_within : {n p : ℕ} → Seen n p → p < length x
     stands_within v = let w = visits_within rules start nodes bodies ranks x sound v root most start_gives at gives in
         omega (arith, w.near)
@@ -259,8 +259,8 @@ module _ (rules : List Rule) (start : ℕ) (nodes : List Shape) (bodies ranks : 
       none_further = λ n p h fails. far.none_further n p h (to_shorter n p h fails);
       ordered = far.ordered;
       exact = λ v. (
-        λ h. to_longer v.node v.place f ((far.exact v).0 h),
-        λ h. (far.exact v).1 (to_shorter v.node v.place f h),
+        λ h. to_longer v.node v.position f ((far.exact v).0 h),
+        λ h. (far.exact v).1 (to_shorter v.node v.position f h),
       );
     }
 

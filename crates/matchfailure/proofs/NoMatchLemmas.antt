@@ -26,8 +26,8 @@ abbrev pub OneOutcome : Type 0
 OneOutcome = (rules : List Rule) (start : ℕ) (x : List ℕ) (k j : ℕ) (o c : Outcome) → RuleGives rules start x o k
     → RuleGives rules start x c j → (o ≡ c) × (k ≡ j)
 
-same-failure : (f g : UnitFailure) → f.unit ≡ g.unit → f.place ≡ g.place → f.expected ≡ g.expected → f ≡ g
-same-failure f g a b c = λ i. record { unit = a i; place = b i; expected = c i }
+same-failure : (f g : UnitFailure) → f.unit ≡ g.unit → f.position ≡ g.position → f.expected ≡ g.expected → f ≡ g
+same-failure f g a b c = λ i. record { unit = a i; position = b i; expected = c i }
 
 module _ (one : OneFarthest) (never : FarthestOrNone) (single : OneOutcome) (rules : List Rule) (start : ℕ)
     (text : List ℕ) where
@@ -37,7 +37,7 @@ module _ (one : OneFarthest) (never : FarthestOrNone) (single : OneOutcome) (rul
   one-unit-failure nodes bodies unit None (Some b) f g = absurd (never _ _ _ _ _ _ _ g.1 f)
   one-unit-failure nodes bodies unit (Some a) None f g = absurd (never _ _ _ _ _ _ _ f.1 g)
   one-unit-failure nodes bodies unit (Some a) (Some b) f g =
-      let same = one rules nodes bodies (drop unit text) start a.place b.place a.expected b.expected f.1 g.1 in
+      let same = one rules nodes bodies (drop unit text) start a.position b.position a.expected b.expected f.1 g.1 in
       ap Some (same-failure a b (f.0 ∙ sym g.0) same.0 same.1)
 
   one-failure : (nodes : List Shape) (bodies : List ℕ) (unit : Option ℕ) (a b : Option UnitFailure)
@@ -69,7 +69,7 @@ module _ (one : OneFarthest) (never : FarthestOrNone) (single : OneOutcome) (rul
       → AreReportedOf rules start own-nodes own-bodies failure b → a ≡ b
   one-list-of None a b f g = f ∙ sym g
   one-list-of (Some u) a b f g =
-      one-in_report_order rules start own-nodes own-bodies u.unit u.place u.expected a b f g
+      one-in_report_order rules start own-nodes own-bodies u.unit u.position u.expected a b f g
 
   record Own (before : Option ℕ) (last : ℕ) (a : List ℕ) (t : IsNoMatchReported rules start text before last a)
       : Type 0 where

@@ -1,4 +1,4 @@
--- The pairs that are asked for outside of `!`, listed one after the other.
+-- The evaluations that are asked for outside of `!`, listed one after the other.
 -- Serves: farthest_failure
 use Rattle.std.proofs.Common.{◌≡◌, ◌⊎◌, inl, inr, ℕ, suc, ◌+◌, ◌*◌, ◌<◌, ◌≤◌, false, List, [], ◌∷◌, length, map, get_or}
 use Rattle.std.proofs.Common.{Some, refl, sym, ◌∙◌, ap, subst, arith}
@@ -34,13 +34,13 @@ pub name_has_body : (g : Grammar) → IsSoundGrammar g → (n id : ℕ) → slic
     → id < length g.bodies
 name_has_body g sound n id at = omega (arith, sound.defined n id at, sound.spelled.count)
 
--- pairs that differ are no more than nodes at places
+-- evaluations that differ are no more than nodes at positions
 module _ (w : ℕ) where
   abbrev codes : List Visit → List ℕ
-  codes vs = map (λ v. code w v.node v.place) vs
+  codes vs = map (λ v. code w v.node v.position) vs
 
   listed_code : (vs : List Visit) (a : ℕ) → In a (codes vs) → (v : Visit) × ListsVisit vs v
-      × (a ≡ code w v.node v.place)
+      × (a ≡ code w v.node v.position)
   listed_code [] a h = elim h [ ]
   listed_code (v ∷ vs) a h = elim (in_cases h) [
     | inl same ↦ (v, (0, refl), same)
@@ -50,12 +50,13 @@ module _ (w : ℕ) where
   later_once : (v : Visit) (vs : List Visit) → AreOnce (v ∷ vs) → AreOnce vs
   later_once v vs once i j u h g = let is = once (suc i) (suc j) u h g in omega (arith, is)
 
-  codes_differ : (vs : List Visit) → ((v : Visit) → ListsVisit vs v → v.place < w) → AreOnce vs → Differ (codes vs)
+  codes_differ : (vs : List Visit) → ((v : Visit) → ListsVisit vs v → v.position < w) → AreOnce vs → Differ (codes vs)
   codes_differ [] low once = tt
   codes_differ (v ∷ vs) low once = (
-    (λ h. let l = listed_code vs (code w v.node v.place) h in
-        let same = code_same w v.node v.place l.0.node l.0.place (low v (0, refl)) (low l.0 (suc l.1.0, l.1.1)) l.2 in
-        let is : v ≡ l.0 = is_visit v l.0.node l.0.place same.0 same.1 in
+    (λ h. let l = listed_code vs (code w v.node v.position) h in
+        let same = code_same w v.node v.position l.0.node l.0.position (low v (0, refl))
+        (low l.0 (suc l.1.0, l.1.1)) l.2 in
+        let is : v ≡ l.0 = is_visit v l.0.node l.0.position same.0 same.1 in
         let zero_is = once 0 (suc l.1.0) v refl (l.1.1 ∙ ap Some (sym is)) in
         absurd (omega (arith, zero_is))),
     codes_differ vs (λ u h. low u (suc h.0, h.1)) (later_once v vs once),
@@ -67,8 +68,8 @@ few_visits nodes n vs within once =
     let most = at_most_below (codes (n + 1) vs) (nodes * (n + 1)) differ (λ a h.
     let l = listed_code (n + 1) vs a h in
     let there = within l.0 l.1 in
-    rw l.2 (code_below (n + 1) l.0.node l.0.place nodes there.0 (omega (arith, there.1)))) in
-    omega (arith, most, length-map vs (λ v. code (n + 1) v.node v.place))
+    rw l.2 (code_below (n + 1) l.0.node l.0.position nodes there.0 (omega (arith, there.1)))) in
+    omega (arith, most, length-map vs (λ v. code (n + 1) v.node v.position))
 
 module _ (g : Grammar) (x : List ℕ) where
   abbrev Rs : List Rule
@@ -77,13 +78,13 @@ module _ (g : Grammar) (x : List ℕ) where
   abbrev Ns : List Shape
   Ns = shapes_of g.nodes
 
-  -- The list holds the start rule's body and only pairs that are asked for outside of `!`; and all that its first pairs
-  -- ask for.
+  -- The list holds the start rule's body and only evaluations that are asked for outside of `!`; and all that its first
+  -- evaluations ask for.
   pub record IsSpread (next : ℕ) (vs : List Visit) : Type 0 where
     pub root : (n : ℕ) → slice_get g.bodies g.start ≡ Some n → ListsVisit vs (visit n 0)
-    pub only : (v : Visit) → ListsVisit vs v → Outside Rs Ns g.bodies x g.start v.node v.place
+    pub only : (v : Visit) → ListsVisit vs v → Outside Rs Ns g.bodies x g.start v.node v.position
     pub closed : (k : ℕ) (v : Visit) (m q : ℕ) → k < next → slice_get vs k ≡ Some v
-        → AsksOutside Rs Ns g.bodies x v.node v.place m q → ListsVisit vs (visit m q)
+        → AsksOutside Rs Ns g.bodies x v.node v.position m q → ListsVisit vs (visit m q)
     pub once : AreOnce vs
 
   pub spread_begins : (root : ℕ) → slice_get g.bodies g.start ≡ Some root → (old new : List Visit) → old ≡ []
@@ -91,20 +92,20 @@ module _ (g : Grammar) (x : List ℕ) where
   spread_begins root at old new none a = record {
     root = λ n h. a.all n 0 (cc (h, at), refl);
     only = λ v h. elim (a.only v h) [
-      | inl is ↦ absurd (no_pair v is.0 (rw none at is.1))
+      | inl is ↦ absurd (no_eval v is.0 (rw none at is.1))
       | inr is ↦ rw (is.0, is.1) (first_outside at)
     ];
     closed = λ k v m q lt h b. absurd (omega arith);
-    once = a.once (rw none (λ i j v h g. absurd (no_pair v i h)));
+    once = a.once (rw none (λ i j v h g. absurd (no_eval v i h)));
   }
     where
-      no_pair : (v : Visit) (i : ℕ) → slice_get [] i ≡ Some v → ⊥
-      no_pair v i h = cc h
+      no_eval : (v : Visit) (i : ℕ) → slice_get [] i ≡ Some v → ⊥
+      no_eval v i h = cc h
 
   module _ (sound : IsSoundGrammar g) where
     pub spread_within : (next : ℕ) (vs : List Visit) → IsSpread next vs → AreWithin (length g.nodes) (length x) vs
     spread_within next vs s v h =
-        let there = visited_there Rs g.start Ns g.bodies g.ranks x sound v.node v.place (is_visited (s.only v h)) in
+        let there = visited_there Rs g.start Ns g.bodies g.ranks x sound v.node v.position (is_visited (s.only v h)) in
         (rw (← length-map g.nodes shape_of) there.0, there.1)
 
     pub spread_few : (next : ℕ) (vs : List Visit) → IsSpread next vs → length vs ≤ length g.nodes * (length x + 1)
@@ -112,7 +113,7 @@ module _ (g : Grammar) (x : List ℕ) where
 
     pub spread_on : (d : View) → IsDone g x false d → (next : ℕ) (old new : List Visit) (v : Visit) (shape : Shape)
         → IsSpread next old → slice_get old next ≡ Some v → slice_get Ns v.node ≡ Some shape
-        → AddsVisits (λ m q. CellAsksBy d.cells g.bodies shape v.node v.place m q) old new → IsSpread (next + 1) new
+        → AddsVisits (λ m q. CellAsksBy d.cells g.bodies shape v.node v.position m q) old new → IsSpread (next + 1) new
     spread_on d done next old new v shape s here at a =
         let visits = is_visited (s.only v (next, here)) in
         record {
@@ -120,28 +121,28 @@ module _ (g : Grammar) (x : List ℕ) where
           only = λ u h. elim (a.only u h) [
             | inl is ↦ s.only u is
             | inr is ↦ asked_outside (s.only v (next, here))
-                (cell_asks g x d sound done v.node v.place visits shape at u.node u.place is)
+                (cell_asks g x d sound done v.node v.position visits shape at u.node u.position is)
           ];
           closed = λ k u m q lt h b. by k u m q lt h b (cases_lt k next);
           once = a.once s.once;
         }
       where
         by : (k : ℕ) (u : Visit) (m q : ℕ) → k < next + 1 → slice_get new k ≡ Some u
-            → AsksOutside Rs Ns g.bodies x u.node u.place m q → (k < next) ⊎ (next ≤ k) → ListsVisit new (visit m q)
+            → AsksOutside Rs Ns g.bodies x u.node u.position m q → (k < next) ⊎ (next ≤ k) → ListsVisit new (visit m q)
         by k u m q lt h b (inl before) =
             let below = slice_get_within old next v here in
             let there = slice_get-get_or old k v (omega arith) in
             let w : Visit = get_or old k v in
             let same : u ≡ w = cc (a.kept k w there, h) in
             lists_kept (visit m q) a (s.closed k w m q before there
-            (subst (λ z. AsksOutside Rs Ns g.bodies x z.node z.place m q) same b))
+            (subst (λ z. AsksOutside Rs Ns g.bodies x z.node z.position m q) same b))
         by k u m q lt h b (inr from) =
             let same : k ≡ next = omega arith in
             let is : slice_get new k ≡ Some v = subst (λ z. slice_get new z ≡ Some v) (sym same) (a.kept next v here) in
             let as_v : u ≡ v = cc (is, h) in
             let visits = is_visited (s.only v (next, here)) in
-            a.all m q (asks_cell g x d sound done v.node v.place visits shape at m q
-            (subst (λ z. AsksOutside Rs Ns g.bodies x z.node z.place m q) as_v b))
+            a.all m q (asks_cell g x d sound done v.node v.position visits shape at m q
+            (subst (λ z. AsksOutside Rs Ns g.bodies x z.node z.position m q) as_v b))
 
   pub spread_whole : (next : ℕ) (vs : List Visit) → IsSpread next vs → length vs ≤ next → {n p : ℕ}
       → Outside Rs Ns g.bodies x g.start n p → ListsVisit vs (visit n p)

@@ -126,13 +126,14 @@ same-sorted (x ∷ xs) (y ∷ ys) up high same =
     let rest = same-sorted xs ys (tail-up x xs up) (tail-up y ys high) (rest-same x xs ys turned) in
     cc (is, rest)
 
-pub one-in_report_order : (rules : List Rule) (start : ℕ) (nodes : List Shape) (bodies : List ℕ) (unit place : ℕ)
-    (expected a b : List Visit) → AreReported rules start nodes bodies unit place expected a
-    → AreReported rules start nodes bodies unit place expected b → a ≡ b
-one-in_report_order rules start nodes bodies unit place expected a b f g =
+pub one-in_report_order : (rules : List Rule) (start : ℕ) (nodes : List Shape) (bodies : List ℕ) (unit position : ℕ)
+    (expected a b : List Visit) → AreReported rules start nodes bodies unit position expected a
+    → AreReported rules start nodes bodies unit position expected b → a ≡ b
+one-in_report_order rules start nodes bodies unit position expected a b f g =
     let far = one-far (use_rows nodes 0 bodies) start f.far g.far f.distances g.distances in
     let turned : IsPermutation (map (key_of f.far nodes bodies) expected) g.keys =
     subst (λ d. IsPermutation (map (key_of d nodes bodies) expected) g.keys) (sym far) g.same in
     let keys = same-sorted f.keys g.keys f.ascend g.ascend (λ h.
     sum_by-IsPermutation h _ _ f.same ∙ sym (sum_by-IsPermutation h _ _ turned)) in
-    f.are ∙ ap (λ ks. each_once (entry_text rules start nodes bodies unit place) [] (map visit_of ks)) keys ∙ sym g.are
+    f.are ∙ ap (λ ks. each_once (entry_text rules start nodes bodies unit position) [] (map visit_of ks)) keys
+    ∙ sym g.are

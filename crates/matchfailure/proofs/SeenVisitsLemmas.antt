@@ -1,4 +1,4 @@
--- The set of the pairs that a list has, with one more.
+-- The set of the evaluations that a list has, with one more.
 -- Serves: farthest_failure
 use Rattle.std.proofs.Common.{◌≡◌, ℕ, Bool, true, false, cond, ◌&&◌, ◌||◌, List, [], ◌∷◌, ◌++◌, refl, sym, ◌∙◌, ap}
 use Rattle.std.specs.HashSet.{HashSet, Updates}
@@ -16,7 +16,7 @@ one_more_test false true = refl
 one_more_test false false = refl
 
 pub seen_pushed : {S : Type 0} (vs : List Visit) (old new : HashSet Visit S) (n p : ℕ) → HasSeen vs old
-    → Updates (λ v. is_visit_at v.node v.place) old new (visit n p) true → HasSeen (vs ++ visit n p ∷ []) new
+    → Updates (λ v. is_visit_at v.node v.position) old new (visit n p) true → HasSeen (vs ++ visit n p ∷ []) new
 seen_pushed vs old new n p has updates m q =
     updates.0 (visit m q) ∙ ap (cond (is_visit_at n p (visit m q)) true) (has m q)
     ∙ one_more_test (list_any (is_visit_at m q) vs) (is_visit_at n p (visit m q))

@@ -1,4 +1,4 @@
--- Of pairs those whose comparison fails.
+-- Of evaluations those whose comparison fails.
 -- Serves: farthest_failure
 use Rattle.std.proofs.Common.{◌≡◌, ◌⊎◌, inl, inr, ◌↔◌, ℕ, ◌+◌, ◌<◌, ◌≤◌, List, [], ◌∷◌, ◌++◌, length, Option, Some}
 use Rattle.std.proofs.Common.{None}
@@ -61,9 +61,9 @@ module _ (nodes : List Node) (x : List ℕ) (n p : ℕ) (code : Node) (at : slic
 
 module _ (nodes : List Shape) (x : List ℕ) (vs : List Visit) where
   abbrev At : Visit → ℕ → Type 0
-  At v f = LeafStops nodes x v.node v.place f
+  At v f = LeafStops nodes x v.node v.position f
 
-  -- the greatest byte at which the comparison of one of the first i pairs fails
+  -- the greatest byte at which the comparison of one of the first i evaluations fails
   abbrev pub GreatestBelow : ℕ → Option ℕ → Type 0
   GreatestBelow i None = (k : ℕ) (v : Visit) (f : ℕ) → k < i → slice_get vs k ≡ Some v → At v f → ⊥
   GreatestBelow i (Some f) = ((k : ℕ) × (v : Visit) × (k < i) × (slice_get vs k ≡ Some v) × At v f)
@@ -123,7 +123,7 @@ module _ (nodes : List Shape) (x : List ℕ) (vs : List Visit) where
     λ v h l s. g.1 l.0 v h (omega (arith, slice_get_within vs l.0 v l.1)) l.1 s,
   )
 
-  -- those of the first i pairs whose comparison fails at byte f
+  -- those of the first i evaluations whose comparison fails at byte f
   pub record AreStopped (f i : ℕ) (stopped : List Visit) : Type 0 where
     pub only : (v : Visit) → ListsVisit stopped v → (k : ℕ) × (k < i) × (slice_get vs k ≡ Some v) × At v f
     pub all : (k : ℕ) (v : Visit) → k < i → slice_get vs k ≡ Some v → At v f → ListsVisit stopped v
@@ -156,7 +156,7 @@ module _ (nodes : List Shape) (x : List ℕ) (vs : List Visit) where
         | inr last ↦ (i, omega arith, here ∙ ap Some last.1, subst (λ z. At z f) last.1 is)
       ];
       all = λ k u lt h s. by k u lt h s (cases_lt k i);
-      once = λ o. (adds_last stopped v.node v.place (new o)).once (a.once o);
+      once = λ o. (adds_last stopped v.node v.position (new o)).once (a.once o);
     }
       where
         by : (k : ℕ) (u : Visit) → k < i + 1 → slice_get vs k ≡ Some u → At u f → (k < i) ⊎ (i ≤ k)

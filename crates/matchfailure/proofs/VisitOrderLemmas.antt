@@ -1,4 +1,4 @@
--- Pairs that are sorted.
+-- Evaluations that are sorted.
 -- Serves: farthest_failure
 use Rattle.std.proofs.Common.{◌≡◌, ◌⊎◌, inl, inr, ℕ, zero, suc, ◌<◌, ◌≤◌, Bool, true, false, cond, ◌&&◌, ◌==◌}
 use Rattle.std.proofs.Common.{nat_lt, List, [], ◌∷◌, get_or, Some, refl, sym, ◌∙◌, ap, subst, arith, add-one}
@@ -18,10 +18,10 @@ use Rattle.matchfailure.specs.VisitLists.{ListsVisit, StandsBefore, Ascends, Are
 use Rattle.matchfailure.proofs.AddsVisitsLemmas.{is_visit}
 
 abbrev pub visit_cmp : Visit → Visit → Ordering
-visit_cmp v w = ordering_then (nat_cmp v.node w.node) (nat_cmp v.place w.place)
+visit_cmp v w = ordering_then (nat_cmp v.node w.node) (nat_cmp v.position w.position)
 
-abbrev same_pair : Visit → Visit → Bool
-same_pair v w = (v.node == w.node) && (v.place == w.place)
+abbrev same_eval : Visit → Visit → Bool
+same_eval v w = (v.node == w.node) && (v.position == w.position)
 
 eqb_flips : (a b : ℕ) → (a == b) ≡ (b == a)
 eqb_flips a b = by (a == b) (b == a) refl refl
@@ -32,10 +32,10 @@ eqb_flips a b = by (a == b) (b == a) refl refl
     by true false one other = absurd (let is = eq-eqb b a (sym (eqb-true a b one)) in cc (is, other))
     by false true one other = absurd (let is = eq-eqb a b (sym (eqb-true b a other)) in cc (is, one))
 
-pair_flips : (v w : Visit) → same_pair v w ≡ same_pair w v
-pair_flips v w = λ i. eqb_flips v.node w.node i && eqb_flips v.place w.place i
+eval_flips : (v w : Visit) → same_eval v w ≡ same_eval w v
+eval_flips v w = λ i. eqb_flips v.node w.node i && eqb_flips v.position w.position i
 
--- members by place and by `Contains`
+-- members by position and by `Contains`
 contains_listed : (vs : List Visit) (v : Visit) → ListsVisit vs v → Contains vs v
 contains_listed vs v h = (h.0, slice_get_within vs h.0 v h.1, get_or_from_slice_get vs h.0 v v h.1)
 
@@ -48,7 +48,7 @@ permutation_lists vs ws p v h = lists_contained ws v (Contains-permutation vs ws
 pub permutation_back : (vs ws : List Visit) → IsPermutation vs ws → (v : Visit) → ListsVisit ws v → ListsVisit vs v
 permutation_back vs ws p v h = permutation_lists ws vs (IsPermutation-sym vs ws p) v h
 
--- no pair is there twice, by recursion
+-- no evaluation is there twice, by recursion
 all_of : (P : Visit → Type 0) (vs : List Visit) → ((k : ℕ) (v : Visit) → slice_get vs k ≡ Some v → P v)
     → AllByRecursion P vs
 all_of P [] h = tt
@@ -60,36 +60,36 @@ at_all P [] h k v g = absurd (cc g)
 at_all P (u ∷ vs) h zero v g = let same : u ≡ v = cc g in subst P same h.0
 at_all P (u ∷ vs) h (suc k) v g = at_all P vs h.1 k v g
 
-pair_differs : (v w : Visit) → (v ≡ w → ⊥) → same_pair v w ≡ false
-pair_differs v w not = by (same_pair v w) refl
+eval_differs : (v w : Visit) → (v ≡ w → ⊥) → same_eval v w ≡ false
+eval_differs v w not = by (same_eval v w) refl
   where
-    by : (b : Bool) → same_pair v w ≡ b → same_pair v w ≡ false
-    by true is = absurd (let both = and_parts (v.node == w.node) (v.place == w.place) is in
-        not (is_visit v w.node w.place (eqb-true v.node w.node both.0) (eqb-true v.place w.place both.1)))
+    by : (b : Bool) → same_eval v w ≡ b → same_eval v w ≡ false
+    by true is = absurd (let both = and_parts (v.node == w.node) (v.position == w.position) is in
+        not (is_visit v w.node w.position (eqb-true v.node w.node both.0) (eqb-true v.position w.position both.1)))
     by false is = is
 
-once_distinct : (vs : List Visit) → AreOnce vs → IsDistinct same_pair vs
+once_distinct : (vs : List Visit) → AreOnce vs → IsDistinct same_eval vs
 unfolding IsDistinct
 once_distinct [] o = tt
 once_distinct (v ∷ vs) o = (
-  all_of (λ w. same_pair v w ≡ false) vs (λ k w g. pair_differs v w (λ same.
+  all_of (λ w. same_eval v w ≡ false) vs (λ k w g. eval_differs v w (λ same.
       let is = o 0 (suc k) v refl (g ∙ ap Some (sym same)) in omega (arith, is))),
   once_distinct vs (λ i j w h g. let is = o (suc i) (suc j) w h g in omega (arith, is)),
 )
 
-distinct_at : (vs : List Visit) → IsDistinct same_pair vs → (i j : ℕ) (v w : Visit) → i < j → slice_get vs i ≡ Some v
-    → slice_get vs j ≡ Some w → same_pair v w ≡ false
+distinct_at : (vs : List Visit) → IsDistinct same_eval vs → (i j : ℕ) (v w : Visit) → i < j → slice_get vs i ≡ Some v
+    → slice_get vs j ≡ Some w → same_eval v w ≡ false
 unfolding IsDistinct
 distinct_at [] d i j v w lt h g = absurd (cc h)
 distinct_at (u ∷ vs) d i zero v w lt h g = absurd (omega arith)
 distinct_at (u ∷ vs) d zero (suc j) v w lt h g =
     let same : u ≡ v = cc h in
-    subst (λ z. same_pair z w ≡ false) same (at_all (λ z. same_pair u z ≡ false) vs d.0 j w g)
+    subst (λ z. same_eval z w ≡ false) same (at_all (λ z. same_eval u z ≡ false) vs d.0 j w g)
 distinct_at (u ∷ vs) d (suc i) (suc j) v w lt h g = distinct_at vs d.1 i j v w (omega arith) h g
 
 -- v is w or stands before it
 abbrev AtMost : Visit → Visit → Type 0
-AtMost v w = (v.node < w.node) ⊎ ((v.node ≡ w.node) × (v.place ≤ w.place))
+AtMost v w = (v.node < w.node) ⊎ ((v.node ≡ w.node) × (v.position ≤ w.position))
 
 at_most_on : (u v w : Visit) → AtMost u v → AtMost v w → AtMost u w
 at_most_on u v w (inl a) (inl b) = inl (omega arith)
@@ -116,7 +116,7 @@ module _ (vs : List Visit) (sorted : IsSorted visit_cmp vs) where
       let first = get_or_from_slice_get vs k v v h in
       let second = get_or_from_slice_get vs (suc k) w v g in
       let is = sorted k v (omega arith) (omega arith) in
-      not_below w.node v.node w.place v.place (rw (add-one, first, second) at is)
+      not_below w.node v.node w.position v.position (rw (add-one, first, second) at is)
 
   far_at_most : (i j : ℕ) (v w : Visit) → i < j → slice_get vs i ≡ Some v → slice_get vs j ≡ Some w → AtMost v w
   far_at_most i zero v w lt h g = absurd (omega arith)
@@ -132,13 +132,14 @@ module _ (vs : List Visit) (sorted : IsSorted visit_cmp vs) where
           adjacent_at_most j v w (subst (λ z. slice_get vs z ≡ Some v) same h) g
 
   pub sorted_ascends : (olds : List Visit) → AreOnce olds → IsPermutation olds vs → Ascends vs
-  sorted_ascends olds o p i j v w lt h g = by (far_at_most i j v w lt h g) (cases_order v.place w.place)
-      (distinct_at vs (IsDistinct-IsPermutation same_pair pair_flips olds vs p (once_distinct olds o)) i j v w lt h g)
+  sorted_ascends olds o p i j v w lt h g = by (far_at_most i j v w lt h g) (cases_order v.position w.position)
+      (distinct_at vs (IsDistinct-IsPermutation same_eval eval_flips olds vs p (once_distinct olds o)) i j v w lt h g)
     where
-      by : AtMost v w → (v.place ≡ w.place) ⊎ ((v.place < w.place) ⊎ (w.place < v.place)) → same_pair v w ≡ false
+      by : AtMost v w → (v.position ≡ w.position) ⊎ ((v.position < w.position) ⊎ (w.position < v.position))
+          → same_eval v w ≡ false
           → StandsBefore v w
       by (inl less) c d = inl less
       by (inr a) (inr (inl low)) d = inr (a.0, low)
       by (inr a) (inr (inr high)) d = absurd (omega (arith, a.1))
-      by (inr a) (inl same) d = absurd (let is = and_from (v.node == w.node) (v.place == w.place)
-          (eq-eqb v.node w.node a.0) (eq-eqb v.place w.place same) in cc (is, d))
+      by (inr a) (inl same) d = absurd (let is = and_from (v.node == w.node) (v.position == w.position)
+          (eq-eqb v.node w.node a.0) (eq-eqb v.position w.position same) in cc (is, d))

@@ -31,9 +31,9 @@ abbrev pub unit_of : Found → ℕ → UnitAnswer
 unit_of found.Failed begun = Failed begun
 unit_of (found.Took end) begun = Took end begun
 
--- a frame's pair, as one that begins
+-- a frame's evaluation, as one that begins
 abbrev pub prefix : ℕ → ℕ → FailureFrame
-prefix n p = record { node = n; place = p; next = 0; end = p }
+prefix n p = record { node = n; position = p; next = 0; end = p }
 
 -- One frame more, and one evaluation more begun; the frame below may have come further.
 pub record Pushes (old new : View) : Type 0 where
@@ -41,17 +41,17 @@ pub record Pushes (old new : View) : Type 0 where
   pub top : FailureFrame
   pub below : List FailureFrame
   pub come : FailureFrame
-  pub same : (come.node ≡ top.node) × (come.place ≡ top.place)
+  pub same : (come.node ≡ top.node) × (come.position ≡ top.position)
   pub was : old.frames ≡ top ∷ below
   pub is : new.frames ≡ frame ∷ (come ∷ below)
   pub cells : new.cells ≡ old.cells
   pub begun : new.begun ≡ old.begun + 1
 
--- The last frame is gone, and its pair has a cell.
+-- The last frame is gone, and its evaluation has a cell.
 pub record Drops (old new : View) (f : Found) : Type 0 where
   pub top : FailureFrame
   pub was : old.frames ≡ top ∷ new.frames
-  pub cells : IsPut old.cells new.cells top.node top.place f
+  pub cells : IsPut old.cells new.cells top.node top.position f
   pub grown : length new.cells ≡ length old.cells + 1
   pub begun : new.begun ≡ old.begun
 
@@ -63,13 +63,14 @@ module _ (g : Grammar) (x : List ℕ) (more : Bool) where
     pub different : AreDifferent d.cells
     pub count : d.begun ≡ length d.cells + length d.frames
 
-  -- The frames' pairs are visited, differ from one another, and have no cell. Cells and frames together are no more
-  -- than nodes at positions. A window of n bytes has n + 1 positions, its end among them, but n where more may come.
+  -- The frames' evaluations are visited, differ from one another, and have no cell. Cells and frames together are no
+  -- more than nodes at positions. A window of n bytes has n + 1 positions, its end among them, but n where more may
+  -- come.
   pub record HasFrames (d : View) : Type 0 where
-    pub pairs : AreUnderWay (rules_of g.rules) g.start (shapes_of g.nodes) g.bodies x d.cells d.frames
+    pub evals : AreUnderWay (rules_of g.rules) g.start (shapes_of g.nodes) g.bodies x d.cells d.frames
     pub few : length d.cells + length d.frames ≤ length g.nodes * (last_position x more + 1)
 
-  -- The cells are exactly the pairs that are visited, each with its outcome and once, and as many as were begun.
+  -- The cells are exactly the evaluations that are visited, each with its outcome and once, and as many as were begun.
   pub record IsDone (d : View) : Type 0 where
     pub frames : d.frames ≡ []
     pub cells : AreVisitedCells (rules_of g.rules) g.start (shapes_of g.nodes) g.bodies x more d.cells
@@ -81,9 +82,9 @@ module _ (g : Grammar) (x : List ℕ) (more : Bool) where
     pub top : FailureFrame
     pub below : List FailureFrame
     pub is : d.frames ≡ top ∷ below
-    pub own : (m q : ℕ) → Asks (rules_of g.rules) (shapes_of g.nodes) g.bodies x top.node top.place m q → ⊥
+    pub own : (m q : ℕ) → Asks (rules_of g.rules) (shapes_of g.nodes) g.bodies x top.node top.position m q → ⊥
     pub outcome : Outcome
-    pub gives : NodeGives (rules_of g.rules) (shapes_of g.nodes) g.bodies x top.node top.place outcome (length x)
+    pub gives : NodeGives (rules_of g.rules) (shapes_of g.nodes) g.bodies x top.node top.position outcome (length x)
 
   -- the start rule's outcome, which did not look at the last byte of a window that more bytes follow
   pub record Answers (f : Found) : Type 0 where

@@ -1,4 +1,4 @@
--- Where the comparisons of a start rule's evaluation fail outside of `!`, and the farthest such place (Ford 2004,
+-- Where the comparisons of a start rule's evaluation fail outside of `!`, and the farthest such position (Ford 2004,
 -- section 3.3: what an expression gives; a comparison is that of `.`, of a class or of a literal with the input).
 use Rattle.std.specs.Prelude.{◌≡◌, ◌↔◌, ℕ, ◌+◌, ◌<◌, ◌≤◌, false, List, length, slice_get, Some, None}
 use Rattle.pegread.specs.Pattern.{Rule}
@@ -51,8 +51,8 @@ module _ (rules : List Rule) (nodes : List Shape) (bodies x : List ℕ) where
   abbrev pub AsksOutside : ℕ → ℕ → ℕ → ℕ → Type 0
   AsksOutside n p m q = (IsDenial nodes n → ⊥) × Asks rules nodes bodies x n p m q
 
-  -- The least set that holds the start rule's body at 0 and, with each pair that is not of a `!`, those whose outcome
-  -- it asks for.
+  -- The least set that holds the start rule's body at 0 and, with each evaluation that is not of a `!`, those whose
+  -- outcome it asks for.
   pub data Outside (start : ℕ) : ℕ → ℕ → Type 0 where
     first_outside : {n : ℕ} → slice_get bodies start ≡ Some n → Outside start n 0
     asked_outside : {n p m q : ℕ} → Outside start n p → AsksOutside n p m q → Outside start m q
@@ -72,4 +72,4 @@ module _ (rules : List Rule) (nodes : List Shape) (bodies x : List ℕ) where
       pub some : (n : ℕ) × (p : ℕ) × FailsAt n p f
       pub none_further : (n p h : ℕ) → FailsAt n p h → h ≤ f
       pub ordered : Ascends expected
-      pub exact : (v : Visit) → ListsVisit expected v ↔ FailsAt v.node v.place f
+      pub exact : (v : Visit) → ListsVisit expected v ↔ FailsAt v.node v.position f

@@ -6,9 +6,9 @@ use Rattle.matchfailure.specs.declared.farthest.visit.Visit.{Visit}
 
 -- the nodes are there, and the positions of the input too, where the unit begins after so many bytes
 abbrev pub AreFitting : ℕ → ℕ → List Visit → Type 0
-AreFitting nodes unit vs = (v : Visit) → ListsVisit vs v → (v.node < nodes) × (unit + v.place < 2 ^ 63)
+AreFitting nodes unit vs = (v : Visit) → ListsVisit vs v → (v.node < nodes) × (unit + v.position < 2 ^ 63)
 
 -- likewise those of a failure in a text of so many bytes
 pub record IsFitting (nodes size unit : ℕ) (far : Farthest) : Type 0 where
-  pub place : far.place ≤ size
+  pub position : far.position ≤ size
   pub expected : AreFitting nodes unit far.expected.items

@@ -1,6 +1,6 @@
 pub mod CellMap
 pub mod State
-pub mod Turns
+pub mod Steps
 pub mod Desk
 pub mod VisitLists
 pub mod SeenVisits
@@ -9,7 +9,7 @@ pub mod CellAsks
 pub mod GreatestStop
 pub mod ReportedUnit
 pub mod UnitEnds
-pub mod InputPlaces
+pub mod InputPositions
 pub mod NodeTexts
 pub mod NoMatchLines
 pub mod ReportOrder

@@ -14,21 +14,21 @@ use Rattle.matchfailure.specs.NodeTexts.{name_of_rule}
 use Rattle.matchfailure.specs.NoMatchLines.{failure_lines, opening}
 use Rattle.matchfailure.specs.ReportOrder.{AreReported}
 use Rattle.matchfailure.specs.UnitEnds.{takes_no_byte}
-use Rattle.matchfailure.specs.InputPlaces.{place_after}
+use Rattle.matchfailure.specs.InputPositions.{position_after}
 
 -- where a unit fails farthest outside of `!`
 pub record UnitFailure : Type 0 where
   -- how many bytes stand before the unit
   pub unit : ℕ
   -- how many bytes of the unit stand before the failing one
-  pub place : ℕ
+  pub position : ℕ
   -- what was expected there
   pub expected : List Visit
 
 -- the failing byte in the input
 abbrev pub failing_byte : Option UnitFailure → Option ℕ
 failing_byte None = None
-failing_byte (Some f) = Some (f.unit + f.place)
+failing_byte (Some f) = Some (f.unit + f.position)
 
 -- the failure that is reported, of those of the unit before and of the last one
 abbrev pub failure_of : LastUnit → Option UnitFailure → Option UnitFailure → Option UnitFailure
@@ -48,7 +48,7 @@ module _ (rules : List Rule) (start : ℕ) (nodes : List Shape) (bodies text : L
   abbrev pub IsUnitFailure : ℕ → Option UnitFailure → Type 0
   IsUnitFailure unit None = NoneFails rules nodes bodies (drop unit text) start
   IsUnitFailure unit (Some f) =
-      (f.unit ≡ unit) × IsFarthest rules nodes bodies (drop unit text) start f.place f.expected
+      (f.unit ≡ unit) × IsFarthest rules nodes bodies (drop unit text) start f.position f.expected
 
   -- likewise of a unit that there may be
   abbrev pub IsFailureOf : Option ℕ → Option UnitFailure → Type 0
@@ -59,13 +59,14 @@ module _ (rules : List Rule) (start : ℕ) (nodes : List Shape) (bodies text : L
 abbrev pub AreReportedOf : List Rule → ℕ → List Shape → List ℕ → Option UnitFailure → List Visit → Type 0
 AreReportedOf rules start nodes bodies None reported = reported ≡ []
 AreReportedOf rules start nodes bodies (Some f) reported =
-    AreReported rules start nodes bodies f.unit f.place f.expected reported
+    AreReported rules start nodes bodies f.unit f.position f.expected reported
 
 -- the lines of a failure in a text, if there is one
 abbrev pub lines_of_failure : List Rule → List Shape → List ℕ → List ℕ → Option UnitFailure → List Visit → List ℕ
 lines_of_failure rules nodes bodies text None reported = []
 lines_of_failure rules nodes bodies text (Some f) reported =
-    failure_lines rules nodes bodies (drop f.unit text) (place_after (take (f.unit + f.place) text)) f.unit f.place
+    failure_lines rules nodes bodies (drop f.unit text)
+    (position_after (take (f.unit + f.position) text)) f.unit f.position
     reported
 
 -- the lines of a failure with the line before them, where the start rule gives this on the last unit

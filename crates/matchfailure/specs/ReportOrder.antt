@@ -48,33 +48,33 @@ leaf_kind (Some (Set s)) = 1
 leaf_kind _ = 2
 
 module _ (far : List (Option ℕ)) (nodes : List Shape) (bodies : List ℕ) where
-  -- what orders a pair: the distance of its rule from the start rule, the rule, what the node is, the node, and where
-  -- it begins
+  -- what orders an evaluation: the distance of its rule from the start rule, the rule, what the node is, the node, and
+  -- where it begins
   abbrev pub key_of : Visit → List ℕ
   key_of v =
       let rule = rule_of_node bodies v.node in
       uses_or (length far) (get_or far rule None) ∷ (rule ∷ (leaf_kind (slice_get nodes v.node)
-      ∷ (v.node ∷ (v.place ∷ []))))
+      ∷ (v.node ∷ (v.position ∷ []))))
 
--- the pair of a key
+-- the evaluation of a key
 abbrev pub visit_of : List ℕ → Visit
-visit_of key = record { node = get_or key 3 0; place = get_or key 4 0 }
+visit_of key = record { node = get_or key 3 0; position = get_or key 4 0 }
 
--- the pairs whose text is none of these, and stands in the list for the first time
+-- the evaluations whose text is none of these, and stands in the list for the first time
 abbrev pub each_once : (Visit → List ℕ) → List (List ℕ) → List Visit → List Visit
 each_once text seen [] = []
 each_once text seen (v ∷ vs) = if list_any (bytes_eq (text v)) seen then each_once text seen vs
     else v ∷ each_once text (seen ++ text v ∷ []) vs
 
-module _ (rules : List Rule) (start : ℕ) (nodes : List Shape) (bodies : List ℕ) (unit place : ℕ) where
-  -- what is reported of a pair: the expression, where it begins, and its rule
+module _ (rules : List Rule) (start : ℕ) (nodes : List Shape) (bodies : List ℕ) (unit position : ℕ) where
+  -- what is reported of an evaluation: the expression, where it begins, and its rule
   abbrev pub entry_text : Visit → List ℕ
-  entry_text v = leaf_text (slice_get nodes v.node) ++ (begun_at unit place v.place
+  entry_text v = leaf_text (slice_get nodes v.node) ++ (begun_at unit position v.position
       ++ (codes " in " ++ name_of_rule rules (rule_of_node bodies v.node)))
 
-  -- Of the pairs that were expected these are reported. They are ordered by the distance of the rule from the start
-  -- rule, by the rules, literals before classes and these before `.`, by the body, and by where they begin. Of pairs
-  -- that are reported alike the first stands.
+  -- Of the evaluations that were expected these are reported. They are ordered by the distance of the rule from the
+  -- start rule, by the rules, literals before classes and these before `.`, by the body, and by where they begin. Of
+  -- evaluations that are reported alike the first stands.
   pub record AreReported (expected reported : List Visit) : Type 0 where
     pub far : List (Option ℕ)
     pub distances : AreDistances (use_rows nodes 0 bodies) start far

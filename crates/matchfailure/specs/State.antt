@@ -16,7 +16,7 @@ use Rattle.pegmatch.specs.Visits.{Asks, Visits}
 abbrev pub last_position : List ℕ → Bool → ℕ
 last_position x more = if more then length x - 1 else length x
 
--- A cell more, for a node and a place that had none.
+-- A cell more, for a node and a position that had none.
 pub record IsPut (old new : List Entry) (n p : ℕ) (f : Found) : Type 0 where
   pub here : found_at new n p ≡ Some f
   pub kept : (m q : ℕ) (h : Found) → found_at old m q ≡ Some h → found_at new m q ≡ Some h
@@ -52,17 +52,17 @@ module _ (cells : List Entry) where
   HasCome Open p i q = Unit {0}
   HasCome Close p i q = Unit {0}
 
--- no frame is of that pair
+-- no frame is of that evaluation
 abbrev pub HasNoFrame : List FailureFrame → ℕ → ℕ → Type 0
 HasNoFrame [] n p = Unit {0}
-HasNoFrame (f ∷ fs) n p = (f.node ≡ n → f.place ≡ p → ⊥) × HasNoFrame fs n p
+HasNoFrame (f ∷ fs) n p = (f.node ≡ n → f.position ≡ p → ⊥) × HasNoFrame fs n p
 
--- each frame's pair is visited, has no cell, and is no other frame's
+-- each frame's evaluation is visited, has no cell, and is no other frame's
 abbrev pub AreUnderWay : List Rule → ℕ → List Shape → List ℕ → List ℕ → List Entry → List FailureFrame → Type 0
 AreUnderWay rules start nodes bodies x cells [] = Unit {0}
 AreUnderWay rules start nodes bodies x cells (f ∷ fs) =
-    Visits rules nodes bodies x start f.node f.place × (found_at cells f.node f.place ≡ None)
-    × HasNoFrame fs f.node f.place ×
+    Visits rules nodes bodies x start f.node f.position × (found_at cells f.node f.position ≡ None)
+    × HasNoFrame fs f.node f.position ×
     AreUnderWay rules start nodes bodies x cells fs
 
 module _ (rules : List Rule) (start : ℕ) (nodes : List Shape) (bodies x : List ℕ) (more : Bool) where
@@ -71,22 +71,22 @@ module _ (rules : List Rule) (start : ℕ) (nodes : List Shape) (bodies x : List
     abbrev pub IsUnderWay : ℕ → ℕ → ℕ → ℕ → Type 0
     IsUnderWay n p i q = (shape : Shape) → slice_get nodes n ≡ Some shape → HasCome cells shape p i q
 
-    -- the frame's pair has no cell and stands no later than the last position, and it has come so far
+    -- the frame's evaluation has no cell and stands no later than the last position, and it has come so far
     pub record IsOpen (f : FailureFrame) : Type 0 where
-      pub none : found_at cells f.node f.place ≡ None
-      pub come : IsUnderWay f.node f.place f.next f.end
-      pub low : f.place ≤ last_position x more
+      pub none : found_at cells f.node f.position ≡ None
+      pub come : IsUnderWay f.node f.position f.next f.end
+      pub low : f.position ≤ last_position x more
 
     -- Frames, the last first: the first is of the start rule's body at 0, and each asks for the next.
     pub data IsStack : List FailureFrame → Type 0 where
       no_frame : IsStack []
-      bottom : {f : FailureFrame} → IsOpen f → slice_get bodies start ≡ Some f.node → f.place ≡ 0 → IsStack (f ∷ [])
+      bottom : {f : FailureFrame} → IsOpen f → slice_get bodies start ≡ Some f.node → f.position ≡ 0 → IsStack (f ∷ [])
       above : {h f : FailureFrame} {fs : List FailureFrame} → IsOpen h
-          → Asks rules nodes bodies x f.node f.place h.node h.place →
+          → Asks rules nodes bodies x f.node f.position h.node h.position →
           IsStack (f ∷ fs) → IsStack (h ∷ (f ∷ fs))
 
-    -- Each cell is of a pair that is visited, no later than the last position, and holds its outcome. All pairs that it
-    -- asked for have cells.
+    -- Each cell is of an evaluation that is visited, no later than the last position, and holds its outcome. All
+    -- evaluations that it asked for have cells.
     pub record AreCells : Type 0 where
       pub visited : (n p : ℕ) (f : Found) → found_at cells n p ≡ Some f → Visits rules nodes bodies x start n p
       pub low : (n p : ℕ) (f : Found) → found_at cells n p ≡ Some f → p ≤ last_position x more

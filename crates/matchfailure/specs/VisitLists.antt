@@ -1,30 +1,30 @@
--- Lists of visited pairs.
+-- Lists of visited evaluations.
 use Rattle.std.specs.Prelude.{◌≡◌, ◌⊎◌, ℕ, ◌<◌, ◌≤◌, List, length, slice_get, Some}
 use Rattle.matchfailure.specs.declared.farthest.visit.Visit.{Visit}
 
--- the pair is in the list
+-- the evaluation is in the list
 abbrev pub ListsVisit : List Visit → Visit → Type 0
 ListsVisit vs v = (k : ℕ) × (slice_get vs k ≡ Some v)
 
--- v stands before w: by the node, and then by the place
+-- v stands before w: by the node, and then by the position
 abbrev pub StandsBefore : Visit → Visit → Type 0
-StandsBefore v w = (v.node < w.node) ⊎ ((v.node ≡ w.node) × (v.place < w.place))
+StandsBefore v w = (v.node < w.node) ⊎ ((v.node ≡ w.node) × (v.position < w.position))
 
--- each pair is less than those after it
+-- each evaluation is less than those after it
 abbrev pub Ascends : List Visit → Type 0
 Ascends vs = (i j : ℕ) (v w : Visit) → i < j → slice_get vs i ≡ Some v → slice_get vs j ≡ Some w → StandsBefore v w
 
--- no pair is in the list twice
+-- no evaluation is in the list twice
 abbrev pub AreOnce : List Visit → Type 0
 AreOnce vs = (i j : ℕ) (v : Visit) → slice_get vs i ≡ Some v → slice_get vs j ≡ Some v → i ≡ j
 
--- the nodes are there, and the places are of the input or its end
+-- the nodes are there, and the positions are of the input or its end
 abbrev pub AreWithin : ℕ → ℕ → List Visit → Type 0
-AreWithin nodes length vs = (v : Visit) → ListsVisit vs v → (v.node < nodes) × (v.place ≤ length)
+AreWithin nodes length vs = (v : Visit) → ListsVisit vs v → (v.node < nodes) × (v.position ≤ length)
 
--- The pairs of a set are added to a list, each once, after what it has.
+-- The evaluations of a set are added to a list, each once, after what it has.
 pub record AddsVisits (Added : ℕ → ℕ → Type 0) (old new : List Visit) : Type 0 where
   pub kept : (k : ℕ) (v : Visit) → slice_get old k ≡ Some v → slice_get new k ≡ Some v
-  pub only : (v : Visit) → ListsVisit new v → ListsVisit old v ⊎ Added v.node v.place
-  pub all : (n p : ℕ) → Added n p → ListsVisit new (record { node = n; place = p })
+  pub only : (v : Visit) → ListsVisit new v → ListsVisit old v ⊎ Added v.node v.position
+  pub all : (n p : ℕ) → Added n p → ListsVisit new (record { node = n; position = p })
   pub once : AreOnce old → AreOnce new

@@ -5,6 +5,6 @@ mod advance;
 mod cell_map;
 mod desk;
 mod frame;
-mod turn;
+mod step;
 
 pub use desk::Desk;

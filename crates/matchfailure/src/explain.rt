@@ -5,10 +5,10 @@ mod laws;
 mod lines;
 mod node_texts;
 mod order;
-mod place;
+mod position;
 mod uses;
 
 pub use explain::{FailureSearch, explain_long_unit};
 pub use laws::{fails_so_in_input, one_no_match};
 pub use lines::MAX_EXPECTED;
-pub use place::TextPlace;
+pub use position::TextPosition;

@@ -7,7 +7,9 @@ mod explain;
 mod farthest;
 
 pub use desk::Desk;
-pub use explain::{FailureSearch, TextPlace, explain_long_unit, fails_so_in_input, one_no_match};
+pub use explain::{
+    FailureSearch, TextPosition, explain_long_unit, fails_so_in_input, one_no_match,
+};
 pub use farthest::{
     Farthest, LastUnit, UnitSearch, Visit, failing_leaf_stops, farthest_failure,
     farthest_is_within, farthest_or_none, one_farthest, reported_unit, same_on_longer, stops_fail,

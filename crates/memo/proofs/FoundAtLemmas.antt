@@ -5,18 +5,19 @@ use Rattle.std.specs.Option.{option_or}
 use Rattle.std.proofs.lemmas.Bool.{eqb-true, eq-eqb, and_parts, and_from}
 use Rattle.memo.specs.Entries.{Entry, found_at}
 
--- whether the entry is of that node and place
+-- whether the entry is of that node and position
 abbrev pub is_of : Entry → ℕ → ℕ → Bool
-is_of c n p = (c.node == n) && (c.place == p)
+is_of c n p = (c.node == n) && (c.position == p)
 
-pub is_own : (c : Entry) (n p : ℕ) → is_of c n p ≡ true → (c.node ≡ n) × (c.place ≡ p)
-is_own c n p h = let both = and_parts (c.node == n) (c.place == p) h in
-    (eqb-true c.node n both.0, eqb-true c.place p both.1)
+pub is_own : (c : Entry) (n p : ℕ) → is_of c n p ≡ true → (c.node ≡ n) × (c.position ≡ p)
+is_own c n p h = let both = and_parts (c.node == n) (c.position == p) h in
+    (eqb-true c.node n both.0, eqb-true c.position p both.1)
 
-pub is_of_own : (c : Entry) → is_of c c.node c.place ≡ true
-is_of_own c = and_from (c.node == c.node) (c.place == c.place) (eq-eqb c.node c.node refl) (eq-eqb c.place c.place refl)
+pub is_of_own : (c : Entry) → is_of c c.node c.position ≡ true
+is_of_own c = and_from (c.node == c.node) (c.position == c.position) (eq-eqb c.node c.node refl)
+    (eq-eqb c.position c.position refl)
 
--- what two lists have for the pair: what the first has, or else the second
+-- what two lists have for the evaluation: what the first has, or else the second
 pub found_in_both : (xs ys : List Entry) (n p : ℕ)
     → found_at (xs ++ ys) n p ≡ option_or (found_at xs n p) (found_at ys n p)
 found_in_both [] ys n p = refl

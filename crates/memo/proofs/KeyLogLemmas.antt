@@ -1,4 +1,4 @@
--- Lists of stored keys, and keys that stand at places in a row.
+-- Lists of stored keys, and keys that stand at positions in a row.
 -- Serves: KeyLog::get, KeyLog::put, KeyLog::put_run, KeyLog::put_steps, KeyLog::mark
 use Rattle.std.proofs.Common.{◌≡◌, ◌⊎◌, inl, inr, ℕ, zero, suc, ◌+◌, ◌<◌, ◌≤◌, List, [], ◌∷◌, ◌++◌, length, refl, sym}
 use Rattle.std.proofs.Common.{subst, ap, arith, slice_get, Some, reverse}
@@ -58,19 +58,19 @@ pub task_of_stored : {s : Stored} {stored : List Stored} → IsIn s stored → I
 task_of_stored in_here = in_here
 task_of_stored (in_later i) = in_later (task_of_stored i)
 
--- one of those that stand at places in a row
+-- one of those that stand at positions in a row
 pub record IsSpread (at : ℕ → Stored) (from n : ℕ) (s : Stored) : Type 0 where
-  pub place : ℕ
-  pub is : s ≡ at place
-  pub low : from ≤ place
-  pub high : place < from + n
+  pub position : ℕ
+  pub is : s ≡ at position
+  pub low : from ≤ position
+  pub high : position < from + n
 
 pub of_spread : (at : ℕ → Stored) (from n : ℕ) (s : Stored) → IsIn s (spread at from n) → IsSpread at from n s
 of_spread at from zero s i = elim i [ ]
 of_spread at from (suc n) s i = elim (first_or_later i) [
-  | inl is ↦ record { place = from + n; is = is; low = omega arith; high = omega arith }
+  | inl is ↦ record { position = from + n; is = is; low = omega arith; high = omega arith }
   | inr j ↦ let h = of_spread at from n s j in
-      record { place = h.place; is = h.is; low = h.low; high = let k = h.high in omega arith }
+      record { position = h.position; is = h.is; low = h.low; high = let k = h.high in omega arith }
 ]
 
 last_or_before : (p m n : ℕ) → p < m + suc n → (p ≡ m + n) ⊎ (p < m + n)
@@ -90,10 +90,10 @@ length_spread at from (suc n) = let h = length_spread at from n in omega arith
 pub of_rising : (at : ℕ → Stored) (from n : ℕ) (s : Stored) → IsIn s (rising at from n) → IsSpread at from n s
 of_rising at from zero s i = elim i [ ]
 of_rising at from (suc n) s i = elim (first_or_later i) [
-  | inl is ↦ record { place = from; is = is; low = omega arith; high = omega arith }
+  | inl is ↦ record { position = from; is = is; low = omega arith; high = omega arith }
   | inr j ↦ let h = of_rising at (suc from) n s j in
       record {
-        place = h.place;
+        position = h.position;
         is = h.is;
         low = let k = h.low in omega arith;
         high = let k = h.high in omega arith;

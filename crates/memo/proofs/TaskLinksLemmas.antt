@@ -6,7 +6,8 @@ use Rattle.std.proofs.lemmas.Option.{slice_get_within}
 use Rattle.std.proofs.Common.{length-append, length-set, length-take-le, take}
 use Rattle.std.proofs.lemmas.List.{take_more_set}
 use Rattle.memo.specs.Parts.{IsIn}
-use Rattle.memo.specs.TaskLinks.{Place, place_of_cell, places_of, bucket_of, bucket_of_cell, IsCellAt, IsLastCell}
+use Rattle.memo.specs.TaskLinks.{Position, position_of_cell, positions_of, bucket_of, bucket_of_cell, IsCellAt}
+use Rattle.memo.specs.TaskLinks.{IsLastCell}
 use Rattle.memo.specs.TaskLinks.{AreLinkedCells}
 use Rattle.memo.specs.declared.index.IndexCell.{IndexCell}
 use Rattle.memo.proofs.KeyLogLemmas.{get_of_in}
@@ -166,10 +167,10 @@ sought_next bucket cells firsts Sought b at c same l s h e other =
       },
     )
 
--- a place of the index is a cell's
-pub cell_of_place : (cells : List IndexCell) (p : Place) → IsIn p (places_of cells)
-    → (j : ℕ) × (c : IndexCell) × (slice_get cells j ≡ Some c) × (place_of_cell c ≡ p)
-cell_of_place cells p i =
+-- a position of the index is a cell's
+pub cell_of_position : (cells : List IndexCell) (p : Position) → IsIn p (positions_of cells)
+    → (j : ℕ) × (c : IndexCell) × (slice_get cells j ≡ Some c) × (position_of_cell c ≡ p)
+cell_of_position cells p i =
     let h = get_of_in i in
-    let m = mapped_from place_of_cell cells h.index p h.at in
+    let m = mapped_from position_of_cell cells h.index p h.at in
     (h.index, m.0, m.1, m.2)

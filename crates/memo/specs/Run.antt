@@ -4,8 +4,9 @@ use Rattle.memo.specs.Parts.{IsIn}
 
 module _ (V : Type 0) (Kids : V → List V → Type 0) (key : V → Bool) (weight : V → ℕ) where
   mutual
-    -- `Run old a new c`: a is evaluated where the keys `old` are stored. That begins c pairs, and then the keys `new`
-    -- are stored. A key that is stored begins nothing; any other task begins, and its children are evaluated in order.
+    -- `Run old a new c`: a is evaluated where the keys `old` are stored. That begins c evaluations, and then the keys
+    -- `new` are stored. A key that is stored begins nothing; any other task begins, and its children are evaluated in
+    -- order.
     pub data Run : List V → V → List V → ℕ → Type 0 where
       run_stored : {a : V} {old : List V} → key a ≡ true → IsIn a old → Run old a old 0
       run_key : {a : V} {ks old new : List V} {c : ℕ} → key a ≡ true → (IsIn a old → ⊥) → Kids a ks

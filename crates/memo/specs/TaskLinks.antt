@@ -3,15 +3,15 @@ use Rattle.std.specs.Prelude.{◌≡◌, ℕ, ◌-◌, ◌<◌, ◌≤◌, List,
 use Rattle.memo.specs.declared.index.IndexCell.{IndexCell}
 
 -- a key's number, and the entry that has the key
-pub record Place : Type 0 where
+pub record Position : Type 0 where
   pub number : ℕ
   pub entry : ℕ
 
-abbrev pub place_of_cell : IndexCell → Place
-place_of_cell c = record { number = c.number; entry = c.entry }
+abbrev pub position_of_cell : IndexCell → Position
+position_of_cell c = record { number = c.number; entry = c.entry }
 
-abbrev pub places_of : List IndexCell → List Place
-places_of cells = map place_of_cell cells
+abbrev pub positions_of : List IndexCell → List Position
+positions_of cells = map position_of_cell cells
 
 -- one of so many buckets
 unfoldable pub bucket_of : ℕ → ℕ → ℕ

@@ -2,15 +2,15 @@
 ghost use Rattle.std.specs.Prelude.{◌≡◌, ◌+◌, ◌<◌, ◌≤◌, ◌^◌, true, false, [], ◌∷◌, slice_get, Some};
 ghost use Rattle.std.specs.Prelude.{IfOk, IfSome, IfNone};
 ghost use Rattle.memo.specs.KeyLog.{tasks_of, row_of, run_of, steps_of};
-ghost use Rattle.memo.specs.LogEntries.{found_of, given_of, node_of, pairs_of, IsExtent};
+ghost use Rattle.memo.specs.LogEntries.{found_of, given_of, node_of, evals_of, IsExtent};
 ghost use Rattle.memo.specs.Parts.{IsIn};
 ghost use Rattle.memo.specs.declared.entry.Entry.{Entry};
-ghost use Rattle.memo.specs.declared.task.MatchTask.TheVariants.{Pair, Tail};
+ghost use Rattle.memo.specs.declared.task.MatchTask.TheVariants.{Eval, Tail};
 
 use crate::found::Found;
 use crate::key_log::Given;
 use crate::narrow::narrow;
-use crate::task::{MatchTask, pair_number, tail_number};
+use crate::task::{MatchTask, eval_number, tail_number};
 use ruletable::Memory;
 use std::mem::size_of;
 
@@ -62,7 +62,7 @@ pub(crate) enum Entry {
         ending: EvaluationEnding,
         node: u32,
         index: u32,
-        place: u32,
+        position: u32,
         end: u32,
         events: u32,
     },
@@ -106,18 +106,22 @@ impl Entry {
     /// `Memory` if a number does not fit into 32 bits.
     #[inline(always)]
     pub(crate) fn of_task(task: MatchTask, given: Given) -> Result<Entry, Memory>
-        ensures pairs { IfOk result (λ e. pairs_of e ≡ record { task = task; given = given } ∷ []) }
+        ensures evals { IfOk result (λ e. evals_of e ≡ record { task = task; given = given } ∷ []) }
         ensures node { IfOk result (λ e. node_of e ≡ row_of task) }
     {
         match task {
-            MatchTask::Pair { node, place } => Entry::run(node, place, place, given),
-            MatchTask::Tail { node, index, place } => {
+            MatchTask::Eval { node, position } => Entry::run(node, position, position, given),
+            MatchTask::Tail {
+                node,
+                index,
+                position,
+            } => {
                 let outcome = PackedOutcome::of(given.found)?;
                 Ok(Entry::Member {
                     ending: outcome.ending,
                     node: narrow(node)?,
                     index: narrow(index)?,
-                    place: narrow(place)?,
+                    position: narrow(position)?,
                     end: outcome.end,
                     events: narrow(given.events)?,
                 })
@@ -131,7 +135,7 @@ impl Entry {
     /// `Memory` if a number does not fit into 32 bits.
     #[inline(always)]
     pub(crate) fn run(node: usize, from: usize, to: usize, given: Given) -> Result<Entry, Memory>
-        ensures pairs { IfOk result (λ e. pairs_of e ≡ run_of node from to given) }
+        ensures evals { IfOk result (λ e. evals_of e ≡ run_of node from to given) }
         ensures node { IfOk result (λ e. node_of e ≡ node) }
     {
         let outcome = PackedOutcome::of(given.found)?;
@@ -151,7 +155,7 @@ impl Entry {
     /// `Memory` if a number does not fit into 32 bits.
     #[inline(always)]
     pub(crate) fn steps(node: usize, from: usize, to: usize) -> Result<Entry, Memory>
-        ensures pairs { IfOk result (λ e. pairs_of e ≡ steps_of node from to) }
+        ensures evals { IfOk result (λ e. evals_of e ≡ steps_of node from to) }
         ensures node { IfOk result (λ e. node_of e ≡ node) }
     {
         Ok(Entry::Steps {
@@ -171,15 +175,15 @@ impl Entry {
             Entry::Member {
                 node,
                 index,
-                place,
+                position,
                 end: _,
                 ending: _,
                 events: _,
             } => Extent {
                 row: node as usize,
-                highest: place,
+                highest: position,
                 count: 1,
-                first: tail_number(node, index, place),
+                first: tail_number(node, index, position),
             },
             Entry::Run {
                 node,
@@ -192,13 +196,13 @@ impl Entry {
                 row: node as usize,
                 highest: to,
                 count: (to as usize + 1).saturating_sub(from as usize),
-                first: pair_number(node, from),
+                first: eval_number(node, from),
             },
             Entry::Steps { node, from, to } => Extent {
                 row: node as usize,
                 highest: to.saturating_sub(1),
                 count: (to as usize).saturating_sub(from as usize),
-                first: pair_number(node, from),
+                first: eval_number(node, from),
             },
         }
     }
@@ -206,26 +210,30 @@ impl Entry {
     /// Returns the stored outcome of a key, if the entry has the key.
     #[inline(always)]
     pub(crate) fn given_for(self, task: MatchTask) -> Option<Given>
-        ensures some { IfSome result (λ g. IsIn (record { task = task; given = g }) (pairs_of self)) }
-        ensures none { IfNone result (IsIn task (tasks_of (pairs_of self)) → ⊥) }
+        ensures some { IfSome result (λ g. IsIn (record { task = task; given = g }) (evals_of self)) }
+        ensures none { IfNone result (IsIn task (tasks_of (evals_of self)) → ⊥) }
     {
         match task {
-            MatchTask::Pair { node, place } => self.given_for_pair(node, place),
-            MatchTask::Tail { node, index, place } => self.given_for_tail(node, index, place),
+            MatchTask::Eval { node, position } => self.given_for_eval(node, position),
+            MatchTask::Tail {
+                node,
+                index,
+                position,
+            } => self.given_for_tail(node, index, position),
         }
     }
 
-    // Returns what it says of a pair, if it has it.
+    // Returns what it says of an evaluation, if it has it.
     #[inline(always)]
-    fn given_for_pair(self, node: usize, place: usize) -> Option<Given>
-        ensures some { IfSome result (λ g. IsIn (record { task = Pair node place; given = g }) (pairs_of self)) }
-        ensures none { IfNone result (IsIn (Pair node place) (tasks_of (pairs_of self)) → ⊥) }
+    fn given_for_eval(self, node: usize, position: usize) -> Option<Given>
+        ensures some { IfSome result (λ g. IsIn (record { task = Eval node position; given = g }) (evals_of self)) }
+        ensures none { IfNone result (IsIn (Eval node position) (tasks_of (evals_of self)) → ⊥) }
     {
         match self {
             Entry::Member {
                 node: _,
                 index: _,
-                place: _,
+                position: _,
                 end: _,
                 ending: _,
                 events: _,
@@ -238,7 +246,7 @@ impl Entry {
                 ending,
                 events,
             } => {
-                if is_within(node, place, own, from, to as usize + 1) {
+                if is_within(node, position, own, from, to as usize + 1) {
                     Some(given(ending, end, events))
                 } else {
                     None
@@ -249,9 +257,9 @@ impl Entry {
                 from,
                 to,
             } => {
-                if is_within(node, place, own, from, to as usize) {
+                if is_within(node, position, own, from, to as usize) {
                     Some(Given {
-                        found: Found::Took(place + 1),
+                        found: Found::Took(position + 1),
                         events: 0,
                     })
                 } else {
@@ -262,20 +270,21 @@ impl Entry {
     }
 
     // Returns what it says of a tail, if it has it.
-    fn given_for_tail(self, node: usize, index: usize, place: usize) -> Option<Given>
-        ensures some { IfSome result (λ g. IsIn (record { task = Tail node index place; given = g }) (pairs_of self)) }
-        ensures none { IfNone result (IsIn (Tail node index place) (tasks_of (pairs_of self)) → ⊥) }
+    fn given_for_tail(self, node: usize, index: usize, position: usize) -> Option<Given>
+        ensures some { IfSome result
+            (λ g. IsIn (record { task = Tail node index position; given = g }) (evals_of self)) }
+        ensures none { IfNone result (IsIn (Tail node index position) (tasks_of (evals_of self)) → ⊥) }
     {
         match self {
             Entry::Member {
                 node: own,
                 index: member,
-                place: there,
+                position: there,
                 end,
                 ending,
                 events,
             } => {
-                if node == own as usize && index == member as usize && place == there as usize {
+                if node == own as usize && index == member as usize && position == there as usize {
                     Some(given(ending, end, events))
                 } else {
                     None
@@ -300,11 +309,11 @@ impl Entry {
 
 // Returns whether a node at a position is that node, at a position from `from` on, before `end`.
 #[inline(always)]
-fn is_within(node: usize, place: usize, own: u32, from: u32, end: usize) -> bool
-    ensures yes { result ≡ true → (node ≡ own) × (from ≤ place) × (place < end) }
-    ensures no { result ≡ false → node ≡ own → from ≤ place → place < end → ⊥ }
+fn is_within(node: usize, position: usize, own: u32, from: u32, end: usize) -> bool
+    ensures yes { result ≡ true → (node ≡ own) × (from ≤ position) × (position < end) }
+    ensures no { result ≡ false → node ≡ own → from ≤ position → position < end → ⊥ }
 {
-    node == own as usize && place >= from as usize && place < end
+    node == own as usize && position >= from as usize && position < end
 }
 
 // Returns what was found, with its events.
@@ -326,8 +335,8 @@ fn given(ending: EvaluationEnding, end: u32, events: u32) -> Given
 /// the entry lacks the key.
 pub(crate) fn given_in(entries: &[Entry], at: u32, task: MatchTask) -> Option<Given>
     ensures some { IfSome result (λ g. (e : Entry) × (slice_get entries.now at ≡ Some e)
-        × IsIn (record { task = task; given = g }) (pairs_of e)) }
-    ensures none { IfNone result ((e : Entry) → slice_get entries.now at ≡ Some e → IsIn task (tasks_of (pairs_of e))
+        × IsIn (record { task = task; given = g }) (evals_of e)) }
+    ensures none { IfNone result ((e : Entry) → slice_get entries.now at ≡ Some e → IsIn task (tasks_of (evals_of e))
         → ⊥) }
 {
     match entries.get(at as usize) {

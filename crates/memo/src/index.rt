@@ -2,9 +2,9 @@
 ghost use Rattle.std.specs.Prelude.{◌≡◌, ℕ, ◌<◌, ◌≤◌, ◌^◌, [], ◌∷◌, ◌++◌, length, slice_get, Some, IfSome, IfNone};
 ghost use Rattle.std.specs.Prelude.{OnOk, OnErr};
 ghost use Rattle.memo.specs.KeyLog.{tasks_of};
-ghost use Rattle.memo.specs.LogEntries.{pairs_of};
+ghost use Rattle.memo.specs.LogEntries.{evals_of};
 ghost use Rattle.memo.specs.Parts.{IsIn};
-ghost use Rattle.memo.specs.TaskLinks.{places_of, bucket_of, bucket_of_cell, IsLastCell, AreLinkedCells};
+ghost use Rattle.memo.specs.TaskLinks.{positions_of, bucket_of, bucket_of_cell, IsLastCell, AreLinkedCells};
 ghost use Rattle.memo.specs.declared.entry.Entry.{Entry};
 
 use crate::entry::{Entry, given_in};
@@ -40,11 +40,11 @@ pub(crate) struct Index {
 
 impl Model for Index {
     ghost use Rattle.std.specs.Prelude.{List, length, ◌<◌};
-    ghost use Rattle.memo.specs.TaskLinks.{Place, places_of, bucket_of_cell, AreLinkedCells};
+    ghost use Rattle.memo.specs.TaskLinks.{Position, positions_of, bucket_of_cell, AreLinkedCells};
 
-    ghost Value = { List Place };
+    ghost Value = { List Position };
 
-    ghost view = { λ m. places_of m.cells.items };
+    ghost view = { λ m. positions_of m.cells.items };
 
     ghost invariant = { λ m. AreLinkedCells (bucket_of_cell (length m.heads.items)) m.cells.items m.heads.items
         × (0 < length m.cells.items → 0 < length m.heads.items) };
@@ -85,9 +85,9 @@ fn walk(
     requires some { 0 < length heads.now }
     requires linked { AreLinkedCells (bucket_of_cell (length heads.now)) cells.now heads.now }
     ensures some { IfSome result (λ g. (i : ℕ) × (e : Entry) × (slice_get entries.now i ≡ Some e)
-        × IsIn (record { task = task; given = g }) (pairs_of e)) }
+        × IsIn (record { task = task; given = g }) (evals_of e)) }
     ensures none { IfNone result ((i : ℕ) (e : Entry) → IsIn (record { number = number; entry = i })
-        (places_of cells.now) → slice_get entries.now i ≡ Some e → IsIn task (tasks_of (pairs_of e)) → ⊥) }
+        (positions_of cells.now) → slice_get entries.now i ≡ Some e → IsIn task (tasks_of (evals_of e)) → ⊥) }
 {
     let mut at = last_of(cells, heads, heads.len(), bucket(heads.len(), number));
     while at > 0 {
@@ -117,7 +117,7 @@ fn relink(cells: &mut [IndexCell], heads: &mut [u32])
     requires some { 0 < length heads.old }
     requires few { length cells.old < 2 ^ 32 }
     ensures linked { AreLinkedCells (bucket_of_cell (length heads.new)) cells.new heads.new }
-    ensures same { places_of cells.new ≡ places_of cells.old }
+    ensures same { positions_of cells.new ≡ positions_of cells.old }
     ensures count { length heads.new ≡ length heads.old }
 {
     wipe(heads);
@@ -135,7 +135,7 @@ fn grow(cells: &mut [IndexCell], heads: &mut Vec<u32>) -> Result<(), Memory>
     requires few { length cells.old < 2 ^ 32 }
     requires linked { AreLinkedCells (bucket_of_cell (length heads.old.items)) cells.old heads.old.items }
     ensures linked { AreLinkedCells (bucket_of_cell (length heads.new.items)) cells.new heads.new.items }
-    ensures same { places_of cells.new ≡ places_of cells.old }
+    ensures same { positions_of cells.new ≡ positions_of cells.old }
     ensures some { OnOk result (0 < length heads.new.items) }
     ensures unchanged { OnErr result (heads.new.items ≡ heads.old.items) }
 {
@@ -155,7 +155,7 @@ fn add(
     requires some { 0 < length heads.old }
     requires linked { AreLinkedCells (bucket_of_cell (length heads.old)) cells.old.items heads.old }
     ensures linked { AreLinkedCells (bucket_of_cell (length heads.new)) cells.new.items heads.new }
-    ensures added { OnOk result (places_of cells.new.items ≡ places_of cells.old.items
+    ensures added { OnOk result (positions_of cells.new.items ≡ positions_of cells.old.items
         ++ record { number = number; entry = entry } ∷ []) }
     ensures unchanged { OnErr result (cells.new.items ≡ cells.old.items) }
     ensures count { length heads.new ≡ length heads.old }
@@ -209,9 +209,9 @@ impl Index {
     /// Looks up the stored outcome of the key of that number, if the index has the key.
     pub(crate) fn find(&self, entries: &[Entry], number: usize, task: MatchTask) -> Option<Given>
         ensures some { IfSome result (λ g. (i : ℕ) × (e : Entry) × (slice_get entries.now i ≡ Some e)
-            × IsIn (record { task = task; given = g }) (pairs_of e)) }
+            × IsIn (record { task = task; given = g }) (evals_of e)) }
         ensures none { IfNone result ((i : ℕ) (e : Entry) → IsIn (record { number = number; entry = i }) self.now
-            → slice_get entries.now i ≡ Some e → IsIn task (tasks_of (pairs_of e)) → ⊥) }
+            → slice_get entries.now i ≡ Some e → IsIn task (tasks_of (evals_of e)) → ⊥) }
     {
         if self.cells.is_empty() {
             None

@@ -1,10 +1,10 @@
 //! The log of the keys.
 ghost use Rattle.std.specs.Prelude.{◌≡◌, ℕ, ◌+◌, ◌<◌, ◌≤◌, ◌^◌, [], ◌∷◌, ◌++◌, length, true, IfOk};
 ghost use Rattle.std.specs.Prelude.{IfSome, IfNone, OnOk, OnErr};
-ghost use Rattle.memo.specs.KeyLog.{tasks_of, row_of, place_of, run_of, steps_of};
-ghost use Rattle.memo.specs.LogEntries.{node_of, pairs_of, AreCovered};
+ghost use Rattle.memo.specs.KeyLog.{tasks_of, row_of, position_of, run_of, steps_of};
+ghost use Rattle.memo.specs.LogEntries.{node_of, evals_of, AreCovered};
 ghost use Rattle.memo.specs.Parts.{IsIn};
-ghost use Rattle.memo.specs.TaskLinks.{Place};
+ghost use Rattle.memo.specs.TaskLinks.{Position};
 ghost use Rattle.memo.specs.declared.key_log.Stored.{Stored};
 
 use crate::entry::{Entry, given_in};
@@ -103,7 +103,7 @@ fn raised(mark: Mark, unit: u64, highest: u32, last: u32) -> Mark
 // Puts so many numbers of an entry into the index.
 fn put_numbers(index: &mut Index, first: usize, count: usize, entry: u32) -> Result<(), Memory>
     requires room { first + count < 2 ^ 64 }
-    ensures kept { (p : Place) → IsIn p index.old → IsIn p index.new }
+    ensures kept { (p : Position) → IsIn p index.old → IsIn p index.new }
     ensures numbers { OnOk result ((n : ℕ) → first ≤ n → n < first + count
         → IsIn (record { number = n; entry = entry }) index.new) }
 {
@@ -183,7 +183,7 @@ impl KeyLog {
     /// Returns the mark of a row: a position that no stored key of the row reaches.
     #[inline(always)]
     pub fn mark(&self, row: usize) -> usize
-        ensures { (s : Stored) → IsIn s self.now.stored → row_of s.task ≡ row → place_of s.task < result }
+        ensures { (s : Stored) → IsIn s self.now.stored → row_of s.task ≡ row → position_of s.task < result }
     {
         match self.high.get(row) {
             Some(mark) => {
@@ -199,11 +199,11 @@ impl KeyLog {
 
     /// Returns whether a position is at the mark of a row or after it: no key of the row is stored there or after it.
     #[inline(always)]
-    pub fn is_new(&self, row: usize, place: usize) -> bool
-        ensures { result ≡ true → (s : Stored) → IsIn s self.now.stored → row_of s.task ≡ row → place_of s.task
-            < place }
+    pub fn is_new(&self, row: usize, position: usize) -> bool
+        ensures { result ≡ true → (s : Stored) → IsIn s self.now.stored → row_of s.task ≡ row → position_of s.task
+            < position }
     {
-        place >= self.mark(row)
+        position >= self.mark(row)
     }
 
     /// Looks up the outcome of a key, if it is stored.
@@ -217,7 +217,7 @@ impl KeyLog {
         ensures none { IfOk result (λ found. IfNone found (IsIn task (tasks_of self.old.stored) → ⊥)) }
         ensures same { self.new ≡ self.old }
     {
-        if self.is_new(task.row(), task.place()) {
+        if self.is_new(task.row(), task.position()) {
             return Ok(None);
         }
         match self.last_given(task) {
@@ -268,8 +268,8 @@ impl KeyLog {
         self.store(entry)
     }
 
-    /// Stores what was found for the pairs of a node at the positions from `from` to `to`. The node must be a row that
-    /// the log has.
+    /// Stores what was found for the evaluations of a node at the positions from `from` to `to`. The node must be a row
+    /// that the log has.
     ///
     /// # Errors
     /// `Memory` if an allocation fails, or if a number does not fit into 32 bits; nothing is stored.
@@ -310,7 +310,7 @@ impl KeyLog {
     #[inline(always)]
     fn store(&mut self, entry: Entry) -> Result<(), Memory>
         requires row { node_of entry < self.old.rows }
-        ensures stored { OnOk result (self.new.stored ≡ pairs_of entry ++ self.old.stored) }
+        ensures stored { OnOk result (self.new.stored ≡ evals_of entry ++ self.old.stored) }
         ensures rows { self.new.rows ≡ self.old.rows }
         ensures unchanged { OnErr result (self.new.stored ≡ self.old.stored) }
     {

@@ -1,6 +1,6 @@
 //! Tasks, under which outcomes are stored.
 ghost use Rattle.std.specs.Prelude.{◌≡◌, ◌+◌, ◌*◌, ◌<◌, ◌^◌, IfOk, OnErr};
-ghost use Rattle.memo.specs.KeyLog.{row_of, place_of, number_of, IsNarrow};
+ghost use Rattle.memo.specs.KeyLog.{row_of, position_of, number_of, IsNarrow};
 
 use crate::narrow::narrow;
 use ruletable::Memory;
@@ -10,15 +10,15 @@ use ruletable::Memory;
 #[derive(Clone, Copy)]
 pub enum MatchTask {
     /// A node and a position.
-    Pair {
+    Eval {
         node: usize,
-        place: usize,
+        position: usize,
     },
     /// A node, the index of a member, and a position.
     Tail {
         node: usize,
         index: usize,
-        place: usize,
+        position: usize,
     },
 }
 
@@ -35,27 +35,27 @@ impl MatchTask {
         ensures { result ≡ row_of self }
     {
         match self {
-            MatchTask::Pair { node, place: _ } => node,
+            MatchTask::Eval { node, position: _ } => node,
             MatchTask::Tail {
                 node,
                 index: _,
-                place: _,
+                position: _,
             } => node,
         }
     }
 
     /// Returns its position.
     #[inline(always)]
-    pub fn place(self) -> usize
-        ensures { result ≡ place_of self }
+    pub fn position(self) -> usize
+        ensures { result ≡ position_of self }
     {
         match self {
-            MatchTask::Pair { node: _, place } => place,
+            MatchTask::Eval { node: _, position } => position,
             MatchTask::Tail {
                 node: _,
                 index: _,
-                place,
-            } => place,
+                position,
+            } => position,
         }
     }
 
@@ -68,28 +68,30 @@ impl MatchTask {
         ensures great { OnErr result (IsNarrow self → ⊥) }
     {
         match self {
-            MatchTask::Pair { node, place } => Ok(pair_number(narrow(node)?, narrow(place)?)),
-            MatchTask::Tail { node, index, place } => {
-                Ok(tail_number(narrow(node)?, narrow(index)?, narrow(place)?))
-            }
+            MatchTask::Eval { node, position } => Ok(eval_number(narrow(node)?, narrow(position)?)),
+            MatchTask::Tail {
+                node,
+                index,
+                position,
+            } => { Ok(tail_number(narrow(node)?, narrow(index)?, narrow(position)?)) }
         }
     }
 }
 
 /// Returns the number of a node at a position.
 #[inline(always)]
-pub(crate) fn pair_number(node: u32, place: u32) -> usize
-    ensures same { result ≡ node * 668265263 + place }
+pub(crate) fn eval_number(node: u32, position: u32) -> usize
+    ensures same { result ≡ node * 668265263 + position }
     ensures small { result < 2 ^ 62 + 2 ^ 32 }
 {
-    node as usize * BY_NODE + place as usize
+    node as usize * BY_NODE + position as usize
 }
 
 /// Returns the number of a tail at a position.
 #[inline(always)]
-pub(crate) fn tail_number(node: u32, index: u32, place: u32) -> usize
-    ensures same { result ≡ node * 668265263 + (index + 1) * 374761393 + place }
+pub(crate) fn tail_number(node: u32, index: u32, position: u32) -> usize
+    ensures same { result ≡ node * 668265263 + (index + 1) * 374761393 + position }
     ensures small { result < 2 ^ 63 + 2 ^ 32 }
 {
-    node as usize * BY_NODE + (index as usize + 1) * BY_MEMBER + place as usize
+    node as usize * BY_NODE + (index as usize + 1) * BY_MEMBER + position as usize
 }

@@ -1,4 +1,4 @@
--- No more pairs are begun than there are nodes at positions.
+-- No more evaluations are begun than there are nodes at positions.
 -- Serves: Packrat::match_unit
 use Rattle.std.proofs.Common.{◌≡◌, inl, inr, ℕ, ◌+◌, ◌*◌, ◌≤◌, Bool, true, false, if◌then◌else◌, List, [], ◌∷◌}
 use Rattle.std.proofs.Common.{length, Some, None, Option, refl, sym, subst, arith}
@@ -16,9 +16,9 @@ use Rattle.pegnodes.specs.KeyMarks.{AreMarks}
 use Rattle.memo.specs.Parts.{IsIn, in_here, in_later, Distinct, distinct_none, distinct_more, Reach}
 use Rattle.memo.specs.Run.{total}
 use Rattle.memo.specs.declared.task.MatchTask.{MatchTask}
-use Rattle.memo.specs.declared.task.MatchTask.TheVariants.{Pair, Tail}
+use Rattle.memo.specs.declared.task.MatchTask.TheVariants.{Eval, Tail}
 use Rattle.packrat.specs.MatchTasks.{Leads, Kids, is_key}
-use Rattle.packrat.specs.View.{weight, IsVisitedPair, AreVisitedPairs}
+use Rattle.packrat.specs.View.{weight, IsVisitedEval, AreVisitedEvals}
 use Rattle.packrat.proofs.EndsLemmas.{reached_ends}
 use Rattle.packrat.proofs.TaskReachLemmas.{reached_is_visited}
 use Rattle.packrat.specs.MachineSteps.{State, held, start_at}
@@ -28,37 +28,37 @@ use Rattle.packrat.proofs.NextOfLemmas.{is_next, forest_of}
 
 abbrev evals : List MatchTask → List MatchTask
 evals [] = []
-evals (Pair n p ∷ xs) = Pair n p ∷ evals xs
+evals (Eval n p ∷ xs) = Eval n p ∷ evals xs
 evals (Tail n i p ∷ xs) = evals xs
 
-record IsPair (a : MatchTask) (xs : List MatchTask) : Type 0 where
+record IsEval (a : MatchTask) (xs : List MatchTask) : Type 0 where
   pub node : ℕ
-  pub place : ℕ
-  pub is : a ≡ Pair node place
-  pub there : IsIn (Pair node place) xs
+  pub position : ℕ
+  pub is : a ≡ Eval node position
+  pub there : IsIn (Eval node position) xs
 
-eval_later : {a b : MatchTask} {xs : List MatchTask} → IsPair a xs → IsPair a (b ∷ xs)
-eval_later h = record { node = h.node; place = h.place; is = h.is; there = in_later h.there }
+eval_later : {a b : MatchTask} {xs : List MatchTask} → IsEval a xs → IsEval a (b ∷ xs)
+eval_later h = record { node = h.node; position = h.position; is = h.is; there = in_later h.there }
 
-is_eval : (xs : List MatchTask) (a : MatchTask) → IsIn a (evals xs) → IsPair a xs
+is_eval : (xs : List MatchTask) (a : MatchTask) → IsIn a (evals xs) → IsEval a xs
 is_eval [] a i = absurd (not_in i)
-is_eval (Pair n p ∷ xs) a i = elim (in_front i) [
-  | inl is ↦ record { node = n; place = p; is = is; there = in_here }
+is_eval (Eval n p ∷ xs) a i = elim (in_front i) [
+  | inl is ↦ record { node = n; position = p; is = is; there = in_here }
   | inr j ↦ eval_later (is_eval xs a j)
 ]
 is_eval (Tail n k p ∷ xs) a i = eval_later (is_eval xs a i)
 
 evals_distinct : {xs : List MatchTask} → Distinct xs → Distinct (evals xs)
 evals_distinct distinct_none = distinct_none
-evals_distinct (distinct_more {a = Pair n p} {xs = xs} f d) =
-    distinct_more (λ i. let h = is_eval xs (Pair n p) i in f (subst (λ v. IsIn v xs) (sym h.is) h.there))
+evals_distinct (distinct_more {a = Eval n p} {xs = xs} f d) =
+    distinct_more (λ i. let h = is_eval xs (Eval n p) i in f (subst (λ v. IsIn v xs) (sym h.is) h.there))
     (evals_distinct d)
 evals_distinct (distinct_more {a = Tail n i p} f d) = evals_distinct d
 
-eval_among : (n p : ℕ) (xs : List MatchTask) → IsIn (Pair n p) xs → IsIn (Pair n p) (evals xs)
+eval_among : (n p : ℕ) (xs : List MatchTask) → IsIn (Eval n p) xs → IsIn (Eval n p) (evals xs)
 eval_among n p [] i = absurd (not_in i)
-eval_among n p (Pair m q ∷ xs) i = elim (in_front i) [
-  | inl is ↦ subst (λ v. IsIn v (Pair m q ∷ evals xs)) (sym is) in_here
+eval_among n p (Eval m q ∷ xs) i = elim (in_front i) [
+  | inl is ↦ subst (λ v. IsIn v (Eval m q ∷ evals xs)) (sym is) in_here
   | inr j ↦ in_later (eval_among n p xs j)
 ]
 eval_among n p (Tail m k q ∷ xs) i = elim (in_front i) [
@@ -66,29 +66,29 @@ eval_among n p (Tail m k q ∷ xs) i = elim (in_front i) [
   | inr j ↦ eval_among n p xs j
 ]
 
--- a cell for each pair among tasks, whatever it holds
+-- a cell for each evaluation among tasks, whatever it holds
 abbrev cells_for : List MatchTask → List Entry
 cells_for [] = []
-cells_for (Pair n p ∷ xs) = record { node = n; place = p; found = Failed } ∷ cells_for xs
+cells_for (Eval n p ∷ xs) = record { node = n; position = p; found = Failed } ∷ cells_for xs
 cells_for (Tail n i p ∷ xs) = cells_for xs
 
-for_among : (n p : ℕ) (f : Found) (xs : List MatchTask) → found_at (cells_for xs) n p ≡ Some f → IsIn (Pair n p) xs
+for_among : (n p : ℕ) (f : Found) (xs : List MatchTask) → found_at (cells_for xs) n p ≡ Some f → IsIn (Eval n p) xs
 for_among n p f [] h = absurd (cc h)
-for_among n p f (Pair m q ∷ xs) h = by (is_of (record { node = m; place = q; found = Failed }) n p) refl h
+for_among n p f (Eval m q ∷ xs) h = by (is_of (record { node = m; position = q; found = Failed }) n p) refl h
     (λ k. for_among n p f xs k)
   where
-    by : (v : Bool) → is_of (record { node = m; place = q; found = Failed }) n p ≡ v
+    by : (v : Bool) → is_of (record { node = m; position = q; found = Failed }) n p ≡ v
         → (if v then Some Failed else found_at (cells_for xs) n p) ≡ Some f
-        → (found_at (cells_for xs) n p ≡ Some f → IsIn (Pair n p) xs) → IsIn (Pair n p) (Pair m q ∷ xs)
+        → (found_at (cells_for xs) n p ≡ Some f → IsIn (Eval n p) xs) → IsIn (Eval n p) (Eval m q ∷ xs)
     by true same is rec =
-        let both = is_own (record { node = m; place = q; found = Failed }) n p same in
+        let both = is_own (record { node = m; position = q; found = Failed }) n p same in
         let one : m ≡ n = both.0 in
         let two : q ≡ p = both.1 in
-        subst (λ v. IsIn (Pair v p) (Pair m q ∷ xs)) one (subst (λ v. IsIn (Pair m v) (Pair m q ∷ xs)) two in_here)
+        subst (λ v. IsIn (Eval v p) (Eval m q ∷ xs)) one (subst (λ v. IsIn (Eval m v) (Eval m q ∷ xs)) two in_here)
     by false same is rec = in_later (rec is)
 for_among n p f (Tail m i q ∷ xs) h = in_later (for_among n p f xs h)
 
-for_none : (n p : ℕ) (xs : List MatchTask) → (IsIn (Pair n p) xs → ⊥) → found_at (cells_for xs) n p ≡ None
+for_none : (n p : ℕ) (xs : List MatchTask) → (IsIn (Eval n p) xs → ⊥) → found_at (cells_for xs) n p ≡ None
 for_none n p xs not = by (found_at (cells_for xs) n p) refl
   where
     by : (v : Option Found) → found_at (cells_for xs) n p ≡ v → v ≡ None
@@ -97,7 +97,7 @@ for_none n p xs not = by (found_at (cells_for xs) n p) refl
 
 for_different : {xs : List MatchTask} → Distinct xs → AreDifferent (cells_for xs)
 for_different distinct_none = tt
-for_different (distinct_more {a = Pair n p} {xs = xs} fresh d) = (for_none n p xs fresh, for_different d)
+for_different (distinct_more {a = Eval n p} {xs = xs} fresh d) = (for_none n p xs fresh, for_different d)
 for_different (distinct_more {a = Tail n i p} fresh d) = for_different d
 
 module _ (rules : List Rule) (start : ℕ) (nodes : List Shape) (bodies ranks x : List ℕ) (more : Bool)
@@ -108,65 +108,65 @@ module _ (rules : List Rule) (start : ℕ) (nodes : List Shape) (bodies ranks x 
 
   evals_length : (xs : List MatchTask) → length (evals xs) ≡ T xs
   evals_length [] = refl
-  evals_length (Pair n p ∷ xs) = let h = evals_length xs in omega (arith, h)
+  evals_length (Eval n p ∷ xs) = let h = evals_length xs in omega (arith, h)
   evals_length (Tail n i p ∷ xs) = let h = evals_length xs in omega (arith, h)
 
-  for_length : (ps : List MatchTask) → ((a : MatchTask) → IsIn a ps → IsVisitedPair rules start nodes bodies x more a)
+  for_length : (ps : List MatchTask) → ((a : MatchTask) → IsIn a ps → IsVisitedEval rules start nodes bodies x more a)
       → length (cells_for ps) ≡ length ps
   for_length [] v = refl
-  for_length (Pair n p ∷ ps) v = let h = for_length ps (λ a i. v a (in_later i)) in omega (arith, h)
+  for_length (Eval n p ∷ ps) v = let h = for_length ps (λ a i. v a (in_later i)) in omega (arith, h)
   for_length (Tail n i p ∷ ps) v = absurd (v (Tail n i p) in_here)
 
-  -- visited pairs at places up to k are no more than nodes at those
-  pub visited_few : (ps : List MatchTask) (k : ℕ) → AreVisitedPairs rules start nodes bodies x more ps
-      → ((n p : ℕ) → IsIn (Pair n p) ps → p ≤ k) → length ps ≤ length nodes * (k + 1)
+  -- visited evaluations at positions up to k are no more than nodes at those
+  pub visited_few : (ps : List MatchTask) (k : ℕ) → AreVisitedEvals rules start nodes bodies x more ps
+      → ((n p : ℕ) → IsIn (Eval n p) ps → p ≤ k) → length ps ≤ length nodes * (k + 1)
   visited_few ps k v low =
       let most = cells_at_most (cells_for ps) (length nodes) k (for_different v.once)
       (λ m q h.
       let i = for_among m q h.0 ps h.1 in
-      ((visited_there rules start nodes bodies ranks x sound m q (v.visited (Pair m q) i)).0, low m q i)) in
+      ((visited_there rules start nodes bodies ranks x sound m q (v.visited (Eval m q) i)).0, low m q i)) in
       let same = for_length ps v.visited in
       omega (arith, most, same)
 
-  -- the pairs among what is begun
-  pub record HasPairs (begun : List MatchTask) : Type 0 where
-    pub pairs : List MatchTask
-    pub visited : AreVisitedPairs rules start nodes bodies x more pairs
-    pub count : length pairs ≡ T begun
-    pub among : (n p : ℕ) → IsIn (Pair n p) begun → IsIn (Pair n p) pairs
-    pub only : (n p : ℕ) → IsIn (Pair n p) pairs → IsIn (Pair n p) begun
+  -- the evaluations among what is begun
+  pub record HasEvals (begun : List MatchTask) : Type 0 where
+    pub evals : List MatchTask
+    pub visited : AreVisitedEvals rules start nodes bodies x more evals
+    pub count : length evals ≡ T begun
+    pub among : (n p : ℕ) → IsIn (Eval n p) begun → IsIn (Eval n p) evals
+    pub only : (n p : ℕ) → IsIn (Eval n p) evals → IsIn (Eval n p) begun
 
-  pub pairs_begun : (begun : List MatchTask) → Distinct begun
-      → ((a : MatchTask) → IsIn a begun → Reach MatchTask (Leads rules nodes bodies x) (Pair root 0) a) → HasPairs begun
-  pairs_begun begun once reached = record {
-    pairs = evals begun;
+  pub evals_begun : (begun : List MatchTask) → Distinct begun
+      → ((a : MatchTask) → IsIn a begun → Reach MatchTask (Leads rules nodes bodies x) (Eval root 0) a) → HasEvals begun
+  evals_begun begun once reached = record {
+    evals = evals begun;
     visited = record {
       visited = λ a i.
           let h = is_eval begun a i in
-          subst (IsVisitedPair rules start nodes bodies x more) (sym h.is)
-          (reached_is_visited rules start nodes bodies x root is_root h.node h.place
-          (reached (Pair h.node h.place) h.there));
+          subst (IsVisitedEval rules start nodes bodies x more) (sym h.is)
+          (reached_is_visited rules start nodes bodies x root is_root h.node h.position
+          (reached (Eval h.node h.position) h.there));
       once = evals_distinct once;
     };
     count = evals_length begun;
     among = λ n p i. eval_among n p begun i;
     only = λ n p i.
-        let h = is_eval begun (Pair n p) i in
+        let h = is_eval begun (Eval n p) i in
         subst (λ v. IsIn v begun) (sym h.is) h.there;
   }
 
-  -- no more are begun than nodes at places
-  pub begun_at_places : (s : State MatchTask) → TaskSteps rules nodes bodies x marks tails
-      (start_at MatchTask (Pair root 0)) s
+  -- no more are begun than nodes at positions
+  pub begun_at_positions : (s : State MatchTask) → TaskSteps rules nodes bodies x marks tails
+      (start_at MatchTask (Eval root 0)) s
       → T (held MatchTask s).begun ≤ length nodes * (length x + 1)
-  begun_at_places s steps =
+  begun_at_positions s steps =
       let forest = forest_of rules start nodes bodies ranks x more sound root is_root marks tails are in
       let next = is_next rules start nodes bodies ranks x more sound root is_root marks tails are in
-      let g = steps_are_good MatchTask (Leads rules nodes bodies x) (Pair root 0) (Kids rules nodes bodies x)
+      let g = steps_are_good MatchTask (Leads rules nodes bodies x) (Eval root 0) (Kids rules nodes bodies x)
       (NextOf rules nodes bodies x) (is_key marks tails) forest next
       (λ a r. reached_ends rules start nodes bodies ranks x sound root is_root r) s steps in
-      let h = pairs_begun (held MatchTask s).begun g.once g.reached in
-      let most = visited_few h.pairs (length x) h.visited
-      (λ m q i. (visited_there rules start nodes bodies ranks x sound m q (h.visited.visited (Pair m q) i)).1) in
+      let h = evals_begun (held MatchTask s).begun g.once g.reached in
+      let most = visited_few h.evals (length x) h.visited
+      (λ m q i. (visited_there rules start nodes bodies ranks x sound m q (h.visited.visited (Eval m q) i)).1) in
       let same = h.count in
       omega (arith, most, same)

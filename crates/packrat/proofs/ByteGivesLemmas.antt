@@ -1,4 +1,4 @@
--- What a pair gives where the byte at its place decides it.
+-- What an evaluation gives where the byte at its position decides it.
 -- Serves: one_byte_decides, Packrat::match_unit
 use Rattle.std.proofs.Common.{◌≡◌, ℕ, zero, suc, ◌+◌, ◌<◌, ◌≤◌, max, Bool, true, false, List, [], ◌∷◌, length}
 use Rattle.std.proofs.Common.{drop, Some, None, refl, sym, subst, ap, arith, ◌∙◌}
@@ -9,7 +9,7 @@ use Rattle.pegread.specs.Pattern.{Pattern, Patterns, Rule}
 use Rattle.pegread.specs.PegViews.{rules_of}
 use Rattle.pegnodes.specs.ByByte.{Succeeds, ByByte, by_shape, Below, below, ByShape, by_any, by_set_in, by_set_out}
 use Rattle.pegnodes.specs.ByByte.{by_no_bytes, by_one_byte, by_other_byte, by_name, by_members, by_alternatives}
-use Rattle.pegnodes.specs.ByByte.{by_opt_some, by_opt_none, by_and, by_and_fails, by_not, by_not_fails, by_no_turn}
+use Rattle.pegnodes.specs.ByByte.{by_opt_some, by_opt_none, by_and, by_and_fails, by_not, by_not_fails, by_no_iteration}
 use Rattle.pegnodes.specs.ByByte.{by_no_plus, ByMembers, members_end, member_stays, member_fails, member_takes}
 use Rattle.pegnodes.specs.ByByte.{ByAlternatives, alternatives_end, alternative_fails, alternative_succeeds}
 use Rattle.gramcheck.specs.Grammar.{Grammar, IsSoundGrammar}
@@ -30,7 +30,7 @@ use Rattle.pegmatch.specs.Visits.{NodeGives}
 use Rattle.pegmatch.proofs.GivesLemmas.{name_gives, star_gives_none, not_gives_takes, not_gives_fails, plus_gives_fails}
 use Rattle.pegmatch.proofs.GivesLemmas.{opt_gives_takes, opt_gives_none, and_gives_takes, and_gives_fails}
 use Rattle.pegmatch.proofs.NodeGivesLemmas.{gives_as}
-use Rattle.memo.specs.declared.task.MatchTask.TheVariants.{Pair}
+use Rattle.memo.specs.declared.task.MatchTask.TheVariants.{Eval}
 use Rattle.packrat.specs.ByteGives.{found_by, GivesBy}
 use Rattle.packrat.specs.TaskGives.{IsQuiet, TaskGives}
 use Rattle.packrat.proofs.TaskReachLemmas.{front_drop}
@@ -290,8 +290,8 @@ module _ (rules : List Rule) (start : ℕ) (nodes : List Shape) (bodies ranks x 
       }
       not_some Fails t at g = absurd t
 
-      no_turn : At n (node.Star m) → G m Fails → G n Stays
-      no_turn at g = record {
+      no_iteration : At n (node.Star m) → G m Fails → G n Stays
+      no_iteration at g = record {
         looked = g.looked;
         within = g.within;
         gives = star_gives_none rules start nodes bodies ranks x sound n m s p g.looked at g.gives;
@@ -396,7 +396,7 @@ module _ (rules : List Rule) (start : ℕ) (nodes : List Shape) (bodies ranks x 
       shape_gives {n = n} at (by_not {m = m} h) s = not_none n m s at (below_gives h (not_has n m at s))
       shape_gives {n = n} at (by_not_fails {m = m} {v = v} t h) s =
           not_some n m s v t at (below_gives h (not_has n m at s))
-      shape_gives {n = n} at (by_no_turn {m = m} h) s = no_turn n m s at (below_gives h (star_has n m at s))
+      shape_gives {n = n} at (by_no_iteration {m = m} h) s = no_iteration n m s at (below_gives h (star_has n m at s))
       shape_gives {n = n} at (by_no_plus {m = m} {s = k} h) s =
           no_plus n m s k at (below_gives h (plus_has n m k at s))
 
@@ -451,7 +451,7 @@ quiet_by Fails p = refl
 
 module _ (g : Grammar) (x : List ℕ) (more : Bool) (sound : IsSoundGrammar g) where
   pub found_gives : (n p : ℕ) (v : ByteVerdict) → (more ≡ true → p + 1 < length x)
-      → GivesBy (rules_of g.rules) (shapes_of g.nodes) g.bodies x n p v → TaskGives g x more (Pair n p) (found_by v p)
+      → GivesBy (rules_of g.rules) (shapes_of g.nodes) g.bodies x n p v → TaskGives g x more (Eval n p) (found_by v p)
   found_gives n p v last d = (
     [],
     (d.looked, d.gives, (λ is. let lt = last is in let le = d.within in omega (arith, lt, le)), quiet_by v p),

@@ -1,4 +1,4 @@
--- The evaluation of a pair that the byte at its place decides stores nothing but itself.
+-- The evaluation of an evaluation that the byte at its position decides stores nothing but itself.
 -- Serves: one_byte_decides, Packrat::match_unit
 use Rattle.std.proofs.Common.{◌≡◌, inl, inr, ℕ, zero, suc, ◌+◌, Bool, true, false, List, [], ◌∷◌, Some, None, Option}
 use Rattle.std.proofs.Common.{refl, sym, subst, arith}
@@ -6,7 +6,7 @@ use Rattle.std.specs.Prelude.{slice_get}
 use Rattle.pegread.specs.Pattern.{Rule}
 use Rattle.pegnodes.specs.ByByte.{Succeeds, ByByte, by_shape, Below, below, ByShape, by_any, by_set_in, by_set_out}
 use Rattle.pegnodes.specs.ByByte.{by_no_bytes, by_one_byte, by_other_byte, by_name, by_members, by_alternatives}
-use Rattle.pegnodes.specs.ByByte.{by_opt_some, by_opt_none, by_and, by_and_fails, by_not, by_not_fails, by_no_turn}
+use Rattle.pegnodes.specs.ByByte.{by_opt_some, by_opt_none, by_and, by_and_fails, by_not, by_not_fails, by_no_iteration}
 use Rattle.pegnodes.specs.ByByte.{by_no_plus, ByMembers, members_end, member_stays, member_fails, member_takes}
 use Rattle.pegnodes.specs.ByByte.{ByAlternatives, alternatives_end, alternative_fails, alternative_succeeds}
 use Rattle.pegnodes.specs.Nodes as node
@@ -19,7 +19,7 @@ use Rattle.pegmatch.specs.Visits.{NodeTakes, NodeFails}
 use Rattle.memo.specs.Parts.{IsIn}
 use Rattle.memo.specs.Run.{Run, run_key, run_plain, RunAll, run_none, run_more}
 use Rattle.memo.specs.declared.task.MatchTask.{MatchTask}
-use Rattle.memo.specs.declared.task.MatchTask.TheVariants.{Pair, Tail}
+use Rattle.memo.specs.declared.task.MatchTask.TheVariants.{Eval, Tail}
 use Rattle.packrat.specs.ByteGives.{GivesBy, StoresItself}
 use Rattle.packrat.specs.MachineSteps.{store}
 use Rattle.packrat.specs.MatchTasks.{Kids, is_key}
@@ -109,7 +109,7 @@ module _ (rules : List Rule) (start : ℕ) (nodes : List Shape) (bodies ranks x 
     below_by : {m c : ℕ} {v : ByteVerdict} → Below' m v c → Has m → GivesBy rules nodes bodies x m p v
     below_by (below t h) s = gives_by rules start nodes bodies ranks x sound marks tails b p here h s
 
-    -- after the last member no pair begins
+    -- after the last member no evaluation begins
     no_members : {n i c : ℕ} {ms : List ℕ} {v : ByteVerdict} → ByMembers nodes bodies marks tails b n ms i v c
         → slice_get ms i ≡ None → c ≡ 0
     no_members (members_end e) none = refl
@@ -124,18 +124,18 @@ module _ (rules : List Rule) (start : ℕ) (nodes : List Shape) (bodies ranks x 
     no_alternatives (alternative_succeeds at t some h) none = absurd (cc (at, none))
 
     module _ (n i m : ℕ) (ms : List ℕ) (there : slice_get ms i ≡ Some m) (t : tails n i ≡ false) where
-      quiet_last : (c : ℕ) → K (Tail n i p) (Pair m p ∷ []) → Quiet (Pair m p) c → Quiet (Tail n i p) c
+      quiet_last : (c : ℕ) → K (Tail n i p) (Eval m p ∷ []) → Quiet (Eval m p) c → Quiet (Tail n i p) c
       quiet_last c k q old =
-          run_as (omega arith) (quiet_plain (Tail n i p) (Pair m p ∷ []) c t k (quiet_one (Pair m p) c q) old)
+          run_as (omega arith) (quiet_plain (Tail n i p) (Eval m p ∷ []) c t k (quiet_one (Eval m p) c q) old)
 
-      quiet_more : (c d : ℕ) → K (Tail n i p) (Pair m p ∷ (Tail n (suc i) p ∷ [])) → Quiet (Pair m p) c
+      quiet_more : (c d : ℕ) → K (Tail n i p) (Eval m p ∷ (Tail n (suc i) p ∷ [])) → Quiet (Eval m p) c
           → Quiet (Tail n (suc i) p) d → Quiet (Tail n i p) (c + d)
       quiet_more c d k q r old =
-          run_as (omega arith) (quiet_plain (Tail n i p) (Pair m p ∷ (Tail n (suc i) p ∷ [])) (c + d) t k
-          (quiet_two (Pair m p) (Tail n (suc i) p) c d q r) old)
+          run_as (omega arith) (quiet_plain (Tail n i p) (Eval m p ∷ (Tail n (suc i) p ∷ [])) (c + d) t k
+          (quiet_two (Eval m p) (Tail n (suc i) p) c d q r) old)
 
       -- a member that stays, and the rest
-      quiet_members : (c d : ℕ) → At n (node.Seq ms) → NodeTakes rules nodes bodies x m p p → Quiet (Pair m p) c
+      quiet_members : (c d : ℕ) → At n (node.Seq ms) → NodeTakes rules nodes bodies x m p p → Quiet (Eval m p) c
           → (slice_get ms (suc i) ≡ None → d ≡ 0)
           → ((k : ℕ) → slice_get ms (suc i) ≡ Some k → Quiet (Tail n (suc i) p) d) → Quiet (Tail n i p) (c + d)
       quiet_members c d at takes q none rest = by (slice_get ms (suc i)) refl
@@ -148,7 +148,7 @@ module _ (rules : List Rule) (start : ℕ) (nodes : List Shape) (bodies ranks x 
           by (Some k) is = quiet_more c d (node.Seq ms, at, (m, there, inr (k, p, is, takes, refl))) q (rest k is)
 
       -- an alternative that fails, and the others
-      quiet_alternatives : (c d : ℕ) → At n (node.Choice ms) → NodeFails rules nodes bodies x m p → Quiet (Pair m p) c
+      quiet_alternatives : (c d : ℕ) → At n (node.Choice ms) → NodeFails rules nodes bodies x m p → Quiet (Eval m p) c
           → (slice_get ms (suc i) ≡ None → d ≡ 0)
           → ((k : ℕ) → slice_get ms (suc i) ≡ Some k → Quiet (Tail n (suc i) p) d) → Quiet (Tail n i p) (c + d)
       quiet_alternatives c d at fails q none rest = by (slice_get ms (suc i)) refl
@@ -160,39 +160,39 @@ module _ (rules : List Rule) (start : ℕ) (nodes : List Shape) (bodies ranks x 
               (quiet_last c (node.Choice ms, at, (m, there, inl (inr is, refl))) q old)
           by (Some k) is = quiet_more c d (node.Choice ms, at, (m, there, inr (k, is, fails, refl))) q (rest k is)
 
-    itself_leaf : (n : ℕ) → K (Pair n p) [] → Itself (Pair n p) 1
+    itself_leaf : (n : ℕ) → K (Eval n p) [] → Itself (Eval n p) 1
     itself_leaf n k = record { kids = []; are = k; below = 0; runs = quiet_none; whole = refl }
 
-    -- a node that goes on to one pair
-    itself_one : (n m c : ℕ) → K (Pair n p) (Pair m p ∷ []) → Quiet (Pair m p) c → Itself (Pair n p) (1 + c)
-    itself_one n m c k q = itself_of (Pair n p) (Pair m p ∷ []) c k (quiet_one (Pair m p) c q)
+    -- a node that goes on to one evaluation
+    itself_one : (n m c : ℕ) → K (Eval n p) (Eval m p ∷ []) → Quiet (Eval m p) c → Itself (Eval n p) (1 + c)
+    itself_one n m c k q = itself_of (Eval n p) (Eval m p ∷ []) c k (quiet_one (Eval m p) c q)
 
     -- a sequence or a choice
     itself_rest : (n c : ℕ) (ms : List ℕ) (s : Shape) → At n s
-        → ((ks : List MatchTask) → ((slice_get ms zero ≡ None) × (ks ≡ [])) → K (Pair n p) ks)
-        → ((m : ℕ) → slice_get ms zero ≡ Some m → K (Pair n p) (Tail n zero p ∷ []))
+        → ((ks : List MatchTask) → ((slice_get ms zero ≡ None) × (ks ≡ [])) → K (Eval n p) ks)
+        → ((m : ℕ) → slice_get ms zero ≡ Some m → K (Eval n p) (Tail n zero p ∷ []))
         → (slice_get ms zero ≡ None → c ≡ 0)
-        → ((m : ℕ) → slice_get ms zero ≡ Some m → Quiet (Tail n zero p) c) → Itself (Pair n p) (1 + c)
+        → ((m : ℕ) → slice_get ms zero ≡ Some m → Quiet (Tail n zero p) c) → Itself (Eval n p) (1 + c)
     itself_rest n c ms s at empty some none rest = by (slice_get ms zero) refl
       where
-        by : (o : Option ℕ) → slice_get ms zero ≡ o → Itself (Pair n p) (1 + c)
+        by : (o : Option ℕ) → slice_get ms zero ≡ o → Itself (Eval n p) (1 + c)
         by None is =
             let no_more = none is in
-            subst (λ d. Itself (Pair n p) (1 + d)) (sym no_more)
-            (itself_of (Pair n p) [] 0 (empty [] (is, refl)) quiet_none)
+            subst (λ d. Itself (Eval n p) (1 + d)) (sym no_more)
+            (itself_of (Eval n p) [] 0 (empty [] (is, refl)) quiet_none)
         by (Some m) is =
-            itself_of (Pair n p) (Tail n zero p ∷ []) c (some m is) (quiet_one (Tail n zero p) c (rest m is))
+            itself_of (Eval n p) (Tail n zero p ∷ []) c (some m is) (quiet_one (Tail n zero p) c (rest m is))
 
     mutual
       pub by_byte_itself : {n c : ℕ} {v : ByteVerdict} → ByByte nodes bodies marks tails b n v c → Has n
-          → Itself (Pair n p) c
+          → Itself (Eval n p) c
       by_byte_itself (by_shape at h) s = shape_itself at h s
 
-      below_quiet : {n c : ℕ} {v : ByteVerdict} → Below' n v c → Has n → Quiet (Pair n p) c
-      below_quiet {n = n} {c = c} (below t h) s = itself_quiet (Pair n p) c t (by_byte_itself h s)
+      below_quiet : {n c : ℕ} {v : ByteVerdict} → Below' n v c → Has n → Quiet (Eval n p) c
+      below_quiet {n = n} {c = c} (below t h) s = itself_quiet (Eval n p) c t (by_byte_itself h s)
 
       shape_itself : {n c : ℕ} {sh : Shape} {v : ByteVerdict} → At n sh → ByShape nodes bodies marks tails b n sh v c
-          → Has n → Itself (Pair n p) c
+          → Has n → Itself (Eval n p) c
       shape_itself {n = n} at by_any s = itself_leaf n (node.Any, at, refl)
       shape_itself {n = n} at (by_set_in {s = set} t) s = itself_leaf n (node.Set set, at, refl)
       shape_itself {n = n} at (by_set_out {s = set} t) s = itself_leaf n (node.Set set, at, refl)
@@ -228,7 +228,7 @@ module _ (rules : List Rule) (start : ℕ) (nodes : List Shape) (bodies ranks x 
       shape_itself {n = n} at (by_not_fails {m = m} {c = c} t h) s =
           itself_one n m c (node.Not m, at, refl)
           (below_quiet h (not_has rules start nodes bodies ranks x sound n m at s))
-      shape_itself {n = n} at (by_no_turn {m = m} {c = c} h) s =
+      shape_itself {n = n} at (by_no_iteration {m = m} {c = c} h) s =
           let there = star_has rules start nodes bodies ranks x sound n m at s in
           itself_one n m c (node.Star m, at, inl (fails_by m (below_by h there), refl)) (below_quiet h there)
       shape_itself {n = n} at (by_no_plus {m = m} {s = k} {c = c} h) s =

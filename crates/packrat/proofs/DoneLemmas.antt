@@ -30,7 +30,7 @@ use Rattle.pegmatch.proofs.NodeGivesLemmas.{gives_as, same_node}
 use Rattle.pegmatch.proofs.VisitsLemmas.{visits_within}
 use Rattle.memo.specs.KeyLog.{tasks_of}
 use Rattle.memo.specs.declared.key_log.Stored.{Stored}
-use Rattle.memo.specs.declared.task.MatchTask.TheVariants.{Pair, Tail}
+use Rattle.memo.specs.declared.task.MatchTask.TheVariants.{Eval, Tail}
 use Rattle.packrat.specs.Done.{Contents, IsDone, IsOnTheWay, Answers, IsOutcome, Holds, empty, head_of, unit_of}
 use Rattle.packrat.specs.Done.{unit_of_match}
 use Rattle.packrat.specs.MachineSteps.{Works, IsGood}
@@ -51,7 +51,7 @@ use Rattle.pegnodes.specs.KeyLists.{node_marks, tail_marks}
 use Rattle.packrat.specs.View.{Evaluates, AreStored, AreReachedKeys, weight}
 use Rattle.packrat.specs.declared.frames.Frame.{Frame}
 use Rattle.pegnodes.specs.KeyLists.{Marks}
-use Rattle.packrat.proofs.BegunLemmas.{pairs_begun, visited_few}
+use Rattle.packrat.proofs.BegunLemmas.{evals_begun, visited_few}
 use Rattle.packrat.proofs.EndsLemmas.{reached_ends}
 use Rattle.packrat.proofs.GoodLemmas.{steps_are_good}
 use Rattle.packrat.proofs.NextOfLemmas.{is_next, forest_of}
@@ -95,7 +95,7 @@ module _ (g : Grammar) (x : List ℕ) (sound : IsSoundGrammar g) where
         (evaluated_stores (rules_of g.rules) g.start (shapes_of g.nodes) g.bodies g.ranks x more sound root at
         (node_marks marks) (tail_marks marks) are (tasks_of stored) begun run)
 
-    answers_of : (f : Found) → TaskGives g x more (Pair root 0) f → Answers g x more f
+    answers_of : (f : Found) → TaskGives g x more (Eval root 0) f → Answers g x more f
     answers_of f h =
         let s = sound.spelled.spelled g.start root at in
         record {
@@ -114,7 +114,7 @@ module _ (g : Grammar) (x : List ℕ) (sound : IsSoundGrammar g) where
     found_given a given h = (h.events, h.yields)
 
     unit_done : (c : Contents) (given : Given) (links : List Link)
-        → IsEnded g x more marks (Pair root 0) given c.frames c.stored links c.begun → IsDone g x more marks c
+        → IsEnded g x more marks (Eval root 0) given c.frames c.stored links c.begun → IsDone g x more marks c
     unit_done c given links e =
         let h = e.gives in
         let y = h.yields in
@@ -130,10 +130,10 @@ module _ (g : Grammar) (x : List ℕ) (sound : IsSoundGrammar g) where
           count = sym b.count;
         }
 
-    need_good : (stored : List Stored) (begun : ℕ) → (n : NeedsMore g x more marks (Pair root 0) stored begun)
-        → IsGood MatchTask (Leads Rs Ns g.bodies x) (Pair root 0) (is_key (node_marks marks) (tail_marks marks))
+    need_good : (stored : List Stored) (begun : ℕ) → (n : NeedsMore g x more marks (Eval root 0) stored begun)
+        → IsGood MatchTask (Leads Rs Ns g.bodies x) (Eval root 0) (is_key (node_marks marks) (tail_marks marks))
         (record { levels = n.levels; stored = tasks_of stored; begun = n.task ∷ n.begun })
-    need_good stored begun n = steps_are_good MatchTask (Leads Rs Ns g.bodies x) (Pair root 0) (Kids Rs Ns g.bodies x)
+    need_good stored begun n = steps_are_good MatchTask (Leads Rs Ns g.bodies x) (Eval root 0) (Kids Rs Ns g.bodies x)
         (NextOf Rs Ns g.bodies x) (is_key (node_marks marks) (tail_marks marks))
         (forest_of Rs g.start Ns g.bodies g.ranks x more sound root at (node_marks marks) (tail_marks marks) are)
         (is_next Rs g.start Ns g.bodies g.ranks x more sound root at (node_marks marks) (tail_marks marks) are)
@@ -141,15 +141,15 @@ module _ (g : Grammar) (x : List ℕ) (sound : IsSoundGrammar g) where
         (Works (record { levels = n.levels; stored = tasks_of stored; begun = n.task ∷ n.begun })) n.steps
 
     -- a task that needs more is reached, so the start rule looks as far
-    need_given : (stored : List Stored) (begun : ℕ) → NeedsMore g x more marks (Pair root 0) stored begun
+    need_given : (stored : List Stored) (begun : ℕ) → NeedsMore g x more marks (Eval root 0) stored begun
         → (more ≡ true) × ((o : Outcome) × StartGives g x o (length x))
     need_given stored begun n = by n.task refl n.reaches
       where
         by : (a : MatchTask) → n.task ≡ a → ReachesEnd g x more a → (more ≡ true)
             × ((o : Outcome) × StartGives g x o (length x))
-        by (Pair m p) is h =
+        by (Eval m p) is h =
             let v = reached_is_visited Rs g.start Ns g.bodies x root at m p
-            (subst (λ a. Reach MatchTask (Leads Rs Ns g.bodies x) (Pair root 0) a) is
+            (subst (λ a. Reach MatchTask (Leads Rs Ns g.bodies x) (Eval root 0) a) is
             ((need_good stored begun n).reached n.task in_here)) in
             let has = one.has_of_start Rs g.start Ns g.bodies g.ranks sound x in
             let gives = start_as root has.0 has.1 at has.2 in
@@ -162,16 +162,16 @@ module _ (g : Grammar) (x : List ℕ) (sound : IsSoundGrammar g) where
             (h.0, (has.0, subst (λ k. StartGives g x has.0 k) far has.2))
         by (Tail m i p) is h = absurd h
 
-    -- what needs more is a pair
+    -- what needs more is an evaluation
     need_weighs : (a : MatchTask) → ReachesEnd g x more a → weight a ≡ 1
-    need_weighs (Pair m p) h = refl
+    need_weighs (Eval m p) h = refl
     need_weighs (Tail m i p) h = absurd h
 
-    on_the_way : (c : Contents) → NeedsMore g x more marks (Pair root 0) c.stored c.begun → more ≡ true
+    on_the_way : (c : Contents) → NeedsMore g x more marks (Eval root 0) c.stored c.begun → more ≡ true
         → c.frames ≡ [] → c.kept ≡ [] → IsOnTheWay g x more marks c
     on_the_way c n after frames kept =
         let good = need_good c.stored c.begun n in
-        let h = pairs_begun Rs g.start Ns g.bodies g.ranks x more sound root at (node_marks marks) (tail_marks marks)
+        let h = evals_begun Rs g.start Ns g.bodies g.ranks x more sound root at (node_marks marks) (tail_marks marks)
         are (n.task ∷ n.begun) good.once good.reached in
         let is = n.is in
         let same = h.count in
@@ -188,10 +188,10 @@ module _ (g : Grammar) (x : List ℕ) (sound : IsSoundGrammar g) where
                 once = good.stored_once;
               });
           right = n.right;
-          pairs = h.pairs;
+          evals = h.evals;
           visited = h.visited;
           near = λ m p i. n.near m p (h.only m p i) after;
-          among = λ m p i. h.among m p (good.stored (Pair m p) i).0;
+          among = λ m p i. h.among m p (good.stored (Eval m p) i).0;
           some = omega (arith, is, one);
           count = omega (arith, is, same);
         }
@@ -208,22 +208,22 @@ module _ (g : Grammar) (x : List ℕ) (sound : IsSoundGrammar g) where
 
     ended_as : (f : Found) (c : Contents) (given : Given) (links : List Link) → given.found ≡ f
         → c.kept ≡ kept_at links given.events
-        → IsEnded g x more marks (Pair root 0) given c.frames c.stored links c.begun
+        → IsEnded g x more marks (Eval root 0) given c.frames c.stored links c.begun
         → IsOutcome g x more marks c (unit_of f c.begun)
     ended_as found.Failed c given links is kept h = (
       unit_done c given links h,
-      subst (Answers g x more) is (answers_of given.found (found_given (Pair root 0) given h.gives)),
+      subst (Answers g x more) is (answers_of given.found (found_given (Eval root 0) given h.gives)),
       refl,
-      kept ∙ failed_keeps links (Pair root 0) given is h.gives,
+      kept ∙ failed_keeps links (Eval root 0) given is h.gives,
     )
     ended_as (found.Took q) c given links is kept h = (
       unit_done c given links h,
-      subst (Answers g x more) is (answers_of given.found (found_given (Pair root 0) given h.gives)),
+      subst (Answers g x more) is (answers_of given.found (found_given (Eval root 0) given h.gives)),
       refl,
     )
 
     pub outcome_of_match : (c : Contents) (v : Option Given) (links : List Link) → c.kept ≡ kept_at links (head_of v)
-        → IsEvaluated g x more marks (Pair root 0) v c.frames c.stored links c.begun
+        → IsEvaluated g x more marks (Eval root 0) v c.frames c.stored links c.begun
         → IsOutcome g x more marks c (unit_of_match v c.begun)
     outcome_of_match c None links kept h =
         let given = need_given c.stored c.begun h.0 in
@@ -237,15 +237,15 @@ module _ (g : Grammar) (x : List ℕ) (sound : IsSoundGrammar g) where
 
     answered_as : (f : Found) (c : Contents) (given : Given) (links : List Link) → given.found ≡ f
         → c.kept ≡ kept_at links given.events
-        → IsEnded g x more marks (Pair root 0) given c.frames c.stored links c.begun
+        → IsEnded g x more marks (Eval root 0) given c.frames c.stored links c.begun
         → IsAnswer g x more (Holds c g x) (unit_of f c.begun)
     answered_as found.Failed c given links is kept h =
-        let a = subst (Answers g x more) is (answers_of given.found (found_given (Pair root 0) given h.gives)) in
+        let a = subst (Answers g x more) is (answers_of given.found (found_given (Eval root 0) given h.gives)) in
         (a.looked, a.gives, a.enough, begun_some c (unit_done c given links h))
     answered_as (found.Took q) c given links is kept h =
         let s = sound.spelled.spelled g.start root at in
-        let y : TaskYields g x more (Pair root 0) (found.Took q) h.gives.events =
-        subst (λ v. TaskYields g x more (Pair root 0) v h.gives.events) is h.gives.yields in (
+        let y : TaskYields g x more (Eval root 0) (found.Took q) h.gives.events =
+        subst (λ v. TaskYields g x more (Eval root 0) v h.gives.events) is h.gives.yields in (
           h.gives.events,
           y.0,
           record { body = s.0; rule = s.1; gives = gives_as Rs Ns sound.defined g.bodies x s.2 y.1 },
@@ -255,12 +255,12 @@ module _ (g : Grammar) (x : List ℕ) (sound : IsSoundGrammar g) where
         )
 
     pub answer_of_match : (c : Contents) (v : Option Given) (links : List Link) → c.kept ≡ kept_at links (head_of v)
-        → IsEvaluated g x more marks (Pair root 0) v c.frames c.stored links c.begun
+        → IsEvaluated g x more marks (Eval root 0) v c.frames c.stored links c.begun
         → IsAnswer g x more (Holds c g x) (unit_of_match v c.begun)
     answer_of_match c None links kept h = need_given c.stored c.begun h.0
     answer_of_match c (Some given) links kept h = answered_as given.found c given links refl kept h
 
-    -- no more are begun than nodes at places up to where the start rule looked
+    -- no more are begun than nodes at positions up to where the start rule looked
     pub unit_bounded : (c : Contents) → IsDone g x more marks c → (o : Outcome) (k : ℕ) → StartGives g x o k
         → c.begun ≤ length g.nodes * (k + 1)
     unit_bounded c done o k gives =
@@ -284,7 +284,7 @@ module _ (g : Grammar) (x : List ℕ) (sound : IsSoundGrammar g) where
         let way = h.0 in
         let far = (same_of_start Rs g.start x k (length x) o h.2.0 gives h.2.1).looked in
         let most = visited_few Rs g.start Ns g.bodies g.ranks x more sound root at (node_marks marks) (tail_marks marks)
-        are way.pairs k way.visited (λ m p i. let lt = way.near m p i in omega (arith, lt, far)) in
+        are way.evals k way.visited (λ m p i. let lt = way.near m p i in omega (arith, lt, far)) in
         let count = way.count in
         let same : length (shapes_of g.nodes) ≡ length g.nodes = length-map g.nodes shape_of in
         subst (λ v. c.begun ≤ v * (k + 1)) same (omega (arith, most, count))
@@ -308,14 +308,14 @@ module _ (g : Grammar) (x : List ℕ) (sound : IsSoundGrammar g) where
         let lt = some after in
         let last : (length x - 1) + 1 ≡ length x = omega (arith, lt) in
         let most = visited_few Rs g.start Ns g.bodies g.ranks x more sound root at (node_marks marks) (tail_marks marks)
-        are way.pairs (length x - 1) way.visited (λ m p i. let less = way.near m p i in omega (arith, less)) in
+        are way.evals (length x - 1) way.visited (λ m p i. let less = way.near m p i in omega (arith, less)) in
         let count = way.count in
         let same : length (shapes_of g.nodes) ≡ length g.nodes = length-map g.nodes shape_of in
         subst (λ v. c.begun ≤ v * length x) same
         (subst (λ v. c.begun ≤ length Ns * v) last (omega (arith, most, count)))
 
     pub match_bounded : (c : Contents) (v : Option Given) (links : List Link) → c.kept ≡ kept_at links (head_of v)
-        → IsEvaluated g x more marks (Pair root 0) v c.frames c.stored links c.begun → (more ≡ true → 0 < length x)
+        → IsEvaluated g x more marks (Eval root 0) v c.frames c.stored links c.begun → (more ≡ true → 0 < length x)
         → ((o : Outcome) (k : ℕ) → StartGives g x o k → c.begun ≤ length g.nodes * (k + 1))
         × (more ≡ true → c.begun ≤ length g.nodes * length x)
     match_bounded c v links kept h some =
@@ -324,7 +324,7 @@ module _ (g : Grammar) (x : List ℕ) (sound : IsSoundGrammar g) where
           begun_fits c (unit_of_match v c.begun) some outcome,
         )
 
--- the places of a held success's events stand in order within the window
+-- the positions of a held success's events stand in order within the window
 pub held_rise : (g : Grammar) (x : List ℕ) (Holding : List Event → Type 0) (h : HoldsSuccess g x Holding)
     → Rise 0 (length x) h.0
 held_rise g x Holding h =

@@ -1,4 +1,4 @@
--- Each turn of the machine's loop lowers what is left.
+-- Each iteration of the machine's loop lowers what is left.
 -- Serves: Packrat::match_unit
 use Rattle.std.proofs.Common.{◌≡◌, inl, inr, ℕ, zero, suc, ◌+◌, ◌*◌, ◌-◌, ◌<◌, ◌≤◌, Bool, List}
 use Rattle.std.proofs.Common.{[], ◌∷◌, true, false}
@@ -10,14 +10,14 @@ use Rattle.pegnodes.specs.Nodes as node
 use Rattle.pegnodes.specs.Nodes.{Shape, shapes_of}
 use Rattle.memo.specs.declared.key_log.Given.{Given}
 use Rattle.memo.specs.declared.task.MatchTask.{MatchTask}
-use Rattle.memo.specs.declared.task.MatchTask.TheVariants.{Pair, Tail}
-use Rattle.packrat.specs.TurnsLeft.{members_of, most_members, ask_cost, wait_cost, frames_cost, most_begun}
-use Rattle.packrat.specs.TurnsLeft.{left}
+use Rattle.memo.specs.declared.task.MatchTask.TheVariants.{Eval, Tail}
+use Rattle.packrat.specs.IterationsLeft.{members_of, most_members, ask_cost, wait_cost, frames_cost, most_begun}
+use Rattle.packrat.specs.IterationsLeft.{left}
 use Rattle.packrat.specs.Turned.{AreTurnedFrames}
-use Rattle.packrat.specs.declared.turns.Turns as reported
+use Rattle.packrat.specs.declared.iterations.Iterations as reported
 use Rattle.packrat.specs.Onward.{HasMember, IsWell}
 use Rattle.packrat.specs.TaskSteps.{FirstBy, TailFirstBy, IsFirst}
-use Rattle.pegnodes.specs.NodeWays.{Way, Leaf, Body, Members, Alternatives, Turns, Operand, way_of}
+use Rattle.pegnodes.specs.NodeWays.{Way, Leaf, Body, Members, Alternatives, Iterations, Operand, way_of}
 use Rattle.packrat.specs.MatchTasks.{KidsBy, TailKidsBy}
 use Rattle.packrat.specs.MatchTasks.{Kids}
 use Rattle.packrat.specs.View.{weight}
@@ -28,7 +28,7 @@ use Rattle.packrat.specs.Onward.{tail_of}
 use Rattle.packrat.specs.declared.onward.Entering.{Entering}
 use Rattle.packrat.specs.declared.frames.Wait.{Wait}
 use Rattle.packrat.specs.declared.frames.Wait.TheVariants.{First, Last, Turned}
-use Rattle.packrat.specs.LoopTurns.{Turn, Ask, Answer}
+use Rattle.packrat.specs.LoopIterations.{Iteration, Ask, Answer}
 
 member_counted : (shape : Shape) (i : ℕ) → HasMember shape i → i < members_of (way_of 0 shape)
 member_counted node.Any i h = absurd h
@@ -82,7 +82,7 @@ module _ (g : Grammar) (x : List ℕ) where
   member_below n i p w = counted_below (shapes_of g.nodes) n i w.2.0 w.2.1 (member_counted w.2.0 i w.2.2)
 
   costs_some : (a : MatchTask) → IsWell g x a → 1 ≤ ask_cost Most a
-  costs_some (Pair n p) w = omega arith
+  costs_some (Eval n p) w = omega arith
   costs_some (Tail n i p) w = let lt = member_below n i p w in omega arith
 
   first_of_node : (way : Way) (n p : ℕ) (k : MatchTask)
@@ -91,7 +91,7 @@ module _ (g : Grammar) (x : List ℕ) where
   first_of_node (Body id) n p k h = subst (λ v. ask_cost Most v ≤ 4 * Most + 1) (sym h.2) (omega arith)
   first_of_node (Members ms) n p k h = subst (λ v. ask_cost Most v ≤ 4 * Most + 1) (sym h.2) (omega arith)
   first_of_node (Alternatives ms) n p k h = subst (λ v. ask_cost Most v ≤ 4 * Most + 1) (sym h.2) (omega arith)
-  first_of_node (Turns o s) n p k h = subst (λ v. ask_cost Most v ≤ 4 * Most + 1) (sym h) (omega arith)
+  first_of_node (Iterations o s) n p k h = subst (λ v. ask_cost Most v ≤ 4 * Most + 1) (sym h) (omega arith)
   first_of_node (Operand o) n p k h = subst (λ v. ask_cost Most v ≤ 4 * Most + 1) (sym h) (omega arith)
 
   first_of_tail : (way : Way) (n i p : ℕ) (k : MatchTask)
@@ -100,7 +100,7 @@ module _ (g : Grammar) (x : List ℕ) where
   first_of_tail (Body id) n i p k h = absurd h
   first_of_tail (Members ms) n i p k h = subst (λ v. ask_cost Most v ≡ 1) (sym h.2) refl
   first_of_tail (Alternatives ms) n i p k h = subst (λ v. ask_cost Most v ≡ 1) (sym h.2) refl
-  first_of_tail (Turns o s) n i p k h = absurd h
+  first_of_tail (Iterations o s) n i p k h = absurd h
   first_of_tail (Operand o) n i p k h = absurd h
 
   -- the second of two
@@ -119,7 +119,7 @@ module _ (g : Grammar) (x : List ℕ) where
   second_of_node (Body id) n p j k h = not_one h.2
   second_of_node (Members ms) n p j k h = elim h [ inl e ↦ not_none e.1 | inr e ↦ not_one e.2 ]
   second_of_node (Alternatives ms) n p j k h = elim h [ inl e ↦ not_none e.1 | inr e ↦ not_one e.2 ]
-  second_of_node (Turns o s) n p j k h = elim h [
+  second_of_node (Iterations o s) n p j k h = elim h [
     | inl e ↦ not_one e.1
     | inr e ↦ subst (λ v. ask_cost Most v ≡ 1) (sym (second_is e.2)) refl
   ]
@@ -138,13 +138,13 @@ module _ (g : Grammar) (x : List ℕ) where
     | inl e ↦ not_one e.1
     | inr e ↦ subst (λ v. ask_cost Most v ≡ 4 * (Most - suc i)) (sym (second_is e.3)) refl
   ]
-  second_of_tail (Turns o s) n i p j k h = absurd h
+  second_of_tail (Iterations o s) n i p j k h = absurd h
   second_of_tail (Operand o) n i p j k h = absurd h
 
   waits_some : (w : Wait) (a : MatchTask) → 1 ≤ wait_cost Most w a
   waits_some (Last head) a = omega arith
   waits_some (Turned last) a = omega arith
-  waits_some First (Pair n p) = omega arith
+  waits_some First (Eval n p) = omega arith
   waits_some First (Tail n i p) = omega arith
 
   -- a task that is stored
@@ -157,7 +157,7 @@ module _ (g : Grammar) (x : List ℕ) where
   pub less_leaf : (a : MatchTask) (f : Given) (fs : List Frame) (begun now : ℕ) → now ≡ begun + weight a
       → now ≤ most_begun g x → IsWell g x a → left g x (Answer f) fs now < left g x (Ask a) fs begun
   unfolding left
-  less_leaf (Pair n p) f fs begun now is le w =
+  less_leaf (Eval n p) f fs begun now is le w =
       let more = one_times (4 * Most + 4) (most_begun g x) begun (omega (arith, is, le)) in
       subst (λ v. (4 * Most + 4) * (most_begun g x - v) + (0 + frames_cost Most fs)
       < (4 * Most + 4) * (most_begun g x - begun) + (1 + frames_cost Most fs)) (sym is) (omega (arith, more))
@@ -167,26 +167,26 @@ module _ (g : Grammar) (x : List ℕ) where
       subst (λ v. (4 * Most + 4) * (most_begun g x - v) + (0 + frames_cost Most fs)
       < (4 * Most + 4) * (most_begun g x - begun) + (4 * (Most - i) + frames_cost Most fs)) (sym same) (omega arith)
 
-  -- a task that begins so many pairs, with a frame or none
-  pub less_turns : (n p m q : ℕ) (fs gs : List Frame) (begun now pairs : ℕ) → now ≡ begun + pairs → 1 ≤ pairs
+  -- a task that begins so many evaluations, with a frame or none
+  pub less_iterations : (n p m q : ℕ) (fs gs : List Frame) (begun now evals : ℕ) → now ≡ begun + evals → 1 ≤ evals
       → now ≤ most_begun g x → frames_cost Most gs ≤ 1 + frames_cost Most fs
-      → left g x (Ask (Pair m q)) gs now < left g x (Ask (Pair n p)) fs begun
+      → left g x (Ask (Eval m q)) gs now < left g x (Ask (Eval n p)) fs begun
   unfolding left
-  less_turns n p m q fs gs begun now pairs is some le few =
+  less_iterations n p m q fs gs begun now evals is some le few =
       let more = one_times (4 * Most + 4) (most_begun g x) begun (omega (arith, is, le, some)) in
       let rest = times_less (4 * Most + 4) (most_begun g x) (begun + 1) now (omega (arith, is, some)) in
       omega (arith, more, rest, few)
 
-  -- a task that begins so many pairs, and gives something
-  pub less_ended : (n p : ℕ) (f : Given) (fs : List Frame) (begun now pairs : ℕ) → now ≡ begun + pairs → 1 ≤ pairs
-      → now ≤ most_begun g x → left g x (Answer f) fs now < left g x (Ask (Pair n p)) fs begun
+  -- a task that begins so many evaluations, and gives something
+  pub less_ended : (n p : ℕ) (f : Given) (fs : List Frame) (begun now evals : ℕ) → now ≡ begun + evals → 1 ≤ evals
+      → now ≤ most_begun g x → left g x (Answer f) fs now < left g x (Ask (Eval n p)) fs begun
   unfolding left
-  less_ended n p f fs begun now pairs is some le =
+  less_ended n p f fs begun now evals is some le =
       let more = one_times (4 * Most + 4) (most_begun g x) begun (omega (arith, is, le, some)) in
       let rest = times_less (4 * Most + 4) (most_begun g x) (begun + 1) now (omega (arith, is, some)) in
       omega (arith, more, rest)
 
-  pub turned_costs : (key : Bool) (t : reported.Turns) (fs gs : List Frame) → AreTurnedFrames key t fs gs
+  pub turned_costs : (key : Bool) (t : reported.Iterations) (fs gs : List Frame) → AreTurnedFrames key t fs gs
       → frames_cost Most gs ≤ 1 + frames_cost Most fs
   turned_costs true t fs gs is = subst (λ v. frames_cost Most v ≤ 1 + frames_cost Most fs) (sym is) (omega arith)
   turned_costs false t fs gs is = subst (λ v. frames_cost Most v ≤ 1 + frames_cost Most fs) (sym is) (omega arith)
@@ -203,7 +203,7 @@ module _ (g : Grammar) (x : List ℕ) where
       → IsWell g x a → F a k → frames_cost Most gs ≤ wait_cost Most First a + frames_cost Most fs
       → left g x (Ask k) gs now < left g x (Ask a) fs begun
   unfolding left
-  task_down (Pair n p) k fs gs begun now is le w h few =
+  task_down (Eval n p) k fs gs begun now is le w h few =
       let more = one_times (4 * Most + 4) (most_begun g x) begun (omega (arith, is, le)) in
       let cost = first_of_node (way_of n h.0) n p k h.2 in
       subst (λ v. (4 * Most + 4) * (most_begun g x - v) + (ask_cost Most k + frames_cost Most gs)
@@ -220,7 +220,7 @@ module _ (g : Grammar) (x : List ℕ) where
   -- a tail that asks for its member costs less, also with a frame
   down_tail : (n i p m q : ℕ) (fs gs : List Frame) (begun : ℕ) → IsWell g x (Tail n i p)
       → frames_cost Most gs ≤ wait_cost Most First (Tail n i p) + frames_cost Most fs
-      → left g x (Ask (Pair m q)) gs begun < left g x (Ask (Tail n i p)) fs begun
+      → left g x (Ask (Eval m q)) gs begun < left g x (Ask (Tail n i p)) fs begun
   unfolding left
   down_tail n i p m q fs gs begun w few =
       let lt = member_below n i p w in
@@ -236,7 +236,7 @@ module _ (g : Grammar) (x : List ℕ) where
       subst (λ v. frames_cost Most v ≤ wait_cost Most First a + frames_cost Most fs) (sym is) (omega arith)
 
   -- a tail that is entered costs no more than one that is asked for
-  pub entered_less : (stored : List Stored) (e : Entering) (fs gs : List Frame) (t : Turn) (begun : ℕ)
+  pub entered_less : (stored : List Stored) (e : Entering) (fs gs : List Frame) (t : Iteration) (begun : ℕ)
       → IsWell g x (tail_of e) → IsEntered stored e fs gs t
       → left g x t gs begun ≤ left g x (Ask (tail_of e)) fs begun
   entered_less stored e fs gs t begun w (inl i) =
@@ -245,26 +245,26 @@ module _ (g : Grammar) (x : List ℕ) where
       (let less = less_stored (tail_of e) i.0 fs begun w in omega (arith, less)))
   entered_less stored e fs gs t begun w (inr i) =
       subst (λ v. left g x v gs begun ≤ left g x (Ask (tail_of e)) fs begun) (sym i.1)
-      (let less = down_tail e.node e.index e.place e.member e.place fs gs begun w
+      (let less = down_tail e.node e.index e.position e.member e.position fs gs begun w
       (entered_costs e.only e.key (tail_of e) fs gs i.2) in omega (arith, less))
 
-  less_tail : (n p m i q : ℕ) (fs gs : List Frame) (begun now pairs : ℕ) → now ≡ begun + pairs → 1 ≤ pairs
+  less_tail : (n p m i q : ℕ) (fs gs : List Frame) (begun now evals : ℕ) → now ≡ begun + evals → 1 ≤ evals
       → now ≤ most_begun g x → frames_cost Most gs ≤ 1 + frames_cost Most fs
-      → left g x (Ask (Tail m i q)) gs now < left g x (Ask (Pair n p)) fs begun
+      → left g x (Ask (Tail m i q)) gs now < left g x (Ask (Eval n p)) fs begun
   unfolding left
-  less_tail n p m i q fs gs begun now pairs is some le few =
+  less_tail n p m i q fs gs begun now evals is some le few =
       let more = one_times (4 * Most + 4) (most_begun g x) begun (omega (arith, is, le, some)) in
       let rest = times_less (4 * Most + 4) (most_begun g x) (begun + 1) now (omega (arith, is, some)) in
       omega (arith, more, rest, few)
 
-  -- a task that begins so many pairs, with a tail that is entered
-  pub less_skipped : (stored : List Stored) (n p : ℕ) (e : Entering) (t : Turn) (key : Bool)
-      (fs mid gs : List Frame) (begun now pairs : ℕ) → now ≡ begun + pairs → 1 ≤ pairs → now ≤ most_begun g x
-      → IsWell g x (tail_of e) → AreWaiting key 0 (Pair n p) fs mid → IsEntered stored e mid gs t
-      → left g x t gs now < left g x (Ask (Pair n p)) fs begun
-  less_skipped stored n p e t key fs mid gs begun now pairs is some le well are i =
-      let few = waiting_costs key 0 (Pair n p) fs mid are in
-      let one = less_tail n p e.node e.index e.place fs mid begun now pairs is some le few in
+  -- a task that begins so many evaluations, with a tail that is entered
+  pub less_skipped : (stored : List Stored) (n p : ℕ) (e : Entering) (t : Iteration) (key : Bool)
+      (fs mid gs : List Frame) (begun now evals : ℕ) → now ≡ begun + evals → 1 ≤ evals → now ≤ most_begun g x
+      → IsWell g x (tail_of e) → AreWaiting key 0 (Eval n p) fs mid → IsEntered stored e mid gs t
+      → left g x t gs now < left g x (Ask (Eval n p)) fs begun
+  less_skipped stored n p e t key fs mid gs begun now evals is some le well are i =
+      let few = waiting_costs key 0 (Eval n p) fs mid are in
+      let one = less_tail n p e.node e.index e.position fs mid begun now evals is some le few in
       let two = entered_less stored e mid gs t now well i in
       omega (arith, one, two)
 
@@ -289,9 +289,9 @@ module _ (g : Grammar) (x : List ℕ) where
       → left g x (Ask k) gs begun
       < left g x (Answer given) (record { task = a; key = key; wait = First } ∷ fs) begun
   unfolding left
-  less_on (Pair n p) j k given key head fs gs begun h are =
+  less_on (Eval n p) j k given key head fs gs begun h are =
       let cost = second_of_node (way_of n h.0) n p j k h.2 in
-      let few = waiting_costs key head (Pair n p) fs gs are in
+      let few = waiting_costs key head (Eval n p) fs gs are in
       omega (arith, cost, few)
   less_on (Tail n i p) j k given key head fs gs begun h are =
       let cost = second_of_tail (way_of n h.0) n i p j k h.2 in
@@ -305,7 +305,7 @@ module _ (g : Grammar) (x : List ℕ) where
   less_up l own given fs begun = let some = waits_some l.wait l.task in omega arith
 
   -- with a tail that is entered
-  pub less_pass_in : (stored : List Stored) (a : MatchTask) (t : Turn) (e : Entering) (key : Bool)
+  pub less_pass_in : (stored : List Stored) (a : MatchTask) (t : Iteration) (e : Entering) (key : Bool)
       (head : ℕ) (fs mid gs : List Frame) (begun now : ℕ) → now ≡ begun + weight a
       → now ≤ most_begun g x → IsWell g x a → F a (tail_of e) → IsWell g x (tail_of e) → AreWaiting key head a fs mid
       → IsEntered stored e mid gs t → left g x t gs now < left g x (Ask a) fs begun
@@ -314,7 +314,7 @@ module _ (g : Grammar) (x : List ℕ) where
       let two = entered_less stored e mid gs t now well i in
       omega (arith, one, two)
 
-  pub less_on_in : (stored : List Stored) (a j : MatchTask) (t : Turn) (e : Entering) (given : Given)
+  pub less_on_in : (stored : List Stored) (a j : MatchTask) (t : Iteration) (e : Entering) (given : Given)
       (key : Bool) (head : ℕ) (fs mid gs : List Frame) (begun : ℕ) → K a (j ∷ (tail_of e ∷ [])) → IsWell g x (tail_of e)
       → AreWaiting key head a fs mid → IsEntered stored e mid gs t → left g x t gs begun
       < left g x (Answer given) (record { task = a; key = key; wait = First } ∷ fs) begun

@@ -21,8 +21,8 @@ pub mod OnwardLemmas
 pub mod ByteGivesLemmas
 pub mod ByteKidsLemmas
 pub mod RunStepsLemmas
-pub mod RunTurnsLemmas
-pub mod TurnsGiveLemmas
+pub mod RunIterationsLemmas
+pub mod IterationsGiveLemmas
 pub mod TurnedLemmas
 pub mod SkippedLemmas
 pub mod TakeEventLemmas

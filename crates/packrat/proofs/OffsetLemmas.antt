@@ -1,4 +1,4 @@
--- A pair of a marked node is asked for by one pair.
+-- An evaluation of a marked node is asked for by one evaluation.
 -- Serves: asked_once
 use Rattle.std.proofs.Common.{◌≡◌, inl, inr, ℕ, ◌+◌, List, Some, Contains, refl, sym, subst, arith}
 use Rattle.std.specs.Prelude.{slice_get}
@@ -88,7 +88,7 @@ module _ (rules : List Rule) (start : ℕ) (nodes : List Shape) (bodies ranks x 
   asked_by_one (asked {n = i} {p = p} {m = m} {q = q} v a) n d o =
       let is = offset_asks n d m i p q o a in
       record {
-        place = p;
+        position = p;
         distance = is.1;
         visited = subst (λ w. Visits rules nodes bodies x start w p) is.0 v;
         asks = subst (λ w. Asks rules nodes bodies x w p m q) is.0 a;

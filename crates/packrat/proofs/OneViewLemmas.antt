@@ -12,13 +12,13 @@ use Rattle.pegmatch.specs.CellOutcomes.{IsFound}
 use Rattle.pegmatch.specs.Visits.{NodeTakes, NodeFails}
 use Rattle.pegmatch.proofs.NodeGivesLemmas.{same_node}
 use Rattle.memo.specs.declared.task.MatchTask.{MatchTask}
-use Rattle.memo.specs.declared.task.MatchTask.TheVariants.{Pair, Tail}
+use Rattle.memo.specs.declared.task.MatchTask.TheVariants.{Eval, Tail}
 use Rattle.memo.specs.Parts.{Part, part, Parts, parts_none, parts_key, parts_more, Whole, whole_none, whole_more}
-use Rattle.pegnodes.specs.NodeWays.{Way, Leaf, Body, Members, Alternatives, Turns, Operand, way_of}
+use Rattle.pegnodes.specs.NodeWays.{Way, Leaf, Body, Members, Alternatives, Iterations, Operand, way_of}
 use Rattle.packrat.specs.MatchTasks.{KidsBy, TailKidsBy}
 use Rattle.packrat.specs.MatchTasks.{Kids}
 use Rattle.packrat.specs.MatchTasks.{is_key}
-use Rattle.packrat.specs.View.{CellsOf, cells_none, cells_rest, cells_pair, AreImplied}
+use Rattle.packrat.specs.View.{CellsOf, cells_none, cells_rest, cells_eval, AreImplied}
 use Rattle.packrat.proofs.TaskKidsLemmas.{takes_same, takes_fails}
 
 module _ (V : Type 0) (Kids' : V → List V → Type 0) (key : V → Bool)
@@ -84,7 +84,7 @@ module _ (rules : List Rule) (start : ℕ) (nodes : List Shape) (bodies ranks x 
     | inl a ↦ elim l [ inl b ↦ cc (a.1, b.1) | inr b ↦ absurd (cc (a.0, b.1)) ]
     | inr a ↦ elim l [ inl b ↦ absurd (cc (b.0, a.1)) | inr b ↦ cc (a.2, b.2) ]
   ]
-  kids_by (Turns j s) n p ks ls k l = elim k [
+  kids_by (Iterations j s) n p ks ls k l = elim k [
     | inl a ↦ elim l [ inl b ↦ cc (a.1, b.1) | inr b ↦ absurd (not_both b.1 a.0) ]
     | inr a ↦ elim l [
       | inl b ↦ absurd (not_both a.1 b.0)
@@ -132,12 +132,12 @@ module _ (rules : List Rule) (start : ℕ) (nodes : List Shape) (bodies ranks x 
           | inr b ↦ cc (is, a.3, b.3)
         ]
       ]
-  rest_kids_by (Turns j s) n i p ks ls k l = absurd k
+  rest_kids_by (Iterations j s) n i p ks ls k l = absurd k
   rest_kids_by (Operand j) n i p ks ls k l = absurd k
 
   one_kids : (a : MatchTask) (ks ls : List MatchTask) → Kids rules nodes bodies x a ks → Kids rules nodes bodies x a ls
       → ks ≡ ls
-  one_kids (Pair n p) ks ls k l =
+  one_kids (Eval n p) ks ls k l =
       let is : l.0 ≡ k.0 = cc (k.1, l.1) in
       kids_by (way_of n k.0) n p ks ls k.2 (subst (λ v. KB (way_of n v) n p ls) is l.2)
   one_kids (Tail n i p) ks ls k l =
@@ -163,13 +163,13 @@ module _ (rules : List Rule) (start : ℕ) (nodes : List Shape) (bodies ranks x 
       → CellsOf rules start nodes bodies x more ys ds → xs ≡ ys → cs ≡ ds
   one_cells cells_none cells_none is = refl
   one_cells cells_none (cells_rest d) is = absurd (cc is)
-  one_cells cells_none (cells_pair f d) is = absurd (cc is)
+  one_cells cells_none (cells_eval f d) is = absurd (cc is)
   one_cells (cells_rest c) cells_none is = absurd (cc is)
   one_cells (cells_rest c) (cells_rest d) is = one_cells c d (cc is)
-  one_cells (cells_rest c) (cells_pair f d) is = absurd (cc is)
-  one_cells (cells_pair f c) cells_none is = absurd (cc is)
-  one_cells (cells_pair f c) (cells_rest d) is = absurd (cc is)
-  one_cells (cells_pair {n = n} {p = p} {f = f} a c) (cells_pair {n = m} {p = q} {f = h} b d) is =
+  one_cells (cells_rest c) (cells_eval f d) is = absurd (cc is)
+  one_cells (cells_eval f c) cells_none is = absurd (cc is)
+  one_cells (cells_eval f c) (cells_rest d) is = absurd (cc is)
+  one_cells (cells_eval {n = n} {p = p} {f = f} a c) (cells_eval {n = m} {p = q} {f = h} b d) is =
       let one : m ≡ n = cc is in
       let two : q ≡ p = cc is in
       let moved : IF n p h = subst (λ v. IF v p h) one (subst (λ v. IF m v h) two b) in

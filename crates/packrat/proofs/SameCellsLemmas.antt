@@ -1,4 +1,4 @@
--- Lists of cells that are exactly those of the visited pairs hold the same.
+-- Lists of cells that are exactly those of the visited evaluations hold the same.
 -- Serves: implied_cells, same_cells
 use Rattle.std.proofs.Common.{◌≡◌, ℕ, ◌+◌, ◌≤◌, Bool, true, false, if◌then◌else◌}
 use Rattle.std.proofs.Common.{List, [], ◌∷◌, length, Option, Some, None, refl, sym, ◌∙◌, ap, subst, arith}
@@ -21,18 +21,18 @@ same_option None None there back = refl
 same_option None (Some v) there back = back v refl
 same_option (Some v) b there back = sym (there v refl)
 
--- a pair that has a cell is among the cells
+-- an evaluation that has a cell is among the cells
 code_among : (w : ℕ) (cells : List Entry) (n p : ℕ) → HasCell cells n p → In (code w n p) (cell_codes w cells)
 code_among w [] n p h = absurd (cc h.1)
 code_among w (c ∷ cells) n p h = by (is_of c n p) refl h.1 (code_among w cells n p)
   where
     by : (v : Bool) → is_of c n p ≡ v → (if v then Some c.found else found_at cells n p) ≡ Some h.0
         → (HasCell cells n p → In (code w n p) (cell_codes w cells))
-        → In (code w n p) (code w c.node c.place ∷ cell_codes w cells)
+        → In (code w n p) (code w c.node c.position ∷ cell_codes w cells)
     by true own is rest = let at = is_own c n p own in now (rw (at.0, at.1) refl)
     by false own is rest = on (rest (h.0, is))
 
--- cells whose pairs have other cells are no more than those
+-- cells whose evaluations have other cells are no more than those
 no_more : (cs ds : List Entry) (k : ℕ) → AreDifferent cs → ((n p : ℕ) → HasCell cs n p → p ≤ k)
     → ((n p : ℕ) → HasCell cs n p → HasCell ds n p) → length cs ≤ length ds
 no_more cs ds k different low there =
@@ -40,7 +40,7 @@ no_more cs ds k different low there =
     let most = at_most (cell_codes w cs) (cell_codes w ds)
     (cells_differ w cs (λ n p h. let l = low n p h in omega (arith, l)) different)
     (λ a i. let c = cell_of w cs i in subst (λ v. In v (cell_codes w ds)) (sym c.is)
-    (code_among w ds c.node c.place (there c.node c.place c.has))) in
+    (code_among w ds c.node c.position (there c.node c.position c.has))) in
     let first = length_cell_codes w cs in
     let second = length_cell_codes w ds in
     omega (arith, most, first, second)

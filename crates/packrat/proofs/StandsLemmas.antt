@@ -1,4 +1,4 @@
--- The loop's turns are steps of the machine.
+-- The loop's iterations are steps of the machine.
 -- Serves: Packrat::match_unit
 use Rattle.std.proofs.Common.{◌≡◌, ◌⊎◌, inl, inr, ℕ, ◌+◌, Bool, true, false, List, [], ◌∷◌, ◌++◌, length, Some}
 use Rattle.std.proofs.Common.{refl, sym, subst, ap, ◌∙◌, arith, ◌*◌, ◌-◌, ◌≤◌}
@@ -19,14 +19,14 @@ use Rattle.pegnodes.specs.KeyLists.{Marks}
 use Rattle.memo.specs.declared.key_log.Given.{Given}
 use Rattle.memo.specs.declared.key_log.Stored.{Stored}
 use Rattle.memo.specs.declared.task.MatchTask.{MatchTask}
-use Rattle.memo.specs.declared.task.MatchTask.TheVariants.{Pair, Tail}
-use Rattle.packrat.specs.ByteGives.{turns_on}
+use Rattle.memo.specs.declared.task.MatchTask.TheVariants.{Eval, Tail}
+use Rattle.packrat.specs.ByteGives.{iterations_on}
 use Rattle.packrat.specs.Turned.{AreTurned}
-use Rattle.packrat.specs.TurnsLeft.{most_begun}
+use Rattle.packrat.specs.IterationsLeft.{most_begun}
 use Rattle.pegnodes.specs.KeyMarks.{AreMarks}
 use Rattle.packrat.specs.TaskGives.{TaskYields, joined, IsQuiet}
 use Rattle.pegnodes.specs.KeyLists.{node_marks, tail_marks}
-use Rattle.memo.specs.KeyLog.{tasks_of, place_of}
+use Rattle.memo.specs.KeyLog.{tasks_of, position_of}
 use Rattle.memo.specs.Parts.{IsIn, in_here, in_later}
 use Rattle.memo.specs.Run.{Run, total}
 use Rattle.packrat.specs.MatchTasks.{Kids}
@@ -38,14 +38,14 @@ use Rattle.packrat.specs.declared.frames.Wait.TheVariants.{First, Last, Turned}
 use Rattle.packrat.specs.declared.onward.Onward.{Onward}
 use Rattle.packrat.specs.declared.onward.Start.TheVariants as start
 use Rattle.packrat.specs.declared.onward.Onward.TheVariants as way
-use Rattle.packrat.specs.LoopTurns.{Turn, Ask, Answer}
+use Rattle.packrat.specs.LoopIterations.{Iteration, Ask, Answer}
 use Rattle.packrat.specs.MachineSteps.{Level, State, Asks, Works, held, start_at, store, step_stored, step_begin}
 use Rattle.packrat.specs.MachineSteps.{step_next, step_last}
 use Rattle.packrat.specs.MachineSteps.{steps_none, steps_more}
 use Rattle.packrat.specs.Onward.{IsWell, IsNear, IsHere, ReachesEnd, AfterStart, AfterOne, GoesOn, PassesOn, IsLed}
 use Rattle.packrat.specs.Onward.{tail_of}
 use Rattle.packrat.specs.Onward.{member_of}
-use Rattle.pegnodes.specs.NodeWays.{Way, Leaf, Body, Members, Alternatives, Turns, Operand, way_of}
+use Rattle.pegnodes.specs.NodeWays.{Way, Leaf, Body, Members, Alternatives, Iterations, Operand, way_of}
 use Rattle.packrat.proofs.GoodLemmas.{in_front}
 use Rattle.packrat.specs.TaskSteps.{FirstBy, TailFirstBy, IsFirst, NextOf, next_first, next_second, TaskSteps}
 use Rattle.packrat.specs.Stands.{AreLevels, levels_none, levels_frame, levels_passed, levels_turned}
@@ -53,7 +53,7 @@ use Rattle.packrat.specs.Stands.{Waiting, state_of, key_of}
 use Rattle.packrat.specs.Stands.{Stands, IsClosed, NeedsMore, HeadStands, kept_joined, IsJoined, IsWaitHead}
 use Rattle.packrat.specs.Stands.{AreWaiting, GivenBy, AreGiven, AreEntered, IsEntered}
 use Rattle.packrat.specs.declared.onward.Entering.{Entering}
-use Rattle.packrat.proofs.BegunLemmas.{begun_at_places}
+use Rattle.packrat.proofs.BegunLemmas.{begun_at_positions}
 use Rattle.packrat.proofs.MachineLemmas.{run_of_steps}
 
 -- events of a head stay where the log grows
@@ -114,7 +114,7 @@ module _ (g : Grammar) (x : List ℕ) (more : Bool) (marks : Marks) where
   abbrev F : MatchTask → MatchTask → Type 0
   F a k = IsFirst (rules_of g.rules) (shapes_of g.nodes) g.bodies x a k
 
-  abbrev S : MatchTask → Turn → List Frame → List Stored → List Link → ℕ → Type 0
+  abbrev S : MatchTask → Iteration → List Frame → List Stored → List Link → ℕ → Type 0
   S root t ls st ks n = Stands g x more marks root t ls st ks n
 
   abbrev C : List Link → MatchTask → Given → List Stored → List Stored → Type 0
@@ -161,14 +161,14 @@ module _ (g : Grammar) (x : List ℕ) (more : Bool) (marks : Marks) where
       record { events = []; yields = h; quiet = quiet_none f; head = head_none (shapes_of g.nodes) links }
 
   -- what a task gives that takes nothing, and leaves an event
-  pub given_marked : (links : List Link) (a : MatchTask) (p : ℕ) (kept : Kept) (head : ℕ) → p ≡ place_of a
+  pub given_marked : (links : List Link) (a : MatchTask) (p : ℕ) (kept : Kept) (head : ℕ) → p ≡ position_of a
       → AfterStart g x more a (start.Marks kept) → IsHead links head → kept_at links head ≡ kept ∷ []
       → G links a (record { found = Took p; events = head })
-  given_marked links a p kept head place h is at =
+  given_marked links a p kept head position h is at =
       let e = h.1 in
       record {
         events = e.0 ∷ [];
-        yields = subst (λ v. SY a (Took v) (e.0 ∷ [])) (sym place) e.2;
+        yields = subst (λ v. SY a (Took v) (e.0 ∷ [])) (sym position) e.2;
         quiet = tt;
         head = record {
           is = is;
@@ -211,13 +211,13 @@ module _ (g : Grammar) (x : List ℕ) (more : Bool) (marks : Marks) where
     pub from : ℕ
     pub count : ℕ
     pub rest : List (Level MatchTask)
-    pub is : a ≡ Pair star from
+    pub is : a ≡ Eval star from
     pub turned : AreTurned g x more marks star operand from (last + 1) count
-    pub key : Key (Pair star from) ≡ true
-    pub well : IsWell g x (Pair star from)
-    pub above : L links root ls rest (Pair star from)
-    pub levels : fs ≡ turns_on star operand from (last + 1 - from) rest
-    pub waits : b ≡ Pair star (last + 1)
+    pub key : Key (Eval star from) ≡ true
+    pub well : IsWell g x (Eval star from)
+    pub above : L links root ls rest (Eval star from)
+    pub levels : fs ≡ iterations_on star operand from (last + 1 - from) rest
+    pub waits : b ≡ Eval star (last + 1)
 
   -- the levels of the frames, of which the last one so awaits task b
   abbrev TopBy : List Link → MatchTask → Wait → Frame → List Frame → List (Level MatchTask) → MatchTask → Type 0
@@ -290,8 +290,8 @@ module _ (g : Grammar) (x : List ℕ) (more : Bool) (marks : Marks) where
   ready_when {links = links} {root = root}
       (levels_turned {s = n} {k = k} {p = p} {last = last} {count = count} {ls = ls} {fs = fs} t key w r) given d s =
       record {
-        levels = turns_on n k p (last + 1 - p) fs;
-        task = Pair n (last + 1);
+        levels = iterations_on n k p (last + 1 - p) fs;
+        task = Eval n (last + 1);
         are = record {
           star = n;
           operand = k;
@@ -312,7 +312,7 @@ module _ (g : Grammar) (x : List ℕ) (more : Bool) (marks : Marks) where
 
   pub ready_of : {root : MatchTask} {given : Given} {ls : List Frame} {st : List Stored} {links : List Link} {n : ℕ}
       → (s : S root (Answer given) ls st links n) → Ready links root ls given (tasks_of st) s.begun
-  ready_of {given = given} s = ready_when s.are given s.turns s.steps
+  ready_of {given = given} s = ready_when s.are given s.iterations s.steps
 
   -- the levels of a task that awaits its last child
   waiting_levels : (links : List Link) (root a b : MatchTask) (key : Bool) (head : ℕ) (es : List Event)
@@ -333,7 +333,7 @@ module _ (g : Grammar) (x : List ℕ) (more : Bool) (marks : Marks) where
     begun = [];
     task = root;
     are = levels_none;
-    turns = (refl, here.0, here.1);
+    iterations = (refl, here.0, here.1);
     given = record { given = λ s i. elim i [ ] };
     is = refl;
     steps = steps_none;
@@ -341,47 +341,47 @@ module _ (g : Grammar) (x : List ℕ) (more : Bool) (marks : Marks) where
   })
 
   -- a task leads first to one at its own position
-  place_by : (w : Way) (n p : ℕ) (b : MatchTask) → FirstBy (rules_of g.rules) (shapes_of g.nodes) g.bodies x w n p b
-      → place_of b ≡ p
-  place_by Leaf n p b h = absurd h
-  place_by (Body id) n p b h = ap place_of h.2
-  place_by (Members ms) n p b h = ap place_of h.2
-  place_by (Alternatives ms) n p b h = ap place_of h.2
-  place_by (Turns k s) n p b h = ap place_of h
-  place_by (Operand k) n p b h = ap place_of h
+  position_by : (w : Way) (n p : ℕ) (b : MatchTask) → FirstBy (rules_of g.rules) (shapes_of g.nodes) g.bodies x w n p b
+      → position_of b ≡ p
+  position_by Leaf n p b h = absurd h
+  position_by (Body id) n p b h = ap position_of h.2
+  position_by (Members ms) n p b h = ap position_of h.2
+  position_by (Alternatives ms) n p b h = ap position_of h.2
+  position_by (Iterations k s) n p b h = ap position_of h
+  position_by (Operand k) n p b h = ap position_of h
 
-  tail_place_by : (w : Way) (n i p : ℕ) (b : MatchTask)
-      → TailFirstBy (rules_of g.rules) (shapes_of g.nodes) g.bodies x w n i p b → place_of b ≡ p
-  tail_place_by Leaf n i p b h = absurd h
-  tail_place_by (Body id) n i p b h = absurd h
-  tail_place_by (Members ms) n i p b h = ap place_of h.2
-  tail_place_by (Alternatives ms) n i p b h = ap place_of h.2
-  tail_place_by (Turns k s) n i p b h = absurd h
-  tail_place_by (Operand k) n i p b h = absurd h
+  tail_position_by : (w : Way) (n i p : ℕ) (b : MatchTask)
+      → TailFirstBy (rules_of g.rules) (shapes_of g.nodes) g.bodies x w n i p b → position_of b ≡ p
+  tail_position_by Leaf n i p b h = absurd h
+  tail_position_by (Body id) n i p b h = absurd h
+  tail_position_by (Members ms) n i p b h = ap position_of h.2
+  tail_position_by (Alternatives ms) n i p b h = ap position_of h.2
+  tail_position_by (Iterations k s) n i p b h = absurd h
+  tail_position_by (Operand k) n i p b h = absurd h
 
-  first_place : (a k : MatchTask) → F a k → place_of k ≡ place_of a
-  first_place (Pair n p) k h = place_by (way_of n h.0) n p k h.2
-  first_place (Tail n i p) k h = tail_place_by (way_of n h.0) n i p k h.2
+  first_position : (a k : MatchTask) → F a k → position_of k ≡ position_of a
+  first_position (Eval n p) k h = position_by (way_of n h.0) n p k h.2
+  first_position (Tail n i p) k h = tail_position_by (way_of n h.0) n i p k h.2
 
   first_near : (a k : MatchTask) → F a k → IsNear x more a → IsNear x more k
-  first_near a k h near is = let same = first_place a k h in let lt = near is in omega (arith, same, lt)
+  first_near a k h near is = let same = first_position a k h in let lt = near is in omega (arith, same, lt)
 
   module _ (root a : MatchTask) (ls : List Frame) (st : List Stored) (links : List Link) (n : ℕ)
       (s : S root (Ask a) ls st links n) where
     asked_near : IsNear x more a
-    asked_near = subst (IsNear x more) (sym s.turns.0) s.turns.2
+    asked_near = subst (IsNear x more) (sym s.iterations.0) s.iterations.2
 
-    begun_near : (m q : ℕ) → IsIn (Pair m q) (a ∷ s.begun) → IsNear x more (Pair m q)
+    begun_near : (m q : ℕ) → IsIn (Eval m q) (a ∷ s.begun) → IsNear x more (Eval m q)
     begun_near m q i = elim (in_front i) [
       | inl is ↦ subst (IsNear x more) (sym is) asked_near
       | inr j ↦ s.near m q j
     ]
 
     pub asked_well : IsWell g x a
-    asked_well = subst (IsWell g x) (sym s.turns.0) s.turns.1
+    asked_well = subst (IsWell g x) (sym s.iterations.0) s.iterations.1
 
     pub task_here : a ≡ s.task
-    task_here = s.turns.0
+    task_here = s.iterations.0
 
     pub levels_above : L links root ls s.levels a
     levels_above = subst (L links root ls s.levels) (sym task_here) s.are
@@ -393,7 +393,7 @@ module _ (g : Grammar) (x : List ℕ) (more : Bool) (marks : Marks) where
       begun = s.begun;
       task = a;
       are = levels_above;
-      turns = s.given.given (record { task = a; given = given }) i;
+      iterations = s.given.given (record { task = a; given = given }) i;
       given = s.given;
       is = s.is;
       steps = steps_more s.steps (step_stored (subst (λ v. Key v ≡ true) task_here t)
@@ -437,7 +437,7 @@ module _ (g : Grammar) (x : List ℕ) (more : Bool) (marks : Marks) where
         begun = a ∷ s.begun;
         task = a;
         are = levels_grown grown levels_above;
-        turns = h;
+        iterations = h;
         given = c.keeps h (keys_grown grown s.given);
         is = begin_counts;
         steps = subst (λ v. SS root (Works (record { levels = s.levels; stored = v; begun = a ∷ s.begun })))
@@ -453,7 +453,7 @@ module _ (g : Grammar) (x : List ℕ) (more : Bool) (marks : Marks) where
         task = k;
         are = levels_frame {l = record { task = a; key = key; wait = First }} (asked_well, asked_near) t (h.0, refl)
             levels_above;
-        turns = (refl, h.1, first_near a k h.0 asked_near);
+        iterations = (refl, h.1, first_near a k h.0 asked_near);
         near = begun_near;
         given = s.given;
         is = begin_counts;
@@ -470,7 +470,7 @@ module _ (g : Grammar) (x : List ℕ) (more : Bool) (marks : Marks) where
         task = k;
         are = waiting_levels links root a k key 0 [] (k ∷ []) ls new s.levels t (asked_well, asked_near)
             (head_none (shapes_of g.nodes) links) h.2 w levels_above;
-        turns = (refl, h.1, first_near a k h.0 asked_near);
+        iterations = (refl, h.1, first_near a k h.0 asked_near);
         near = begun_near;
         given = s.given;
         is = begin_counts;
@@ -490,7 +490,7 @@ module _ (g : Grammar) (x : List ℕ) (more : Bool) (marks : Marks) where
         subst (λ v. S root (Ask (member_of e)) v st links (n + 0)) (sym is)
         (stands_down root (tail_of e) ls st links n s fresh (member_of e) e.key key h)
 
-    pub stands_entered : (new : List Frame) (t : Turn) → e.key ≡ Key (tail_of e)
+    pub stands_entered : (new : List Frame) (t : Iteration) → e.key ≡ Key (tail_of e)
         → IsLed g x more e.only (tail_of e) (member_of e) → IsEntered st e ls new t → S root t new st links n
     stands_entered new t key h (inl i) = subst (λ v. S root v new st links n) (sym i.3)
         (subst (λ v. S root (Answer i.0) v st links n) (sym i.4)
@@ -562,7 +562,7 @@ module _ (g : Grammar) (x : List ℕ) (more : Bool) (marks : Marks) where
             are = waiting_levels links root a k key given.events is_ready.gives.events
                 (is_ready.task ∷ (k ∷ [])) ls new is_ready.are.1
                 is_ready.are.4 is_ready.are.3 is_ready.gives.head h.0 w is_ready.are.6;
-            turns = (refl, h.1, h.2 is_ready.are.3.1);
+            iterations = (refl, h.1, h.2 is_ready.are.3.1);
             near = s.near;
             given = s.given;
             is = s.is;
@@ -572,7 +572,7 @@ module _ (g : Grammar) (x : List ℕ) (more : Bool) (marks : Marks) where
       pub tail_well : (e : Entering) → After (way.Enters e) → IsWell g x (tail_of e)
       tail_well e after = (after_here (way.Enters e) after).0.1
 
-      pub stands_into : (e : Entering) (mid new : List Frame) (t : Turn) → e.key ≡ Key (tail_of e)
+      pub stands_into : (e : Entering) (mid new : List Frame) (t : Iteration) → e.key ≡ Key (tail_of e)
           → After (way.Enters e) → AreWaiting key given.events a ls mid → IsEntered st e mid new t
           → S root t new st links n
       stands_into e mid new t own after w i =
@@ -589,7 +589,7 @@ module _ (g : Grammar) (x : List ℕ) (more : Bool) (marks : Marks) where
         begun = s.begun;
         task = a;
         are = is_ready.are.6;
-        turns = h;
+        iterations = h;
         given = c.keeps h s.given;
         is = s.is;
         steps = subst (λ v. SS root (Works (record { levels = is_ready.are.1; stored = v; begun = s.begun })))
@@ -632,7 +632,7 @@ module _ (g : Grammar) (x : List ℕ) (more : Bool) (marks : Marks) where
           begun = s.begun;
           task = a;
           are = levels_grown grown r.are.6;
-          turns = h;
+          iterations = h;
           given = c.keeps h (keys_grown grown s.given);
           is = s.is;
           steps = subst (λ v. SS root (Works (record { levels = r.are.1; stored = v; begun = s.begun }))) (sym c.tasks)
@@ -652,7 +652,7 @@ module _ (g : Grammar) (x : List ℕ) (more : Bool) (marks : Marks) where
 
   pub given_head : (root : MatchTask) (given : Given) (ls : List Frame) (st : List Stored) (links : List Link) (n : ℕ)
       → S root (Answer given) ls st links n → IsHead links given.events
-  given_head root given ls st links n s = s.turns.head.is
+  given_head root given ls st links n s = s.iterations.head.is
 
   module _ (root : MatchTask) (given : Given) (st : List Stored) (links : List Link) (n : ℕ)
       (s : S root (Answer given) [] st links n) where
@@ -693,7 +693,7 @@ module _ (g : Grammar) (x : List ℕ) (more : Bool) (marks : Marks) where
     keeps = λ h r. r;
   }
 
-  pub stands_as : {root : MatchTask} {t u : Turn} {ls ms : List Frame} {st su : List Stored} {ks kl : List Link}
+  pub stands_as : {root : MatchTask} {t u : Iteration} {ls ms : List Frame} {st su : List Stored} {ks kl : List Link}
       {n m : ℕ}
       → t ≡ u → ls ≡ ms → st ≡ su → ks ≡ kl → n ≡ m → S root t ls st ks n → S root u ms su kl m
   stands_as {root = root} {t = t} {u = u} {ls = ls} {ms = ms} {st = st} {su = su} {ks = ks} {kl = kl} {m = m} a b c e d
@@ -701,18 +701,19 @@ module _ (g : Grammar) (x : List ℕ) (more : Bool) (marks : Marks) where
       subst (λ v. S root v ms su kl m) a (subst (λ v. S root t v su kl m) b (subst (λ v. S root t ls v kl m) c
       (subst (λ v. S root t ls st v m) e (subst (S root t ls st ks) d s))))
 
-  -- no more are begun than nodes at places
-  pub stands_few : (root : ℕ) (t : Turn) (ls : List Frame) (st : List Stored) (links : List Link) (n : ℕ)
+  -- no more are begun than nodes at positions
+  pub stands_few : (root : ℕ) (t : Iteration) (ls : List Frame) (st : List Stored) (links : List Link) (n : ℕ)
       → IsSoundGrammar g → slice_get g.bodies g.start ≡ Some root
       → AreMarks g.start (shapes_of g.nodes) g.bodies (node_marks marks) (tail_marks marks)
-      → S (Pair root 0) t ls st links n → n ≤ most_begun g x
+      → S (Eval root 0) t ls st links n → n ≤ most_begun g x
   stands_few root t ls st links n sound at are s =
-      let most = begun_at_places (rules_of g.rules) g.start (shapes_of g.nodes) g.bodies g.ranks x false sound root at
+      let most = begun_at_positions (rules_of g.rules) g.start
+      (shapes_of g.nodes) g.bodies g.ranks x false sound root at
       (node_marks marks) (tail_marks marks) are (state_of t s.task s.levels (tasks_of st) s.begun) s.steps in
       let same : length (shapes_of g.nodes) ≡ length g.nodes = length-map g.nodes shape_of in
       subst (λ v. n ≤ v * (length x + 1)) same (by t (state_of t s.task s.levels (tasks_of st) s.begun) refl most)
     where
-      by : (u : Turn) (w : State MatchTask) → w ≡ state_of u s.task s.levels (tasks_of st) s.begun
+      by : (u : Iteration) (w : State MatchTask) → w ≡ state_of u s.task s.levels (tasks_of st) s.begun
           → total MatchTask K Key weight (held MatchTask w).begun ≤ length (shapes_of g.nodes) * (length x + 1)
           → n ≤ length (shapes_of g.nodes) * (length x + 1)
       by (Ask a) w is le =

@@ -14,8 +14,8 @@ use Rattle.packrat.proofs.KeptAtLemmas.{not_equal, none_kept, kept_before, kept_
 
 -- how many links a walk over the events of a link or a head goes through, and one for each head that has none
 abbrev pub steps_of : (ℕ → ℕ) → Link → ℕ
-steps_of steps (Opened place) = 1
-steps_of steps (Closed place) = 1
+steps_of steps (Opened position) = 1
+steps_of steps (Closed position) = 1
 steps_of steps (Acted node) = 1
 steps_of steps (Join first second) = suc (steps first + steps second)
 
@@ -46,8 +46,8 @@ steps_last link older head is = rw (eq-eqb head (suc (length older)) is) refl
 -- What a link keeps depends on the heads that it joins alone.
 same_events : (f g : ℕ → List Kept) (head : ℕ) (link : Link) → IsBefore head link
     → ((h : ℕ) → h < head → f h ≡ g h) → events_of f link ≡ events_of g link
-same_events f g head (Opened place) b same = refl
-same_events f g head (Closed place) b same = refl
+same_events f g head (Opened position) b same = refl
+same_events f g head (Closed position) b same = refl
 same_events f g head (Acted node) b same = refl
 same_events f g head (Join first second) b same =
     let one = same first b.0 in
@@ -56,8 +56,8 @@ same_events f g head (Join first second) b same =
 
 same_steps : (f g : ℕ → ℕ) (head : ℕ) (link : Link) → IsBefore head link
     → ((h : ℕ) → h < head → f h ≡ g h) → steps_of f link ≡ steps_of g link
-same_steps f g head (Opened place) b same = refl
-same_steps f g head (Closed place) b same = refl
+same_steps f g head (Opened position) b same = refl
+same_steps f g head (Closed position) b same = refl
 same_steps f g head (Acted node) b same = refl
 same_steps f g head (Join first second) b same =
     let one = same first b.0 in

@@ -26,7 +26,7 @@ use Rattle.pegnodes.specs.Nodes.{spells_act, spells_open, spells_close}
 use Rattle.gramcheck.specs.Outcome.{Acted, Opened, Closed, act, open_at, close_at}
 use Rattle.pegmatch.proofs.NodeGivesLemmas.{gives_as}
 use Rattle.memo.specs.declared.task.MatchTask.{MatchTask}
-use Rattle.memo.specs.declared.task.MatchTask.TheVariants.{Pair, Tail}
+use Rattle.memo.specs.declared.task.MatchTask.TheVariants.{Eval, Tail}
 use Rattle.packrat.specs.TaskGives.{TakesWithin, FailsWithin}
 use Rattle.packrat.specs.TaskGives.{MembersGive, members_none, members_fail, members_take, AlternativesGive}
 use Rattle.packrat.specs.TaskGives.{alternatives_none, alternatives_take, alternatives_fail, TailGives, TaskYields}
@@ -73,25 +73,25 @@ module _ (g : Grammar) (x : List ℕ) (more : Bool) (some : WasEnough x more 0) 
   failed_of d = record { looked = d.looked; gives = d.gives }
 
   -- what a node gives
-  pub fails_of : (k p : ℕ) (f : Found) (es : List Event) → SG (Pair k p) f es → f ≡ Failed → NF k p
+  pub fails_of : (k p : ℕ) (f : Found) (es : List Event) → SG (Eval k p) f es → f ≡ Failed → NF k p
   fails_of k p f es h is = by f is h
     where
-      by : (f : Found) → f ≡ Failed → SG (Pair k p) f es → NF k p
+      by : (f : Found) → f ≡ Failed → SG (Eval k p) f es → NF k p
       by Failed e (l, d, h, z) = record { looked = l; gives = d; enough = h }
       by (Took q) e d = absurd (cc e)
 
-  pub takes_of : (k p q : ℕ) (f : Found) (es : List Event) → SG (Pair k p) f es → f ≡ Took q → NT k p q es
+  pub takes_of : (k p q : ℕ) (f : Found) (es : List Event) → SG (Eval k p) f es → f ≡ Took q → NT k p q es
   takes_of k p q f es h is =
-      let d : SG (Pair k p) (Took q) es = subst (λ v. SG (Pair k p) v es) is h in
+      let d : SG (Eval k p) (Took q) es = subst (λ v. SG (Eval k p) v es) is h in
       record { looked = d.0; gives = d.1; enough = d.2 }
 
   -- a failure of a node has no events
-  pub none_of : (k p : ℕ) (f : Found) (es : List Event) → SG (Pair k p) f es → f ≡ Failed → es ≡ []
+  pub none_of : (k p : ℕ) (f : Found) (es : List Event) → SG (Eval k p) f es → f ≡ Failed → es ≡ []
   none_of k p f es h is =
-      let d : SG (Pair k p) Failed es = subst (λ v. SG (Pair k p) v es) is h in d.3
+      let d : SG (Eval k p) Failed es = subst (λ v. SG (Eval k p) v es) is h in d.3
 
   pub name_task : (n id m p : ℕ) (f : Found) (es : List Event) → SpellsSome (rules_of g.rules) (shapes_of g.nodes) n
-      → At n (node.Name id) → slice_get g.bodies id ≡ Some m → SG (Pair m p) f es → SG (Pair n p) f (joined f [] es)
+      → At n (node.Name id) → slice_get g.bodies id ≡ Some m → SG (Eval m p) f es → SG (Eval n p) f (joined f [] es)
   name_task n id m p Failed es s at body h = (
     h.0,
     name_gives (rules_of g.rules) g.start (shapes_of g.nodes) g.bodies g.ranks x sound n id m p h.0
@@ -108,7 +108,7 @@ module _ (g : Grammar) (x : List ℕ) (more : Bool) (some : WasEnough x more 0) 
   )
 
   module _ (n k p : ℕ) (s : SpellsSome (rules_of g.rules) (shapes_of g.nodes) n) where
-    pub star_ends : At n (node.Star k) → NF k p → SG (Pair n p) (Took p) []
+    pub star_ends : At n (node.Star k) → NF k p → SG (Eval n p) (Took p) []
     star_ends at d = (
       d.looked,
       star_gives_none (rules_of g.rules) g.start (shapes_of g.nodes) g.bodies g.ranks x
@@ -117,8 +117,8 @@ module _ (g : Grammar) (x : List ℕ) (more : Bool) (some : WasEnough x more 0) 
       tt,
     )
 
-    pub star_goes : (q : ℕ) (f : Found) (es fs : List Event) → At n (node.Star k) → NT k p q es → SG (Pair n q) f fs
-        → SG (Pair n p) f (joined f es fs)
+    pub star_goes : (q : ℕ) (f : Found) (es fs : List Event) → At n (node.Star k) → NT k p q es → SG (Eval n q) f fs
+        → SG (Eval n p) f (joined f es fs)
     star_goes q Failed es fs at t h =
         absurd (star_never_fails (rules_of g.rules) g.start (shapes_of g.nodes) g.bodies g.ranks x sound n k s q h.0
         at h.1)
@@ -130,7 +130,7 @@ module _ (g : Grammar) (x : List ℕ) (more : Bool) (some : WasEnough x more 0) 
       tt,
     )
 
-    pub not_took : At n (node.Not k) → NF k p → SG (Pair n p) (Took p) []
+    pub not_took : At n (node.Not k) → NF k p → SG (Eval n p) (Took p) []
     not_took at d = (
       d.looked,
       not_gives_takes (rules_of g.rules) g.start (shapes_of g.nodes) g.bodies g.ranks x
@@ -139,7 +139,7 @@ module _ (g : Grammar) (x : List ℕ) (more : Bool) (some : WasEnough x more 0) 
       tt,
     )
 
-    pub not_failed : (q : ℕ) (es : List Event) → At n (node.Not k) → NT k p q es → SG (Pair n p) Failed []
+    pub not_failed : (q : ℕ) (es : List Event) → At n (node.Not k) → NT k p q es → SG (Eval n p) Failed []
     not_failed q es at t = (
       t.looked,
       not_gives_fails (rules_of g.rules) g.start (shapes_of g.nodes) g.bodies g.ranks x
@@ -149,7 +149,7 @@ module _ (g : Grammar) (x : List ℕ) (more : Bool) (some : WasEnough x more 0) 
     )
 
   module _ (n k p : ℕ) (s : SpellsSome (rules_of g.rules) (shapes_of g.nodes) n) where
-    pub plus_failed : (i : ℕ) → At n (node.Plus k i) → NF k p → SG (Pair n p) Failed []
+    pub plus_failed : (i : ℕ) → At n (node.Plus k i) → NF k p → SG (Eval n p) Failed []
     plus_failed i at d = (
       d.looked,
       plus_gives_fails (rules_of g.rules) g.start (shapes_of g.nodes) g.bodies g.ranks x
@@ -159,7 +159,7 @@ module _ (g : Grammar) (x : List ℕ) (more : Bool) (some : WasEnough x more 0) 
     )
 
     pub plus_goes : (i q : ℕ) (f : Found) (es fs : List Event) → At n (node.Plus k i) → NT k p q es
-        → SG (Pair i q) f fs → SG (Pair n p) f (joined f es fs)
+        → SG (Eval i q) f fs → SG (Eval n p) f (joined f es fs)
     plus_goes i q Failed es fs at t h =
         let star = plus_star (rules_of g.rules) g.start (shapes_of g.nodes) g.bodies g.ranks x sound n k s i at in
         absurd (star_never_fails (rules_of g.rules) g.start (shapes_of g.nodes) g.bodies g.ranks x sound i k star.0 q
@@ -176,7 +176,7 @@ module _ (g : Grammar) (x : List ℕ) (more : Bool) (some : WasEnough x more 0) 
     pub plus_repeats : (i : ℕ) → At n (node.Plus k i) → SpellsSome (rules_of g.rules) (shapes_of g.nodes) i
     plus_repeats i at = (plus_star (rules_of g.rules) g.start (shapes_of g.nodes) g.bodies g.ranks x sound n k s i at).0
 
-    pub opt_took : (q : ℕ) (es : List Event) → At n (node.Opt k) → NT k p q es → SG (Pair n p) (Took q) es
+    pub opt_took : (q : ℕ) (es : List Event) → At n (node.Opt k) → NT k p q es → SG (Eval n p) (Took q) es
     opt_took q es at t = (
       t.looked,
       opt_gives_takes (rules_of g.rules) g.start (shapes_of g.nodes) g.bodies g.ranks x
@@ -185,7 +185,7 @@ module _ (g : Grammar) (x : List ℕ) (more : Bool) (some : WasEnough x more 0) 
       tt,
     )
 
-    pub opt_none : At n (node.Opt k) → NF k p → SG (Pair n p) (Took p) []
+    pub opt_none : At n (node.Opt k) → NF k p → SG (Eval n p) (Took p) []
     opt_none at d = (
       d.looked,
       opt_gives_none (rules_of g.rules) g.start (shapes_of g.nodes) g.bodies g.ranks x
@@ -194,7 +194,7 @@ module _ (g : Grammar) (x : List ℕ) (more : Bool) (some : WasEnough x more 0) 
       tt,
     )
 
-    pub and_took : (q : ℕ) (es : List Event) → At n (node.And k) → NT k p q es → SG (Pair n p) (Took p) []
+    pub and_took : (q : ℕ) (es : List Event) → At n (node.And k) → NT k p q es → SG (Eval n p) (Took p) []
     and_took q es at t = (
       t.looked,
       and_gives_takes (rules_of g.rules) g.start (shapes_of g.nodes) g.bodies g.ranks x
@@ -203,7 +203,7 @@ module _ (g : Grammar) (x : List ℕ) (more : Bool) (some : WasEnough x more 0) 
       tt,
     )
 
-    pub and_failed : At n (node.And k) → NF k p → SG (Pair n p) Failed []
+    pub and_failed : At n (node.And k) → NF k p → SG (Eval n p) Failed []
     and_failed at d = (
       d.looked,
       and_gives_fails (rules_of g.rules) g.start (shapes_of g.nodes) g.bodies g.ranks x
@@ -212,13 +212,13 @@ module _ (g : Grammar) (x : List ℕ) (more : Bool) (some : WasEnough x more 0) 
       refl,
     )
 
-  pub act_task : (n p : ℕ) (t : List ℕ) → At n (node.Act t) → SG (Pair n p) (Took p) (Acted t ∷ [])
+  pub act_task : (n p : ℕ) (t : List ℕ) → At n (node.Act t) → SG (Eval n p) (Took p) (Acted t ∷ [])
   act_task n p t at = (0, record { expr = expr.Act t; spelled = spells_act at; gives = act }, some, tt)
 
-  pub open_task : (n p : ℕ) → At n node.Open → SG (Pair n p) (Took p) (Opened p ∷ [])
+  pub open_task : (n p : ℕ) → At n node.Open → SG (Eval n p) (Took p) (Opened p ∷ [])
   open_task n p at = (0, record { expr = expr.Open; spelled = spells_open at; gives = open_at }, some, tt)
 
-  pub close_task : (n p : ℕ) → At n node.Close → SG (Pair n p) (Took p) (Closed p ∷ [])
+  pub close_task : (n p : ℕ) → At n node.Close → SG (Eval n p) (Took p) (Closed p ∷ [])
   close_task n p at = (0, record { expr = expr.Close; spelled = spells_close at; gives = close_at }, some, tt)
 
   quiet_none : (f : Found) → IsQuiet f []
@@ -227,7 +227,7 @@ module _ (g : Grammar) (x : List ℕ) (more : Bool) (some : WasEnough x more 0) 
 
   -- a node without operands
   pub leaf_task : (n p : ℕ) (f : Found) (l : ℕ) (e : Pattern) → Spells (rules_of g.rules) (shapes_of g.nodes) n e
-      → Gives (rules_of g.rules) x e p (quiet_outcome f) l → WasEnough x more l → SG (Pair n p) f []
+      → Gives (rules_of g.rules) x e p (quiet_outcome f) l → WasEnough x more l → SG (Eval n p) f []
   leaf_task n p f l e s d h = (l, record { expr = e; spelled = s; gives = d }, h, quiet_none f)
 
   nth_spells : (ms : List ℕ) (ps : Patterns) (i m : ℕ) → SpellAll (rules_of g.rules) (shapes_of g.nodes) ms ps
@@ -298,7 +298,7 @@ module _ (g : Grammar) (x : List ℕ) (more : Bool) (some : WasEnough x more 0) 
 
   module _ (n p : ℕ) (ms : List ℕ) (f : Found) (es : List Event)
       (s : SpellsSome (rules_of g.rules) (shapes_of g.nodes) n) where
-    seq_of : At n (node.Seq ms) → MembersGive g x more ms p f es → SG (Pair n p) f es
+    seq_of : At n (node.Seq ms) → MembersGive g x more ms p f es → SG (Eval n p) f es
     seq_of at h =
         let like = has_shape (rules_of g.rules) (shapes_of g.nodes) s.1 (node.Seq ms) at in
         let d = members_all h like.0 like.2 in (
@@ -312,7 +312,7 @@ module _ (g : Grammar) (x : List ℕ) (more : Bool) (some : WasEnough x more 0) 
           d.3,
         )
 
-    choice_of : At n (node.Choice ms) → AlternativesGive g x more p ms f es → SG (Pair n p) f es
+    choice_of : At n (node.Choice ms) → AlternativesGive g x more p ms f es → SG (Eval n p) f es
     choice_of at h =
         let like = has_shape (rules_of g.rules) (shapes_of g.nodes) s.1 (node.Choice ms) at in
         let d = alternatives_first h like.0 like.2 in (
@@ -326,35 +326,35 @@ module _ (g : Grammar) (x : List ℕ) (more : Bool) (some : WasEnough x more 0) 
           d.3,
         )
 
-    pub seq_task : At n (node.Seq ms) → SG (Tail n 0 p) f es → SG (Pair n p) f es
+    pub seq_task : At n (node.Seq ms) → SG (Tail n 0 p) f es → SG (Eval n p) f es
     seq_task at h =
         let same : h.0 ≡ node.Seq ms = cc (h.1, at) in
         let d : MembersGive g x more (drop 0 ms) p f es = subst (λ v. TailGives g x more v 0 p f es) same h.2 in
         seq_of at (subst (λ v. MembersGive g x more v p f es) (drop_none ms) d)
 
-    pub choice_task : At n (node.Choice ms) → SG (Tail n 0 p) f es → SG (Pair n p) f es
+    pub choice_task : At n (node.Choice ms) → SG (Tail n 0 p) f es → SG (Eval n p) f es
     choice_task at h =
         let same : h.0 ≡ node.Choice ms = cc (h.1, at) in
         let d : AlternativesGive g x more p (drop 0 ms) f es =
         subst (λ v. TailGives g x more v 0 p f es) same h.2 in
         choice_of at (subst (λ v. AlternativesGive g x more p v f es) (drop_none ms) d)
 
-    -- a pair passes on what its tail gives
-    pub pair_joined : SG (Pair n p) f es → SG (Pair n p) f (joined f [] es)
-    pair_joined h = subst (SG (Pair n p) f) (joined_none f es h.3) h
+    -- an evaluation passes on what its tail gives
+    pub eval_joined : SG (Eval n p) f es → SG (Eval n p) f (joined f [] es)
+    eval_joined h = subst (SG (Eval n p) f) (joined_none f es h.3) h
 
   nil_of : (ms : List ℕ) → length ms ≡ 0 → ms ≡ []
   nil_of [] h = refl
   nil_of (m ∷ ms) h = absurd (omega arith)
 
   pub seq_empty : (n p : ℕ) (ms : List ℕ) → SpellsSome (rules_of g.rules) (shapes_of g.nodes) n → At n (node.Seq ms)
-      → length ms ≡ 0 → SG (Pair n p) (Took p) []
+      → length ms ≡ 0 → SG (Eval n p) (Took p) []
   seq_empty n p ms s at none =
       seq_of n p ms (Took p) [] s at (subst (λ v. MembersGive g x more v p (Took p) []) (sym (nil_of ms none))
       members_none)
 
   pub choice_empty : (n p : ℕ) (ms : List ℕ) → SpellsSome (rules_of g.rules) (shapes_of g.nodes) n
-      → At n (node.Choice ms) → length ms ≡ 0 → SG (Pair n p) Failed []
+      → At n (node.Choice ms) → length ms ≡ 0 → SG (Eval n p) Failed []
   choice_empty n p ms s at none =
       choice_of n p ms Failed [] s at
       (subst (λ v. AlternativesGive g x more p v Failed []) (sym (nil_of ms none)) alternatives_none)

@@ -1,4 +1,4 @@
--- The pairs that are reached in steps are those that are visited.
+-- The evaluations that are reached in steps are those that are visited.
 -- Serves: implied_cells
 use Rattle.std.proofs.Common.{◌≡◌, inl, inr, ℕ, zero, suc, List, [], ◌∷◌, Some, drop, refl, sym, subst, ap}
 use Rattle.std.proofs.Common.{◌∙◌}
@@ -10,7 +10,7 @@ use Rattle.pegmatch.specs.Visits.{AsksMember, member_here, member_later, AsksAlt
 use Rattle.pegmatch.specs.Visits.{alternative_here, alternative_later, AsksBy, Asks, Visits, first, asked}
 use Rattle.memo.specs.Parts.{Reach, reach_root, reach_edge}
 use Rattle.memo.specs.declared.task.MatchTask.{MatchTask}
-use Rattle.memo.specs.declared.task.MatchTask.TheVariants.{Pair, Tail}
+use Rattle.memo.specs.declared.task.MatchTask.TheVariants.{Eval, Tail}
 use Rattle.pegnodes.specs.NodeWays.{way_of}
 use Rattle.packrat.specs.MatchTasks.{LeadsBy, TailLeadsBy, Leads}
 
@@ -29,7 +29,7 @@ drop_front [] l (suc i) m h = absurd (cc h)
 drop_front (k ∷ ms) l zero m h = let is : k ≡ m = cc h in (cc, drop_none ms ∙ cc)
 drop_front (k ∷ ms) l (suc i) m h = drop_front ms l i m h
 
--- where a set of pairs leads that has all that its pairs ask for
+-- where a set of evaluations leads that has all that its evaluations ask for
 module _ (rules : List Rule) (nodes : List Shape) (bodies x : List ℕ) (V : ℕ → ℕ → Type 0)
     (on : (n p m q : ℕ) → V n p → Asks rules nodes bodies x n p m q → V m q) where
   abbrev A' : ℕ → ℕ → ℕ → ℕ → Type 0
@@ -58,14 +58,14 @@ module _ (rules : List Rule) (nodes : List Shape) (bodies x : List ℕ) (V : ℕ
   TailAsks node.Open i q m r = ⊥
   TailAsks node.Close i q m r = ⊥
 
-  -- a rest is one of a pair of the set, which asks for what it asks for
+  -- a rest is one of an evaluation of the set, which asks for what it asks for
   pub record IsTail (n i q : ℕ) : Type 0 where
-    pub place : ℕ
-    pub visited : V n place
-    pub asks : (shape : Shape) → slice_get nodes n ≡ Some shape → (m r : ℕ) → TailAsks shape i q m r → A' n place m r
+    pub position : ℕ
+    pub visited : V n position
+    pub asks : (shape : Shape) → slice_get nodes n ≡ Some shape → (m r : ℕ) → TailAsks shape i q m r → A' n position m r
 
   abbrev pub Seen : MatchTask → Type 0
-  Seen (Pair n p) = V n p
+  Seen (Eval n p) = V n p
   Seen (Tail n i q) = IsTail n i q
 
   seen_as : (a b : MatchTask) → a ≡ b → Seen b → Seen a
@@ -80,7 +80,7 @@ module _ (rules : List Rule) (nodes : List Shape) (bodies x : List ℕ) (V : ℕ
         → ((m r : ℕ) → TailAsks shape zero p m r → AsksBy rules nodes bodies x shape n p m r) → IsTail n zero p
     rest_of shape at by =
         record {
-          place = p;
+          position = p;
           visited = v;
           asks = λ other there m r h.
               let same : other ≡ shape = cc (at, there) in
@@ -92,35 +92,35 @@ module _ (rules : List Rule) (nodes : List Shape) (bodies x : List ℕ) (V : ℕ
     seen_by b node.Any at l = absurd l
     seen_by b (node.Bytes bs) at l = absurd l
     seen_by b (node.Set s) at l = absurd l
-    seen_by b (node.Name id) at l = seen_as b (Pair l.0 p) l.2 (ask_visits l.0 p (node.Name id) at (l.1, refl))
+    seen_by b (node.Name id) at l = seen_as b (Eval l.0 p) l.2 (ask_visits l.0 p (node.Name id) at (l.1, refl))
     seen_by b (node.Seq ms) at l = seen_as b (Tail n zero p) l.2
         (rest_of (node.Seq ms) at (λ m r h. subst (λ w. AM' w p m r) (drop_none ms) h))
     seen_by b (node.Choice ms) at l = seen_as b (Tail n zero p) l.2
         (rest_of (node.Choice ms) at (λ m r h. (subst (λ w. AA' p w m) (drop_none ms) h.0, h.1)))
     seen_by b (node.Star k) at l = elim l [
-      | inl e ↦ seen_as b (Pair k p) e (ask_visits k p (node.Star k) at (inl (refl, refl)))
-      | inr e ↦ seen_as b (Pair n e.0) e.2 (ask_visits n e.0 (node.Star k) at (inr (refl, e.1)))
+      | inl e ↦ seen_as b (Eval k p) e (ask_visits k p (node.Star k) at (inl (refl, refl)))
+      | inr e ↦ seen_as b (Eval n e.0) e.2 (ask_visits n e.0 (node.Star k) at (inr (refl, e.1)))
     ]
     seen_by b (node.Plus k s) at l = elim l [
-      | inl e ↦ seen_as b (Pair k p) e (ask_visits k p (node.Plus k s) at (inl (refl, refl)))
-      | inr e ↦ seen_as b (Pair s e.0) e.2 (ask_visits s e.0 (node.Plus k s) at (inr (refl, e.1)))
+      | inl e ↦ seen_as b (Eval k p) e (ask_visits k p (node.Plus k s) at (inl (refl, refl)))
+      | inr e ↦ seen_as b (Eval s e.0) e.2 (ask_visits s e.0 (node.Plus k s) at (inr (refl, e.1)))
     ]
-    seen_by b (node.Opt k) at l = seen_as b (Pair k p) l (ask_visits k p (node.Opt k) at (refl, refl))
-    seen_by b (node.And k) at l = seen_as b (Pair k p) l (ask_visits k p (node.And k) at (refl, refl))
-    seen_by b (node.Not k) at l = seen_as b (Pair k p) l (ask_visits k p (node.Not k) at (refl, refl))
+    seen_by b (node.Opt k) at l = seen_as b (Eval k p) l (ask_visits k p (node.Opt k) at (refl, refl))
+    seen_by b (node.And k) at l = seen_as b (Eval k p) l (ask_visits k p (node.And k) at (refl, refl))
+    seen_by b (node.Not k) at l = seen_as b (Eval k p) l (ask_visits k p (node.Not k) at (refl, refl))
     seen_by b (node.Act t) at l = absurd l
     seen_by b node.Open at l = absurd l
     seen_by b node.Close at l = absurd l
 
   module _ (n i q : ℕ) (s : IsTail n i q) where
     rest_ask : (m r : ℕ) (shape : Shape) → slice_get nodes n ≡ Some shape → TailAsks shape i q m r → V m r
-    rest_ask m r shape at by = on n s.place m r s.visited (s.asks shape at m r by)
+    rest_ask m r shape at by = on n s.position m r s.visited (s.asks shape at m r by)
 
     further_visited : (r : ℕ) (shape : Shape) → slice_get nodes n ≡ Some shape
         → ((m z : ℕ) → TailAsks shape (suc i) r m z → TailAsks shape i q m z) → IsTail n (suc i) r
     further_visited r shape at by =
         record {
-          place = s.place;
+          position = s.position;
           visited = s.visited;
           asks = λ other there m z h.
               let same : other ≡ shape = cc (at, there) in
@@ -136,7 +136,7 @@ module _ (rules : List Rule) (nodes : List Shape) (bodies x : List ℕ) (V : ℕ
     rest_seen_by b (node.Seq ms) at l =
         let front = front_drop ms i l.0 l.1 in
         elim l.2 [
-          | inl e ↦ seen_as b (Pair l.0 q) e
+          | inl e ↦ seen_as b (Eval l.0 q) e
               (rest_ask l.0 q (node.Seq ms) at (subst (λ w. AM' w q l.0 q) (sym front) member_here))
           | inr e ↦ seen_as b (Tail n (suc i) e.1) e.4
               (further_visited e.1 (node.Seq ms) at
@@ -145,7 +145,7 @@ module _ (rules : List Rule) (nodes : List Shape) (bodies x : List ℕ) (V : ℕ
     rest_seen_by b (node.Choice ms) at l =
         let front = front_drop ms i l.0 l.1 in
         elim l.2 [
-          | inl e ↦ seen_as b (Pair l.0 q) e
+          | inl e ↦ seen_as b (Eval l.0 q) e
               (rest_ask l.0 q (node.Choice ms) at (subst (λ w. AA' q w l.0) (sym front) alternative_here, refl))
           | inr e ↦ seen_as b (Tail n (suc i) q) e.3
               (further_visited q (node.Choice ms) at
@@ -161,7 +161,7 @@ module _ (rules : List Rule) (nodes : List Shape) (bodies x : List ℕ) (V : ℕ
     rest_seen_by b node.Close at l = absurd l
 
   pub seen_next : (a b : MatchTask) → Seen a → Leads rules nodes bodies x a b → Seen b
-  seen_next (Pair n p) b s l = seen_by n p s b l.0 l.1 l.2
+  seen_next (Eval n p) b s l = seen_by n p s b l.0 l.1 l.2
   seen_next (Tail n i p) b s l = rest_seen_by n i p s b l.0 l.1 l.2
 
 module _ (rules : List Rule) (start : ℕ) (nodes : List Shape) (bodies x : List ℕ)
@@ -176,7 +176,7 @@ module _ (rules : List Rule) (start : ℕ) (nodes : List Shape) (bodies x : List
   AA p ms m = AsksAlternative rules nodes bodies x p ms m
 
   abbrev R : MatchTask → Type 0
-  R a = Reach MatchTask (Leads rules nodes bodies x) (Pair root 0) a
+  R a = Reach MatchTask (Leads rules nodes bodies x) (Eval root 0) a
 
   goes_on : (n p m q : ℕ) → W n p → Asks rules nodes bodies x n p m q → W m q
   goes_on n p m q v a = asked v a
@@ -190,7 +190,7 @@ module _ (rules : List Rule) (start : ℕ) (nodes : List Shape) (bodies x : List
       seen_next rules nodes bodies x W goes_on a b (reach_seen r) l
 
   -- what is reached is visited
-  pub reached_is_visited : (n p : ℕ) → R (Pair n p) → W n p
+  pub reached_is_visited : (n p : ℕ) → R (Eval n p) → W n p
   reached_is_visited n p r = reach_seen r
 
   member_front : {ms : List ℕ} {p m q : ℕ} → AM ms p m q → (k : ℕ) × (l : List ℕ) × (ms ≡ k ∷ l)
@@ -204,7 +204,7 @@ module _ (rules : List Rule) (start : ℕ) (nodes : List Shape) (bodies x : List
   module _ (n : ℕ) (ms : List ℕ) where
     -- along the members
     along_members : slice_get nodes n ≡ Some (node.Seq ms) → {l : List ℕ} {p m q : ℕ} → AM l p m q → (i : ℕ)
-        → drop i ms ≡ l → R (Tail n i p) → R (Pair m q)
+        → drop i ms ≡ l → R (Tail n i p) → R (Eval m q)
     along_members at (member_here {m = m} {ms = l}) i is r =
         let h = drop_front ms l i m is in
         reach_edge r (node.Seq ms, at, (m, h.0, inl refl))
@@ -215,7 +215,7 @@ module _ (rules : List Rule) (start : ℕ) (nodes : List Shape) (bodies x : List
         along_members at a (suc i) h.1 (reach_edge reach (node.Seq ms, at, (k, h.0, inr (f.0, r, g.0, t, refl))))
 
     along_alternatives : slice_get nodes n ≡ Some (node.Choice ms) → {p m : ℕ} {l : List ℕ} → AA p l m → (i : ℕ)
-        → drop i ms ≡ l → R (Tail n i p) → R (Pair m p)
+        → drop i ms ≡ l → R (Tail n i p) → R (Eval m p)
     along_alternatives at (alternative_here {m = m} {ms = l}) i is r =
         let h = drop_front ms l i m is in
         reach_edge r (node.Choice ms, at, (m, h.0, inl refl))
@@ -226,21 +226,21 @@ module _ (rules : List Rule) (start : ℕ) (nodes : List Shape) (bodies x : List
         along_alternatives at a (suc i) h.1
         (reach_edge reach (node.Choice ms, at, (k, h.0, inr (f.0, g.0, t, refl))))
 
-  module _ (n p : ℕ) (r : R (Pair n p)) (m q : ℕ) where
-    reach_at : (i j : ℕ) → m ≡ i → q ≡ j → R (Pair i j) → R (Pair m q)
-    reach_at i j a b h = subst (λ v. R (Pair v q)) (sym a) (subst (λ v. R (Pair i v)) (sym b) h)
+  module _ (n p : ℕ) (r : R (Eval n p)) (m q : ℕ) where
+    reach_at : (i j : ℕ) → m ≡ i → q ≡ j → R (Eval i j) → R (Eval m q)
+    reach_at i j a b h = subst (λ v. R (Eval v q)) (sym a) (subst (λ v. R (Eval i v)) (sym b) h)
 
     reach_step : (shape : Shape) → slice_get nodes n ≡ Some shape
-        → LeadsBy rules nodes bodies x (way_of n shape) n p (Pair m q)
-        → R (Pair m q)
+        → LeadsBy rules nodes bodies x (way_of n shape) n p (Eval m q)
+        → R (Eval m q)
     reach_step shape at l = reach_edge r (shape, at, l)
 
     reach_by : (shape : Shape) → slice_get nodes n ≡ Some shape → AsksBy rules nodes bodies x shape n p m q
-        → R (Pair m q)
+        → R (Eval m q)
     reach_by node.Any at a = absurd a
     reach_by (node.Bytes bs) at a = absurd a
     reach_by (node.Set s) at a = absurd a
-    reach_by (node.Name id) at a = reach_step (node.Name id) at (m, a.0, ap (Pair m) a.1)
+    reach_by (node.Name id) at a = reach_step (node.Name id) at (m, a.0, ap (Eval m) a.1)
     reach_by (node.Seq ms) at a =
         let f = member_front a in
         let h = drop_front ms f.1 zero f.0 (drop_none ms ∙ f.2) in
@@ -266,9 +266,9 @@ module _ (rules : List Rule) (start : ℕ) (nodes : List Shape) (bodies x : List
     reach_by node.Close at a = absurd a
 
   -- what is visited is reached
-  pub visited_is_reached : {n p : ℕ} → W n p → R (Pair n p)
+  pub visited_is_reached : {n p : ℕ} → W n p → R (Eval n p)
   visited_is_reached (first {n = n} h) =
       let same : root ≡ n = cc (h, is_root) in
-      subst (λ v. R (Pair v 0)) same reach_root
+      subst (λ v. R (Eval v 0)) same reach_root
   visited_is_reached (asked {n = n} {p = p} {m = m} {q = q} v a) =
       reach_by n p (visited_is_reached v) m q a.shape a.at a.by

@@ -4,7 +4,7 @@ use Rattle.gramcheck.specs.Grammar.{Grammar}
 use Rattle.pegnodes.specs.Nodes.{Star, shapes_of}
 use Rattle.pegmatch.specs.declared.leaves.Tried.{Tried}
 use Rattle.memo.specs.declared.task.MatchTask.{MatchTask}
-use Rattle.memo.specs.declared.task.MatchTask.TheVariants.{Pair}
+use Rattle.memo.specs.declared.task.MatchTask.TheVariants.{Eval}
 use Rattle.packrat.specs.Known.{IsKnown, IsTaken, taken_of}
 use Rattle.packrat.specs.Onward.{AfterStart, IsLed, ReachesEnd}
 use Rattle.packrat.specs.Skipped.{AreSkipped}
@@ -15,13 +15,13 @@ use Rattle.packrat.specs.declared.onward.Start.TheVariants.{Gives, Marks, Leads,
 
 -- the task that is a repetition
 abbrev pub repeated_of : Repeated → MatchTask
-repeated_of r = Pair r.star r.place
+repeated_of r = Eval r.star r.position
 
 module _ (g : Grammar) (x : List ℕ) (more : Bool) where
   -- a repetition of this operand leads to it
   abbrev pub IsRepeated : Repeated → Type 0
   IsRepeated r = (slice_get (shapes_of g.nodes) r.star ≡ Some (Star r.operand))
-      × IsLed g x more false (repeated_of r) (Pair r.operand r.place)
+      × IsLed g x more false (repeated_of r) (Eval r.operand r.position)
 
   abbrev pub AfterNone : MatchTask → Begun → Type 0
   AfterNone a (Starts s) = AfterStart g x more a s

@@ -1,4 +1,4 @@
--- What a pair gives where the byte at its place decides it, and what its evaluation stores and begins.
+-- What an evaluation gives where the byte at its position decides it, and what its evaluation stores and begins.
 use Rattle.std.specs.Prelude.{◌≡◌, ℕ, zero, suc, ◌+◌, ◌<◌, ◌≤◌, Bool, true, List, [], ◌∷◌}
 use Rattle.pegread.specs.Pattern.{Rule}
 use Rattle.pegnodes.specs.Nodes.{Shape}
@@ -13,13 +13,13 @@ use Rattle.pegmatch.specs.Visits.{NodeGives}
 use Rattle.memo.specs.Parts.{IsIn}
 use Rattle.memo.specs.Run.{RunAll, total}
 use Rattle.memo.specs.declared.task.MatchTask.{MatchTask}
-use Rattle.memo.specs.declared.task.MatchTask.TheVariants.{Pair}
+use Rattle.memo.specs.declared.task.MatchTask.TheVariants.{Eval}
 use Rattle.packrat.specs.MachineSteps.{Level, State, store}
 use Rattle.packrat.specs.TaskSteps.{TaskSteps}
 use Rattle.packrat.specs.MatchTasks.{Kids, is_key}
 use Rattle.packrat.specs.View.{weight}
 
--- what is found at place p
+-- what is found at position p
 abbrev pub found_by : ByteVerdict → ℕ → Found
 found_by Takes p = Took (p + 1)
 found_by Stays p = Took p
@@ -39,7 +39,7 @@ module _ (rules : List Rule) (nodes : List Shape) (bodies x : List ℕ) where
     pub gives : NodeGives rules nodes bodies x s p (outcome.Takes q events) looked
 
   module _ (marks : ℕ → Bool) (tails : ℕ → ℕ → Bool) where
-    -- The evaluation of a task stores nothing but itself, whatever was stored, and begins so many pairs.
+    -- The evaluation of a task stores nothing but itself, whatever was stored, and begins so many evaluations.
     pub record StoresItself (a : MatchTask) (count : ℕ) : Type 0 where
       pub kids : List MatchTask
       pub are : Kids rules nodes bodies x a kids
@@ -48,33 +48,33 @@ module _ (rules : List Rule) (nodes : List Shape) (bodies x : List ℕ) where
           → RunAll MatchTask (Kids rules nodes bodies x) (is_key marks tails) weight old kids old below
       pub whole : weight a + below ≡ count
 
-    -- The machine comes from one state to the other. Between them it begins those in front, which are so many pairs at
-    -- places up to `most`.
+    -- The machine comes from one state to the other. Between them it begins those in front, which are so many
+    -- evaluations at positions up to `most`.
     pub record ComesWith (s : State MatchTask) (to : List MatchTask → State MatchTask) (most count : ℕ) : Type 0 where
       pub front : List MatchTask
       pub is : total MatchTask (Kids rules nodes bodies x) (is_key marks tails) weight front ≡ count
       pub steps : TaskSteps rules nodes bodies x marks tails s (to front)
-      pub near : (n p : ℕ) → IsIn (Pair n p) front → p ≤ most
+      pub near : (n p : ℕ) → IsIn (Eval n p) front → p ≤ most
 
--- A turn of repetition s of node k at place p, which waits for the rest.
-abbrev pub turn_at : ℕ → ℕ → ℕ → Level MatchTask
-turn_at s k p = record { at = Pair s p; asked = Pair k p ∷ (Pair s (p + 1) ∷ []) }
+-- An iteration of repetition s of node k at position p, which waits for the rest.
+abbrev pub iteration_at : ℕ → ℕ → ℕ → Level MatchTask
+iteration_at s k p = record { at = Eval s p; asked = Eval k p ∷ (Eval s (p + 1) ∷ []) }
 
--- n turns from place a on, the last one first, above other levels
-abbrev pub turns_on : ℕ → ℕ → ℕ → ℕ → List (Level MatchTask) → List (Level MatchTask)
-turns_on s k a zero levels = levels
-turns_on s k a (suc n) levels = turn_at s k (a + n) ∷ turns_on s k a n levels
+-- n iterations from position a on, the last one first, above other levels
+abbrev pub iterations_on : ℕ → ℕ → ℕ → ℕ → List (Level MatchTask) → List (Level MatchTask)
+iterations_on s k a zero levels = levels
+iterations_on s k a (suc n) levels = iteration_at s k (a + n) ∷ iterations_on s k a n levels
 
--- the pairs of node k at n places from a on, the last one first, in front of others where k is a key
+-- the evaluations of node k at n positions from a on, the last one first, in front of others where k is a key
 abbrev pub operands_on : Bool → ℕ → ℕ → ℕ → List MatchTask → List MatchTask
 operands_on key k a zero stored = stored
-operands_on key k a (suc n) stored = store MatchTask key (Pair k (a + n)) (operands_on key k a n stored)
+operands_on key k a (suc n) stored = store MatchTask key (Eval k (a + n)) (operands_on key k a n stored)
 
--- the pairs of repetition s at n places from a on, the first one first, likewise
-abbrev pub turns_closed : Bool → ℕ → ℕ → ℕ → List MatchTask → List MatchTask
-turns_closed key s a zero stored = stored
-turns_closed key s a (suc n) stored = turns_closed key s a n (store MatchTask key (Pair s (a + n)) stored)
+-- the evaluations of repetition s at n positions from a on, the first one first, likewise
+abbrev pub iterations_closed : Bool → ℕ → ℕ → ℕ → List MatchTask → List MatchTask
+iterations_closed key s a zero stored = stored
+iterations_closed key s a (suc n) stored = iterations_closed key s a n (store MatchTask key (Eval s (a + n)) stored)
 
--- if the node is a key, none of its pairs at these n places is stored
+-- if the node is a key, none of its evaluations at these n positions is stored
 abbrev pub AreFresh : Bool → ℕ → ℕ → ℕ → List MatchTask → Type 0
-AreFresh key m a n stored = (i : ℕ) → i < n → key ≡ true → IsIn (Pair m (a + i)) stored → ⊥
+AreFresh key m a n stored = (i : ℕ) → i < n → key ≡ true → IsIn (Eval m (a + i)) stored → ⊥

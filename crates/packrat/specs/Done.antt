@@ -18,14 +18,15 @@ use Rattle.memo.specs.declared.key_log.Stored.{Stored}
 use Rattle.pegnodes.specs.KeyLists.{node_marks, tail_marks}
 use Rattle.memo.specs.Parts.{IsIn}
 use Rattle.memo.specs.declared.task.MatchTask.{MatchTask}
-use Rattle.memo.specs.declared.task.MatchTask.TheVariants.{Pair}
+use Rattle.memo.specs.declared.task.MatchTask.TheVariants.{Eval}
 use Rattle.packrat.specs.TaskGives.{AreRight}
-use Rattle.packrat.specs.View.{AreStored, AreReachedKeys, AreVisitedPairs}
+use Rattle.packrat.specs.View.{AreStored, AreReachedKeys, AreVisitedEvals}
 use Rattle.pegmatch.specs.VisitedCells.{AreVisitedCells}
 use Rattle.packrat.specs.declared.frames.Frame.{Frame}
 use Rattle.pegnodes.specs.KeyLists.{Marks}
 
--- the stored keys with their outcomes and the frames, each with the last one first; how many pairs were begun; the
+-- the stored keys with their outcomes and the frames, each with the last one first; how many evaluations were begun;
+-- the
 -- events of the last success; and how many matches it was asked for since it was made
 pub record Contents : Type 0 where
   pub stored : List Stored
@@ -59,7 +60,7 @@ unit_of_match (Some given) begun = unit_of given.found begun
 
 module _ (g : Grammar) (x : List ℕ) (more : Bool) where
   -- No frame is left. Stored are exactly the keys that are reached, each once and with what it gives. The cells are
-  -- exactly the pairs that are visited, each with its outcome and once, and as many as were begun.
+  -- exactly the evaluations that are visited, each with its outcome and once, and as many as were begun.
   pub record IsDone (marks : Marks) (c : Contents) : Type 0 where
     pub frames : c.frames ≡ []
     pub keys : (root : ℕ) → slice_get g.bodies g.start ≡ Some root →
@@ -78,8 +79,8 @@ module _ (g : Grammar) (x : List ℕ) (more : Bool) where
     pub enough : WasEnough x more looked
 
   -- What a match holds where it stops for lack of bytes: no frame and no event. Stored are keys that are reached, each
-  -- once and with what it gives. The pairs are those that were begun. They stand before the window's end, and those of
-  -- the stored keys are among them.
+  -- once and with what it gives. The evaluations are those that were begun. They stand before the window's end, and
+  -- those of the stored keys are among them.
   pub record IsOnTheWay (marks : Marks) (c : Contents) : Type 0 where
     pub frames : c.frames ≡ []
     pub kept : c.kept ≡ []
@@ -87,12 +88,12 @@ module _ (g : Grammar) (x : List ℕ) (more : Bool) where
         AreReachedKeys (rules_of g.rules) g.start (shapes_of g.nodes) g.bodies x more (node_marks marks)
         (tail_marks marks) root (tasks_of c.stored)
     pub right : AreRight g x more c.stored
-    pub pairs : List MatchTask
-    pub visited : AreVisitedPairs (rules_of g.rules) g.start (shapes_of g.nodes) g.bodies x more pairs
-    pub near : (n p : ℕ) → IsIn (Pair n p) pairs → p < length x
-    pub among : (n p : ℕ) → IsIn (Pair n p) (tasks_of c.stored) → IsIn (Pair n p) pairs
+    pub evals : List MatchTask
+    pub visited : AreVisitedEvals (rules_of g.rules) g.start (shapes_of g.nodes) g.bodies x more evals
+    pub near : (n p : ℕ) → IsIn (Eval n p) evals → p < length x
+    pub among : (n p : ℕ) → IsIn (Eval n p) (tasks_of c.stored) → IsIn (Eval n p) evals
     pub some : 1 ≤ c.begun
-    pub count : c.begun ≡ length pairs
+    pub count : c.begun ≡ length evals
 
   -- What a match ends with. All is evaluated, and a failure has no events; or the start rule looks at the last byte of
   -- a window that more bytes follow, and the match stops on its way.

@@ -10,8 +10,8 @@ IsHead links head = head ≤ length links
 
 -- the events of a link, where `kept` gives those of the heads that it joins
 abbrev pub events_of : (ℕ → List Kept) → Link → List Kept
-events_of kept (Opened place) = Kept.Opened place ∷ []
-events_of kept (Closed place) = Kept.Closed place ∷ []
+events_of kept (Opened position) = Kept.Opened position ∷ []
+events_of kept (Closed position) = Kept.Closed position ∷ []
 events_of kept (Acted node) = Kept.Acted node ∷ []
 events_of kept (Join first second) = kept first ++ kept second
 
@@ -27,8 +27,8 @@ AreGrown old new = (head : ℕ) → IsHead old head → IsHead new head × (kept
 
 -- A join is of heads before this one.
 abbrev pub IsBefore : ℕ → Link → Type 0
-IsBefore head (Opened place) = Unit {0}
-IsBefore head (Closed place) = Unit {0}
+IsBefore head (Opened position) = Unit {0}
+IsBefore head (Closed position) = Unit {0}
 IsBefore head (Acted node) = Unit {0}
 IsBefore head (Join first second) = (first < head) × (second < head)
 

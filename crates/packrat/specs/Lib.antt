@@ -10,8 +10,8 @@ pub mod Turned
 pub mod Skipped
 pub mod Known
 pub mod Begins
-pub mod LoopTurns
-pub mod TurnsLeft
+pub mod LoopIterations
+pub mod IterationsLeft
 pub mod Stands
 pub mod Done
 pub mod EventLog

@@ -66,11 +66,11 @@ module _ (nodes : List Shape) (bodies : List ℕ) where
     pub only : (i : ℕ) → Names i m → i ≡ n
     pub not_root : slice_get bodies start ≡ Some m → ⊥
 
--- The pair (m, q) is asked for by the pair of n that stands d bytes before it, and by no other pair.
+-- The evaluation (m, q) is asked for by the evaluation of n that stands d bytes before it, and by no other evaluation.
 pub record IsAskedBy (rules : List Rule) (start : ℕ) (nodes : List Shape) (bodies x : List ℕ) (n d m q : ℕ)
     : Type 0 where
-  pub place : ℕ
-  pub distance : q ≡ place + d
-  pub visited : Visits rules nodes bodies x start n place
-  pub asks : Asks rules nodes bodies x n place m q
-  pub only : (i p : ℕ) → Asks rules nodes bodies x i p m q → (i ≡ n) × (p ≡ place)
+  pub position : ℕ
+  pub distance : q ≡ position + d
+  pub visited : Visits rules nodes bodies x start n position
+  pub asks : Asks rules nodes bodies x n position m q
+  pub only : (i p : ℕ) → Asks rules nodes bodies x i p m q → (i ≡ n) × (p ≡ position)

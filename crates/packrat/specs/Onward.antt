@@ -11,9 +11,9 @@ use Rattle.memo.specs.declared.found.Found.TheVariants.{Took}
 use Rattle.pegmatch.specs.Visits.{NodeGives}
 use Rattle.gramcheck.specs.Outcome.{Event, Outcome}
 use Rattle.pegmatch.specs.KeptEvents.{SpellsSome, StandsFor}
-use Rattle.memo.specs.KeyLog.{place_of}
+use Rattle.memo.specs.KeyLog.{position_of}
 use Rattle.memo.specs.declared.task.MatchTask.{MatchTask}
-use Rattle.memo.specs.declared.task.MatchTask.TheVariants.{Pair, Tail}
+use Rattle.memo.specs.declared.task.MatchTask.TheVariants.{Eval, Tail}
 use Rattle.packrat.specs.TaskGives.{TaskYields, joined}
 use Rattle.packrat.specs.MatchTasks.{Kids}
 use Rattle.packrat.specs.declared.onward.Onward.{Onward}
@@ -41,10 +41,10 @@ HasMember Close i = ⊥
 
 -- the tail that is entered, and its first member
 abbrev pub tail_of : Entering → MatchTask
-tail_of e = Tail e.node e.index e.place
+tail_of e = Tail e.node e.index e.position
 
 abbrev pub member_of : Entering → MatchTask
-member_of e = Pair e.member e.place
+member_of e = Eval e.member e.position
 
 -- it says whether the tail is a key
 abbrev pub IsTailMarked : Marks → Entering → Type 0
@@ -55,7 +55,7 @@ abbrev pub entering_of : Marks → ℕ → List ℕ → ℕ → ℕ → Entering
 entering_of marks n ms i p = record {
   node = n;
   index = i;
-  place = p;
+  position = p;
   member = get_or ms i 0;
   only = i + 1 == length ms;
   key = tail_marks marks n i;
@@ -63,12 +63,12 @@ entering_of marks n ms i p = record {
 
 -- if more bytes follow the window, the task stands before the window's end
 abbrev pub IsNear : List ℕ → Bool → MatchTask → Type 0
-IsNear x more a = more ≡ true → place_of a < length x
+IsNear x more a = more ≡ true → position_of a < length x
 
 module _ (g : Grammar) (x : List ℕ) where
   -- a task of the grammar and the window
   abbrev pub IsWell : MatchTask → Type 0
-  IsWell (Pair n p) = SpellsSome (rules_of g.rules) (shapes_of g.nodes) n × (p ≤ length x)
+  IsWell (Eval n p) = SpellsSome (rules_of g.rules) (shapes_of g.nodes) n × (p ≤ length x)
   IsWell (Tail n i p) = SpellsSome (rules_of g.rules) (shapes_of g.nodes) n × (p ≤ length x)
       × ((shape : Shape) × (slice_get (shapes_of g.nodes) n ≡ Some shape) × HasMember shape i)
 
@@ -78,7 +78,7 @@ module _ (g : Grammar) (x : List ℕ) where
 
   -- the node's own comparison reaches the last byte of a window that more bytes follow
   abbrev pub ReachesEnd : Bool → MatchTask → Type 0
-  ReachesEnd more (Pair n p) = (more ≡ true) × ((o : Outcome)
+  ReachesEnd more (Eval n p) = (more ≡ true) × ((o : Outcome)
       × NodeGives (rules_of g.rules) (shapes_of g.nodes) g.bodies x n p o (length x))
   ReachesEnd more (Tail n i p) = ⊥
 
@@ -99,9 +99,9 @@ module _ (g : Grammar) (x : List ℕ) where
         Kids (rules_of g.rules) (shapes_of g.nodes) g.bodies x a [] × TaskYields g x more a f []
     AfterStart a (start.Marks kept) = Kids (rules_of g.rules) (shapes_of g.nodes) g.bodies x a []
         × ((event : Event) × StandsFor (shapes_of g.nodes) kept event
-        × TaskYields g x more a (Took (place_of a)) (event ∷ []))
-    AfterStart a (start.Leads n p) = IsLed false a (Pair n p)
-    AfterStart a (start.Passes n p) = IsLed true a (Pair n p)
+        × TaskYields g x more a (Took (position_of a)) (event ∷ []))
+    AfterStart a (start.Leads n p) = IsLed false a (Eval n p)
+    AfterStart a (start.Passes n p) = IsLed true a (Eval n p)
     AfterStart a (start.Enters e) =
         IsLed true a (tail_of e) × IsLed e.only (tail_of e) (member_of e) × IsTailMarked g.keys e
 
@@ -116,6 +116,6 @@ module _ (g : Grammar) (x : List ℕ) where
         Kids (rules_of g.rules) (shapes_of g.nodes) g.bodies x a (j ∷ []) × TaskYields g x more a f []
     AfterOne a j found events Same =
         Kids (rules_of g.rules) (shapes_of g.nodes) g.bodies x a (j ∷ []) × TaskYields g x more a found events
-    AfterOne a j found events (Passes n p) = GoesOn a j events (Pair n p)
+    AfterOne a j found events (Passes n p) = GoesOn a j events (Eval n p)
     AfterOne a j found events (Enters e) =
         GoesOn a j events (tail_of e) × IsLed e.only (tail_of e) (member_of e) × IsTailMarked g.keys e

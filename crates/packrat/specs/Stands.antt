@@ -15,7 +15,7 @@ use Rattle.memo.specs.Parts.{IsIn}
 use Rattle.pegnodes.specs.KeyLists.{Marks}
 use Rattle.memo.specs.declared.key_log.Stored.{Stored}
 use Rattle.memo.specs.declared.task.MatchTask.{MatchTask}
-use Rattle.memo.specs.declared.task.MatchTask.TheVariants.{Pair}
+use Rattle.memo.specs.declared.task.MatchTask.TheVariants.{Eval}
 use Rattle.packrat.specs.TaskGives.{TaskYields, IsQuiet, AreRight}
 use Rattle.pegnodes.specs.KeyLists.{node_marks, tail_marks}
 use Rattle.memo.specs.KeyLog.{tasks_of}
@@ -25,22 +25,22 @@ use Rattle.packrat.specs.View.{weight}
 use Rattle.packrat.specs.declared.frames.Frame.{Frame}
 use Rattle.packrat.specs.declared.frames.Wait.{Wait}
 use Rattle.packrat.specs.declared.frames.Wait.TheVariants.{First, Last, Turned}
-use Rattle.packrat.specs.LoopTurns.{Turn, Ask, Answer, turn_of}
+use Rattle.packrat.specs.LoopIterations.{Iteration, Ask, Answer, iteration_of}
 use Rattle.packrat.specs.declared.machine.Next.{Next}
 use Rattle.packrat.specs.declared.machine.Next.TheVariants as next
 use Rattle.packrat.specs.MachineSteps.{Level, State, Asks, Works, start_at, store}
 use Rattle.packrat.specs.Onward.{IsWell, IsNear, IsHere, ReachesEnd, PassesOn, tail_of, member_of}
 use Rattle.packrat.specs.declared.onward.Entering.{Entering}
-use Rattle.packrat.specs.ByteGives.{turns_on}
+use Rattle.packrat.specs.ByteGives.{iterations_on}
 use Rattle.packrat.specs.Turned.{AreTurned}
-use Rattle.packrat.specs.TurnsLeft.{left}
+use Rattle.packrat.specs.IterationsLeft.{left}
 use Rattle.packrat.specs.TaskSteps.{IsFirst, TaskSteps}
 
 -- whether a task is a key
 abbrev pub key_of : Marks → MatchTask → Bool
 key_of marks a = is_key (node_marks marks) (tail_marks marks) a
 
-abbrev pub state_of : Turn → MatchTask → List (Level MatchTask) → List MatchTask → List MatchTask → State MatchTask
+abbrev pub state_of : Iteration → MatchTask → List (Level MatchTask) → List MatchTask → List MatchTask → State MatchTask
 state_of (Ask a) b fs st bg = Asks b (record { levels = fs; stored = st; begun = bg })
 state_of (Answer given) b fs st bg = Works (record { levels = fs; stored = st; begun = bg })
 
@@ -77,7 +77,7 @@ AreEntered true key a old new = AreWaiting key 0 a old new
 AreEntered false key a old new = new ≡ record { task = a; key = key; wait = First } ∷ old
 
 -- The tail is a key that is stored, and that is returned; or it begins, and its member is asked for.
-abbrev pub IsEntered : List Stored → Entering → List Frame → List Frame → Turn → Type 0
+abbrev pub IsEntered : List Stored → Entering → List Frame → List Frame → Iteration → Type 0
 IsEntered stored e old new t =
     ((given : Given) × (e.key ≡ true) × IsIn (record { task = tail_of e; given = given }) stored
     × (t ≡ Answer given) × (new ≡ old))
@@ -105,14 +105,14 @@ module _ (g : Grammar) (x : List ℕ) (more : Bool) where
       × PassesOn g x more a asked b first
   Waiting links (Turned last) a asked b = ⊥
 
-  abbrev pub IsTurn : List Link → Turn → MatchTask → Type 0
-  IsTurn links (Ask a) b = (a ≡ b) × IsWell g x b × IsNear x more b
-  IsTurn links (Answer given) b = GivenBy links b given
+  abbrev pub IsIteration : List Link → Iteration → MatchTask → Type 0
+  IsIteration links (Ask a) b = (a ≡ b) × IsWell g x b × IsNear x more b
+  IsIteration links (Answer given) b = GivenBy links b given
 
   module _ (marks : Marks) where
     -- The levels await task b. A level has a frame, or is that of a task that is no key, and that only waits to give
-    -- what its last one gives. The levels of turns over bytes that decide them have one frame, which names the last
-    -- place.
+    -- what its last one gives. The levels of iterations over bytes that decide them have one frame, which names the
+    -- last position.
     pub data AreLevels (links : List Link) (root : MatchTask) : List Frame → List (Level MatchTask) → MatchTask
         → Type 0 where
       levels_none : AreLevels links root [] [] root
@@ -125,28 +125,29 @@ module _ (g : Grammar) (x : List ℕ) (more : Bool) where
           → key_of marks a ≡ false → PassesOn g x more a asked b [] → AreLevels links root ls fs a
           → AreLevels links root ls (record { at = a; asked = asked } ∷ fs) b
       levels_turned : {s k p last count : ℕ} {ls : List Frame} {fs : List (Level MatchTask)}
-          → AreTurned g x more marks s k p (last + 1) count → key_of marks (Pair s p) ≡ true → IsWell g x (Pair s p)
-          → AreLevels links root ls fs (Pair s p)
-          → AreLevels links root (record { task = Pair s p; key = true; wait = Turned last } ∷ ls)
-          (turns_on s k p (last + 1 - p) fs) (Pair s (last + 1))
+          → AreTurned g x more marks s k p (last + 1) count → key_of marks (Eval s p) ≡ true → IsWell g x (Eval s p)
+          → AreLevels links root ls fs (Eval s p)
+          → AreLevels links root (record { task = Eval s p; key = true; wait = Turned last } ∷ ls)
+          (iterations_on s k p (last + 1 - p) fs) (Eval s (last + 1))
 
     abbrev pub Comes : MatchTask → State MatchTask → Type 0
     Comes root s = TaskSteps (rules_of g.rules) (shapes_of g.nodes) g.bodies x (node_marks marks) (tail_marks marks)
         (start_at MatchTask root) s
 
     -- The machine comes to this state, from the root where nothing is stored.
-    pub record Stands (root : MatchTask) (turn : Turn) (frames : List Frame) (stored : List Stored) (links : List Link)
+    pub record Stands (root : MatchTask) (iteration : Iteration) (frames : List Frame) (stored : List Stored)
+        (links : List Link)
         (count : ℕ) : Type 0 where
       pub levels : List (Level MatchTask)
       pub begun : List MatchTask
       pub task : MatchTask
       pub are : AreLevels links root frames levels task
-      pub turns : IsTurn links turn task
+      pub iterations : IsIteration links iteration task
       pub given : AreGiven links stored
       pub is : total MatchTask (Kids (rules_of g.rules) (shapes_of g.nodes) g.bodies x) (key_of marks) weight begun
           ≡ count
-      pub steps : Comes root (state_of turn task levels (tasks_of stored) begun)
-      pub near : (n p : ℕ) → IsIn (Pair n p) begun → IsNear x more (Pair n p)
+      pub steps : Comes root (state_of iteration task levels (tasks_of stored) begun)
+      pub near : (n p : ℕ) → IsIn (Eval n p) begun → IsNear x more (Eval n p)
 
     -- a task that gives this is closed: a key is stored
     pub record IsClosed (links : List Link) (a : MatchTask) (given : Given) (old new : List Stored) : Type 0 where
@@ -163,12 +164,12 @@ module _ (g : Grammar) (x : List ℕ) (more : Bool) where
           ≡ count
       pub steps : Comes root (Works (record { levels = levels; stored = tasks_of stored; begun = task ∷ begun }))
       pub reaches : ReachesEnd g x more task
-      pub near : (n p : ℕ) → IsIn (Pair n p) (task ∷ begun) → IsNear x more (Pair n p)
+      pub near : (n p : ℕ) → IsIn (Eval n p) (task ∷ begun) → IsNear x more (Eval n p)
       pub right : AreRight g x more stored
 
-    -- what a turn comes to; none where it needs more
+    -- what an iteration comes to; none where it needs more
     abbrev pub AreOn : MatchTask → Option Next → List Frame → List Stored → List Link → ℕ → Type 0
-    AreOn root (Some next) frames stored links count = Stands root (turn_of next) frames stored links count
+    AreOn root (Some next) frames stored links count = Stands root (iteration_of next) frames stored links count
     AreOn root None frames stored links count = NeedsMore root stored count
 
     -- an evaluation that ended with this
@@ -186,9 +187,9 @@ module _ (g : Grammar) (x : List ℕ) (more : Bool) where
     IsEvaluated root (Some given) frames stored links count = IsEnded root given frames stored links count
     IsEvaluated root None frames stored links count = NeedsMore root stored count × (frames ≡ [])
 
--- a turn lowers what is left, unless it needs more
+-- an iteration lowers what is left, unless it needs more
 abbrev pub LowersLeft : Grammar → List ℕ → Option Next → List Frame → ℕ → ℕ → Type 0
-LowersLeft g x (Some next) frames begun before = left g x (turn_of next) frames begun < before
+LowersLeft g x (Some next) frames begun before = left g x (iteration_of next) frames begun < before
 LowersLeft g x None frames begun before = Unit {0}
 
 -- the loop goes on with a child, or with a result that no frame awaits

@@ -12,7 +12,7 @@ use Rattle.pegmatch.specs.KeptEvents.{outcome_of}
 use Rattle.pegmatch.specs.Visits.{NodeGives}
 use Rattle.memo.specs.declared.key_log.Stored.{Stored}
 use Rattle.memo.specs.declared.task.MatchTask.{MatchTask}
-use Rattle.memo.specs.declared.task.MatchTask.TheVariants.{Pair, Tail}
+use Rattle.memo.specs.declared.task.MatchTask.TheVariants.{Eval, Tail}
 use Rattle.memo.specs.Parts.{IsIn}
 
 -- the events of what came first and of what came then, where that is the outcome: a failure has none
@@ -38,7 +38,7 @@ module _ (g : Grammar) (x : List ℕ) (more : Bool) where
     pub gives : NodeGives (rules_of g.rules) (shapes_of g.nodes) g.bodies x m p Fails looked
     pub enough : WasEnough x more looked
 
-  -- the members in order, each from the place of the one before, with the events of all
+  -- the members in order, each from the position of the one before, with the events of all
   pub data MembersGive : List ℕ → ℕ → Found → List Event → Type 0 where
     members_none : {p : ℕ} → MembersGive [] p (Took p) []
     members_fail : {m p : ℕ} {ms : List ℕ} → FailsWithin m p → MembersGive (m ∷ ms) p Failed []
@@ -72,7 +72,7 @@ module _ (g : Grammar) (x : List ℕ) (more : Bool) where
   -- What a task gives, with these events, where the window is long enough for that: a node its outcome, and a tail that
   -- of its members.
   abbrev pub TaskYields : MatchTask → Found → List Event → Type 0
-  TaskYields (Pair n p) f events = (looked : ℕ)
+  TaskYields (Eval n p) f events = (looked : ℕ)
       × NodeGives (rules_of g.rules) (shapes_of g.nodes) g.bodies x n p (outcome_of f events) looked
       × WasEnough x more looked × IsQuiet f events
   TaskYields (Tail n i p) f events =

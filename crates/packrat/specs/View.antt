@@ -10,23 +10,23 @@ use Rattle.pegmatch.specs.Visits.{Visits}
 use Rattle.memo.specs.Parts.{IsIn, Distinct, Reach, Whole}
 use Rattle.memo.specs.Run.{Run}
 use Rattle.memo.specs.declared.task.MatchTask.{MatchTask}
-use Rattle.memo.specs.declared.task.MatchTask.TheVariants.{Pair, Tail}
+use Rattle.memo.specs.declared.task.MatchTask.TheVariants.{Eval, Tail}
 use Rattle.packrat.specs.MatchTasks.{Leads, Kids, is_key}
 
--- a pair counts, and the rest of a node does not
+-- an evaluation counts, and the rest of a node does not
 abbrev pub weight : MatchTask → ℕ
-weight (Pair n p) = 1
+weight (Eval n p) = 1
 weight (Tail n i p) = 0
 
 module _ (rules : List Rule) (start : ℕ) (nodes : List Shape) (bodies x : List ℕ) (more : Bool) where
-  -- of each pair among tasks its cell
+  -- of each evaluation among tasks its cell
   pub data CellsOf : List MatchTask → List Entry → Type 0 where
     cells_none : CellsOf [] []
     cells_rest : {n i p : ℕ} {tasks : List MatchTask} {cells : List Entry} → CellsOf tasks cells
         → CellsOf (Tail n i p ∷ tasks) cells
-    cells_pair : {n p : ℕ} {f : Found} {tasks : List MatchTask} {cells : List Entry}
+    cells_eval : {n p : ℕ} {f : Found} {tasks : List MatchTask} {cells : List Entry}
         → IsFound rules start nodes bodies x more n p f → CellsOf tasks cells
-        → CellsOf (Pair n p ∷ tasks) (record { node = n; place = p; found = f } ∷ cells)
+        → CellsOf (Eval n p ∷ tasks) (record { node = n; position = p; found = f } ∷ cells)
 
   -- The cells that the stored keys imply: with each key all below it that is reached without passing another key.
   pub record AreImplied (marks : ℕ → Bool) (tails : ℕ → ℕ → Bool) (stored : List MatchTask)
@@ -39,34 +39,34 @@ module _ (rules : List Rule) (start : ℕ) (nodes : List Shape) (bodies x : List
   -- Stored are keys that are reached, each once.
   pub record AreReachedKeys (marks : ℕ → Bool) (tails : ℕ → ℕ → Bool) (root : ℕ)
       (stored : List MatchTask) : Type 0 where
-    pub reached : (a : MatchTask) → IsIn a stored → Reach MatchTask (Leads rules nodes bodies x) (Pair root 0) a
+    pub reached : (a : MatchTask) → IsIn a stored → Reach MatchTask (Leads rules nodes bodies x) (Eval root 0) a
     pub keys : (a : MatchTask) → IsIn a stored → is_key marks tails a ≡ true
     pub once : Distinct stored
 
   -- Stored are exactly the keys that are reached, each once.
   pub record AreStored (marks : ℕ → Bool) (tails : ℕ → ℕ → Bool) (root : ℕ) (stored : List MatchTask) : Type 0 where
-    pub reached : (a : MatchTask) → IsIn a stored → Reach MatchTask (Leads rules nodes bodies x) (Pair root 0) a
+    pub reached : (a : MatchTask) → IsIn a stored → Reach MatchTask (Leads rules nodes bodies x) (Eval root 0) a
     pub keys : (a : MatchTask) → IsIn a stored → is_key marks tails a ≡ true
-    pub all : (a : MatchTask) → Reach MatchTask (Leads rules nodes bodies x) (Pair root 0) a → is_key marks tails a
+    pub all : (a : MatchTask) → Reach MatchTask (Leads rules nodes bodies x) (Eval root 0) a → is_key marks tails a
         ≡ true
         → IsIn a stored
     pub once : Distinct stored
 
-  -- a pair that is visited
-  abbrev pub IsVisitedPair : MatchTask → Type 0
-  IsVisitedPair (Pair n p) = Visits rules nodes bodies x start n p
-  IsVisitedPair (Tail n i p) = ⊥
+  -- an evaluation that is visited
+  abbrev pub IsVisitedEval : MatchTask → Type 0
+  IsVisitedEval (Eval n p) = Visits rules nodes bodies x start n p
+  IsVisitedEval (Tail n i p) = ⊥
 
-  -- pairs that are visited, each once
-  pub record AreVisitedPairs (pairs : List MatchTask) : Type 0 where
-    pub visited : (a : MatchTask) → IsIn a pairs → IsVisitedPair a
-    pub once : Distinct pairs
+  -- evaluations that are visited, each once
+  pub record AreVisitedEvals (evals : List MatchTask) : Type 0 where
+    pub visited : (a : MatchTask) → IsIn a evals → IsVisitedEval a
+    pub once : Distinct evals
 
-  -- The start rule's body is evaluated at the front of the window, where nothing is stored; that begins so many pairs,
-  -- and then these keys are stored.
+  -- The start rule's body is evaluated at the front of the window, where nothing is stored; that begins so many
+  -- evaluations, and then these keys are stored.
   abbrev pub Evaluates : (ℕ → Bool) → (ℕ → ℕ → Bool) → ℕ → List MatchTask → ℕ → Type 0
   Evaluates marks tails root stored begun =
-      Run MatchTask (Kids rules nodes bodies x) (is_key marks tails) weight [] (Pair root 0) stored begun
+      Run MatchTask (Kids rules nodes bodies x) (is_key marks tails) weight [] (Eval root 0) stored begun
 
   -- as many as begun are implied
   pub record AreBegun (marks : ℕ → Bool) (tails : ℕ → ℕ → Bool) (stored : List MatchTask) (begun : ℕ) : Type 0 where

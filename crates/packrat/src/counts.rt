@@ -1,35 +1,35 @@
-//! How many pairs are begun.
+//! How many evaluations are begun.
 ghost use Rattle.std.specs.Prelude.{◌≡◌, ◌+◌, ◌^◌, ◌≤◌};
 ghost use Rattle.packrat.specs.View.{weight};
 
 use memo::MatchTask;
 
-/// Returns how many pairs are begun with this task.
+/// Returns how many evaluations are begun with this task.
 #[inline(always)]
 pub(crate) fn counted(begun: u64, task: MatchTask) -> u64
     requires { begun + 2 ^ 33 ≤ 2 ^ 64 }
     ensures { result ≡ begun + weight task }
 {
     match task {
-        MatchTask::Pair { .. } => begun + 1,
+        MatchTask::Eval { .. } => begun + 1,
         MatchTask::Tail { .. } => begun,
     }
 }
 
-/// Returns how many pairs are begun with a choice and with those of its alternatives that fail.
+/// Returns how many evaluations are begun with a choice and with those of its alternatives that fail.
 #[inline(always)]
-pub(crate) fn counted_skips(begun: u64, pairs: u32) -> u64
+pub(crate) fn counted_skips(begun: u64, evals: u32) -> u64
     requires { begun + 2 ^ 33 ≤ 2 ^ 64 }
-    ensures { result ≡ begun + (1 + pairs) }
+    ensures { result ≡ begun + (1 + evals) }
 {
-    begun + (1 + u64::from(pairs))
+    begun + (1 + u64::from(evals))
 }
 
-/// Returns how many pairs are begun with those of a node that a byte decides.
+/// Returns how many evaluations are begun with those of a node that a byte decides.
 #[inline(always)]
-pub(crate) fn counted_known(begun: u64, pairs: u16) -> u64
+pub(crate) fn counted_known(begun: u64, evals: u16) -> u64
     requires { begun + 2 ^ 33 ≤ 2 ^ 64 }
-    ensures { result ≡ begun + pairs }
+    ensures { result ≡ begun + evals }
 {
-    begun + u64::from(pairs)
+    begun + u64::from(evals)
 }

@@ -6,16 +6,16 @@ ghost use Rattle.pegnodes.specs.Nodes.{Shape, Star, shapes_of};
 ghost use Rattle.packrat.specs.ByteGives.{found_by};
 ghost use Rattle.packrat.specs.Known.{IsDecidedAt, IsKnownAt, IsTakenAt};
 
-use crate::turns::sure_end;
+use crate::iterations::sure_end;
 use gramcheck::SoundPeg;
 use memo::Found;
 use pegnodes::{ByteVerdict, Decided};
 
-/// The outcome of a node, which leaves no events, and how many pairs begin with it.
+/// The outcome of a node, which leaves no events, and how many evaluations begin with it.
 #[derive(Clone, Copy)]
 pub(crate) struct Known {
     pub(crate) found: Found,
-    pub(crate) pairs: u16,
+    pub(crate) evals: u16,
 }
 
 /// A repetition of one or more, at a position whose byte its operand takes.
@@ -28,20 +28,20 @@ pub(crate) struct Taken {
     /// The node that goes on with it.
     pub(crate) star: usize,
     /// The position, in bytes from the front of the window.
-    pub(crate) place: usize,
-    /// How many pairs begin with the operand.
-    pub(crate) pairs: u16,
+    pub(crate) position: usize,
+    /// How many evaluations begin with the operand.
+    pub(crate) evals: u16,
 }
 
 // Returns the outcome at a position that a verdict says.
 #[inline(always)]
-fn found_at(verdict: ByteVerdict, place: usize) -> Found
-    requires { place + 1 < 2 ^ 64 }
-    ensures { result ≡ found_by verdict place }
+fn found_at(verdict: ByteVerdict, position: usize) -> Found
+    requires { position + 1 < 2 ^ 64 }
+    ensures { result ≡ found_by verdict position }
 {
     match verdict {
-        ByteVerdict::Takes => Found::Took(place + 1),
-        ByteVerdict::Stays => Found::Took(place),
+        ByteVerdict::Takes => Found::Took(position + 1),
+        ByteVerdict::Stays => Found::Took(position),
         ByteVerdict::Fails => Found::Failed,
     }
 }
@@ -53,19 +53,19 @@ fn decided_at(
     window: &[u8],
     more: bool,
     node: usize,
-    place: usize,
+    position: usize,
 ) -> Option<Decided>
     requires { WasEnough window.now more 0 }
     ensures decided { IfSome result (λ d. (s : Shape) (k : ℕ) →
         slice_get (shapes_of peg.now.nodes) node ≡ Some s → IsTabled node s k →
-        IsDecidedAt peg.now window.now more peg.now.keys k place d) }
-    ensures before { IfSome result (λ d. place < length window.now) }
+        IsDecidedAt peg.now window.now more peg.now.keys k position d) }
+    ensures before { IfSome result (λ d. position < length window.now) }
 {
-    if place >= sure_end(window, more) {
+    if position >= sure_end(window, more) {
         return None;
     }
     let table = peg.run_table(node)?;
-    table.decided(window[place])
+    table.decided(window[position])
 }
 
 /// Returns the outcome of an option or predicate, if the byte at the position decides it.
@@ -75,34 +75,34 @@ pub(crate) fn known_at(
     window: &[u8],
     more: bool,
     node: usize,
-    place: usize,
+    position: usize,
 ) -> Option<Known>
     requires some { WasEnough window.now more 0 }
     requires tabled { (s : Shape) × (slice_get (shapes_of peg.now.nodes) node ≡ Some s) × IsTabled node s node }
-    ensures { IfSome result (IsKnownAt peg.now window.now more peg.now.keys node place) }
+    ensures { IfSome result (IsKnownAt peg.now window.now more peg.now.keys node position) }
 {
-    let decided = decided_at(peg, window, more, node, place)?;
+    let decided = decided_at(peg, window, more, node, position)?;
     Some(Known {
-        found: found_at(decided.verdict, place),
-        pairs: decided.count,
+        found: found_at(decided.verdict, position),
+        evals: decided.count,
     })
 }
 
-/// Returns how many pairs begin with the operand of a repetition, if the byte at the position decides that the operand
-/// takes it.
+/// Returns how many evaluations begin with the operand of a repetition, if the byte at the position decides that the
+/// operand takes it.
 #[inline(always)]
 pub(crate) fn taken_at(
     peg: &SoundPeg,
     window: &[u8],
     more: bool,
     star: usize,
-    place: usize,
+    position: usize,
 ) -> Option<u16>
     requires some { WasEnough window.now more 0 }
-    ensures { IfSome result (λ pairs. (k : ℕ) → slice_get (shapes_of peg.now.nodes) star ≡ Some (Star k) →
-        IsTakenAt peg.now window.now more peg.now.keys k place pairs) }
+    ensures { IfSome result (λ evals. (k : ℕ) → slice_get (shapes_of peg.now.nodes) star ≡ Some (Star k) →
+        IsTakenAt peg.now window.now more peg.now.keys k position evals) }
 {
-    let decided = decided_at(peg, window, more, star, place)?;
+    let decided = decided_at(peg, window, more, star, position)?;
     match decided.verdict {
         ByteVerdict::Takes => Some(decided.count),
         ByteVerdict::Stays => None,

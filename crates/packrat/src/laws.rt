@@ -1,4 +1,4 @@
-//! Laws of widths, of pairs that are asked for once, and of the cells that a few stored keys imply.
+//! Laws of widths, of evaluations that are asked for once, and of the cells that a few stored keys imply.
 ghost use Rattle.std.specs.Prelude.{◌≡◌, ℕ, ◌+◌, Bool, List, length, slice_get, Some};
 ghost use Rattle.pegread.specs.Pattern.{Rule};
 ghost use Rattle.pegnodes.specs.Nodes.{Shape};
@@ -21,16 +21,17 @@ pub fn one_width()
         NodeTakes rules nodes bodies x n p q → q ≡ p + w }
 {}
 
-/// States that a visited pair of a marked node is asked for by one pair: its asker's, at the fixed distance.
+/// States that a visited evaluation of a marked node is asked for by one evaluation: its asker's, at the fixed
+/// distance.
 pub fn asked_once()
     ensures { (rules : List Rule) (start : ℕ) (nodes : List Shape) (bodies ranks x : List ℕ) →
         IsRanked rules start nodes bodies ranks → (n d m q : ℕ) → Offset nodes bodies start n d m →
         Visits rules nodes bodies x start m q → IsAskedBy rules start nodes bodies x n d m q }
 {}
 
-/// States which cells follow if exactly the keys that are reached are stored: exactly the pairs that are visited, each
-/// once and with its outcome. They imply some cells if the window is long enough for the outcome of the start rule's
-/// body. All lists of such cells have one length.
+/// States which cells follow if exactly the keys that are reached are stored: exactly the evaluations that are visited,
+/// each once and with its outcome. They imply some cells if the window is long enough for the outcome of the start
+/// rule's body. All lists of such cells have one length.
 pub fn implied_cells()
     ensures every { (rules : List Rule) (start : ℕ) (nodes : List Shape) (bodies ranks x : List ℕ) (more : Bool) →
         IsRanked rules start nodes bodies ranks → (root : ℕ) → slice_get bodies start ≡ Some root →
@@ -52,8 +53,8 @@ pub fn implied_cells()
 {}
 
 /// States that an evaluation that memoizes its keys stores exactly those that are reached, each once. It has begun as
-/// many pairs as there are cells that they imply. The cells are exactly the pairs that are visited, each once and with
-/// its outcome.
+/// many evaluations as there are cells that they imply. The cells are exactly the evaluations that are visited, each
+/// once and with its outcome.
 pub fn evaluated_once()
     ensures stored { (rules : List Rule) (start : ℕ) (nodes : List Shape) (bodies ranks x : List ℕ) (more : Bool) →
         IsRanked rules start nodes bodies ranks → (root : ℕ) → slice_get bodies start ≡ Some root →

@@ -6,13 +6,13 @@ mod byte_laws;
 mod counts;
 mod events;
 mod frames;
+mod iterations;
 mod known;
 mod laws;
 mod machine;
 mod onward;
 mod packrat;
 mod skips;
-mod turns;
 
 pub use byte_laws::{fresh_above_mark, one_byte_decides};
 pub use frames::{Frame, Wait};

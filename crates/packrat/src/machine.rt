@@ -11,8 +11,8 @@ ghost use Rattle.memo.specs.declared.task.MatchTask.{MatchTask};
 ghost use Rattle.pegnodes.specs.KeyLists.{Marks};
 ghost use Rattle.packrat.specs.Skipped.{AreSkipped};
 ghost use Rattle.packrat.specs.Turned.{AreFree, IsKeyed};
-ghost use Rattle.packrat.specs.LoopTurns.{Ask, Answer, turn_of};
-ghost use Rattle.packrat.specs.TurnsLeft.{left, most_begun, FitsBegun};
+ghost use Rattle.packrat.specs.LoopIterations.{Ask, Answer, iteration_of};
+ghost use Rattle.packrat.specs.IterationsLeft.{left, most_begun, FitsBegun};
 ghost use Rattle.packrat.specs.Begins.{IsRepeated, repeated_of};
 ghost use Rattle.packrat.specs.Known.{IsKnown, IsTaken, taken_of};
 ghost use Rattle.packrat.specs.Onward.{AfterStart, IsWell};
@@ -24,10 +24,12 @@ ghost use Rattle.packrat.specs.declared.frames.Wait.{Wait};
 use crate::counts::{counted, counted_known, counted_skips};
 use crate::events::EventLog;
 use crate::frames::{Frame, Frames, Wait};
+use crate::iterations::{
+    Iterations, find_iterations, is_fresh, put_iterations, put_operands, put_turned, wait_turned,
+};
 use crate::known::{Known, Taken};
 use crate::onward::{Begun, Entering, Onward, Repeated, Start, begin_node, go_on};
 use crate::skips::Skips;
-use crate::turns::{Turns, find_turns, is_fresh, put_operands, put_turned, put_turns, wait_turned};
 use gramcheck::SoundPeg;
 use memo::{Found, Given, KeyLog, MatchTask};
 use pegnodes::Node;
@@ -36,7 +38,7 @@ use ruletable::Memory;
 /// The machine's next step: to evaluate a node at a position, or to return a task's result to its frame.
 #[derive(Clone, Copy)]
 pub(crate) enum Next {
-    Ask { node: usize, place: usize },
+    Ask { node: usize, position: usize },
     Answer(Given),
 }
 
@@ -49,7 +51,7 @@ pub(crate) struct Machine {
     pub(crate) events: EventLog,
     /// The tasks under way.
     pub(crate) frames: Frames,
-    /// How many pairs of a node and a position were begun.
+    /// How many evaluations of a node and a position were begun.
     pub(crate) begun: u64,
 }
 
@@ -58,22 +60,22 @@ pub(crate) struct Machine {
 fn stored_node(
     log: &mut KeyLog,
     node: usize,
-    place: usize,
+    position: usize,
     key: bool,
 ) -> Result<Option<Given>, Memory>
     ensures some { IfOk result (λ found. IfSome found (λ g. (key ≡ true)
-        × IsIn (record { task = MatchTask.Pair node place; given = g }) log.old.stored)) }
+        × IsIn (record { task = MatchTask.Eval node position; given = g }) log.old.stored)) }
     ensures none { IfOk result (λ found. IfNone found (key ≡ true →
-        IsIn (MatchTask.Pair node place) (tasks_of log.old.stored) → ⊥)) }
+        IsIn (MatchTask.Eval node position) (tasks_of log.old.stored) → ⊥)) }
     ensures same { log.new ≡ log.old }
 {
     if !key {
         return Ok(None);
     }
-    if log.is_new(node, place) {
+    if log.is_new(node, position) {
         return Ok(None);
     }
-    log.get(MatchTask::Pair { node, place })
+    log.get(MatchTask::Eval { node, position })
 }
 
 // Returns the memoized result of the tail of a node from a member on at a position, likewise.
@@ -82,22 +84,26 @@ fn stored_tail(
     log: &mut KeyLog,
     node: usize,
     index: usize,
-    place: usize,
+    position: usize,
     key: bool,
 ) -> Result<Option<Given>, Memory>
     ensures some { IfOk result (λ found. IfSome found (λ g. (key ≡ true)
-        × IsIn (record { task = MatchTask.Tail node index place; given = g }) log.old.stored)) }
+        × IsIn (record { task = MatchTask.Tail node index position; given = g }) log.old.stored)) }
     ensures none { IfOk result (λ found. IfNone found (key ≡ true →
-        IsIn (MatchTask.Tail node index place) (tasks_of log.old.stored) → ⊥)) }
+        IsIn (MatchTask.Tail node index position) (tasks_of log.old.stored) → ⊥)) }
     ensures same { log.new ≡ log.old }
 {
     if !key {
         return Ok(None);
     }
-    if log.is_new(node, place) {
+    if log.is_new(node, position) {
         return Ok(None);
     }
-    log.get(MatchTask::Tail { node, index, place })
+    log.get(MatchTask::Tail {
+        node,
+        index,
+        position,
+    })
 }
 
 // Ends a task with this result, which it stores if the task is a key.
@@ -141,8 +147,7 @@ fn close_same(
     close(log, peg, window, task, key, given)
 }
 
-// Pushes a frame that awaits a task's last child, with the head of the task's events so far. An unmemoized tail call
-// without events pushes none.
+// Pushes a frame that awaits a task's last child, if it is a key or has events: with the head of its events.
 #[inline(always)]
 fn wait_last(frames: &mut Frames, task: MatchTask, key: bool, events: usize) -> Result<(), Memory>
     ensures { OnOk result (AreWaiting key events task frames.old frames.new) }
@@ -159,18 +164,21 @@ fn wait_last(frames: &mut Frames, task: MatchTask, key: bool, events: usize) -> 
     })
 }
 
-// Enters a tail, and goes to its member, or returns the tail's stored result. A tail that is no key pushes a frame only
-// if it has another member.
+// Enters a tail: goes to its member, with a frame if it has another member or is a key, or returns its stored result.
 #[inline(always)]
 fn enter(log: &mut KeyLog, frames: &mut Frames, entering: Entering) -> Result<Next, Memory>
     ensures same { log.new ≡ log.old }
-    ensures entered { IfOk result (λ next. IsEntered log.old.stored entering frames.old frames.new (turn_of next)) }
+    ensures entered { IfOk result (λ n. IsEntered log.old.stored entering frames.old frames.new (iteration_of n)) }
 {
-    let (node, index, place) = (entering.node, entering.index, entering.place);
-    if let Some(given) = stored_tail(log, node, index, place, entering.key)? {
+    let (node, index, position) = (entering.node, entering.index, entering.position);
+    if let Some(given) = stored_tail(log, node, index, position, entering.key)? {
         return Ok(Next::Answer(given));
     }
-    let tail = MatchTask::Tail { node, index, place };
+    let tail = MatchTask::Tail {
+        node,
+        index,
+        position,
+    };
     if entering.only {
         wait_last(frames, tail, entering.key, 0)?;
     } else {
@@ -182,7 +190,7 @@ fn enter(log: &mut KeyLog, frames: &mut Frames, entering: Entering) -> Result<Ne
     }
     Ok(Next::Ask {
         node: entering.member,
-        place: entering.place,
+        position: entering.position,
     })
 }
 
@@ -226,11 +234,11 @@ impl Machine {
             key ≡ key_of peg.now.keys task → (key ≡ true → IsIn task (tasks_of self.old.log.stored) → ⊥) →
             Stands peg.now window.now more peg.now.keys root (Ask task) self.old.frames
             self.old.log.stored self.old.events self.old.begun →
-            IfOk result (λ turn. Stands peg.now window.now more peg.now.keys root (turn_of turn)
+            IfOk result (λ iteration. Stands peg.now window.now more peg.now.keys root (iteration_of iteration)
             self.new.frames self.new.log.stored self.new.events self.new.begun) }
         ensures less { (more : Bool) → AfterStart peg.now window.now more task start →
-            self.new.begun ≤ most_begun peg.now window.now → IfOk result (λ turn.
-            left peg.now window.now (turn_of turn) self.new.frames self.new.begun
+            self.new.begun ≤ most_begun peg.now window.now → IfOk result (λ iteration.
+            left peg.now window.now (iteration_of iteration) self.new.frames self.new.begun
             < left peg.now window.now (Ask task) self.old.frames self.old.begun) }
     {
         self.begun = counted(self.begun, task);
@@ -242,23 +250,23 @@ impl Machine {
             }
             Start::Marks(event) => {
                 let given = Given {
-                    found: Found::Took(task.place()),
+                    found: Found::Took(task.position()),
                     events: self.events.mark(event)?,
                 };
                 close(&mut self.log, peg, window, task, key, given)?;
                 Ok(Next::Answer(given))
             }
-            Start::Leads { node, place } => {
+            Start::Leads { node, position } => {
                 self.frames.push(Frame {
                     task,
                     key,
                     wait: Wait::First,
                 })?;
-                Ok(Next::Ask { node, place })
+                Ok(Next::Ask { node, position })
             }
-            Start::Passes { node, place } => {
+            Start::Passes { node, position } => {
                 wait_last(&mut self.frames, task, key, 0)?;
-                Ok(Next::Ask { node, place })
+                Ok(Next::Ask { node, position })
             }
             Start::Enters(entering) => {
                 wait_last(&mut self.frames, task, key, 0)?;
@@ -267,90 +275,90 @@ impl Machine {
         }
     }
 
-    // Returns the iterations of a repetition that bytes decide, if no key among their pairs is stored.
+    // Returns the iterations of a repetition that bytes decide, if no key among their evaluations is stored.
     #[inline(always)]
-    fn turns_at(
+    fn iterations_at(
         &self,
         peg: &SoundPeg,
         window: &[u8],
         more: bool,
         repeated: Repeated,
-    ) -> Option<Turns>
+    ) -> Option<Iterations>
         requires some { WasEnough window.now more 0 }
         requires well { IsWell peg.now window.now (repeated_of repeated) }
         requires is { IsRepeated peg.now window.now more repeated }
         ensures free { IfSome result (λ t. AreFree peg.now window.now more peg.now.keys (tasks_of self.now.log.stored)
             (repeated_of repeated) t) }
-        ensures fits { IfSome result (λ t. self.now.begun + t.pairs < 2 ^ 64) }
+        ensures fits { IfSome result (λ t. self.now.begun + t.evals < 2 ^ 64) }
     {
-        if !is_fresh(&self.log, peg, repeated.star, repeated.place) {
+        if !is_fresh(&self.log, peg, repeated.star, repeated.position) {
             return None;
         }
-        if !is_fresh(&self.log, peg, repeated.operand, repeated.place) {
+        if !is_fresh(&self.log, peg, repeated.operand, repeated.position) {
             return None;
         }
-        let turns = find_turns(
+        let iterations = find_iterations(
             peg,
             window,
             more,
             repeated.star,
             repeated.operand,
-            repeated.place,
+            repeated.position,
         )?;
-        if turns.pairs > u128::from(u64::MAX - self.begun) {
+        if iterations.evals > u128::from(u64::MAX - self.begun) {
             return None;
         }
-        Some(turns)
+        Some(iterations)
     }
 
-    // Goes over iterations that bytes decide, to the repetition's end or to its pair after them.
-    fn run_turns(
+    // Goes over iterations that bytes decide, to the repetition's end or to its evaluation after them.
+    fn run_iterations(
         &mut self,
         peg: &SoundPeg,
         window: &[u8],
         more: bool,
-        turns: Turns,
+        iterations: Iterations,
     ) -> Result<Next, Memory>
         requires sound { IsSoundGrammar peg.now }
         requires keyed { IsKeyed peg.now }
         requires rows { self.old.log.rows ≡ length peg.now.nodes }
         requires free { AreFree peg.now window.now more peg.now.keys (tasks_of self.old.log.stored)
-            (MatchTask.Pair turns.star turns.from) turns }
-        requires fits { self.old.begun + turns.pairs < 2 ^ 64 }
+            (MatchTask.Eval iterations.star iterations.from) iterations }
+        requires fits { self.old.begun + iterations.evals < 2 ^ 64 }
         ensures rows { OnOk result (self.new.log.rows ≡ length peg.now.nodes) }
         ensures stands { (root : MatchTask) → Stands peg.now window.now more peg.now.keys root
-            (Ask (MatchTask.Pair turns.star turns.from)) self.old.frames
+            (Ask (MatchTask.Eval iterations.star iterations.from)) self.old.frames
             self.old.log.stored self.old.events self.old.begun →
-            IfOk result (λ turn. Stands peg.now window.now more peg.now.keys root (turn_of turn)
+            IfOk result (λ iteration. Stands peg.now window.now more peg.now.keys root (iteration_of iteration)
             self.new.frames self.new.log.stored self.new.events self.new.begun) }
-        ensures less { self.new.begun ≤ most_begun peg.now window.now → IfOk result (λ turn.
-            left peg.now window.now (turn_of turn) self.new.frames self.new.begun
-            < left peg.now window.now (Ask (MatchTask.Pair turns.star turns.from)) self.old.frames self.old.begun) }
+        ensures less { self.new.begun ≤ most_begun peg.now window.now → IfOk result (λ iteration.
+            left peg.now window.now (iteration_of iteration) self.new.frames self.new.begun < left peg.now window.now
+            (Ask (MatchTask.Eval iterations.star iterations.from)) self.old.frames self.old.begun) }
     {
-        self.begun += turns.pairs as u64;
-        put_operands(&mut self.log, peg, window, turns)?;
-        if turns.whole {
-            let last = MatchTask::Pair {
-                node: turns.operand,
-                place: turns.end,
+        self.begun += iterations.evals as u64;
+        put_operands(&mut self.log, peg, window, iterations)?;
+        if iterations.whole {
+            let last = MatchTask::Eval {
+                node: iterations.operand,
+                position: iterations.end,
             };
             let failed = Given {
                 found: Found::Failed,
                 events: 0,
             };
-            let key = peg.is_key_node(turns.operand);
+            let key = peg.is_key_node(iterations.operand);
             close(&mut self.log, peg, window, last, key, failed)?;
             let given = Given {
-                found: Found::Took(turns.end),
+                found: Found::Took(iterations.end),
                 events: 0,
             };
-            put_turns(&mut self.log, peg, window, turns, given)?;
+            put_iterations(&mut self.log, peg, window, iterations, given)?;
             Ok(Next::Answer(given))
         } else {
-            wait_turned(&mut self.frames, peg, turns)?;
+            wait_turned(&mut self.frames, peg, iterations)?;
             Ok(Next::Ask {
-                node: turns.star,
-                place: turns.end,
+                node: iterations.star,
+                position: iterations.end,
             })
         }
     }
@@ -377,14 +385,14 @@ impl Machine {
             key ≡ key_of peg.now.keys task → (key ≡ true → IsIn task (tasks_of self.old.log.stored) → ⊥) →
             Stands peg.now window.now more peg.now.keys root (Ask task) self.old.frames
             self.old.log.stored self.old.events self.old.begun →
-            IfOk result (λ turn. Stands peg.now window.now more peg.now.keys root (turn_of turn)
+            IfOk result (λ iteration. Stands peg.now window.now more peg.now.keys root (iteration_of iteration)
             self.new.frames self.new.log.stored self.new.events self.new.begun) }
         ensures less { (more : Bool) → AreSkipped peg.now window.now more peg.now.keys task skips →
-            self.new.begun ≤ most_begun peg.now window.now → IfOk result (λ turn.
-            left peg.now window.now (turn_of turn) self.new.frames self.new.begun
+            self.new.begun ≤ most_begun peg.now window.now → IfOk result (λ iteration.
+            left peg.now window.now (iteration_of iteration) self.new.frames self.new.begun
             < left peg.now window.now (Ask task) self.old.frames self.old.begun) }
     {
-        self.begun = counted_skips(self.begun, skips.pairs);
+        self.begun = counted_skips(self.begun, skips.evals);
         match skips.rest {
             Some(entering) => {
                 wait_last(&mut self.frames, task, key, 0)?;
@@ -424,18 +432,18 @@ impl Machine {
             (key ≡ true → IsIn (repeated_of repeated) (tasks_of self.old.log.stored) → ⊥) →
             Stands peg.now window.now more peg.now.keys root (Ask (repeated_of repeated)) self.old.frames
             self.old.log.stored self.old.events self.old.begun →
-            IfOk result (λ turn. Stands peg.now window.now more peg.now.keys root (turn_of turn)
+            IfOk result (λ iteration. Stands peg.now window.now more peg.now.keys root (iteration_of iteration)
             self.new.frames self.new.log.stored self.new.events self.new.begun) }
-        ensures less { self.new.begun ≤ most_begun peg.now window.now → IfOk result (λ turn.
-            left peg.now window.now (turn_of turn) self.new.frames self.new.begun
+        ensures less { self.new.begun ≤ most_begun peg.now window.now → IfOk result (λ iteration.
+            left peg.now window.now (iteration_of iteration) self.new.frames self.new.begun
             < left peg.now window.now (Ask (repeated_of repeated)) self.old.frames self.old.begun) }
     {
-        match self.turns_at(peg, window, more, repeated) {
-            Some(turns) => self.run_turns(peg, window, more, turns),
+        match self.iterations_at(peg, window, more, repeated) {
+            Some(iterations) => self.run_iterations(peg, window, more, iterations),
             None => {
-                let task = MatchTask::Pair {
+                let task = MatchTask::Eval {
                     node: repeated.star,
-                    place: repeated.place,
+                    position: repeated.position,
                 };
                 let begun = counted(self.begun, task);
                 self.begun = begun;
@@ -446,7 +454,7 @@ impl Machine {
                 })?;
                 Ok(Next::Ask {
                     node: repeated.operand,
-                    place: repeated.place,
+                    position: repeated.position,
                 })
             }
         }
@@ -474,14 +482,14 @@ impl Machine {
             key ≡ key_of peg.now.keys task → (key ≡ true → IsIn task (tasks_of self.old.log.stored) → ⊥) →
             Stands peg.now window.now more peg.now.keys root (Ask task) self.old.frames
             self.old.log.stored self.old.events self.old.begun →
-            IfOk result (λ turn. Stands peg.now window.now more peg.now.keys root (turn_of turn)
+            IfOk result (λ iteration. Stands peg.now window.now more peg.now.keys root (iteration_of iteration)
             self.new.frames self.new.log.stored self.new.events self.new.begun) }
         ensures less { (more : Bool) → IsKnown peg.now window.now more peg.now.keys task known →
-            self.new.begun ≤ most_begun peg.now window.now → IfOk result (λ turn.
-            left peg.now window.now (turn_of turn) self.new.frames self.new.begun
+            self.new.begun ≤ most_begun peg.now window.now → IfOk result (λ iteration.
+            left peg.now window.now (iteration_of iteration) self.new.frames self.new.begun
             < left peg.now window.now (Ask task) self.old.frames self.old.begun) }
     {
-        self.begun = counted_known(self.begun, known.pairs);
+        self.begun = counted_known(self.begun, known.evals);
         let given = Given {
             found: known.found,
             events: 0,
@@ -490,8 +498,7 @@ impl Machine {
         Ok(Next::Answer(given))
     }
 
-    // Begins a repetition of one or more whose operand takes the byte at the position. It goes to the node that goes on
-    // with it, or to the operand if that may be stored.
+    // Begins a repetition of one or more whose operand takes the byte: goes on with it, or to an operand that is a key.
     #[inline(always)]
     fn begin_plus(
         &mut self,
@@ -503,8 +510,8 @@ impl Machine {
         requires sound { IsSoundGrammar peg.now }
         requires keyed { IsKeyed peg.now }
         requires well { IsWell peg.now window.now (taken_of taken) }
-        requires operand { IsWell peg.now window.now (MatchTask.Pair taken.operand taken.place) }
-        requires before { taken.place < length window.now }
+        requires operand { IsWell peg.now window.now (MatchTask.Eval taken.operand taken.position) }
+        requires before { taken.position < length window.now }
         requires rows { self.old.log.rows ≡ length peg.now.nodes }
         requires few { self.old.begun ≤ most_begun peg.now window.now }
         requires fits { FitsBegun peg.now window.now }
@@ -515,18 +522,18 @@ impl Machine {
             (key ≡ true → IsIn (taken_of taken) (tasks_of self.old.log.stored) → ⊥) →
             Stands peg.now window.now more peg.now.keys root (Ask (taken_of taken)) self.old.frames
             self.old.log.stored self.old.events self.old.begun →
-            IfOk result (λ turn. Stands peg.now window.now more peg.now.keys root (turn_of turn)
+            IfOk result (λ iteration. Stands peg.now window.now more peg.now.keys root (iteration_of iteration)
             self.new.frames self.new.log.stored self.new.events self.new.begun) }
         ensures less { (more : Bool) → IsTaken peg.now window.now more peg.now.keys taken →
-            self.new.begun ≤ most_begun peg.now window.now → IfOk result (λ turn.
-            left peg.now window.now (turn_of turn) self.new.frames self.new.begun
+            self.new.begun ≤ most_begun peg.now window.now → IfOk result (λ iteration.
+            left peg.now window.now (iteration_of iteration) self.new.frames self.new.begun
             < left peg.now window.now (Ask (taken_of taken)) self.old.frames self.old.begun) }
     {
-        let task = MatchTask::Pair {
+        let task = MatchTask::Eval {
             node: taken.plus,
-            place: taken.place,
+            position: taken.position,
         };
-        if !is_fresh(&self.log, peg, taken.operand, taken.place) {
+        if !is_fresh(&self.log, peg, taken.operand, taken.position) {
             let begun = counted(self.begun, task);
             self.begun = begun;
             self.frames.push(Frame {
@@ -536,15 +543,15 @@ impl Machine {
             })?;
             return Ok(Next::Ask {
                 node: taken.operand,
-                place: taken.place,
+                position: taken.position,
             });
         }
-        let end = taken.place + 1;
-        let pairs = u32::from(taken.pairs);
-        self.begun = counted_skips(self.begun, pairs);
-        let operand = MatchTask::Pair {
+        let end = taken.position + 1;
+        let evals = u32::from(taken.evals);
+        self.begun = counted_skips(self.begun, evals);
+        let operand = MatchTask::Eval {
             node: taken.operand,
-            place: taken.place,
+            position: taken.position,
         };
         let given = Given {
             found: Found::Took(end),
@@ -555,12 +562,11 @@ impl Machine {
         wait_last(&mut self.frames, task, key, 0)?;
         Ok(Next::Ask {
             node: taken.star,
-            place: end,
+            position: end,
         })
     }
 
-    // Evaluates a node at a position, or begins it and goes to a child. None if the window is too short. Each first
-    // step has a call of its own, so that one jump by the node's kind leads to what it does.
+    // Evaluates a node, or begins it and goes to a child; none if the window is too short. Each kind has its own call.
     #[inline(always)]
     fn ask(
         &mut self,
@@ -568,30 +574,30 @@ impl Machine {
         window: &[u8],
         more: bool,
         node: usize,
-        place: usize,
+        position: usize,
     ) -> Result<Option<Next>, Memory>
         requires some { WasEnough window.now more 0 }
         requires sound { IsSoundGrammar peg.now }
         requires keyed { IsKeyed peg.now }
-        requires well { IsWell peg.now window.now (MatchTask.Pair node place) }
+        requires well { IsWell peg.now window.now (MatchTask.Eval node position) }
         requires rows { self.old.log.rows ≡ length peg.now.nodes }
         requires few { self.old.begun ≤ most_begun peg.now window.now }
         requires fits { FitsBegun peg.now window.now }
         ensures rows { OnOk result (self.new.log.rows ≡ length peg.now.nodes) }
         ensures stands { (root : MatchTask) →
-            Stands peg.now window.now more peg.now.keys root (Ask (MatchTask.Pair node place)) self.old.frames
+            Stands peg.now window.now more peg.now.keys root (Ask (MatchTask.Eval node position)) self.old.frames
             self.old.log.stored self.old.events self.old.begun →
-            IfOk result (λ turn. AreOn peg.now window.now more peg.now.keys root turn
+            IfOk result (λ iteration. AreOn peg.now window.now more peg.now.keys root iteration
             self.new.frames self.new.log.stored self.new.events self.new.begun) }
-        ensures less { self.new.begun ≤ most_begun peg.now window.now → IfOk result (λ turn.
-            LowersLeft peg.now window.now turn self.new.frames self.new.begun
-            (left peg.now window.now (Ask (MatchTask.Pair node place)) self.old.frames self.old.begun)) }
+        ensures less { self.new.begun ≤ most_begun peg.now window.now → IfOk result (λ iteration.
+            LowersLeft peg.now window.now iteration self.new.frames self.new.begun
+            (left peg.now window.now (Ask (MatchTask.Eval node position)) self.old.frames self.old.begun)) }
     {
-        let task = MatchTask::Pair { node, place };
+        let task = MatchTask::Eval { node, position };
         let key = peg.is_key_node(node);
-        match stored_node(&mut self.log, node, place, key)? {
+        match stored_node(&mut self.log, node, position, key)? {
             Some(given) => Ok(Some(Next::Answer(given))),
-            None => match begin_node(peg, window, more, node, place) {
+            None => match begin_node(peg, window, more, node, position) {
                 Begun::Starts(start) => match start {
                     Start::Gives(_) => Ok(Some(self.start_task(peg, window, task, key, start)?)),
                     Start::Marks(_) => Ok(Some(self.start_task(peg, window, task, key, start)?)),
@@ -634,13 +640,13 @@ impl Machine {
             Stands peg.now window.now more peg.now.keys root (Answer given)
             (record { task = task; key = key; wait = Wait.First } ∷ self.old.frames)
             self.old.log.stored self.old.events self.old.begun →
-            IfOk result (λ turn. Stands peg.now window.now more peg.now.keys root (turn_of turn)
+            IfOk result (λ iteration. Stands peg.now window.now more peg.now.keys root (iteration_of iteration)
             self.new.frames self.new.log.stored self.new.events self.new.begun) }
         ensures less { (more : Bool) → WasEnough window.now more 0 → (root : MatchTask) →
             Stands peg.now window.now more peg.now.keys root (Answer given)
             (record { task = task; key = key; wait = Wait.First } ∷ self.old.frames)
-            self.old.log.stored self.old.events self.old.begun → IfOk result (λ turn.
-            left peg.now window.now (turn_of turn) self.new.frames self.new.begun
+            self.old.log.stored self.old.events self.old.begun → IfOk result (λ iteration.
+            left peg.now window.now (iteration_of iteration) self.new.frames self.new.begun
             < left peg.now window.now (Answer given)
             (record { task = task; key = key; wait = Wait.First } ∷ self.old.frames) self.old.begun) }
     {
@@ -654,9 +660,9 @@ impl Machine {
                 close_same(&mut self.log, peg, window, task, key, given)?;
                 Ok(Next::Answer(given))
             }
-            Onward::Passes { node, place } => {
+            Onward::Passes { node, position } => {
                 wait_last(&mut self.frames, task, key, given.events)?;
-                Ok(Next::Ask { node, place })
+                Ok(Next::Ask { node, position })
             }
             Onward::Enters(entering) => {
                 wait_last(&mut self.frames, task, key, given.events)?;
@@ -684,12 +690,12 @@ impl Machine {
         ensures stands { (more : Bool) → WasEnough window.now more 0 → (root : MatchTask) →
             Stands peg.now window.now more peg.now.keys root (Answer given) (frame ∷ self.old.frames)
             self.old.log.stored self.old.events self.old.begun →
-            IfOk result (λ turn. Stands peg.now window.now more peg.now.keys root (turn_of turn)
+            IfOk result (λ iteration. Stands peg.now window.now more peg.now.keys root (iteration_of iteration)
             self.new.frames self.new.log.stored self.new.events self.new.begun) }
         ensures less { (more : Bool) → WasEnough window.now more 0 → (root : MatchTask) →
             Stands peg.now window.now more peg.now.keys root (Answer given)
-            (frame ∷ self.old.frames) self.old.log.stored self.old.events self.old.begun → IfOk result (λ turn.
-            left peg.now window.now (turn_of turn) self.new.frames self.new.begun
+            (frame ∷ self.old.frames) self.old.log.stored self.old.events self.old.begun → IfOk result (λ iteration.
+            left peg.now window.now (iteration_of iteration) self.new.frames self.new.begun
             < left peg.now window.now (Answer given) (frame ∷ self.old.frames) self.old.begun) }
     {
         match frame.wait {
@@ -719,11 +725,11 @@ impl Machine {
         ensures stands { (more : Bool) → WasEnough window.now more 0 → (root : MatchTask) →
             Stands peg.now window.now more peg.now.keys root (Answer first) self.old.frames
             self.old.log.stored self.old.events self.old.begun →
-            IfOk result (λ turn. Stands peg.now window.now more peg.now.keys root (turn_of turn)
+            IfOk result (λ iteration. Stands peg.now window.now more peg.now.keys root (iteration_of iteration)
             self.new.frames self.new.log.stored self.new.events self.new.begun) }
-        ensures less { IfOk result (λ turn. left peg.now window.now (turn_of turn) self.new.frames self.new.begun
+        ensures less { IfOk result (λ next. left peg.now window.now (iteration_of next) self.new.frames self.new.begun
             ≤ left peg.now window.now (Answer first) self.old.frames self.old.begun) }
-        ensures last { IfOk result (λ turn. IsUnawaited turn self.new.frames) }
+        ensures last { IfOk result (λ iteration. IsUnawaited iteration self.new.frames) }
     {
         let mut given = first;
         'frames: loop {
@@ -731,14 +737,13 @@ impl Machine {
                 None => return Ok(Next::Answer(given)),
                 Some(frame) => match self.resume(peg, window, frame, given)? {
                     Next::Answer(own) => given = own,
-                    Next::Ask { node, place } => return Ok(Next::Ask { node, place }),
+                    Next::Ask { node, position } => return Ok(Next::Ask { node, position }),
                 },
             }
         }
     }
 
-    /// Evaluates the start rule's body at the front of the window, where nothing is stored: it stores keys and counts
-    /// pairs as `Run` states it. None where the window is too short.
+    /// Evaluates the start rule's body at the window's front as `Run` states it. None where the window is too short.
     ///
     /// # Errors
     /// `Memory` if an allocation fails.
@@ -756,16 +761,16 @@ impl Machine {
         requires keys { HasKeys peg.now }
         requires rows { self.old.log.rows ≡ length peg.now.nodes }
         requires empty { self.old.log.stored ≡ [] }
-        ensures { IfOk result (λ given. IsEvaluated peg.now window.now more peg.now.keys (MatchTask.Pair root 0) given
+        ensures { IfOk result (λ given. IsEvaluated peg.now window.now more peg.now.keys (MatchTask.Eval root 0) given
             self.new.frames self.new.log.stored self.new.events self.new.begun) }
     {
         self.begun = 0;
         self.frames.clear();
         self.events.clear();
         let mut node = root;
-        let mut place = 0;
+        let mut position = 0;
         'asks: loop {
-            match self.ask(peg, window, more, node, place)? {
+            match self.ask(peg, window, more, node, position)? {
                 None => {
                     self.frames.clear();
                     return Ok(None);
@@ -773,18 +778,18 @@ impl Machine {
                 Some(next) => match next {
                     Next::Ask {
                         node: child,
-                        place: there,
+                        position: there,
                     } => {
                         node = child;
-                        place = there;
+                        position = there;
                     }
                     Next::Answer(given) => match self.settle(peg, window, given)? {
                         Next::Ask {
                             node: child,
-                            place: there,
+                            position: there,
                         } => {
                             node = child;
-                            place = there;
+                            position = there;
                         }
                         Next::Answer(last) => return Ok(Some(last)),
                     },

@@ -27,7 +27,7 @@ pub(crate) struct Entering {
     /// The index of the member, from 0.
     pub(crate) index: usize,
     /// The position, in bytes from the front of the window.
-    pub(crate) place: usize,
+    pub(crate) position: usize,
     /// The node of the member.
     pub(crate) member: usize,
     /// Whether the member is the last one.
@@ -44,7 +44,7 @@ pub(crate) struct Repeated {
     /// The node of its operand.
     pub(crate) operand: usize,
     /// The position, in bytes from the front of the window.
-    pub(crate) place: usize,
+    pub(crate) position: usize,
 }
 
 /// The first step of a node that is neither a choice nor a repetition.
@@ -57,8 +57,8 @@ pub(crate) struct Repeated {
 pub(crate) enum Start {
     Gives(Found),
     Marks(Kept),
-    Leads { node: usize, place: usize },
-    Passes { node: usize, place: usize },
+    Leads { node: usize, position: usize },
+    Passes { node: usize, position: usize },
     Enters(Entering),
 }
 
@@ -90,7 +90,7 @@ pub(crate) enum Begun {
 pub(crate) enum Onward {
     Gives(Found),
     Same,
-    Passes { node: usize, place: usize },
+    Passes { node: usize, position: usize },
     Enters(Entering),
 }
 
@@ -101,15 +101,15 @@ pub(crate) fn tail_from(
     node: usize,
     members: &[usize],
     index: usize,
-    place: usize,
+    position: usize,
 ) -> Entering
     requires { index < length members.now }
-    ensures { result ≡ entering_of peg.now.keys node members.now index place }
+    ensures { result ≡ entering_of peg.now.keys node members.now index position }
 {
     Entering {
         node,
         index,
-        place,
+        position,
         member: members[index],
         only: index + 1 == members.len(),
         key: peg.is_key_tail(node, index),
@@ -137,18 +137,19 @@ fn tested(
     more: bool,
     node: usize,
     operand: usize,
-    place: usize,
+    position: usize,
 ) -> Begun
     requires some { WasEnough window.now more 0 }
     requires tabled { (s : Shape) × (slice_get (shapes_of peg.now.nodes) node ≡ Some s) × IsTabled node s node }
-    requires led { IsLed peg.now window.now more false (MatchTask.Pair node place) (MatchTask.Pair operand place) }
-    ensures { AfterNone peg.now window.now more (MatchTask.Pair node place) result }
+    requires led { IsLed peg.now window.now more false (MatchTask.Eval node position)
+        (MatchTask.Eval operand position) }
+    ensures { AfterNone peg.now window.now more (MatchTask.Eval node position) result }
 {
-    match known_at(peg, window, more, node, place) {
+    match known_at(peg, window, more, node, position) {
         Some(known) => Begun::Knows(known),
         None => Begun::Starts(Start::Leads {
             node: operand,
-            place,
+            position,
         }),
     }
 }
@@ -160,91 +161,94 @@ pub(crate) fn begin_node(
     window: &[u8],
     more: bool,
     node: usize,
-    place: usize,
+    position: usize,
 ) -> Begun
     requires some { WasEnough window.now more 0 }
     requires sound { IsSoundGrammar peg.now }
-    requires well { IsWell peg.now window.now (MatchTask.Pair node place) }
-    ensures { AfterNone peg.now window.now more (MatchTask.Pair node place) result }
+    requires well { IsWell peg.now window.now (MatchTask.Eval node position) }
+    ensures { AfterNone peg.now window.now more (MatchTask.Eval node position) result }
 {
     match peg.node(node) {
-        Node::Any => leaf(match_any(window, place), window.len(), more),
-        Node::Bytes(bytes) => leaf(match_bytes(bytes, window, place), window.len(), more),
-        Node::Set(set) => leaf(match_set(set, window, place), window.len(), more),
+        Node::Any => leaf(match_any(window, position), window.len(), more),
+        Node::Bytes(bytes) => leaf(match_bytes(bytes, window, position), window.len(), more),
+        Node::Set(set) => leaf(match_set(set, window, position), window.len(), more),
         Node::Name(id) => Begun::Starts(Start::Passes {
             node: peg.body_node(*id),
-            place,
+            position,
         }),
         Node::Seq(members) => {
             if members.is_empty() {
-                Begun::Starts(Start::Gives(Found::Took(place)))
+                Begun::Starts(Start::Gives(Found::Took(position)))
             } else {
-                Begun::Starts(Start::Enters(tail_from(peg, node, members, 0, place)))
+                Begun::Starts(Start::Enters(tail_from(peg, node, members, 0, position)))
             }
         }
         Node::Choice(alternatives) => {
-            Begun::Skips(skips_at(peg, window, more, node, alternatives, place))
+            Begun::Skips(skips_at(peg, window, more, node, alternatives, position))
         }
         Node::Star(operand) => Begun::Repeats(Repeated {
             star: node,
             operand: *operand,
-            place,
+            position,
         }),
-        Node::Not(operand) => tested(peg, window, more, node, *operand, place),
-        Node::Plus { operand, star } => match taken_at(peg, window, more, *star, place) {
-            Some(pairs) => Begun::Takes(Taken {
+        Node::Not(operand) => tested(peg, window, more, node, *operand, position),
+        Node::Plus { operand, star } => match taken_at(peg, window, more, *star, position) {
+            Some(evals) => Begun::Takes(Taken {
                 plus: node,
                 operand: *operand,
                 star: *star,
-                place,
-                pairs,
+                position,
+                evals,
             }),
             None => Begun::Starts(Start::Leads {
                 node: *operand,
-                place,
+                position,
             }),
         },
-        Node::Opt(operand) => tested(peg, window, more, node, *operand, place),
-        Node::And(operand) => tested(peg, window, more, node, *operand, place),
+        Node::Opt(operand) => tested(peg, window, more, node, *operand, position),
+        Node::And(operand) => tested(peg, window, more, node, *operand, position),
         Node::Act(_) => Begun::Starts(Start::Marks(Kept::Acted(node))),
-        Node::Open => Begun::Starts(Start::Marks(Kept::Opened(place))),
-        Node::Close => Begun::Starts(Start::Marks(Kept::Closed(place))),
+        Node::Open => Begun::Starts(Start::Marks(Kept::Opened(position))),
+        Node::Close => Begun::Starts(Start::Marks(Kept::Closed(position))),
     }
 }
 
 // Returns how a node at a position goes on whose first child has this result.
 #[inline(always)]
-fn go_on_node(peg: &SoundPeg, window: &[u8], node: usize, place: usize, found: Found) -> Onward
+fn go_on_node(peg: &SoundPeg, window: &[u8], node: usize, position: usize, found: Found) -> Onward
     requires sound { IsSoundGrammar peg.now }
-    requires well { IsWell peg.now window.now (MatchTask.Pair node place) }
+    requires well { IsWell peg.now window.now (MatchTask.Eval node position) }
     ensures { (more : Bool) → WasEnough window.now more 0 → (j : MatchTask) →
         IsFirst (rules_of peg.now.rules) (shapes_of peg.now.nodes) peg.now.bodies window.now
-        (MatchTask.Pair node place) j → (events : List Event) → TaskYields peg.now window.now more j found events →
-        AfterOne peg.now window.now more (MatchTask.Pair node place) j found events result }
+        (MatchTask.Eval node position) j → (events : List Event) → TaskYields peg.now window.now more j found events →
+        AfterOne peg.now window.now more (MatchTask.Eval node position) j found events result }
 {
     match peg.node(node) {
         Node::Star(_) => match found {
-            Found::Failed => Onward::Gives(Found::Took(place)),
-            Found::Took(end) => Onward::Passes { node, place: end },
+            Found::Failed => Onward::Gives(Found::Took(position)),
+            Found::Took(end) => Onward::Passes {
+                node,
+                position: end,
+            },
         },
         Node::Not(_) => match found {
-            Found::Failed => Onward::Gives(Found::Took(place)),
+            Found::Failed => Onward::Gives(Found::Took(position)),
             Found::Took(_) => Onward::Gives(Found::Failed),
         },
         Node::Plus { operand: _, star } => match found {
             Found::Failed => Onward::Gives(Found::Failed),
             Found::Took(end) => Onward::Passes {
                 node: *star,
-                place: end,
+                position: end,
             },
         },
         Node::Opt(_) => match found {
-            Found::Failed => Onward::Gives(Found::Took(place)),
+            Found::Failed => Onward::Gives(Found::Took(position)),
             Found::Took(_) => Onward::Same,
         },
         Node::And(_) => match found {
             Found::Failed => Onward::Gives(Found::Failed),
-            Found::Took(_) => Onward::Gives(Found::Took(place)),
+            Found::Took(_) => Onward::Gives(Found::Took(position)),
         },
         Node::Name(_) => Onward::Same,
         Node::Seq(_) => Onward::Same,
@@ -265,16 +269,16 @@ fn go_on_tail(
     window: &[u8],
     node: usize,
     index: usize,
-    place: usize,
+    position: usize,
     found: Found,
 ) -> Onward
     requires sound { IsSoundGrammar peg.now }
-    requires well { IsWell peg.now window.now (MatchTask.Tail node index place) }
+    requires well { IsWell peg.now window.now (MatchTask.Tail node index position) }
     ensures { (more : Bool) → WasEnough window.now more 0 → (j : MatchTask) →
         IsFirst (rules_of peg.now.rules) (shapes_of peg.now.nodes) peg.now.bodies window.now
-        (MatchTask.Tail node index place) j → (events : List Event)
+        (MatchTask.Tail node index position) j → (events : List Event)
         → TaskYields peg.now window.now more j found events →
-        AfterOne peg.now window.now more (MatchTask.Tail node index place) j found events result }
+        AfterOne peg.now window.now more (MatchTask.Tail node index position) j found events result }
 {
     match peg.node(node) {
         Node::Seq(members) => match found {
@@ -291,7 +295,7 @@ fn go_on_tail(
             Found::Took(_) => Onward::Same,
             Found::Failed => {
                 if index + 1 < alternatives.len() {
-                    Onward::Enters(tail_from(peg, node, alternatives, index + 1, place))
+                    Onward::Enters(tail_from(peg, node, alternatives, index + 1, position))
                 } else {
                     Onward::Gives(Found::Failed)
                 }
@@ -312,9 +316,11 @@ pub(crate) fn go_on(peg: &SoundPeg, window: &[u8], task: MatchTask, found: Found
         AfterOne peg.now window.now more task j found events result }
 {
     match task {
-        MatchTask::Pair { node, place } => go_on_node(peg, window, node, place, found),
-        MatchTask::Tail { node, index, place } => go_on_tail(
-            peg, window, node, index, place, found,
-        ),
+        MatchTask::Eval { node, position } => go_on_node(peg, window, node, position, found),
+        MatchTask::Tail {
+            node,
+            index,
+            position,
+        } => go_on_tail(peg, window, node, index, position, found),
     }
 }

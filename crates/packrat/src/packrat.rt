@@ -154,14 +154,14 @@ impl Matcher for Packrat {
 
     /// Matches the start rule at the front of the window (Ford 2004, section 3.3). Unless it returns `Need`, exactly
     /// the keys that are reached are stored, each once and with its outcome. The cells that they imply are exactly the
-    /// pairs that are visited, each once and with its outcome. As many were begun.
+    /// evaluations that are visited, each once and with its outcome. As many were begun.
     ///
     /// Without `more` the window is the whole rest of the input, and the answer is never `Need`. With `more` the window
     /// is not empty, and `Need` says that its last byte was compared; any other answer holds for every rest that begins
-    /// with the window. At `Need` no frame is left, and stored are reached keys with their outcomes. The pairs that
-    /// were begun are visited ones before the window's end, each begun once. A failure and `Need` leave no events.
+    /// with the window. At `Need` no frame is left, and stored are reached keys with their outcomes. The evaluations
+    /// that were begun are visited ones before the window's end, each begun once. A failure and `Need` leave no events.
     ///
-    /// However it ends, it has counted one match, and has begun at most as many pairs as there are nodes at the
+    /// However it ends, it has counted one match, and has begun at most as many evaluations as there are nodes at the
     /// positions up to where the start rule looks. With `more` they are also at most as many as there are nodes at the
     /// window's bytes.
     ///

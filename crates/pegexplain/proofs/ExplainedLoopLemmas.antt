@@ -7,7 +7,7 @@ use Rattle.std.proofs.lemmas.Bool.{cases_order}
 use Rattle.diagnostics.specs.ExplainedNotes.{IsNoteExplained}
 use Rattle.diagnostics.specs.MentionLines.{mention_lines_by}
 use Rattle.diagnostics.specs.declared.noteplaces.mentions.MentionKind.TheVariants as kinds
-use Rattle.diagnostics.proofs.ExplainedNoteLemmas.{places-mention}
+use Rattle.diagnostics.proofs.ExplainedNoteLemmas.{positions-mention}
 use Rattle.pegread.specs.Definitions.{firsts}
 use Rattle.pegread.specs.Kinds.{is_end}
 use Rattle.pegread.specs.Pattern.{Pattern, Rule, body_of}
@@ -26,32 +26,32 @@ use Rattle.ruletable.specs.declared.table.NameCase.TheVariants.{Exact}
 use Rattle.pegexplain.specs.NullTests.{IsLoopBy, null_mark_of}
 use Rattle.pegexplain.specs.PegLoops.{IsFirstLoop, IsLoopLineIf, IsLoopOf, RepeatAt, repeat_reported, repeats_in}
 use Rattle.pegexplain.specs.PegNotes.{
-  ArePegPlaces,
+  ArePegPositions,
   ExplainsNote,
   IsFollowingLine,
   IsLoopReported,
   marked_lines,
   sign_of,
 }
-use Rattle.pegexplain.specs.declared.places.PegPlaces.{PegPlaces}
+use Rattle.pegexplain.specs.declared.positions.PegPositions.{PegPositions}
 use Rattle.pegexplain.proofs.LeftNotesLemmas.{RoundsAreOne, left-reported-one}
 use Rattle.pegexplain.proofs.NullTestsLemmas.{body-none, body-some, loop-reported}
 
 module _ (rules : List Rule) (repeats : List Pattern) where
   first-one : (a b : RepeatAt) → IsFirstLoop rules repeats a → IsFirstLoop rules repeats b → a ≡ b
   first-one a b g h = ⊎_elim
-      (λ (same : a.place ≡ b.place).
+      (λ (same : a.position ≡ b.position).
       let at : Some a.repeat ≡ Some b.repeat = sym g.there ∙ (ap (slice_get repeats) same ∙ h.there) in
       let e : a.repeat ≡ b.repeat = cc at in
       rw (same, e) refl)
-      (λ less. ⊎_elim (λ lt. absurd (h.first a.place a.repeat lt g.there g.loops))
-      (λ lt. absurd (g.first b.place b.repeat lt h.there h.loops)) less)
-      (cases_order a.place b.place)
+      (λ less. ⊎_elim (λ lt. absurd (h.first a.position a.repeat lt g.there g.loops))
+      (λ lt. absurd (g.first b.position b.repeat lt h.there h.loops)) less)
+      (cases_order a.position b.position)
 
   loop-one : (a b : Option RepeatAt) → IsLoopOf rules repeats a → IsLoopOf rules repeats b → a ≡ b
   loop-one None None g h = refl
-  loop-one None (Some b) g h = absurd (g b.place b.repeat h.there h.loops)
-  loop-one (Some a) None g h = absurd (h a.place a.repeat g.there g.loops)
+  loop-one None (Some b) g h = absurd (g b.position b.repeat h.there h.loops)
+  loop-one (Some a) None g h = absurd (h a.position a.repeat g.there g.loops)
   loop-one (Some a) (Some b) g h = ap Some (first-one a b g h)
 
 line-one : (rules : List Rule) (lines : List ℕ) (body : Option Pattern) (a b : List ℕ)
@@ -60,7 +60,7 @@ line-one rules lines None a b g h = g ∙ sym h
 line-one rules lines (Some body) a b g h =
     g.is ∙ (ap (repeat_reported lines) (loop-one rules _ g.found h.found g.is_first h.is_first) ∙ sym h.is)
 
--- the lines of places are one text
+-- the lines of positions are one text
 abbrev pub LinesAreOne : Type 0
 LinesAreOne = (text : List ℕ) (start : Option (List ℕ)) (note : Said) (a b : List ℕ)
     → IsNoteExplained White First is_end sign_of Any Exact text start note a
@@ -98,39 +98,41 @@ module _ (listing : (text : List ℕ) (a b : List Tok) → AreTokens (length tex
       ∙ (ap (λ z. h.lines ++ z) (after-one note.kind note.name g.line h.line g.after h.after) ∙ sym h.is))
 
 -- the line for a rule that the code finds, or not
-module _ (text : List ℕ) (found : PegPlaces) (name : List ℕ) (are : ArePegPlaces text found) where
+module _ (text : List ℕ) (found : PegPositions) (name : List ℕ) (are : ArePegPositions text found) where
   pub reported-none : find_in found.rules name ≡ None → IsLoopReported text name []
   reported-none is = record {
-    tokens = are.places.tokens;
-    are_tokens = are.places.are_tokens;
+    tokens = are.positions.tokens;
+    are_tokens = are.positions.are_tokens;
     definitions = are.rules.definitions;
     reads = are.rules.reads;
-    is = subst (λ (rs : List Rule). IsLoopLineIf rs (marked_lines text are.places.tokens name) (body_of rs name) [])
+    is = subst (λ (rs : List Rule). IsLoopLineIf rs (marked_lines text are.positions.tokens name) (body_of rs name) [])
         are.rules.rules_are
-        (subst (λ (b : Option Pattern). IsLoopLineIf (rules_of found.rules) (marked_lines text are.places.tokens name)
+        (subst (λ (b : Option Pattern). IsLoopLineIf (rules_of found.rules)
+        (marked_lines text are.positions.tokens name)
         b []) (sym (body-none found.rules are.rules.exact name is)) refl);
   }
 
   pub reported-some : (id : ℕ) (e : Expr) (lines : List ℕ) (loop : Option RepeatAt) → find_in found.rules name ≡ Some id
-      → slice_get (bodies_of found.rules) id ≡ Some e → lines ≡ mention_lines_by found.places kinds.Repeat name
+      → slice_get (bodies_of found.rules) id ≡ Some e → lines ≡ mention_lines_by found.positions kinds.Repeat name
       → IsLoopBy (null_mark_of found.rules found.nulls.items) (repeats_in (pattern_of e)) loop
       → IsLoopReported text name (repeat_reported lines loop)
   reported-some id e lines loop is at marked first = record {
-    tokens = are.places.tokens;
-    are_tokens = are.places.are_tokens;
+    tokens = are.positions.tokens;
+    are_tokens = are.positions.are_tokens;
     definitions = are.rules.definitions;
     reads = are.rules.reads;
-    is = subst (λ (rs : List Rule). IsLoopLineIf rs (marked_lines text are.places.tokens name) (body_of rs name)
+    is = subst (λ (rs : List Rule). IsLoopLineIf rs (marked_lines text are.positions.tokens name) (body_of rs name)
         (repeat_reported lines loop)) are.rules.rules_are
-        (subst (λ (b : Option Pattern). IsLoopLineIf (rules_of found.rules) (marked_lines text are.places.tokens name)
+        (subst (λ (b : Option Pattern). IsLoopLineIf (rules_of found.rules)
+        (marked_lines text are.positions.tokens name)
         b (repeat_reported lines loop)) (sym (body-some found.rules are.rules.exact name id e is at)) (record {
           found = loop;
           is_first = loop-reported found.rules found.nulls.items are.rules.exact are.marks
               (repeats_in (pattern_of e)) loop
               first;
           is = ap (λ (ls : List ℕ). repeat_reported ls loop) (marked
-              ∙ places-mention White First is_end sign_of Any Exact text
-              found.places kinds.Repeat name are.places);
+              ∙ positions-mention White First is_end sign_of Any Exact text
+              found.positions kinds.Repeat name are.positions);
         }));
   }
 

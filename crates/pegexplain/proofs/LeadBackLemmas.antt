@@ -39,7 +39,7 @@ use Rattle.pegexplain.specs.NullTests.{null_mark_of, nullable_by}
 use Rattle.pegexplain.proofs.LeftSameLemmas.{own-rows}
 use Rattle.pegexplain.proofs.NullTestsLemmas.{null-reported, reported-null}
 
--- the place of a name, by recursion
+-- the position of a name, by recursion
 equal-both-ways : (xs ys : List ℕ) → bytes_eq xs ys ≡ bytes_eq ys xs
 equal-both-ways xs ys =
     let back = bytes_eq-Decides ys xs in
@@ -288,20 +288,20 @@ module _ (rules : List Rule) (null : Pattern → Bool) (reports : SettlesNullabl
 
     -- a rule to which steps lead has all ids of what left steps lead to
     record Stands (e : Pattern) : Type 0 where
-      place : ℕ
-      way : (id ≡ place) ⊎ Leads steps id place
-      within : (m : ℕ) → Contains (row e) m → Step steps place m
+      position : ℕ
+      way : (id ≡ position) ⊎ Leads steps id position
+      within : (m : ℕ) → Contains (row e) m → Step steps position m
 
     stands_narrowed : {d e : Pattern} → Stands d → ((m : ℕ) → Contains (row e) m → Contains (row d) m) → Stands e
-    stands_narrowed s less = record { place = s.place; way = s.way; within = λ m h. s.within m (less m h) }
+    stands_narrowed s less = record { position = s.position; way = s.way; within = λ m h. s.within m (less m h) }
 
-    goes-on : {place m : ℕ} → (id ≡ place) ⊎ Leads steps id place → Step steps place m → Leads steps id m
+    goes-on : {position m : ℕ} → (id ≡ position) ⊎ Leads steps id position → Step steps position m → Leads steps id m
     goes-on {m = m} (inl same) step = leads.one (subst (λ v. Step steps v m) (sym same) step)
     goes-on (inr chain) step = leads.more chain step
 
     into-body : (name : List ℕ) (e : Pattern) → FindsBody rules name e → Stands (Name name) → Stands e
     into-body name e b s = record {
-      place = b.id;
+      position = b.id;
       way = inr (goes-on s.way (s.within b.id
           (subst (λ o. Contains (option_to_list o ++ []) b.id) (sym b.is) (in_first b.id []))));
       within = λ m h. subst (λ l. Contains l m)
@@ -320,7 +320,7 @@ module _ (rules : List Rule) (null : Pattern → Bool) (reports : SettlesNullabl
 
     body-stands : Stands rule.body
     body-stands = record {
-      place = id;
+      position = id;
       way = inl refl;
       within = λ m h. subst (λ l. Contains l m) (sym (row-at rules id rule at)) h;
     }

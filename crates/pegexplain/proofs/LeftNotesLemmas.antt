@@ -11,7 +11,7 @@ use Rattle.diagnostics.specs.DefinitionHeads.{defined_at, definitions_in, sign_a
 use Rattle.diagnostics.specs.MentionLines.{mention_lines_by}
 use Rattle.diagnostics.specs.NoteLines.{defined_line}
 use Rattle.diagnostics.specs.declared.noteplaces.mentions.MentionKind.TheVariants as kinds
-use Rattle.diagnostics.proofs.ExplainedNoteLemmas.{places-mention}
+use Rattle.diagnostics.proofs.ExplainedNoteLemmas.{positions-mention}
 use Rattle.ruletable.specs.Rules.{find_in}
 use Rattle.ruletable.specs.declared.lines.LineRule.TheVariants.{Any}
 use Rattle.ruletable.specs.declared.note.NoteKind.{NoteKind}
@@ -34,7 +34,7 @@ use Rattle.pegexplain.specs.LeftNotes.{AreLeftLines, IsWayOr, SettlesNullable, i
 use Rattle.pegexplain.specs.LeftUses.{left_row}
 use Rattle.pegexplain.specs.NullTests.{null_mark_of, nullable_by}
 use Rattle.pegexplain.specs.PegNotes.{
-  ArePegPlaces,
+  ArePegPositions,
   IsLeftReported,
   IsFollowingLine,
   defined_lines,
@@ -42,7 +42,7 @@ use Rattle.pegexplain.specs.PegNotes.{
   sign_of,
 }
 use Rattle.pegexplain.specs.declared.left_notes.TheConstants.{MAX_WAYS}
-use Rattle.pegexplain.specs.declared.places.PegPlaces.{PegPlaces}
+use Rattle.pegexplain.specs.declared.positions.PegPositions.{PegPositions}
 use Rattle.pegexplain.proofs.LeftSameLemmas.{own-rows, rows-same, way-same}
 use Rattle.pegexplain.proofs.LeftWithinLemmas.{found-below}
 use Rattle.pegexplain.proofs.NullTestsLemmas.{null-reported, reported-null}
@@ -130,7 +130,7 @@ module _ (listing : (text : List ℕ) (a b : List Tok) → AreTokens (length tex
       (defined_lines text ts name) h.recursive (id_in (firsts [] h.definitions) name) b) tokens h.is))
 
 -- what the code finds for a rule
-module _ (text : List ℕ) (found : PegPlaces) (are : ArePegPlaces text found) where
+module _ (text : List ℕ) (found : PegPositions) (are : ArePegPositions text found) where
   abbrev null_by : Pattern → Bool
   null_by = nullable_by (null_mark_of found.rules found.nulls.items)
 
@@ -155,12 +155,12 @@ module _ (text : List ℕ) (found : PegPlaces) (are : ArePegPlaces text found) w
 
   module _ (name reported : List ℕ) where
     pub left-reported : (o : Option ℕ) → find_in found.rules name ≡ o → AreLeftLines (rules_of found.rules) null_by
-        (named_lines text are.places.tokens) (defined_lines text are.places.tokens name) found.recursive.items o
+        (named_lines text are.positions.tokens) (defined_lines text are.positions.tokens name) found.recursive.items o
         reported
         → IsLeftReported text name reported
     left-reported o is lines = record {
-      tokens = are.places.tokens;
-      are_tokens = are.places.are_tokens;
+      tokens = are.positions.tokens;
+      are_tokens = are.positions.are_tokens;
       definitions = are.rules.definitions;
       reads = are.rules.reads;
       null = null_by;
@@ -171,36 +171,37 @@ module _ (text : List ℕ) (found : PegPlaces) (are : ArePegPlaces text found) w
       recursive = found.recursive.items;
       are_recursive = subst (λ (rs : List Rule). AreMarks (IsLeftRecursive rs) rs found.recursive.items)
           are.rules.rules_are are.recursive;
-      is = subst (λ (rs : List Rule). AreLeftLines rs null_by (named_lines text are.places.tokens)
-          (defined_lines text are.places.tokens name) found.recursive.items (id_in rs name) reported)
+      is = subst (λ (rs : List Rule). AreLeftLines rs null_by (named_lines text are.positions.tokens)
+          (defined_lines text are.positions.tokens name) found.recursive.items (id_in rs name) reported)
           are.rules.rules_are
-          (subst (λ (id : Option ℕ). AreLeftLines (rules_of found.rules) null_by (named_lines text are.places.tokens)
-          (defined_lines text are.places.tokens name) found.recursive.items id reported)
+          (subst (λ (id : Option ℕ). AreLeftLines (rules_of found.rules) null_by (named_lines text are.positions.tokens)
+          (defined_lines text are.positions.tokens name) found.recursive.items id reported)
           (sym is ∙ ids-agree name) lines);
     }
 
-    places-defined : defined_line found.places.names (map defined_at found.places.heads.items) name
-        ≡ defined_lines text are.places.tokens name
-    places-defined =
-        ap (λ ds. defined_line found.places.names ds name) are.places.heads_are
-        ∙ ap (λ (c : NameCase). defined_line c (definitions_in Any text (map (sign_at sign_of) are.places.tokens)) name)
-        are.places.names_are
+    positions-defined : defined_line found.positions.names (map defined_at found.positions.heads.items) name
+        ≡ defined_lines text are.positions.tokens name
+    positions-defined =
+        ap (λ ds. defined_line found.positions.names ds name) are.positions.heads_are
+        ∙ ap (λ (c : NameCase). defined_line c
+        (definitions_in Any text (map (sign_at sign_of) are.positions.tokens)) name)
+        are.positions.names_are
 
     -- where it is defined
     pub reported-defined : (id : ℕ) → find_in found.rules name ≡ Some id → is_early found.recursive.items id ≡ false
-        → reported ≡ defined_line found.places.names (map defined_at found.places.heads.items) name
+        → reported ≡ defined_line found.positions.names (map defined_at found.positions.heads.items) name
         → IsLeftReported text name reported
     reported-defined id is late e =
         left-reported (Some id) is
-        (subst (λ (early : Bool). IsWayOr (rules_of found.rules) null_by (named_lines text are.places.tokens)
-        (defined_lines text are.places.tokens name) id early reported) (sym late) (e ∙ places-defined))
+        (subst (λ (early : Bool). IsWayOr (rules_of found.rules) null_by (named_lines text are.positions.tokens)
+        (defined_lines text are.positions.tokens name) id early reported) (sym late) (e ∙ positions-defined))
 
     -- the way back
     pub reported-way : (id : ℕ) (chain : Option (List ℕ)) → find_in found.rules name ≡ Some id
         → is_early found.recursive.items id ≡ true
         → IsRoundIfAny (map (λ rule. left_row (find_in found.rules) null_by (pattern_of rule.body)) found.rules.rules)
         id chain → reported ≡ way_reported (rules_of found.rules) null_by
-        (mention_lines_by found.places kinds.Use) id chain
+        (mention_lines_by found.positions kinds.Use) id chain
         → IsLeftReported text name reported
     reported-way id chain is early round e =
         let steps : map (λ rule. left_row (find_in found.rules) null_by (pattern_of rule.body)) found.rules.rules
@@ -208,13 +209,14 @@ module _ (text : List ℕ) (found : PegPlaces) (are : ArePegPlaces text found) w
         own-rows null_by null_by (λ d. refl) (find_in found.rules) (id_in (rules_of found.rules)) ids-agree
         found.rules.rules in
         left-reported (Some id) is
-        (subst (λ (b : Bool). IsWayOr (rules_of found.rules) null_by (named_lines text are.places.tokens)
-        (defined_lines text are.places.tokens name) id b reported) (sym early) (record {
+        (subst (λ (b : Bool). IsWayOr (rules_of found.rules) null_by (named_lines text are.positions.tokens)
+        (defined_lines text are.positions.tokens name) id b reported) (sym early) (record {
           chain = chain;
           is_round = subst (λ (rows : List (List ℕ)). IsRoundIfAny rows id chain) steps round;
           is = e ∙ way-same null_by null_by (λ d. refl)
-              (mention_lines_by found.places kinds.Use) (named_lines text are.places.tokens)
-              (λ n. places-mention White First is_end sign_of Any Exact text found.places kinds.Use n are.places)
+              (mention_lines_by found.positions kinds.Use) (named_lines text are.positions.tokens)
+              (λ n. positions-mention White First is_end sign_of Any Exact text found.positions kinds.Use n
+              are.positions)
               (rules_of found.rules) id chain;
         }))
 

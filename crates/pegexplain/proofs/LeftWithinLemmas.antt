@@ -1,5 +1,5 @@
 -- Left steps lead to rules of the table alone; and where the first left-recursive rules end.
--- Serves: explain_peg_note, peg_places
+-- Serves: explain_peg_note, peg_positions
 use Rattle.std.proofs.Common.{◌≡◌, ◌<◌, ◌≤◌, ℕ, zero, suc, Bool, true, false, List, [], ◌∷◌, Contains, map}
 use Rattle.std.proofs.Common.{Option, Some, None, length, nat_lt, refl, sym, subst, arith, ⊎_elim, if◌then◌else◌, ◌∙◌}
 use Rattle.std.specs.Prelude.{option_to_list, slice_index_or}

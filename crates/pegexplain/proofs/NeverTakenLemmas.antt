@@ -44,7 +44,7 @@ module _ (rules : List Rule) (x : List ℕ) (p : ℕ) where
       let whole = begin-took n.begins takes in
       let front = front-begins (drop p x) earlier n.front.rest
       (subst (λ (bs : List ℕ). begins_with (drop p x) bs ≡ true) n.front.whole whole) in
-      let fails = t.fail n.place (Bytes earlier) n.before n.literal in
+      let fails = t.fail n.position (Bytes earlier) n.before n.literal in
       let bars = literal-failed earlier fails.0 fails.1 in
       let both : true ≡ false = sym front ∙ bars in
       absurd (cc both)
@@ -117,15 +117,15 @@ front-starts (b ∷ earlier) rest = and_from (b == b) (starts (earlier ++ rest) 
 -- the first literal among alternatives that passes
 module _ (passes : List ℕ → Bool) where
   record IsFirstWhole (before : List Pattern) (earlier : List ℕ) : Type 0 where
-    place : ℕ
-    within : place < length before
-    there : slice_get before place ≡ Some (Bytes earlier)
+    position : ℕ
+    within : position < length before
+    there : slice_get before position ≡ Some (Bytes earlier)
     does : passes earlier ≡ true
-    first : (j : ℕ) (bytes : List ℕ) → j < place → slice_get before j ≡ Some (Bytes bytes) → passes bytes ≡ false
+    first : (j : ℕ) (bytes : List ℕ) → j < position → slice_get before j ≡ Some (Bytes bytes) → passes bytes ≡ false
 
   first-shifts : (d : Pattern) (before : List Pattern) (earlier : List ℕ)
       → ((bytes : List ℕ) → d ≡ Bytes bytes → passes bytes ≡ false) → (w : IsFirstWhole before earlier) (j : ℕ)
-      (bytes : List ℕ) → j < suc w.place → slice_get (d ∷ before) j ≡ Some (Bytes bytes) → passes bytes ≡ false
+      (bytes : List ℕ) → j < suc w.position → slice_get (d ∷ before) j ≡ Some (Bytes bytes) → passes bytes ≡ false
   first-shifts d before earlier bars w zero bytes lt at = bars bytes (cc at)
   first-shifts d before earlier bars w (suc j) bytes lt at = w.first j bytes (omega (arith, lt)) at
 
@@ -133,7 +133,7 @@ module _ (passes : List ℕ → Bool) where
       → ((bytes : List ℕ) → d ≡ Bytes bytes → passes bytes ≡ false) → IsFirstWhole before earlier
       → IsFirstWhole (d ∷ before) earlier
   shift-whole d before earlier bars w = record {
-    place = suc w.place;
+    position = suc w.position;
     within = (let lt = w.within in omega (arith, lt));
     there = w.there;
     does = w.does;
@@ -152,7 +152,7 @@ module _ (passes : List ℕ → Bool) where
       let same : Some b ≡ Some earlier = (rw is at h) in
       let e : b ≡ earlier = cc same in
       record {
-        place = 0;
+        position = 0;
         within = omega arith;
         there = ap Some (own ∙ ap Bytes e);
         does = sym (ap passes e) ∙ is;
@@ -184,17 +184,17 @@ module _ (passes : List ℕ → Bool) where
   skip-whole d before earlier None is bars h = h
   skip-whole d before earlier (Some b) is bars h = (let f = bars b (whole-is d b is) in rw f h)
 
-  first-found : (before : List Pattern) (place : ℕ) (earlier : List ℕ)
-      → slice_get before place ≡ Some (Bytes earlier) → passes earlier ≡ true
-      → ((j : ℕ) (bytes : List ℕ) → j < place → slice_get before j ≡ Some (Bytes bytes) → passes bytes ≡ false)
+  first-found : (before : List Pattern) (position : ℕ) (earlier : List ℕ)
+      → slice_get before position ≡ Some (Bytes earlier) → passes earlier ≡ true
+      → ((j : ℕ) (bytes : List ℕ) → j < position → slice_get before j ≡ Some (Bytes bytes) → passes bytes ≡ false)
       → find passes (whole_literals before) ≡ Some earlier
-  first-found [] place earlier at does first = absurd (cc at)
+  first-found [] position earlier at does first = absurd (cc at)
   first-found (d ∷ before) zero earlier at does first =
       let e : d ≡ Bytes earlier = cc at in
       rw (e, does) refl
-  first-found (d ∷ before) (suc place) earlier at does first =
+  first-found (d ∷ before) (suc position) earlier at does first =
       skip-whole d before earlier (whole_literal d) refl (λ bytes e. first 0 bytes (omega arith) (ap Some e))
-      (first-found before place earlier at does (λ j bytes lt. first (suc j) bytes (omega (arith, lt))))
+      (first-found before position earlier at does (λ j bytes lt. first (suc j) bytes (omega (arith, lt))))
 
 at-length : (before after : List Pattern) (e : Pattern) → slice_get (before ++ e ∷ after) (length before) ≡ Some e
 at-length [] after e = refl
@@ -226,9 +226,9 @@ module _ (before after : List Pattern) (e : Pattern) (earlier : List ℕ) where
         there = at-length before after e;
         later = later;
         begins = first-begins e later is;
-        place = w.place;
+        position = w.position;
         before = within;
-        literal = at-front before (e ∷ after) w.place within ∙ w.there;
+        literal = at-front before (e ∷ after) w.position within ∙ w.there;
         front = starts-front later earlier w.does;
         first = λ j bytes lt at. none-starts later bytes (w.first j bytes lt
             (sym (at-front before (e ∷ after) j (omega (arith, lt, within))) ∙ at));
@@ -252,7 +252,7 @@ module _ (before after : List Pattern) (e : Pattern) (earlier : List ℕ) where
       let does : starts n.later earlier ≡ true = ap (λ (z : List ℕ). starts z earlier) n.front.whole
       ∙ front-starts earlier n.front.rest in
       ap (first_prefix (whole_literals before)) own
-      ∙ first-found (starts n.later) before n.place earlier
-      (sym (at-front before (e ∷ after) n.place within) ∙ n.literal) does
+      ∙ first-found (starts n.later) before n.position earlier
+      (sym (at-front before (e ∷ after) n.position within) ∙ n.literal) does
       (λ j bytes lt at. not-starts n.later bytes (n.first j bytes lt
       (at-front before (e ∷ after) j (omega (arith, lt, within)) ∙ at)))

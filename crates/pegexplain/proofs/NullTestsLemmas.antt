@@ -38,7 +38,7 @@ true-both : (a b : Bool) → a ≡ true → b ≡ true → a && b ≡ true
 true-both a b g h = rw (g, h) refl
 
 module _ (rules : table.Rules Expr) (exact : rules.names ≡ Exact) where
-  -- the place that the table finds for a name
+  -- the position that the table finds for a name
   is-id : (name : List ℕ) (found : Option ℕ) → find_in rules name ≡ found
       → unwrap_or found (length rules.rules) ≡ id_of (rules_of rules) name
   is-id name found is = id_found rules name found (length rules.rules) exact (sym is) refl

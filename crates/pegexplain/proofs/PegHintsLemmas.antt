@@ -9,7 +9,7 @@ use Rattle.std.specs.Prelude.{slice_get}
 use Rattle.diagnostics.specs.MentionLines.{mention_lines_by}
 use Rattle.diagnostics.specs.NoteLines.{more_reported}
 use Rattle.diagnostics.specs.declared.noteplaces.mentions.MentionKind.TheVariants.{Literal}
-use Rattle.diagnostics.proofs.ExplainedNoteLemmas.{places-mention}
+use Rattle.diagnostics.proofs.ExplainedNoteLemmas.{positions-mention}
 use Rattle.pegread.specs.Definitions.{firsts}
 use Rattle.pegread.specs.Kinds.{is_end}
 use Rattle.pegread.specs.Pattern.{Rule}
@@ -19,8 +19,8 @@ use Rattle.pegread.specs.Slices.{White, First}
 use Rattle.pegread.specs.Tokens.{Tok, AreTokens}
 use Rattle.ruletable.specs.declared.lines.LineRule.TheVariants.{Any}
 use Rattle.ruletable.specs.declared.table.NameCase.TheVariants.{Exact}
-use Rattle.pegexplain.specs.PegNotes.{ArePegPlaces, sign_of}
-use Rattle.pegexplain.specs.declared.places.PegPlaces.{PegPlaces}
+use Rattle.pegexplain.specs.PegNotes.{ArePegPositions, sign_of}
+use Rattle.pegexplain.specs.declared.positions.PegPositions.{PegPositions}
 use Rattle.pegexplain.specs.CodeHints.{hint_found}
 use Rattle.pegexplain.specs.PegHints.{
   ArePegHints,
@@ -81,22 +81,22 @@ first-reported lines hints k old out new shown first rest =
     left
 
 -- the rule of a hint, and its line after it
-pub hint-join : (o a b rule later earlier known lines : List ℕ) (place : ℕ) (line : Option ℕ) → a ≡ o
+pub hint-join : (o a b rule later earlier known lines : List ℕ) (position : ℕ) (line : Option ℕ) → a ≡ o
     ++ rule_reported rule
-    → b ≡ a ++ hint_line line later earlier → line ≡ slice_get known place → known ≡ lines
-    → b ≡ o ++ (rule_reported rule ++ hint_line (slice_get lines place) later earlier)
-hint-join o a b rule later earlier known lines place line f g is same =
+    → b ≡ a ++ hint_line line later earlier → line ≡ slice_get known position → known ≡ lines
+    → b ≡ o ++ (rule_reported rule ++ hint_line (slice_get lines position) later earlier)
+hint-join o a b rule later earlier known lines position line f g is same =
     g ∙ ap (λ (z : List ℕ). z ++ hint_line line later earlier) f
     ∙ append_assoc o (rule_reported rule) (hint_line line later earlier)
     ∙ ap (λ (l : Option ℕ). o ++ (rule_reported rule ++ hint_line l later earlier))
-    (is ∙ ap (λ (ls : List ℕ). slice_get ls place) same)
+    (is ∙ ap (λ (ls : List ℕ). slice_get ls position) same)
 
 -- lines that are the same report the same
 module _ (f g : List ℕ → List ℕ) (same : (name : List ℕ) → f name ≡ g name) where
   each-same : (hints : List HintAt) → flat_map (hint_reported f) hints ≡ flat_map (hint_reported g) hints
   each-same [] = refl
   each-same (h ∷ hints) =
-      ap (λ (ls : List ℕ). (rule_reported h.rule ++ hint_line (slice_get ls h.place) h.later h.earlier)
+      ap (λ (ls : List ℕ). (rule_reported h.rule ++ hint_line (slice_get ls h.position) h.later h.earlier)
       ++ flat_map (hint_reported f) hints) (same h.rule)
       ∙ ap (λ (z : List ℕ). hint_reported g h ++ z) (each-same hints)
 
@@ -105,18 +105,18 @@ module _ (f g : List ℕ → List ℕ) (same : (name : List ℕ) → f name ≡ 
       ap (λ (z : List ℕ). z ++ more_reported (length hints - MAX_HINTS)) (each-same (take MAX_HINTS hints))
 
 -- what the code reports by its positions
-pub places-hint : (text : List ℕ) (found : PegPlaces) (reported : List ℕ) → ArePegPlaces text found
-    → reported ≡ hints_reported (mention_lines_by found.places Literal) (hints_of (rules_of found.rules))
+pub positions-hint : (text : List ℕ) (found : PegPositions) (reported : List ℕ) → ArePegPositions text found
+    → reported ≡ hints_reported (mention_lines_by found.positions Literal) (hints_of (rules_of found.rules))
     → ArePegHints text reported
-places-hint text found reported are e = record {
-  tokens = are.places.tokens;
-  are_tokens = are.places.are_tokens;
+positions-hint text found reported are e = record {
+  tokens = are.positions.tokens;
+  are_tokens = are.positions.are_tokens;
   definitions = are.rules.definitions;
   reads = are.rules.reads;
-  is = e ∙ reported-same (mention_lines_by found.places Literal) (literal_lines text are.places.tokens)
-      (λ name. places-mention White First is_end sign_of Any Exact text found.places Literal name are.places)
+  is = e ∙ reported-same (mention_lines_by found.positions Literal) (literal_lines text are.positions.tokens)
+      (λ name. positions-mention White First is_end sign_of Any Exact text found.positions Literal name are.positions)
       (hints_of (rules_of found.rules))
-      ∙ ap (λ (rules : List Rule). hints_reported (literal_lines text are.places.tokens) (hints_of rules))
+      ∙ ap (λ (rules : List Rule). hints_reported (literal_lines text are.positions.tokens) (hints_of rules))
       are.rules.rules_are;
 }
 

@@ -11,4 +11,4 @@ literal_found l = record { bytes = l.bytes.now; hidden_by = option_map (λ b. b.
 
 -- what the code's hint stands for
 abbrev pub hint_found : Hint → HintAt
-hint_found h = record { rule = h.rule.now; place = h.place; later = h.later.now; earlier = h.earlier.now }
+hint_found h = record { rule = h.rule.now; position = h.position; later = h.later.now; earlier = h.earlier.now }

@@ -5,4 +5,4 @@ use Rattle.pegexplain.specs.declared.loops.Repeat.{Repeat}
 
 -- what the code's find stands for
 abbrev pub repeat_found : Repeat → RepeatAt
-repeat_found r = record { place = r.place; repeat = pattern_of r.e.now }
+repeat_found r = record { position = r.position; repeat = pattern_of r.e.now }

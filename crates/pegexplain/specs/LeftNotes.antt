@@ -17,7 +17,7 @@ abbrev pub LeadBack : List Rule → List (List ℕ) → Type 0
 LeadBack rules rows = (id : ℕ) (rule : Rule) → slice_get rules id ≡ Some rule → id_in rules rule.name ≡ Some id
     → Leads rows id id ↔ IsLeftRecursive rules rule
 
--- how many marks are set before a place
+-- how many marks are set before a position
 abbrev pub set_before : List Bool → ℕ → ℕ
 set_before marks zero = 0
 set_before marks (suc n) = set_before marks n + (if slice_index_or marks n false then 1 else 0)

@@ -15,21 +15,21 @@ pub record IsFront (front bytes : List ℕ) : Type 0 where
   pub rest : List ℕ
   pub whole : bytes ≡ front ++ rest
 
--- Alternative k begins with a literal, and this with that which the alternative at an earlier place is. No alternative
--- before that is a literal with which it begins.
+-- Alternative k begins with a literal, and this with that which the alternative at an earlier position is. No
+-- alternative before that is a literal with which it begins.
 pub record NeverTaken (alternatives : List Pattern) (k : ℕ) (earlier : List ℕ) : Type 0 where
   pub alternative : Pattern
   pub there : slice_get alternatives k ≡ Some alternative
   pub later : List ℕ
   pub begins : BeginsWith alternative later
-  pub place : ℕ
-  pub before : place < k
-  pub literal : slice_get alternatives place ≡ Some (Bytes earlier)
+  pub position : ℕ
+  pub before : position < k
+  pub literal : slice_get alternatives position ≡ Some (Bytes earlier)
   pub front : IsFront earlier later
-  pub first : (j : ℕ) (bytes : List ℕ) → j < place → slice_get alternatives j ≡ Some (Bytes bytes)
+  pub first : (j : ℕ) (bytes : List ℕ) → j < position → slice_get alternatives j ≡ Some (Bytes bytes)
       → IsFront bytes later → ⊥
 
--- a choice of these alternatives takes alternative k at place p: those before fail there, and it succeeds
+-- a choice of these alternatives takes alternative k at position p: those before fail there, and it succeeds
 pub record IsTaken (rules : List Rule) (x : List ℕ) (alternatives : List Pattern) (k p : ℕ) : Type 0 where
   pub fail : (j : ℕ) (e : Pattern) → j < k → slice_get alternatives j ≡ Some e → (n : ℕ) × Gives rules x e p Fails n
   pub alternative : Pattern

@@ -56,9 +56,9 @@ module _ (may_be : List ℕ → Bool) where
 
   -- of some repetitions the first one that does
   pub record IsFirstLoopBy (repeats : List Pattern) (r : RepeatAt) : Type 0 where
-    pub there : slice_get repeats r.place ≡ Some r.repeat
+    pub there : slice_get repeats r.position ≡ Some r.repeat
     pub loops : loops_by r.repeat ≡ true
-    pub first : (k : ℕ) (d : Pattern) → k < r.place → slice_get repeats k ≡ Some d → loops_by d ≡ false
+    pub first : (k : ℕ) (d : Pattern) → k < r.position → slice_get repeats k ≡ Some d → loops_by d ≡ false
 
   abbrev pub IsLoopBy : List Pattern → Option RepeatAt → Type 0
   IsLoopBy repeats found = MatchOption found ((k : ℕ) (d : Pattern) → slice_get repeats k ≡ Some d

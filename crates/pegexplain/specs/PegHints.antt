@@ -17,18 +17,19 @@ use Rattle.ruletable.specs.declared.table.NameCase.TheVariants.{Exact}
 use Rattle.pegexplain.specs.PegNotes.{sign_of}
 use Rattle.pegexplain.specs.HiddenLiterals.{LiteralAt, literals_in}
 
--- an alternative that is never taken: its rule, the place of its literal among those of the rule, this, and that which
--- is the earlier alternative
+-- an alternative that is never taken: its rule, the position of its literal among those of the rule, this, and that
+-- which is the earlier alternative
 pub record HintAt : Type 0 where
   pub rule : List ℕ
-  pub place : ℕ
+  pub position : ℕ
   pub later : List ℕ
   pub earlier : List ℕ
 
 -- the hint on a literal of a rule at a position among them, if it is hidden
 abbrev pub hint_by : List ℕ → ℕ → List ℕ → Option (List ℕ) → List HintAt
-hint_by rule place later None = []
-hint_by rule place later (Some earlier) = record { rule = rule; place = place; later = later; earlier = earlier } ∷ []
+hint_by rule position later None = []
+hint_by rule position later
+    (Some earlier) = record { rule = rule; position = position; later = later; earlier = earlier } ∷ []
 
 abbrev pub hint_if : List ℕ → (ℕ × LiteralAt) → List HintAt
 hint_if rule p = hint_by rule p.0 p.1.bytes p.1.hidden_by
@@ -54,7 +55,7 @@ hint_line (Some line) later earlier = codes "  line " ++ (decimal line ++ (codes
 -- where it is known on which lines the literals of a rule stand
 module _ (lines : List ℕ → List ℕ) where
   abbrev pub hint_reported : HintAt → List ℕ
-  hint_reported h = rule_reported h.rule ++ hint_line (slice_get (lines h.rule) h.place) h.later h.earlier
+  hint_reported h = rule_reported h.rule ++ hint_line (slice_get (lines h.rule) h.position) h.later h.earlier
 
   -- the first 16 hints, and how many more there are
   abbrev pub hints_reported : List HintAt → List ℕ

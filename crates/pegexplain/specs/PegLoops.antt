@@ -29,9 +29,9 @@ abbrev mutual
   repeats_in_all none = []
   repeats_in_all (more e es) = repeats_in e ++ repeats_in_all es
 
--- a repetition, and its place among those of a body
+-- a repetition, and its position among those of a body
 pub record RepeatAt : Type 0 where
-  pub place : ℕ
+  pub position : ℕ
   pub repeat : Pattern
 
 -- the line of a repetition, if its mark stands on one
@@ -40,10 +40,10 @@ repeat_line None e = []
 repeat_line (Some line) e = codes "  line " ++ (decimal line ++ (codes ": " ++ (cut (text_of e)
     ++ codes " repeats what may take nothing\n")))
 
--- the line of one whose mark has that place among the marks on these lines
+-- the line of one whose mark has that position among the marks on these lines
 abbrev pub repeat_reported : List ℕ → Option RepeatAt → List ℕ
 repeat_reported lines None = []
-repeat_reported lines (Some r) = repeat_line (slice_get lines r.place) r.repeat
+repeat_reported lines (Some r) = repeat_line (slice_get lines r.position) r.repeat
 
 module _ (rules : List Rule) where
   -- it repeats what may take nothing
@@ -53,9 +53,9 @@ module _ (rules : List Rule) where
 
   -- of some repetitions the first one that does
   pub record IsFirstLoop (repeats : List Pattern) (r : RepeatAt) : Type 0 where
-    pub there : slice_get repeats r.place ≡ Some r.repeat
+    pub there : slice_get repeats r.position ≡ Some r.repeat
     pub loops : RepeatsNothing r.repeat
-    pub first : (k : ℕ) (d : Pattern) → k < r.place → slice_get repeats k ≡ Some d → RepeatsNothing d → ⊥
+    pub first : (k : ℕ) (d : Pattern) → k < r.position → slice_get repeats k ≡ Some d → RepeatsNothing d → ⊥
 
   -- the first one, or none exactly if none does
   abbrev pub IsLoopOf : List Pattern → Option RepeatAt → Type 0

@@ -1,7 +1,7 @@
 -- What explains a note on the grammar of a text.
 use Rattle.std.specs.Prelude.{◌≡◌, ℕ, Bool, false, List, [], ◌++◌, Option, length, map}
 use Rattle.diagnostics.specs.DefinitionHeads.{definitions_in, sign_at}
-use Rattle.diagnostics.specs.ExplainedNotes.{ArePlaces, IsNoteExplained}
+use Rattle.diagnostics.specs.ExplainedNotes.{ArePositions, IsNoteExplained}
 use Rattle.diagnostics.specs.MentionLines.{lines_mentioned}
 use Rattle.diagnostics.specs.NoteLines.{defined_line}
 use Rattle.diagnostics.specs.ReportedTrees.{TreeRule}
@@ -30,7 +30,7 @@ use Rattle.gramcheck.specs.Left.{IsLeftRecursive, Nullable}
 use Rattle.gramcheck.specs.Uses.{names_in}
 use Rattle.pegexplain.specs.LeftNotes.{AreLeftLines, EndsEarly, SettlesNullable}
 use Rattle.pegexplain.specs.PegLoops.{IsLoopLineIf}
-use Rattle.pegexplain.specs.declared.places.PegPlaces.{PegPlaces}
+use Rattle.pegexplain.specs.declared.positions.PegPositions.{PegPositions}
 
 -- what a token is to the definitions of a grammar: a name right before an arrow is defined, and any other is used; `*`
 -- and `+` repeat what stands before them
@@ -103,10 +103,10 @@ pub record IsPegRead (text : List ℕ) (rules : table.Rules Expr) : Type 0 where
   pub exact : rules.names ≡ Exact
   pub rules_are : rules_of rules ≡ firsts [] definitions
 
--- The code's places are those of a text, with its rules, marks of those that may take nothing and of those that are
+-- The code's positions are those of a text, with its rules, marks of those that may take nothing and of those that are
 -- left-recursive, and where the first eight of these end.
-pub record ArePegPlaces (text : List ℕ) (found : PegPlaces) : Type 0 where
-  pub places : ArePlaces White First is_end sign_of Any Exact text found.places
+pub record ArePegPositions (text : List ℕ) (found : PegPositions) : Type 0 where
+  pub positions : ArePositions White First is_end sign_of Any Exact text found.positions
   pub rules : IsPegRead text found.rules
   pub marks : AreMarks (λ rule. Nullable (rules_of found.rules) rule.body) (rules_of found.rules) found.nulls.items
   pub recursive : AreMarks (IsLeftRecursive (rules_of found.rules)) (rules_of found.rules) found.recursive.items

@@ -10,7 +10,7 @@ ghost use Rattle.pegexplain.specs.LeftUses.{uses_in};
 ghost use Rattle.pegexplain.specs.NullTests.{null_mark_of, nullable_by};
 
 use crate::left_uses::{Use, add_uses};
-use crate::places::PegPlaces;
+use crate::positions::PegPositions;
 use crate::skipped::skipped_before;
 use diagnostics::{MentionKind, mention_lines, push_cut, push_more, push_number};
 use pegprint::print_member;
@@ -48,18 +48,18 @@ fn first_left(uses: &[Use<'_>], lines: &[usize], name: &[u8]) -> Option<usize>
 // The line of the first use of a name to which left steps lead from the body of a rule.
 fn left_line(
     alloc: Global,
-    places: &PegPlaces,
+    positions: &PegPositions,
     rule: &[u8],
     body: &Expr,
     name: &[u8],
 ) -> Result<Option<usize>, Memory>
     ensures { IfOk result (λ line. line ≡ line_of_first (is_left_use name.now)
-        (uses_in (nullable_by (null_mark_of places.now.rules places.now.nulls.items)) true (pattern_of body.now))
-        (mention_lines_by places.now.places MentionKind.Use rule.now)) }
+        (uses_in (nullable_by (null_mark_of positions.now.rules positions.now.nulls.items)) true (pattern_of body.now))
+        (mention_lines_by positions.now.positions MentionKind.Use rule.now)) }
 {
-    let lines = mention_lines(alloc, &places.places, MentionKind::Use, rule)?;
+    let lines = mention_lines(alloc, &positions.positions, MentionKind::Use, rule)?;
     let mut uses = Vec::new(alloc);
-    add_uses(&places.rules, &places.nulls, body, true, &mut uses)?;
+    add_uses(&positions.rules, &positions.nulls, body, true, &mut uses)?;
     Ok(first_left(&uses, &lines, name))
 }
 
@@ -146,24 +146,24 @@ fn push_step(
 fn push_step_between(
     alloc: Global,
     out: &mut Vec<u8>,
-    places: &PegPlaces,
+    positions: &PegPositions,
     from: usize,
     to: usize,
 ) -> Result<(), Memory>
     ensures { OnOk result (out.new.items ≡ out.old.items ++ step_between
-        (nullable_by (null_mark_of places.now.rules places.now.nulls.items))
-        (mention_lines_by places.now.places MentionKind.Use)
-        (slice_get (rules_of places.now.rules) from) (slice_get (rules_of places.now.rules) to)) }
+        (nullable_by (null_mark_of positions.now.rules positions.now.nulls.items))
+        (mention_lines_by positions.now.positions MentionKind.Use)
+        (slice_get (rules_of positions.now.rules) from) (slice_get (rules_of positions.now.rules) to)) }
 {
-    let count = places.rules.len();
+    let count = positions.rules.len();
     if from >= count || to >= count {
         return Ok(());
     }
-    let rule = places.rules.name(from);
-    let body = places.rules.body(from);
-    let name = places.rules.name(to);
-    let line = left_line(alloc, places, rule, body, name)?;
-    let skipped = skipped_before(alloc, &places.rules, &places.nulls, name, body)?;
+    let rule = positions.rules.name(from);
+    let body = positions.rules.body(from);
+    let name = positions.rules.name(to);
+    let line = left_line(alloc, positions, rule, body, name)?;
+    let skipped = skipped_before(alloc, &positions.rules, &positions.nulls, name, body)?;
     let after = skipped_text(alloc, skipped)?;
     push_step(out, line, rule, name, after.as_slice())?;
     Ok(())
@@ -188,14 +188,14 @@ fn next_of(rest: &[usize], first: usize) -> usize
 pub fn push_steps(
     alloc: Global,
     out: &mut Vec<u8>,
-    places: &PegPlaces,
+    positions: &PegPositions,
     first: usize,
     budget: usize,
     ids: &[usize],
 ) -> Result<(), Memory>
-    ensures { OnOk result (out.new.items ≡ out.old.items ++ steps_reported (rules_of places.now.rules)
-        (nullable_by (null_mark_of places.now.rules places.now.nulls.items))
-        (mention_lines_by places.now.places MentionKind.Use) first budget ids.now) }
+    ensures { OnOk result (out.new.items ≡ out.old.items ++ steps_reported (rules_of positions.now.rules)
+        (nullable_by (null_mark_of positions.now.rules positions.now.nulls.items))
+        (mention_lines_by positions.now.positions MentionKind.Use) first budget ids.now) }
 {
     let Some((id, rest)) = ids.split_first() else {
         return Ok(());
@@ -205,7 +205,7 @@ pub fn push_steps(
         return Ok(());
     }
     let next = next_of(rest, first);
-    push_step_between(alloc, out, places, *id, next)?;
-    push_steps(alloc, out, places, first, budget - 1, rest)?;
+    push_step_between(alloc, out, positions, *id, next)?;
+    push_steps(alloc, out, positions, first, budget - 1, rest)?;
     Ok(())
 }

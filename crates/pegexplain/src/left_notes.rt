@@ -11,11 +11,11 @@ ghost use Rattle.pegexplain.specs.LeftLines.{way_reported};
 ghost use Rattle.pegexplain.specs.LeftNotes.{EndsEarly};
 ghost use Rattle.pegexplain.specs.LeftUses.{left_row};
 ghost use Rattle.pegexplain.specs.NullTests.{null_mark_of, nullable_by};
-ghost use Rattle.pegexplain.specs.PegNotes.{ArePegPlaces, IsLeftReported};
+ghost use Rattle.pegexplain.specs.PegNotes.{ArePegPositions, IsLeftReported};
 
 use crate::left_lines::{MAX_STEPS, push_steps};
 use crate::left_uses::left_rows;
-use crate::places::PegPlaces;
+use crate::positions::PegPositions;
 use crate::ways::left_way;
 use diagnostics::explain_note;
 use ruletable::{Memory, Note, NoteKind};
@@ -44,37 +44,42 @@ pub(crate) fn ways_end(marks: &[bool]) -> usize
 fn push_definition(
     alloc: Global,
     out: &mut Vec<u8>,
-    places: &PegPlaces,
+    positions: &PegPositions,
     name: &[u8],
 ) -> Result<(), Memory>
-    ensures { OnOk result (out.new.items ≡ out.old.items ++ defined_line places.now.places.names
-        (map defined_at places.now.places.heads.items) name.now) }
+    ensures { OnOk result (out.new.items ≡ out.old.items ++ defined_line positions.now.positions.names
+        (map defined_at positions.now.positions.heads.items) name.now) }
 {
     let name = Vec::from_slice(alloc, name)?;
     let note = Note {
         kind: NoteKind::Unused,
         name,
     };
-    let lines = explain_note(alloc, &places.places, None, &note)?;
+    let lines = explain_note(alloc, &positions.positions, None, &note)?;
     out.extend_from_slice(&lines)?;
     Ok(())
 }
 
 // Adds the steps of the way from a rule back to itself.
-fn push_way(alloc: Global, out: &mut Vec<u8>, places: &PegPlaces, id: usize) -> Result<(), Memory>
-    requires { id < length places.now.rules.rules }
+fn push_way(
+    alloc: Global,
+    out: &mut Vec<u8>,
+    positions: &PegPositions,
+    id: usize,
+) -> Result<(), Memory>
+    requires { id < length positions.now.rules.rules }
     ensures { OnOk result ((chain : Option (List ℕ))
-        × IsRoundIfAny (map (λ rule. left_row (find_in places.now.rules)
-        (nullable_by (null_mark_of places.now.rules places.now.nulls.items)) (pattern_of rule.body))
-        places.now.rules.rules) id chain
-        × (out.new.items ≡ out.old.items ++ way_reported (rules_of places.now.rules)
-        (nullable_by (null_mark_of places.now.rules places.now.nulls.items))
-        (mention_lines_by places.now.places Use) id chain)) }
+        × IsRoundIfAny (map (λ rule. left_row (find_in positions.now.rules)
+        (nullable_by (null_mark_of positions.now.rules positions.now.nulls.items)) (pattern_of rule.body))
+        positions.now.rules.rules) id chain
+        × (out.new.items ≡ out.old.items ++ way_reported (rules_of positions.now.rules)
+        (nullable_by (null_mark_of positions.now.rules positions.now.nulls.items))
+        (mention_lines_by positions.now.positions Use) id chain)) }
 {
-    let rows = left_rows(alloc, &places.rules, &places.nulls)?;
+    let rows = left_rows(alloc, &positions.rules, &positions.nulls)?;
     match left_way(alloc, &rows, id)? {
         Some(chain) => {
-            push_steps(alloc, out, places, id, MAX_STEPS, &chain)?;
+            push_steps(alloc, out, positions, id, MAX_STEPS, &chain)?;
             Ok(())
         }
         None => Ok(()),
@@ -88,19 +93,19 @@ fn push_way(alloc: Global, out: &mut Vec<u8>, places: &PegPlaces, id: usize) -> 
 pub(crate) fn push_left(
     alloc: Global,
     out: &mut Vec<u8>,
-    places: &PegPlaces,
+    positions: &PegPositions,
     name: &[u8],
 ) -> Result<(), Memory>
-    ensures { OnOk result ((text : List ℕ) → ArePegPlaces text places.now → (line : List ℕ)
+    ensures { OnOk result ((text : List ℕ) → ArePegPositions text positions.now → (line : List ℕ)
         × IsLeftReported text name.now line × (out.new.items ≡ out.old.items ++ line)) }
 {
-    let Some(id) = places.rules.find(name)? else {
+    let Some(id) = positions.rules.find(name)? else {
         return Ok(());
     };
-    if id < places.ways {
-        push_way(alloc, out, places, id)?;
+    if id < positions.ways {
+        push_way(alloc, out, positions, id)?;
     } else {
-        push_definition(alloc, out, places, name)?;
+        push_definition(alloc, out, positions, name)?;
     }
     Ok(())
 }

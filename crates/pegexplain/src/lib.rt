@@ -9,7 +9,7 @@ mod left_uses;
 mod loops;
 mod notes;
 mod nulls;
-mod places;
+mod positions;
 mod skipped;
 mod ways;
 
@@ -19,5 +19,5 @@ pub use left_lines::{MAX_STEPS, push_steps};
 pub use left_notes::MAX_WAYS;
 pub use left_uses::left_rows;
 pub use notes::{explain_peg_note, one_note_explanation};
-pub use places::{PegPlaces, PegSigns, peg_places};
+pub use positions::{PegPositions, PegSigns, peg_positions};
 pub use ways::left_way;

@@ -17,7 +17,7 @@ use std::alloc::Global;
 #[derive(Clone, Copy)]
 pub(crate) struct Repeat<'a> {
     /// Its index among the repetitions of the body.
-    place: usize,
+    position: usize,
     /// The repetition.
     e: &'a Expr,
 }
@@ -68,10 +68,10 @@ fn first_loop<'a>(
     ensures { IfOk result (λ found. IsLoopBy (null_mark_of rules.now marks.now)
         (map (λ x. pattern_of x.now) repeats.now) (option_map repeat_found found)) }
 {
-    for place in 0..repeats.len() {
-        let e = repeats[place];
+    for position in 0..repeats.len() {
+        let e = repeats[position];
         if is_loop(rules, marks, e)? {
-            return Ok(Some(Repeat { place, e }));
+            return Ok(Some(Repeat { position, e }));
         }
     }
     Ok(None)
@@ -114,7 +114,7 @@ fn push_repeat(
     let Some(found) = found else {
         return Ok(());
     };
-    match lines.get(found.place) {
+    match lines.get(found.position) {
         Some(line) => push_line(alloc, out, *line, found.e),
         None => Ok(()),
     }

@@ -1,11 +1,11 @@
 //! Explanations of notes.
 ghost use Rattle.std.specs.Prelude.{◌≡◌, ◌++◌, ℕ, List, Option, IfOk, OnOk, option_copied};
 ghost use Rattle.ruletable.specs.Notes.{Said, said_of};
-ghost use Rattle.pegexplain.specs.PegNotes.{ArePegPlaces, ExplainsNote, IsFollowingLine, IsLoopReported};
+ghost use Rattle.pegexplain.specs.PegNotes.{ArePegPositions, ExplainsNote, IsFollowingLine, IsLoopReported};
 
 use crate::left_notes::push_left;
 use crate::loops::push_first_loop;
-use crate::places::PegPlaces;
+use crate::positions::PegPositions;
 use diagnostics::{MentionKind, explain_note, mention_lines};
 use fixpoint::one_way_back;
 use lexer::one_list;
@@ -17,22 +17,22 @@ use std::alloc::Global;
 fn push_loop(
     alloc: Global,
     out: &mut Vec<u8>,
-    places: &PegPlaces,
+    positions: &PegPositions,
     name: &[u8],
 ) -> Result<(), Memory>
-    ensures { OnOk result ((text : List ℕ) → ArePegPlaces text places.now → (line : List ℕ)
+    ensures { OnOk result ((text : List ℕ) → ArePegPositions text positions.now → (line : List ℕ)
         × IsLoopReported text name.now line × (out.new.items ≡ out.old.items ++ line)) }
 {
-    let Some(id) = places.rules.find(name)? else {
+    let Some(id) = positions.rules.find(name)? else {
         return Ok(());
     };
-    let lines = mention_lines(alloc, &places.places, MentionKind::Repeat, name)?;
+    let lines = mention_lines(alloc, &positions.positions, MentionKind::Repeat, name)?;
     push_first_loop(
         alloc,
         out,
-        &places.rules,
-        &places.nulls,
-        places.rules.body(id),
+        &positions.rules,
+        &positions.nulls,
+        positions.rules.body(id),
         &lines,
     )?;
     Ok(())
@@ -42,19 +42,19 @@ fn push_loop(
 fn push_after(
     alloc: Global,
     out: &mut Vec<u8>,
-    places: &PegPlaces,
+    positions: &PegPositions,
     note: &Note,
 ) -> Result<(), Memory>
-    ensures { OnOk result ((text : List ℕ) → ArePegPlaces text places.now → (line : List ℕ)
+    ensures { OnOk result ((text : List ℕ) → ArePegPositions text positions.now → (line : List ℕ)
         × IsFollowingLine text note.now.kind note.now.name.items line × (out.new.items ≡ out.old.items ++ line)) }
 {
     match note.kind {
         NoteKind::LeftRecursion => {
-            push_left(alloc, out, places, note.name.as_slice())?;
+            push_left(alloc, out, positions, note.name.as_slice())?;
             Ok(())
         }
         NoteKind::Loop => {
-            push_loop(alloc, out, places, note.name.as_slice())?;
+            push_loop(alloc, out, positions, note.name.as_slice())?;
             Ok(())
         }
         _ => Ok(()),
@@ -74,15 +74,15 @@ fn push_after(
 /// `Memory` if an allocation fails.
 pub fn explain_peg_note(
     alloc: Global,
-    places: &PegPlaces,
+    positions: &PegPositions,
     start: Option<&str>,
     note: &Note,
 ) -> Result<Vec<u8>, Memory>
-    ensures { IfOk result (λ why. (text : List ℕ) → ArePegPlaces text places.now
+    ensures { IfOk result (λ why. (text : List ℕ) → ArePegPositions text positions.now
         → ExplainsNote text (option_copied start.entry) (said_of note.now) why.items) }
 {
-    let mut why = explain_note(alloc, &places.places, start, note)?;
-    push_after(alloc, &mut why, places, note)?;
+    let mut why = explain_note(alloc, &positions.positions, start, note)?;
+    push_after(alloc, &mut why, positions, note)?;
     Ok(why)
 }
 

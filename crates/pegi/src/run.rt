@@ -6,7 +6,7 @@ ghost use Rattle.cli.specs.Jobs.{JobStates};
 ghost use Rattle.cli.specs.Parsing.{WordsState};
 ghost use Rattle.pegi.specs.PegiCommand.{AsksPegi, IsPegiApp};
 ghost use Rattle.pegrun.specs.Answers.{States};
-ghost use Rattle.toolrun.specs.Right.{Comes};
+ghost use Rattle.toolrun.specs.Right.{RunIsRight};
 ghost use Rattle.toolrun.specs.Status.{code_of};
 ghost use Rattle.toolrun.specs.Stream.{no_input, passed};
 
@@ -39,10 +39,10 @@ pub(crate) fn pegi_main<R: Files + AllocGlobal, I: Source, O: BufferedSink, E: S
     requires err_is_fresh { E.failed err.old ≡ false }
     ensures words { (app : _) × IsPegiApp app × (fault_of app (map string_bytes words.now) ≢ [] →
         Keeps (I.remaining reader.old) (I.remaining reader.new) ×
-        Comes (WordsState (fault_of app (map string_bytes words.now))) no_input
+        RunIsRight (WordsState (fault_of app (map string_bytes words.now))) no_input
         (passed O.contents O.failed out.old out.new) (passed E.contents E.failed err.old err.new) (code_of result)) }
     ensures right { (app : _) × IsPegiApp app × (fault_of app (map string_bytes words.now) ≡ [] →
-        Comes (JobStates AsksPegi States (matches_of app (map string_bytes words.now)))
+        RunIsRight (JobStates AsksPegi States (matches_of app (map string_bytes words.now)))
         (passed I.remaining I.failed reader.old reader.new) (passed O.contents O.failed out.old out.new)
         (passed E.contents E.failed err.old err.new) (code_of result)) }
 {

@@ -1,4 +1,4 @@
--- What an evaluation asks for: it is spelled, stands no earlier, and is lower where it stands at the same place.
+-- What an evaluation asks for: it is spelled, stands no earlier, and is lower where it stands at the same position.
 -- Serves: Desk::step, Desk::match_unit, Desk::replay.
 use Rattle.std.proofs.Common.{◌≡◌, inl, inr, ℕ, ◌<◌, ◌≤◌, List, length, Some, refl, sym, subst, arith}
 use Rattle.std.specs.Prelude.{slice_get, Contains}
@@ -170,6 +170,6 @@ module _ (rules : List Rule) (start : ℕ) (nodes : List Shape) (bodies ranks x 
       let l = leads_to n p m q i.spelled i.high a in
       record { spelled = l.spelled; high = l.high }
 
-  -- a pair that is visited is of a node that is there, and of a place of the input
+  -- a pair that is visited is of a node that is there, and of a position of the input
   pub visited_there : (n p : ℕ) → Visits rules nodes bodies x start n p → (n < length nodes) × (p ≤ length x)
   visited_there n p v = let i = is_visited v in (is_there rules nodes i.spelled.1, i.high)

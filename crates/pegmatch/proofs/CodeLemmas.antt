@@ -1,4 +1,4 @@
--- There are no more cells than nodes at places.
+-- There are no more cells than nodes at positions.
 -- Serves: Desk::step, Desk::match_unit, Desk::replay.
 use Rattle.std.proofs.Common.{◌≡◌, ◌⊎◌, inl, inr, ℕ, zero, suc, ◌+◌, ◌*◌, ◌<◌, ◌≤◌, Bool, true, false, if◌then◌else◌}
 use Rattle.std.proofs.Common.{List, [], ◌∷◌, length, Option, Some, None, refl, sym, ◌∙◌, ap, subst, arith}
@@ -92,7 +92,7 @@ at_pair cells n p m q v is same h = rw (is, same) h
 module _ (w : ℕ) where
   abbrev pub cell_codes : List Entry → List ℕ
   cell_codes [] = []
-  cell_codes (c ∷ cells) = code w c.node c.place ∷ cell_codes cells
+  cell_codes (c ∷ cells) = code w c.node c.position ∷ cell_codes cells
 
   pub length_cell_codes : (cells : List Entry) → length (cell_codes cells) ≡ length cells
   length_cell_codes [] = refl
@@ -101,9 +101,9 @@ module _ (w : ℕ) where
   -- the cell of a number
   pub record CellOf (cells : List Entry) (a : ℕ) : Type 0 where
     pub node : ℕ
-    pub place : ℕ
-    pub has : HasCell cells node place
-    pub is : a ≡ code w node place
+    pub position : ℕ
+    pub has : HasCell cells node position
+    pub is : a ≡ code w node position
 
   has_later : (c : Entry) (cells : List Entry) (n p : ℕ) → HasCell cells n p → HasCell (c ∷ cells) n p
   has_later c cells n p h = by (is_of c n p) h
@@ -115,24 +115,24 @@ module _ (w : ℕ) where
   pub cell_of : {a : ℕ} (cells : List Entry) → In a (cell_codes cells) → CellOf cells a
   cell_of [] h = elim h [ ]
   cell_of (c ∷ cells) (now is) =
-      record { node = c.node; place = c.place; has = (c.found, rw (is_of_own c) refl); is = is }
+      record { node = c.node; position = c.position; has = (c.found, rw (is_of_own c) refl); is = is }
   cell_of (c ∷ cells) (on h) = let l = cell_of cells h in
-      record { node = l.node; place = l.place; has = has_later c cells l.node l.place l.has; is = l.is }
+      record { node = l.node; position = l.position; has = has_later c cells l.node l.position l.has; is = l.is }
 
   -- a pair without a cell is not among the cells
   pub not_among : (cells : List Entry) (n p : ℕ) → ((m q : ℕ) → HasCell cells m q → q < w) → p < w
       → found_at cells n p ≡ None → In (code w n p) (cell_codes cells) → ⊥
   not_among cells n p low lt none h =
       let c = cell_of cells h in
-      let same = code_same w n p c.node c.place lt (low c.node c.place c.has) c.is in
-      some_none (sym (at_pair cells n p c.node c.place (Some c.has.0) same.0 same.1 c.has.1) ∙ none)
+      let same = code_same w n p c.node c.position lt (low c.node c.position c.has) c.is in
+      some_none (sym (at_pair cells n p c.node c.position (Some c.has.0) same.0 same.1 c.has.1) ∙ none)
 
   pub cells_differ : (cells : List Entry) → ((m q : ℕ) → HasCell cells m q → q < w) → AreDifferent cells
       → Differ (cell_codes cells)
   cells_differ [] low d = tt
   cells_differ (c ∷ cells) low d =
       let later = λ (m q : ℕ) (h : HasCell cells m q). low m q (has_later c cells m q h) in (
-        not_among cells c.node c.place later (low c.node c.place (c.found, rw (is_of_own c) refl)) d.0,
+        not_among cells c.node c.position later (low c.node c.position (c.found, rw (is_of_own c) refl)) d.0,
         cells_differ cells later d.1,
       )
 
@@ -141,7 +141,7 @@ pub at_most_below : (ks : List ℕ) (b : ℕ) → Differ ks → ((a : ℕ) → I
 at_most_below ks b d low = let h = at_most ks (down b) d (λ a i. in_down b a (low a i)) in
     omega (arith, length_down b, h)
 
--- cells are no more than nodes at places
+-- cells are no more than nodes at positions
 pub cells_at_most : (cells : List Entry) (n k : ℕ) → AreDifferent cells
     → ((m q : ℕ) → HasCell cells m q → (m < n) × (q ≤ k)) → length cells ≤ n * (k + 1)
 cells_at_most cells n k d low =
@@ -149,8 +149,8 @@ cells_at_most cells n k d low =
     let most = at_most_below (cell_codes (k + 1) cells) (n * (k + 1)) codes
     (λ a i.
     let c = cell_of (k + 1) cells i in
-    let l = low c.node c.place c.has in
-    rw c.is (code_below (k + 1) c.node c.place n l.0 (omega (arith, l.1)))) in
+    let l = low c.node c.position c.has in
+    rw c.is (code_below (k + 1) c.node c.position n l.0 (omega (arith, l.1)))) in
     omega (arith, most, length_cell_codes (k + 1) cells)
 
 -- where a pair has a cell there is one

@@ -1,4 +1,4 @@
--- A node spells one expression, and gives one outcome at a place.
+-- A node spells one expression, and gives one outcome at a position.
 -- Serves: Desk::step, Desk::match_unit.
 use Rattle.std.proofs.Common.{◌≡◌, ℕ, ◌+◌, ◌<◌, Bool, true, false, if◌then◌else◌, List, [], ◌∷◌, length, Some, refl}
 use Rattle.std.proofs.Common.{sym, ap, subst, ◌∙◌, arith}

@@ -20,13 +20,13 @@ use Rattle.pegmatch.specs.declared.event.Kept.{Kept}
 use Rattle.memo.specs.declared.found.Found.{Found}
 use Rattle.pegmatch.specs.declared.leaves.Tried.{Tried}
 
--- the measure of a node at a place
+-- the measure of a node at a position
 abbrev pub at : List Shape → List ℕ → ℕ → ℕ → ℕ → ℕ
 at nodes ranks len p n = measure len p (length nodes) (slice_index ranks n)
 
 module _ (rules : List Rule) (start : ℕ) (nodes : List Shape) (bodies ranks : List ℕ)
     (sound : IsRanked rules start nodes bodies ranks) (len : ℕ) where
-  -- further on there is less left, and at the same place a left step lowers the rank
+  -- further on there is less left, and at the same position a left step lowers the rank
   pub falls_to : (n m p q : ℕ) → SpellsSome rules nodes m → p ≤ q → q ≤ len
       → (q ≡ p → NodeStep rules nodes bodies n m) →
       at nodes ranks len q m < at nodes ranks len p n

@@ -20,7 +20,7 @@ use Rattle.pegmatch.specs.EventPrinting.{event_text}
 use Rattle.pegmatch.specs.declared.event.Kept.{Kept}
 use Rattle.pegmatch.specs.declared.event.Kept.TheVariants.{Acted}
 
--- what was written, and what the slots from the next on make of the text from a place on
+-- what was written, and what the slots from the next on make of the text from a position on
 abbrev pub IsWritten : Option (List ℕ) → Option (List ℕ) → List ℕ → List ℕ → ℕ → List Slot → List Slot → ℕ → ℕ → Type 0
 IsWritten old new t c from slots rest at to = (done : List ℕ) × Appends old new done
     × (done ++ put_in t c at rest to ≡ put_in t c from slots to)

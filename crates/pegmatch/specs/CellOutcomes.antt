@@ -1,4 +1,4 @@
--- Cells of pairs of a node and a place: that one is there, and that it holds the outcome.
+-- Cells of pairs of a node and a position: that one is there, and that it holds the outcome.
 use Rattle.std.specs.Prelude.{◌≡◌, ℕ, ◌<◌, Bool, true, List, length, Some}
 use Rattle.pegread.specs.Pattern.{Rule}
 use Rattle.pegnodes.specs.Nodes.{Shape}
@@ -8,7 +8,7 @@ use Rattle.memo.specs.declared.found.Found.{Found}
 use Rattle.pegmatch.specs.KeptEvents.{outcome_of}
 use Rattle.pegmatch.specs.Visits.{NodeGives}
 
--- the node has a cell at the place
+-- the node has a cell at the position
 abbrev pub HasCell : List Entry → ℕ → ℕ → Type 0
 HasCell cells n p = (f : Found) × (found_at cells n p ≡ Some f)
 

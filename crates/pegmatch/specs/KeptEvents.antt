@@ -42,7 +42,7 @@ MatchesBy nodes Gives' (Found.Took end) looked old new =
     (added : List Kept) × (events : List event.Event) × StandFor nodes added events × Gives' (Takes end events) looked
     × (new ≡ old ++ added)
 
--- What was found for a node at a place is what the expression that it spells gives there.
+-- What was found for a node at a position is what the expression that it spells gives there.
 abbrev pub IsMatch : List Rule → List Shape → List ℕ → ℕ → ℕ → Tried → List Kept → List Kept → Type 0
 IsMatch rules nodes x n p tried old new =
     (e : Pattern) → Spells rules nodes n e → MatchesBy nodes (Gives rules x e p) tried.found tried.looked old new
@@ -54,7 +54,7 @@ abbrev pub IsMatchOver : (Pattern → Pattern) → List Rule → List Shape → 
 IsMatchOver form rules nodes x m p tried old new =
     (e : Pattern) → Spells rules nodes m e → MatchesBy nodes (Gives rules x (form e) p) tried.found tried.looked old new
 
--- What was found for a node at a place is what its expression gives there, with some events.
+-- What was found for a node at a position is what its expression gives there, with some events.
 abbrev pub IsSeen : List Rule → List Shape → List ℕ → ℕ → ℕ → Tried → Type 0
 IsSeen rules nodes x n p tried =
     (e : Pattern) → Spells rules nodes n e → (events : List event.Event)

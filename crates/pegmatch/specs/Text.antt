@@ -4,7 +4,7 @@ use Rattle.std.specs.Prelude.{ℕ, Bool, List, [], ◌∷◌, ◌++◌, Option, 
 use Rattle.gramcheck.specs.Outcome.{Event, Opened, Closed, Acted}
 use Rattle.pegnodes.specs.Templates.{printed}
 
--- What the events print, with the place where a capture was opened last, and the capture so far.
+-- What the events print, with the position where a capture was opened last, and the capture so far.
 abbrev pub text_after : Bool → List ℕ → List Event → Option ℕ → List ℕ → List ℕ
 text_after raw x [] start capture = []
 text_after raw x (Opened p ∷ events) start capture = text_after raw x events (Some p) capture

@@ -39,10 +39,14 @@ pub(crate) fn compare(text: &[u8], literal: &[u8]) -> LiteralComparison
     }
 }
 
-/// Returns one more than the last position compared from `place` on, or 0.
-pub(crate) fn looked_after(place: usize, compared: usize) -> usize
-    requires { place + compared < 2 ^ 64 }
-    ensures { result ≡ looked_at place compared }
+/// Returns one more than the last position compared from `position` on, or 0.
+pub(crate) fn looked_after(position: usize, compared: usize) -> usize
+    requires { position + compared < 2 ^ 64 }
+    ensures { result ≡ looked_at position compared }
 {
-    if compared == 0 { 0 } else { place + compared }
+    if compared == 0 {
+        0
+    } else {
+        position + compared
+    }
 }

@@ -19,16 +19,16 @@ pub struct Tried {
 }
 
 /// Takes a byte, if there is one.
-pub fn match_any(window: &[u8], place: usize) -> Tried
+pub fn match_any(window: &[u8], position: usize) -> Tried
     ensures within { EndsWithin result.found (length window.now) }
     ensures looked { result.looked ≤ length window.now }
-    ensures value { (rules : List Rule) → Gives rules window.now Pattern.Any place (quiet_outcome result.found)
+    ensures value { (rules : List Rule) → Gives rules window.now Pattern.Any position (quiet_outcome result.found)
         result.looked }
 {
-    if place < window.len() {
+    if position < window.len() {
         Tried {
-            found: Found::Took(place + 1),
-            looked: place + 1,
+            found: Found::Took(position + 1),
+            looked: position + 1,
         }
     } else {
         Tried {
@@ -39,20 +39,20 @@ pub fn match_any(window: &[u8], place: usize) -> Tried
 }
 
 /// Takes a byte of the set, if one is next.
-pub fn match_set(set: &ByteSet, window: &[u8], place: usize) -> Tried
+pub fn match_set(set: &ByteSet, window: &[u8], position: usize) -> Tried
     ensures within { EndsWithin result.found (length window.now) }
     ensures looked { result.looked ≤ length window.now }
-    ensures value { (rules : List Rule) → Gives rules window.now (Pattern.Set (λ b. get_or set.now b false)) place
+    ensures value { (rules : List Rule) → Gives rules window.now (Pattern.Set (λ b. get_or set.now b false)) position
         (quiet_outcome result.found) result.looked }
 {
-    if place >= window.len() {
+    if position >= window.len() {
         return Tried {
             found: Found::Failed,
             looked: 0,
         };
     }
-    let next = place + 1;
-    if set.has(window[place]) {
+    let next = position + 1;
+    if set.has(window[position]) {
         Tried {
             found: Found::Took(next),
             looked: next,
@@ -66,18 +66,18 @@ pub fn match_set(set: &ByteSet, window: &[u8], place: usize) -> Tried
 }
 
 /// Takes these bytes, if they are next.
-pub fn match_bytes(bytes: &[u8], window: &[u8], place: usize) -> Tried
-    requires { place ≤ length window.now }
+pub fn match_bytes(bytes: &[u8], window: &[u8], position: usize) -> Tried
+    requires { position ≤ length window.now }
     ensures within { EndsWithin result.found (length window.now) }
     ensures looked { result.looked ≤ length window.now }
-    ensures value { (rules : List Rule) → Gives rules window.now (Pattern.Bytes bytes.now) place
+    ensures value { (rules : List Rule) → Gives rules window.now (Pattern.Bytes bytes.now) position
         (quiet_outcome result.found) result.looked }
 {
-    let comparison = compare(&window[place..], bytes);
-    let looked = looked_after(place, comparison.compared);
+    let comparison = compare(&window[position..], bytes);
+    let looked = looked_after(position, comparison.compared);
     if comparison.begins {
         Tried {
-            found: Found::Took(place + bytes.len()),
+            found: Found::Took(position + bytes.len()),
             looked,
         }
     } else {

@@ -58,7 +58,7 @@ fn write_slot<W: Sink>(
     }
 }
 
-// Writes a text from one place to another, with the capture put in the slots between them.
+// Writes a text from one position to another, with the capture put in the slots between them.
 fn write_slots<W: Sink>(
     out: &mut W,
     text: &[u8],
@@ -130,16 +130,16 @@ pub fn capture_after(capture: Capture, event: Kept) -> Capture
     ensures { result ≡ capture_by capture event }
 {
     match event {
-        Kept::Opened(place) => Capture {
-            start: Some(place),
+        Kept::Opened(position) => Capture {
+            start: Some(position),
             from: capture.from,
             to: capture.to,
         },
-        Kept::Closed(place) => match capture.start {
+        Kept::Closed(position) => match capture.start {
             Some(from) => Capture {
                 start: Some(from),
                 from,
-                to: place,
+                to: position,
             },
             None => capture,
         },

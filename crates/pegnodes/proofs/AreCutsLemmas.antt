@@ -28,33 +28,34 @@ act_of _ text is = absurd cc
 
 -- each action below a number has the cut of its template
 abbrev pub AreCutsBelow : List Node → ℕ → List ℕ → List Template → Type 0
-AreCutsBelow nodes i places cuts = (n : ℕ) → n < i → (text : List ℕ) → slice_get (shapes_of nodes) n ≡ Some (Act text) →
-    HasCut places cuts n text
+AreCutsBelow nodes i positions cuts = (n : ℕ) → n < i → (text : List ℕ) → slice_get (shapes_of nodes) n
+    ≡ Some (Act text) →
+    HasCut positions cuts n text
 
-HasCut-kept : (places : List ℕ) (cuts : List Template) (p : ℕ) (more : List Template) (n : ℕ) (text : List ℕ) →
-    HasCut places cuts n text → HasCut (places ++ p ∷ []) (cuts ++ more) n text
-HasCut-kept places cuts p more n text h = record {
-  place = h.place;
+HasCut-kept : (positions : List ℕ) (cuts : List Template) (p : ℕ) (more : List Template) (n : ℕ) (text : List ℕ) →
+    HasCut positions cuts n text → HasCut (positions ++ p ∷ []) (cuts ++ more) n text
+HasCut-kept positions cuts p more n text h = record {
+  position = h.position;
   cut = h.cut;
-  at = get_before places (p ∷ []) n h.at;
-  there = get_before cuts more h.place h.there;
+  at = get_before positions (p ∷ []) n h.at;
+  there = get_before cuts more h.position h.there;
   is_cut = h.is_cut;
 }
 
-module _ (nodes : List Node) (i : ℕ) (places : List ℕ) (cuts : List Template) (long : length places ≡ i)
-    (are : AreCutsBelow nodes i places cuts) (node : Node) (at : slice_get nodes i ≡ Some node)
+module _ (nodes : List Node) (i : ℕ) (positions : List ℕ) (cuts : List Template) (long : length positions ≡ i)
+    (are : AreCutsBelow nodes i positions cuts) (node : Node) (at : slice_get nodes i ≡ Some node)
     (k : ℕ) (count : k ≡ length cuts) where
   shape_here : slice_get (shapes_of nodes) i ≡ Some (shape_of node)
   shape_here = slice_get-map shape_of nodes i ∙ rw at refl
 
   -- the node is no action
   pub AreCutsBelow-other : ((t : Vec ℕ Global) → node ≡ Node.Act t → ⊥) →
-      AreCutsBelow nodes (i + 1) (places ++ k ∷ []) cuts
+      AreCutsBelow nodes (i + 1) (positions ++ k ∷ []) cuts
   AreCutsBelow-other other = below_more
       (λ n. (text : List ℕ) → slice_get (shapes_of nodes) n ≡ Some (Act text) →
-      HasCut (places ++ k ∷ []) cuts n text) i
-      (λ n lt text s. subst (λ v. HasCut (places ++ k ∷ []) v n text) (append-nil cuts)
-      (HasCut-kept places cuts k [] n text (are n lt text s)))
+      HasCut (positions ++ k ∷ []) cuts n text) i
+      (λ n lt text s. subst (λ v. HasCut (positions ++ k ∷ []) v n text) (append-nil cuts)
+      (HasCut-kept positions cuts k [] n text (are n lt text s)))
       (λ text s.
       let same : shape_of node ≡ Act text = cc (shape_here, s) in
       let acts = act_of node text same in
@@ -62,41 +63,41 @@ module _ (nodes : List Node) (i : ℕ) (places : List ℕ) (cuts : List Template
 
   -- the node is an action
   pub AreCutsBelow-act : (t : Vec ℕ Global) → node ≡ Node.Act t → (cut : Template) → IsCut t.items cut →
-      AreCutsBelow nodes (i + 1) (places ++ k ∷ []) (cuts ++ cut ∷ [])
+      AreCutsBelow nodes (i + 1) (positions ++ k ∷ []) (cuts ++ cut ∷ [])
   AreCutsBelow-act t is cut h = below_more
       (λ n. (text : List ℕ) → slice_get (shapes_of nodes) n ≡ Some (Act text) →
-      HasCut (places ++ k ∷ []) (cuts ++ cut ∷ []) n text) i
-      (λ n lt text s. HasCut-kept places cuts k (cut ∷ []) n text (are n lt text s))
+      HasCut (positions ++ k ∷ []) (cuts ++ cut ∷ []) n text) i
+      (λ n lt text s. HasCut-kept positions cuts k (cut ∷ []) n text (are n lt text s))
       (λ text s.
       let same : t.items ≡ text = cc (shape_here, s, is) in
       record {
-        place = k;
+        position = k;
         cut = cut;
-        at = subst (λ j. slice_get (places ++ k ∷ []) j ≡ Some k) long (get_new places k);
+        at = subst (λ j. slice_get (positions ++ k ∷ []) j ≡ Some k) long (get_new positions k);
         there = rw count (get_new cuts cut);
         is_cut = subst (λ v. IsCut v cut) same h;
       })
 
-pub AreCuts-all : (nodes : List Node) (i : ℕ) (places : List ℕ) (cuts : List Template) → length nodes ≤ i →
-    AreCutsBelow nodes i places cuts → AreCuts (shapes_of nodes) places cuts
-AreCuts-all nodes i places cuts long are n text s =
+pub AreCuts-all : (nodes : List Node) (i : ℕ) (positions : List ℕ) (cuts : List Template) → length nodes ≤ i →
+    AreCutsBelow nodes i positions cuts → AreCuts (shapes_of nodes) positions cuts
+AreCuts-all nodes i positions cuts long are n text s =
     let less : n < length (shapes_of nodes) = slice_get_within (shapes_of nodes) n (Act text) s in
     are n (omega (arith, length-map nodes shape_of)) text s
 
 -- what the cut of a node's template says of the numbers and the cut that are read for it
-module _ (places : List ℕ) (cuts : List Template) (n : ℕ) (text : List ℕ) (has : HasCut places cuts n text) where
-  pub place_within : n < length places
-  place_within = slice_get_within places n has.place has.at
+module _ (positions : List ℕ) (cuts : List Template) (n : ℕ) (text : List ℕ) (has : HasCut positions cuts n text) where
+  pub position_within : n < length positions
+  position_within = slice_get_within positions n has.position has.at
 
-  module _ (p : ℕ) (read : p ≡ get_or places n p) where
-    place_is : p ≡ has.place
-    place_is = read ∙ get_or_from_slice_get places n has.place p has.at
+  module _ (p : ℕ) (read : p ≡ get_or positions n p) where
+    position_is : p ≡ has.position
+    position_is = read ∙ get_or_from_slice_get positions n has.position p has.at
 
     pub cut_within : p < length cuts
-    cut_within = rw place_is (slice_get_within cuts has.place has.cut has.there)
+    cut_within = rw position_is (slice_get_within cuts has.position has.cut has.there)
 
     pub cut_is_read : (cut : Template) → cut ≡ get_or cuts p cut → IsCut text cut
     cut_is_read cut same =
-        let is : cut ≡ has.cut = same ∙ ap (λ j. get_or cuts j cut) place_is
-        ∙ get_or_from_slice_get cuts has.place has.cut cut has.there in
+        let is : cut ≡ has.cut = same ∙ ap (λ j. get_or cuts j cut) position_is
+        ∙ get_or_from_slice_get cuts has.position has.cut cut has.there in
         rw is has.is_cut

@@ -4,7 +4,7 @@ use Rattle.std.proofs.Common.{◌≡◌, ℕ, ◌+◌, Bool, List, refl, subst, 
 use Rattle.pegnodes.specs.Nodes.{Shape}
 use Rattle.pegnodes.specs.ByByte.{Succeeds, ByByte, by_shape, Below, below, ByShape, by_any, by_set_in, by_set_out}
 use Rattle.pegnodes.specs.ByByte.{by_no_bytes, by_one_byte, by_other_byte, by_name, by_members, by_alternatives}
-use Rattle.pegnodes.specs.ByByte.{by_opt_some, by_opt_none, by_and, by_and_fails, by_not, by_not_fails, by_no_turn}
+use Rattle.pegnodes.specs.ByByte.{by_opt_some, by_opt_none, by_and, by_and_fails, by_not, by_not_fails, by_no_iteration}
 use Rattle.pegnodes.specs.ByByte.{by_no_plus, ByMembers, members_end, member_stays, member_fails, member_takes}
 use Rattle.pegnodes.specs.ByByte.{ByAlternatives, alternatives_end, alternative_fails, alternative_succeeds}
 use Rattle.pegnodes.specs.declared.by_byte.ByteVerdict.{ByteVerdict}
@@ -83,7 +83,7 @@ module _ (nodes : List Shape) (bodies : List ℕ) (marks : ℕ → Bool) (tails 
         absurd (let is = (below_agrees h k).same in succeeds_not_fails v t (cc is))
     shapes_agree (by_not_fails {v = v} t h) (by_not k) = absurd (succeeds_not_fails v t (below_agrees h k).same)
     shapes_agree (by_not_fails t h) (by_not_fails u k) = agree_as refl (below_agrees h k)
-    shapes_agree (by_no_turn h) (by_no_turn k) = agree_as refl (below_agrees h k)
+    shapes_agree (by_no_iteration h) (by_no_iteration k) = agree_as refl (below_agrees h k)
     shapes_agree (by_no_plus h) (by_no_plus k) = agree_as refl (below_agrees h k)
 
     members_agree : {n i c d : ℕ} {ms : List ℕ} {v w : ByteVerdict} → M n ms i v c → M n ms i w d → Agree v w c d

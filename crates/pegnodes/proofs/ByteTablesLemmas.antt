@@ -32,37 +32,40 @@ pub some_read : {A : Type 0} (N : Type 0) (P Q : A → Type 0) (r : Option A) �
 some_read N P Q None f h = tt
 some_read N P Q (Some x) f h = f x h
 
-some_weaker : (P Q : ℕ → Type 0) → ((p : ℕ) → P p → Q p) → (place : Option ℕ) → IfSome place P → IfSome place Q
+some_weaker : (P Q : ℕ → Type 0) → ((p : ℕ) → P p → Q p) → (position : Option ℕ) → IfSome position P → IfSome position Q
 some_weaker P Q f None h = tt
 some_weaker P Q f (Some p) h = f p h
 
--- a place that is returned, if any
+-- a position that is returned, if any
 pub placed_as : {E : Type 0} (P Q : ℕ → Type 0) (r : Result (Option ℕ) E) → ((p : ℕ) → P p → Q p)
-    → IfOk r (λ place. IfSome place P) → IfOk r (λ place. IfSome place Q)
-placed_as P Q r f h = IfOk-weaker r (λ place. IfSome place P) (λ place. IfSome place Q) (some_weaker P Q f) h
+    → IfOk r (λ position. IfSome position P) → IfOk r (λ position. IfSome position Q)
+placed_as P Q r f h = IfOk-weaker r (λ position. IfSome position P) (λ position. IfSome position Q)
+    (some_weaker P Q f) h
 
 module _ {T : Type 0} (P : T → Type 0) where
   -- a table that is added at the end
-  pub table_added : (tables new : List T) (t : T) (place : ℕ) → place ≡ length tables → new ≡ tables ++ t ∷ [] → P t
-      → HasTable P new place
-  table_added tables new t place count is h = record {
+  pub table_added : (tables new : List T) (t : T) (position : ℕ) → position ≡ length tables → new ≡ tables ++ t ∷ []
+      → P t
+      → HasTable P new position
+  table_added tables new t position count is h = record {
     table = t;
     there = rw (is, count) (get_new tables t);
     is_table = h;
   }
 
-  table_kept : (tables new more : List T) (place : ℕ) → new ≡ tables ++ more → HasTable P tables place
-      → HasTable P new place
-  table_kept tables new more place is h = record {
+  table_kept : (tables new more : List T) (position : ℕ) → new ≡ tables ++ more → HasTable P tables position
+      → HasTable P new position
+  table_kept tables new more position is h = record {
     table = h.table;
-    there = rw is (get_before tables more place h.there);
+    there = rw is (get_before tables more position h.there);
     is_table = h.is_table;
   }
 
-  -- the table that is read at its place
-  pub table_read : (tables : List T) (place : ℕ) (t : T) → HasTable P tables place → t ≡ get_or tables place t → P t
-  table_read tables place t has is =
-      subst P (sym (is ∙ get_or_from_slice_get tables place has.table t has.there)) has.is_table
+  -- the table that is read at its position
+  pub table_read : (tables : List T) (position : ℕ) (t : T) → HasTable P tables position → t ≡ get_or tables position t
+      → P t
+  table_read tables position t has is =
+      subst P (sym (is ∙ get_or_from_slice_get tables position has.table t has.there)) has.is_table
 
 -- one node alone is in a table
 tabled_once : (n : ℕ) (s : Shape) (j k : ℕ) → IsTabled n s j → IsTabled n s k → j ≡ k
@@ -82,58 +85,60 @@ tabled_once n Open j k a b = absurd a
 tabled_once n Close j k a b = absurd a
 
 module _ (nodes : List Shape) (bodies : List ℕ) (marks : Marks) where
-  -- the place of the table of a node that is no choice, and of a choice's
+  -- the position of the table of a node that is no choice, and of a choice's
   pub run_placed : (runs : List RunTable) (choices : List ChoiceTable) (n k : ℕ) (s : Shape)
       → slice_get nodes n ≡ Some s
-      → IsTabled n s k → (place : ℕ) → HasTable (IsRunTableOf nodes bodies marks k) runs place
-      → HasByteTable nodes bodies marks runs choices n place
-  run_placed runs choices n k s at tabled place h = record {
+      → IsTabled n s k → (position : ℕ) → HasTable (IsRunTableOf nodes bodies marks k) runs position
+      → HasByteTable nodes bodies marks runs choices n position
+  run_placed runs choices n k s at tabled position h = record {
     run = λ t j is other.
         let same : s ≡ t = cc (at, is) in
         let one : k ≡ j = tabled_once n t k j (subst (λ v. IsTabled n v k) same tabled) other in
-        subst (λ m. HasTable (IsRunTableOf nodes bodies marks m) runs place) one h;
+        subst (λ m. HasTable (IsRunTableOf nodes bodies marks m) runs position) one h;
     choice = λ ms is. absurd (let same : s ≡ Choice ms = cc (at, is) in subst (λ v. IsTabled n v k) same tabled);
   }
 
   pub choice_placed : (runs : List RunTable) (choices : List ChoiceTable) (n : ℕ) (ms : List ℕ)
-      → slice_get nodes n ≡ Some (Choice ms) → (place : ℕ)
-      → HasTable (IsChoiceTableOf nodes bodies marks n ms) choices place
-      → HasByteTable nodes bodies marks runs choices n place
-  choice_placed runs choices n ms at place h = record {
+      → slice_get nodes n ≡ Some (Choice ms) → (position : ℕ)
+      → HasTable (IsChoiceTableOf nodes bodies marks n ms) choices position
+      → HasByteTable nodes bodies marks runs choices n position
+  choice_placed runs choices n ms at position h = record {
     run = λ t j is tabled. absurd (let same : t ≡ Choice ms = cc (at, is) in subst (λ v. IsTabled n v j) same tabled);
     choice = λ ks is. let same : ms ≡ ks = cc (at, is) in
-        subst (λ m. HasTable (IsChoiceTableOf nodes bodies marks n m) choices place) same h;
+        subst (λ m. HasTable (IsChoiceTableOf nodes bodies marks n m) choices position) same h;
   }
 
-  tables_kept : (runs new_runs more : List RunTable) (choices new_choices others : List ChoiceTable) (n place : ℕ)
+  tables_kept : (runs new_runs more : List RunTable) (choices new_choices others : List ChoiceTable) (n position : ℕ)
       → new_runs ≡ runs ++ more → new_choices ≡ choices ++ others
-      → HasByteTable nodes bodies marks runs choices n place
-      → HasByteTable nodes bodies marks new_runs new_choices n place
-  tables_kept runs new_runs more choices new_choices others n place is_runs is_choices h = record {
+      → HasByteTable nodes bodies marks runs choices n position
+      → HasByteTable nodes bodies marks new_runs new_choices n position
+  tables_kept runs new_runs more choices new_choices others n position is_runs is_choices h = record {
     run = λ s k at tabled.
-        table_kept (IsRunTableOf nodes bodies marks k) runs new_runs more place is_runs (h.run s k at tabled);
-    choice = λ ms at. table_kept (IsChoiceTableOf nodes bodies marks n ms) choices new_choices others place is_choices
+        table_kept (IsRunTableOf nodes bodies marks k) runs new_runs more position is_runs (h.run s k at tabled);
+    choice = λ ms at. table_kept
+        (IsChoiceTableOf nodes bodies marks n ms) choices new_choices others position is_choices
         (h.choice ms at);
   }
 
-  table_here : (runs : List RunTable) (choices : List ChoiceTable) (n m : ℕ) (place : Option ℕ) (p : ℕ) → m ≡ n
-      → place ≡ Some p → IfSome place (HasByteTable nodes bodies marks runs choices n)
+  table_here : (runs : List RunTable) (choices : List ChoiceTable) (n m : ℕ) (position : Option ℕ) (p : ℕ) → m ≡ n
+      → position ≡ Some p → IfSome position (HasByteTable nodes bodies marks runs choices n)
       → HasByteTable nodes bodies marks runs choices m p
   table_here runs choices n m None p same is h = absurd (cc is)
   table_here runs choices n m (Some q) p same is h =
-      let place : q ≡ p = cc is in
+      let position : q ≡ p = cc is in
       subst (λ j. HasByteTable nodes bodies marks runs choices j p) (sym same)
-      (subst (HasByteTable nodes bodies marks runs choices n) place h)
+      (subst (HasByteTable nodes bodies marks runs choices n) position h)
 
   -- one node more
-  pub tables_next : (places all : List (Option ℕ)) (runs new_runs more : List RunTable)
-      (choices new_choices others : List ChoiceTable) (n : ℕ) (place : Option ℕ) → length places ≡ n
-      → all ≡ places ++ place ∷ [] → new_runs ≡ runs ++ more → new_choices ≡ choices ++ others
-      → AreByteTables nodes bodies marks places runs choices
-      → IfSome place (HasByteTable nodes bodies marks new_runs new_choices n)
+  pub tables_next : (positions all : List (Option ℕ)) (runs new_runs more : List RunTable)
+      (choices new_choices others : List ChoiceTable) (n : ℕ) (position : Option ℕ) → length positions ≡ n
+      → all ≡ positions ++ position ∷ [] → new_runs ≡ runs ++ more → new_choices ≡ choices ++ others
+      → AreByteTables nodes bodies marks positions runs choices
+      → IfSome position (HasByteTable nodes bodies marks new_runs new_choices n)
       → AreByteTables nodes bodies marks all new_runs new_choices
-  tables_next places all runs new_runs more choices new_choices others n place long is is_runs is_choices are here m p
+  tables_next positions all runs new_runs more choices new_choices others n position long is is_runs is_choices are here
+      m p
       at =
       ⊎_elim (λ old. tables_kept runs new_runs more choices new_choices others m p is_runs is_choices (are m p old))
-      (λ last. table_here new_runs new_choices n m place p (last.0 ∙ long) last.1 here)
-      (get_pushed places place m (Some p) (rw is at at))
+      (λ last. table_here new_runs new_choices n m position p (last.0 ∙ long) last.1 here)
+      (get_pushed positions position m (Some p) (rw is at at))

@@ -19,17 +19,17 @@ module _ (g : MarkedNodes) (b n : ℕ) (ms : List ℕ) where
   F i c = FailFirst (shapes_of g.nodes.now) g.bodies.now (mark_in g) (tail_in g) b n ms i c
 
   pub fails_as : (i j c d : ℕ) → i ≡ j → c ≡ d → F i c → F j d
-  fails_as i j c d place sum h = subst (λ e. F j e) sum (subst (λ k. F k c) place h)
+  fails_as i j c d position sum h = subst (λ e. F j e) sum (subst (λ k. F k c) position h)
 
   -- one alternative more
-  pub fails_next : (i pairs sum c : ℕ) → i < length ms → slice_get (shapes_of g.nodes.now) n ≡ Some (Choice ms)
-      → sum ≡ pairs + c
+  pub fails_next : (i evals sum c : ℕ) → i < length ms → slice_get (shapes_of g.nodes.now) n ≡ Some (Choice ms)
+      → sum ≡ evals + c
       → Below (shapes_of g.nodes.now) g.bodies.now (mark_in g) (tail_in g) b (get_or ms i 0) Fails c
-      → F i pairs → F (i + 1) sum
-  fails_next i pairs sum c lt at is h before =
+      → F i evals → F (i + 1) sum
+  fails_next i evals sum c lt at is h before =
       let no_key : tail_in g n i ≡ false =
       sym (tails_at (shapes_of g.nodes.now) g.keys.now g.after.now n i (Choice ms) at) in
-      fails_as (suc i) (i + 1) (pairs + c) sum (omega arith) (sym is)
+      fails_as (suc i) (i + 1) (evals + c) sum (omega arith) (sym is)
       (fail_more before (slice_get-get_or ms i 0 lt) no_key h)
 
 -- entries that are so for each byte, and one byte more

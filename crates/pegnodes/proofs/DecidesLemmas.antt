@@ -9,7 +9,7 @@ use Rattle.pegnodes.specs.Nodes.{Shape, Bytes, Set, Name, Seq, Choice, Star, Plu
 use Rattle.pegnodes.specs.Nodes.{shape_of, shapes_of}
 use Rattle.pegnodes.specs.ByByte.{Succeeds, by_shape, Below, ByShape, by_set_in, by_set_out}
 use Rattle.pegnodes.specs.ByByte.{by_no_bytes, by_one_byte, by_other_byte, by_name, by_members, by_alternatives}
-use Rattle.pegnodes.specs.ByByte.{by_opt_some, by_opt_none, by_and, by_and_fails, by_not, by_not_fails, by_no_turn}
+use Rattle.pegnodes.specs.ByByte.{by_opt_some, by_opt_none, by_and, by_and_fails, by_not, by_not_fails, by_no_iteration}
 use Rattle.pegnodes.specs.ByByte.{by_no_plus, ByMembers, members_end, member_stays, member_fails, member_takes}
 use Rattle.pegnodes.specs.ByByte.{ByAlternatives, alternatives_end, alternative_fails, alternative_succeeds}
 use Rattle.pegnodes.specs.Decides.{mark_in, tail_in, Decides, DecidesBelow, DecidesShape, DecidesMembers}
@@ -98,7 +98,7 @@ pub not_fails_by : Lifts Not Fails Stays
 not_fails_by g b n m c h = by_not h
 
 pub star_fails_by : Lifts Star Fails Stays
-star_fails_by g b n m c h = by_no_turn h
+star_fails_by g b n m c h = by_no_iteration h
 
 pub plus_fails_by : (s : ℕ) → Lifts (λ m. Plus m s) Fails Fails
 plus_fails_by s g b n m c h = by_no_plus h
@@ -146,12 +146,12 @@ module _ (g : MarkedNodes) (b n : ℕ) (ms : List ℕ) (i : ℕ) where
   A j v c = ByAlternatives (shapes_of g.nodes.now) g.bodies.now (mark_in g) (tail_in g) b n ms j v c
 
   members_as : (j k c d : ℕ) (v w : ByteVerdict) → j ≡ k → v ≡ w → c ≡ d → M j v c → M k w d
-  members_as j k c d v w place same sum h =
-      subst (λ e. M k w e) sum (subst (λ u. M k u c) same (subst (λ e. M e v c) place h))
+  members_as j k c d v w position same sum h =
+      subst (λ e. M k w e) sum (subst (λ u. M k u c) same (subst (λ e. M e v c) position h))
 
   alternatives_as : (j k c d : ℕ) (v w : ByteVerdict) → j ≡ k → v ≡ w → c ≡ d → A j v c → A k w d
-  alternatives_as j k c d v w place same sum h =
-      subst (λ e. A k w e) sum (subst (λ u. A k u c) same (subst (λ e. A e v c) place h))
+  alternatives_as j k c d v w position same sum h =
+      subst (λ e. A k w e) sum (subst (λ u. A k u c) same (subst (λ e. A e v c) position h))
 
   module _ (count : ℕ) (all : (v : ByteVerdict) (d : ℕ) → M i v d → M 0 v (count + d)) where
     pub members_done : length ms ≤ i → DecidesMembers g b n ms (record { verdict = Stays; count = count })

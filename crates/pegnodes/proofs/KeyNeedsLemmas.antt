@@ -17,7 +17,7 @@ use Rattle.pegnodes.specs.KeyNeeds.{AreSingles, IsPassed, going_of}
 use Rattle.pegnodes.specs.Namers.{name_rows, names_of, NamesAt, IsBefore, IsNamerTo}
 use Rattle.pegnodes.specs.Nodes as node
 use Rattle.pegnodes.specs.Nodes.{Shape, Seq, Star}
-use Rattle.pegnodes.specs.NodeWays.{Way, Leaf, Body, Members, Alternatives, Turns, Operand, way_of}
+use Rattle.pegnodes.specs.NodeWays.{Way, Leaf, Body, Members, Alternatives, Iterations, Operand, way_of}
 use Rattle.pegnodes.specs.Width.{AreWidths}
 use Rattle.pegnodes.specs.declared.keys.GoesOn.{GoesOn}
 use Rattle.pegnodes.specs.declared.namers.Namer.{Namer}
@@ -30,19 +30,19 @@ module _ (nodes : List Shape) (n : ℕ) (shape : Shape) (at : slice_get nodes n 
   going_by (Body id) is = record { shape = shape; at = at; once = λ k s e. cc (is, e) }
   going_by (Members ms) is = record { shape = shape; at = at; once = λ k s e. cc (is, e) }
   going_by (Alternatives ms) is = record { shape = shape; at = at; once = λ k s e. cc (is, e) }
-  going_by (Turns k s) is = record { shape = shape; at = at; again = is }
+  going_by (Iterations k s) is = record { shape = shape; at = at; again = is }
   going_by (Operand k) is = record { shape = shape; at = at; once = λ j s e. cc (is, e) }
 
   pub goes_there : (g : GoesOn) → g ≡ going_of (way_of n shape) → IsGoing nodes n g
   goes_there g is = subst (IsGoing nodes n) (sym is) (going_by (way_of n shape) refl)
 
 module _ (start : ℕ) (nodes : List Shape) (bodies : List ℕ) where
-  repeats_not : (w : Way) → ((k s : ℕ) → w ≡ Turns k s → ⊥) → DoesNotRepeat start nodes bodies w
+  repeats_not : (w : Way) → ((k s : ℕ) → w ≡ Iterations k s → ⊥) → DoesNotRepeat start nodes bodies w
   repeats_not Leaf h = tt
   repeats_not (Body id) h = tt
   repeats_not (Members ms) h = tt
   repeats_not (Alternatives ms) h = tt
-  repeats_not (Turns k s) h = h k s refl
+  repeats_not (Iterations k s) h = h k s refl
   repeats_not (Operand k) h = tt
 
   -- a node that names m has it in its row, or is a repetition that names itself
@@ -67,7 +67,7 @@ module _ (start : ℕ) (nodes : List Shape) (bodies : List ℕ) where
     abbrev IsAt : Shape → Type 0
     IsAt shape = (t : ℕ) → slice_get (names_of bodies shape) t ≡ Some m → t ≡ c
 
-    names_once : (shape : Shape) → IsAt shape → ((k s : ℕ) → way_of n shape ≡ Turns k s → m ≡ s → ⊥)
+    names_once : (shape : Shape) → IsAt shape → ((k s : ℕ) → way_of n shape ≡ Iterations k s → m ≡ s → ⊥)
         → WayNamesOnce start nodes bodies (way_of n shape) m
     names_once node.Any f never = tt
     names_once (node.Bytes bs) f never = tt
@@ -84,7 +84,7 @@ module _ (start : ℕ) (nodes : List Shape) (bodies : List ℕ) where
     names_once node.Open f never = tt
     names_once node.Close f never = tt
 
-    enters_once : (shape : Shape) → IsAt shape → ((k s : ℕ) → way_of n shape ≡ Turns k s → m ≡ k → ⊥)
+    enters_once : (shape : Shape) → IsAt shape → ((k s : ℕ) → way_of n shape ≡ Iterations k s → m ≡ k → ⊥)
         → WayEntersOnce start nodes bodies (way_of n shape) m
     enters_once node.Any f never = tt
     enters_once (node.Bytes bs) f never = tt
@@ -153,7 +153,7 @@ module _ (start : ℕ) (nodes : List Shape) (bodies : List ℕ) where
           let same : Some once.shape ≡ Some may.shape = sym once.at ∙ may.at in
           let is : once.shape ≡ may.shape = cc same in
           single_below (plain_by may) (repeats_not (way_of a may.shape)
-          (subst (λ v. (k s : ℕ) → way_of a v ≡ Turns k s → ⊥) is once.once)) single
+          (subst (λ v. (k s : ℕ) → way_of a v ≡ Iterations k s → ⊥) is once.once)) single
 
       pub is_loop : MayBeLoop nodes a m → Single start nodes bodies a → IsLoop start nodes bodies m
       is_loop may single = record {

@@ -36,10 +36,10 @@ first_id rules name =
     step true k = refl
     step false k = omega arith
 
--- a place, or the length where there is none
-place_or : (b : Bool) (k n : ℕ) → (b ≡ false → k ≡ n) → unwrap_or (cond b (Some k) None) n ≡ k
-place_or true k n h = refl
-place_or false k n h = sym (h refl)
+-- a position, or the length where there is none
+position_or : (b : Bool) (k n : ℕ) → (b ≡ false → k ≡ n) → unwrap_or (cond b (Some k) None) n ≡ k
+position_or true k n h = refl
+position_or false k n h = sym (h refl)
 
 pub id_found : (rules : table.Rules Expr) (name : List ℕ) (found : Option ℕ) (count : ℕ) → rules.names ≡ Exact
     → found ≡ find_in rules name → count ≡ length rules.rules →
@@ -47,7 +47,7 @@ pub id_found : (rules : table.Rules Expr) (name : List ℕ) (found : Option ℕ)
 id_found rules name found count exact is all =
     let first = position_or_len (λ rule. bytes_eq name rule.name) rules.rules in
     let most : first ≤ length rules.rules = prefix_len-le-length _ rules.rules in
-    rw (is, all, exact) (place_or (nat_lt first (length rules.rules)) first (length rules.rules)
+    rw (is, all, exact) (position_or (nat_lt first (length rules.rules)) first (length rules.rules)
     (λ past. grind (arith, nat_tests)) ∙ sym (first_id rules.rules name))
 
 pub id_most : (rules : List Rule) (name : List ℕ) → id_of rules name ≤ length rules

@@ -7,9 +7,9 @@ use Rattle.std.proofs.lemmas.Bool.{eqb-true, eq-eqb}
 use Rattle.std.proofs.lemmas.List.{get_or-take, get_or-drop, length-take-le}
 use Rattle.std.proofs.lemmas.Option.{slice_get-get_or, get_or_from_slice_get}
 use Rattle.memchr.specs.Find.{IsFirstByte, is_byte}
-use Rattle.pegnodes.specs.ByByte.{ByByte, AreTurns, turns_none, turns_more}
+use Rattle.pegnodes.specs.ByByte.{ByByte, AreIterations, iterations_none, iterations_more}
 use Rattle.pegnodes.specs.Nodes.{Shape}
-use Rattle.pegnodes.specs.RunTables.{pairs_by, turn_pairs, TurnsTo, IsRun, IsRunTo}
+use Rattle.pegnodes.specs.RunTables.{evals_by, iteration_evals, IterationsTo, IsRun, IsRunTo}
 use Rattle.pegnodes.specs.declared.by_byte.Decided.{Decided}
 use Rattle.pegnodes.specs.declared.by_byte.ByteVerdict.{ByteVerdict}
 use Rattle.pegnodes.specs.declared.by_byte.ByteVerdict.TheVariants.{Takes, Stays, Fails}
@@ -26,70 +26,74 @@ module _ (nodes : List Shape) (bodies : List ℕ) (marks : ℕ → Bool) (tails 
     pub by : By Takes count
     pub is : m ≡ 1 + count
 
-  verdict_takes : (v : ByteVerdict) (c m : ℕ) → By v c → pairs_by v c ≡ m → (m ≡ 0 → ⊥) → IsTaken m
+  verdict_takes : (v : ByteVerdict) (c m : ℕ) → By v c → evals_by v c ≡ m → (m ≡ 0 → ⊥) → IsTaken m
   verdict_takes Takes c m h is some = record { count = c; by = h; is = omega (arith, is) }
   verdict_takes Stays c m h is some = absurd (some (sym is))
   verdict_takes Fails c m h is some = absurd (some (sym is))
 
   entry_takes : (o : Option (Option Decided)) (m : ℕ) → ((d : Decided) → o ≡ Some (Some d) → By d.verdict d.count)
-      → turn_pairs o ≡ m → (m ≡ 0 → ⊥) → IsTaken m
+      → iteration_evals o ≡ m → (m ≡ 0 → ⊥) → IsTaken m
   entry_takes None m h is some = absurd (some (sym is))
   entry_takes (Some None) m h is some = absurd (some (sym is))
   entry_takes (Some (Some d)) m h is some = verdict_takes d.verdict d.count m (h d refl) is some
 
 module _ (entries : List (Option Decided)) (x : List ℕ) (from : ℕ) where
-  turns_as : (nodes : List Shape) (bodies : List ℕ) (marks : ℕ → Bool) (tails : ℕ → ℕ → Bool) (k n m c d : ℕ) → n ≡ m
-      → c ≡ d → AreTurns nodes bodies x marks tails k from n c → AreTurns nodes bodies x marks tails k from m d
-  turns_as nodes bodies marks tails k n m c d place sum h =
-      subst (λ e. AreTurns nodes bodies x marks tails k from m e) sum
-      (subst (λ j. AreTurns nodes bodies x marks tails k from j c) place h)
+  iterations_as : (nodes : List Shape) (bodies : List ℕ) (marks : ℕ → Bool) (tails : ℕ → ℕ → Bool) (k n m c d : ℕ) → n
+      ≡ m
+      → c ≡ d → AreIterations nodes bodies x marks tails k from n c
+      → AreIterations nodes bodies x marks tails k from m d
+  iterations_as nodes bodies marks tails k n m c d position sum h =
+      subst (λ e. AreIterations nodes bodies x marks tails k from m e) sum
+      (subst (λ j. AreIterations nodes bodies x marks tails k from j c) position h)
 
-  pub turns_begin : TurnsTo entries x from from 0
-  turns_begin nodes bodies marks tails k table =
-      turns_as nodes bodies marks tails k 0 (from - from) 0 0 (omega arith) refl turns_none
+  pub iterations_begin : IterationsTo entries x from from 0
+  iterations_begin nodes bodies marks tails k table =
+      iterations_as nodes bodies marks tails k 0 (from - from) 0 0 (omega arith) refl iterations_none
 
   -- one byte more
-  pub turns_next : (to pairs m b : ℕ) → from ≤ to → TurnsTo entries x from to pairs → slice_get x to ≡ Some b
-      → turn_pairs (slice_get entries b) ≡ m → (m ≡ 0 → ⊥) → TurnsTo entries x from (to + 1) (pairs + m)
-  turns_next to pairs m b le turns at is some nodes bodies marks tails k table =
+  pub iterations_next : (to evals m b : ℕ) → from ≤ to → IterationsTo entries x from to evals → slice_get x to ≡ Some b
+      → iteration_evals (slice_get entries b) ≡ m → (m ≡ 0 → ⊥) → IterationsTo entries x from (to + 1) (evals + m)
+  iterations_next to evals m b le iterations at is some nodes bodies marks tails k table =
       let one = entry_takes nodes bodies marks tails b k (slice_get entries b) m (λ d e. table b d e) is some in
       let sum = one.is in
-      let place : from + (to - from) ≡ to = omega (arith, le) in
-      turns_as nodes bodies marks tails k (suc (to - from)) ((to + 1) - from) (pairs + (1 + one.count)) (pairs + m)
+      let position : from + (to - from) ≡ to = omega (arith, le) in
+      iterations_as nodes bodies marks tails k (suc (to - from)) ((to + 1) - from) (evals + (1 + one.count)) (evals + m)
       (omega (arith, le)) (omega (arith, sum))
-      (turns_more (turns nodes bodies marks tails k table) (subst (λ p. slice_get x p ≡ Some b) (sym place) at) one.by)
+      (iterations_more (iterations nodes bodies marks tails k table)
+      (subst (λ p. slice_get x p ≡ Some b) (sym position) at) one.by)
 
-  -- bytes that are each so many pairs
-  turns_each : (n m : ℕ) → (m ≡ 0 → ⊥)
-      → ((i : ℕ) → i < n → (b : ℕ) × (slice_get x (from + i) ≡ Some b) × (turn_pairs (slice_get entries b) ≡ m))
-      → TurnsTo entries x from (from + n) (n * m)
-  turns_each zero m some each nodes bodies marks tails k table =
-      turns_as nodes bodies marks tails k 0 ((from + 0) - from) 0 (0 * m) (omega arith) (omega arith) turns_none
-  turns_each (suc n) m some each nodes bodies marks tails k table =
+  -- bytes that are each so many evaluations
+  iterations_each : (n m : ℕ) → (m ≡ 0 → ⊥)
+      → ((i : ℕ) → i < n → (b : ℕ) × (slice_get x (from + i) ≡ Some b) × (iteration_evals (slice_get entries b) ≡ m))
+      → IterationsTo entries x from (from + n) (n * m)
+  iterations_each zero m some each nodes bodies marks tails k table =
+      iterations_as nodes bodies marks tails k 0 ((from + 0) - from) 0 (0 * m) (omega arith)
+      (omega arith) iterations_none
+  iterations_each (suc n) m some each nodes bodies marks tails k table =
       let last = each n (omega arith) in
-      let before = turns_each n m some (λ i lt. each i (omega arith)) in
-      let next = turns_next (from + n) (n * m) m last.0 (omega arith) before last.1 last.2 some nodes bodies marks
+      let before = iterations_each n m some (λ i lt. each i (omega arith)) in
+      let next = iterations_next (from + n) (n * m) m last.0 (omega arith) before last.1 last.2 some nodes bodies marks
       tails k table in
-      turns_as nodes bodies marks tails k (((from + n) + 1) - from) ((from + suc n) - from) (n * m + m) (suc n * m)
+      iterations_as nodes bodies marks tails k (((from + n) + 1) - from) ((from + suc n) - from) (n * m + m) (suc n * m)
       (omega arith) (omega arith) next
 
-  -- the entry of the byte at a place
+  -- the entry of the byte at a position
   pub byte_at : (to : ℕ) → to < length x → slice_get x to ≡ Some (get_or x to 0)
   byte_at to lt = slice_get-get_or x to 0 lt
 
-  pub pairs_at : (b m : ℕ) → b < length entries → m ≡ turn_pairs (Some (get_or entries b None))
-      → turn_pairs (slice_get entries b) ≡ m
-  pairs_at b m lt is = ap turn_pairs (slice_get-get_or entries b None lt) ∙ sym is
+  pub evals_at : (b m : ℕ) → b < length entries → m ≡ iteration_evals (Some (get_or entries b None))
+      → iteration_evals (slice_get entries b) ≡ m
+  evals_at b m lt is = ap iteration_evals (slice_get-get_or entries b None lt) ∙ sym is
 
   pub same_byte_at : (to b : ℕ) → slice_get x to ≡ Some b → get_or x to 0 ≡ b
   same_byte_at to b is = get_or_from_slice_get x to b 0 is
 
   module _ (s : StopByte) (end : ℕ) (run : Run) (within : end ≤ length x) (bytes : (i : ℕ) → get_or x i 0 < 256)
       (to : IsRunTo s x from end run)
-      (none : turn_pairs (slice_get entries s.byte) ≡ 0) (some : 0 < s.pairs)
-      (others : (b : ℕ) → b < 256 → (b ≡ s.byte → ⊥) → turn_pairs (slice_get entries b) ≡ s.pairs) where
+      (none : iteration_evals (slice_get entries s.byte) ≡ 0) (some : 0 < s.evals)
+      (others : (b : ℕ) → b < 256 → (b ≡ s.byte → ⊥) → iteration_evals (slice_get entries b) ≡ s.evals) where
     each_taken : (i : ℕ) → i < run.end - from
-        → (b : ℕ) × (slice_get x (from + i) ≡ Some b) × (turn_pairs (slice_get entries b) ≡ s.pairs)
+        → (b : ℕ) × (slice_get x (from + i) ≡ Some b) × (iteration_evals (slice_get entries b) ≡ s.evals)
     each_taken i lt =
         let high = to.high in
         let at = byte_at (from + i) (omega (arith, lt, high, within)) in
@@ -102,19 +106,20 @@ module _ (entries : List (Option Decided)) (x : List ℕ) (from : ℕ) where
     pub run_is : IsRun entries x from end run
     run_is =
         let low = to.low in
-        let place : from + (run.end - from) ≡ run.end = omega (arith, low) in
+        let position : from + (run.end - from) ≡ run.end = omega (arith, low) in
         record {
           low = to.low;
           high = to.high;
-          turns = subst (λ p. TurnsTo entries x from run.end p) (sym to.pairs)
-              (subst (λ q. TurnsTo entries x from q ((run.end - from) * s.pairs)) place
-              (turns_each (run.end - from) s.pairs (λ is. omega (arith, is, some)) each_taken));
-          ends = λ less b is. let same = to.ends less b is in ap (λ c. turn_pairs (slice_get entries c)) same ∙ none;
+          iterations = subst (λ p. IterationsTo entries x from run.end p) (sym to.evals)
+              (subst (λ q. IterationsTo entries x from q ((run.end - from) * s.evals)) position
+              (iterations_each (run.end - from) s.evals (λ is. omega (arith, is, some)) each_taken));
+          ends = λ less b is. let same = to.ends less b is in ap (λ c. iteration_evals (slice_get entries c)) same
+              ∙ none;
         }
 
 -- the search for the byte
-module _ (s : StopByte) (x : List ℕ) (from to end pairs : ℕ) (low : from ≤ to) (within : to ≤ length x)
-    (is : pairs ≡ (end - from) * s.pairs) where
+module _ (s : StopByte) (x : List ℕ) (from to end evals : ℕ) (low : from ≤ to) (within : to ≤ length x)
+    (is : evals ≡ (end - from) * s.evals) where
   abbrev Hay : List ℕ
   Hay = take (to - from) (drop from x)
 
@@ -134,7 +139,7 @@ module _ (s : StopByte) (x : List ℕ) (from to end pairs : ℕ) (low : from ≤
       not (eq-eqb (slice_index Hay i) s.byte (hay_at i lt ∙ here))
 
   pub found_to : (i : ℕ) → end ≡ from + i → IsFirstByte (is_byte s.byte) Hay (Some i)
-      → IsRunTo s x from to (record { end = end; pairs = pairs })
+      → IsRunTo s x from to (record { end = end; evals = evals })
   found_to i at h =
       let lt = h.0.high in
       let whole = hay_length in
@@ -142,29 +147,29 @@ module _ (s : StopByte) (x : List ℕ) (from to end pairs : ℕ) (low : from ≤
         low = omega (arith, at);
         high = omega (arith, at, lt, whole, low);
         before = λ j le less same.
-            let place : from + (j - from) ≡ j = omega (arith, le) in
+            let position : from + (j - from) ≡ j = omega (arith, le) in
             not_before (j - from) (omega (arith, le, less, at, lt, whole))
             (h.0.before (j - from) (omega arith) (omega (arith, le, less, at)))
-            (subst (λ q. slice_get x q ≡ Some s.byte) (sym place) same);
+            (subst (λ q. slice_get x q ≡ Some s.byte) (sym position) same);
         ends = λ less b same.
             let here = get_or_from_slice_get x end b 0 same in
             let there : slice_index Hay i ≡ s.byte = eqb-true (slice_index Hay i) s.byte h.1 in
             sym here ∙ ap (λ q. slice_index x q) at ∙ sym (hay_at i (omega (arith, lt, whole))) ∙ there;
-        pairs = is;
+        evals = is;
       }
 
   pub found_none : end ≡ to → IsFirstByte (is_byte s.byte) Hay None
-      → IsRunTo s x from to (record { end = end; pairs = pairs })
+      → IsRunTo s x from to (record { end = end; evals = evals })
   found_none at h =
       let whole = hay_length in
       record {
         low = omega (arith, at, low);
         high = omega (arith, at);
         before = λ j le less same.
-            let place : from + (j - from) ≡ j = omega (arith, le) in
+            let position : from + (j - from) ≡ j = omega (arith, le) in
             not_before (j - from) (omega (arith, le, less, at))
             (h (j - from) (omega arith) (omega (arith, le, less, at, whole)))
-            (subst (λ q. slice_get x q ≡ Some s.byte) (sym place) same);
+            (subst (λ q. slice_get x q ≡ Some s.byte) (sym position) same);
         ends = λ less b same. absurd (omega (arith, less, at));
-        pairs = is;
+        evals = is;
       }

@@ -1,4 +1,4 @@
--- Nodes whose outcome at a place is decided by the byte there alone.
+-- Nodes whose outcome at a position is decided by the byte there alone.
 use Rattle.std.specs.Prelude.{◌≡◌, ℕ, zero, suc, ◌+◌, Bool, true, false, List, [], ◌∷◌, slice_get}
 use Rattle.std.specs.Prelude.{Some, None}
 use Rattle.pegnodes.specs.Nodes.{Shape, Any, Bytes, Set, Name, Seq, Choice, Star, Plus, Opt, And, Not}
@@ -10,11 +10,12 @@ Succeeds Takes = Unit {0}
 Succeeds Stays = Unit {0}
 Succeeds Fails = ⊥
 
--- `marks m`: node m is a key; `tails n i`: what is left of node n from its member i on is one; b: the byte at the place
+-- `marks m`: node m is a key; `tails n i`: what is left of node n from its member i on is one; b: the byte at the
+-- position
 module _ (nodes : List Shape) (bodies : List ℕ) (marks : ℕ → Bool) (tails : ℕ → ℕ → Bool) (b : ℕ) where
   mutual
-    -- Byte b alone decides that node n takes it, succeeds without it, or fails. That evaluates so many pairs of a node
-    -- and the place, and none of them but n's is a key.
+    -- Byte b alone decides that node n takes it, succeeds without it, or fails. That evaluates so many evaluations of a
+    -- node and the position, and none of them but n's is a key.
     pub data ByByte : ℕ → ByteVerdict → ℕ → Type 0 where
       by_shape : {n c : ℕ} {v : ByteVerdict} {s : Shape} → slice_get nodes n ≡ Some s → ByShape n s v c → ByByte n v c
 
@@ -41,7 +42,7 @@ module _ (nodes : List Shape) (bodies : List ℕ) (marks : ℕ → Bool) (tails 
       by_and_fails : {n m c : ℕ} → Below m Fails c → ByShape n (And m) Fails (1 + c)
       by_not : {n m c : ℕ} → Below m Fails c → ByShape n (Not m) Stays (1 + c)
       by_not_fails : {n m c : ℕ} {v : ByteVerdict} → Succeeds v → Below m v c → ByShape n (Not m) Fails (1 + c)
-      by_no_turn : {n m c : ℕ} → Below m Fails c → ByShape n (Star m) Stays (1 + c)
+      by_no_iteration : {n m c : ℕ} → Below m Fails c → ByShape n (Star m) Stays (1 + c)
       by_no_plus : {n m s c : ℕ} → Below m Fails c → ByShape n (Plus m s) Fails (1 + c)
 
     -- Of the members of a sequence from the i-th on, one that fails ends it, and only the last one takes the byte.
@@ -67,9 +68,9 @@ module _ (nodes : List Shape) (bodies : List ℕ) (marks : ℕ → Bool) (tails 
           → Below m v c → ByAlternatives n ms i v c
 
 module _ (nodes : List Shape) (bodies x : List ℕ) (marks : ℕ → Bool) (tails : ℕ → ℕ → Bool) where
-  -- The bytes from place a on decide that node k takes each of n of them. The turns of a repetition of k over them are
-  -- so many pairs: those of the repetition, and those that each turn's evaluation of k begins.
-  pub data AreTurns (k a : ℕ) : ℕ → ℕ → Type 0 where
-    turns_none : AreTurns k a zero zero
-    turns_more : {n c d b : ℕ} → AreTurns k a n c → slice_get x (a + n) ≡ Some b
-        → ByByte nodes bodies marks tails b k Takes d → AreTurns k a (suc n) (c + (1 + d))
+  -- The bytes from position a on decide that node k takes each of n of them. The iterations of a repetition of k over
+  -- them are so many evaluations: those of the repetition, and those that each iteration's evaluation of k begins.
+  pub data AreIterations (k a : ℕ) : ℕ → ℕ → Type 0 where
+    iterations_none : AreIterations k a zero zero
+    iterations_more : {n c d b : ℕ} → AreIterations k a n c → slice_get x (a + n) ≡ Some b
+        → ByByte nodes bodies marks tails b k Takes d → AreIterations k a (suc n) (c + (1 + d))

@@ -8,10 +8,10 @@ use Rattle.pegnodes.specs.RunTables.{IsTable}
 use Rattle.pegnodes.specs.declared.choice_table.ChoiceTable.{ChoiceTable}
 use Rattle.pegnodes.specs.declared.run_table.RunTable.{RunTable}
 
--- the table at a place of a list, which is as P says
-pub record HasTable {T : Type 0} (P : T → Type 0) (tables : List T) (place : ℕ) : Type 0 where
+-- the table at a position of a list, which is as P says
+pub record HasTable {T : Type 0} (P : T → Type 0) (tables : List T) (position : ℕ) : Type 0 where
   pub table : T
-  pub there : slice_get tables place ≡ Some table
+  pub there : slice_get tables position ≡ Some table
   pub is_table : P table
 
 -- the node whose outcomes are in the table of node n of this shape: a repetition's operand; or an option or predicate
@@ -41,12 +41,13 @@ module _ (nodes : List Shape) (bodies : List ℕ) (marks : Marks) where
   IsChoiceTableOf n ms table = IsChoiceTable nodes bodies (node_marks marks) (tail_marks marks) n ms
       table.entries.items
 
-  -- the place of a node's table: among those of the choices if the node is one, else among the others
-  pub record HasByteTable (runs : List RunTable) (choices : List ChoiceTable) (n place : ℕ) : Type 0 where
-    pub run : (s : Shape) (k : ℕ) → slice_get nodes n ≡ Some s → IsTabled n s k → HasTable (IsRunTableOf k) runs place
-    pub choice : (ms : List ℕ) → slice_get nodes n ≡ Some (Choice ms) → HasTable (IsChoiceTableOf n ms) choices place
+  -- the position of a node's table: among those of the choices if the node is one, else among the others
+  pub record HasByteTable (runs : List RunTable) (choices : List ChoiceTable) (n position : ℕ) : Type 0 where
+    pub run : (s : Shape) (k : ℕ) → slice_get nodes n ≡ Some s → IsTabled n s k
+        → HasTable (IsRunTableOf k) runs position
+    pub choice : (ms : List ℕ) → slice_get nodes n ≡ Some (Choice ms) → HasTable (IsChoiceTableOf n ms) choices position
 
-  -- of each node the place of its table, if it has one
+  -- of each node the position of its table, if it has one
   abbrev pub AreByteTables : List (Option ℕ) → List RunTable → List ChoiceTable → Type 0
-  AreByteTables places runs choices = (n place : ℕ) → slice_get places n ≡ Some (Some place)
-      → HasByteTable runs choices n place
+  AreByteTables positions runs choices = (n position : ℕ) → slice_get positions n ≡ Some (Some position)
+      → HasByteTable runs choices n position

@@ -2,7 +2,7 @@
 use Rattle.std.specs.Prelude.{◌≡◌, ◌⊎◌, ℕ, suc, Bool, true, false, List, slice_get, Some}
 use Rattle.pegnodes.specs.Nodes.{Shape, Seq, Star}
 use Rattle.pegnodes.specs.Width.{Width}
-use Rattle.pegnodes.specs.NodeWays.{Way, Leaf, Body, Members, Alternatives, Turns, Operand, way_of}
+use Rattle.pegnodes.specs.NodeWays.{Way, Leaf, Body, Members, Alternatives, Iterations, Operand, way_of}
 
 module _ (start : ℕ) (nodes : List Shape) (bodies : List ℕ) where
   -- a node that goes on in this way names node m
@@ -11,7 +11,7 @@ module _ (start : ℕ) (nodes : List Shape) (bodies : List ℕ) where
   WayNames (Body id) m = slice_get bodies id ≡ Some m
   WayNames (Members ms) m = (i : ℕ) × (slice_get ms i ≡ Some m)
   WayNames (Alternatives ms) m = (i : ℕ) × (slice_get ms i ≡ Some m)
-  WayNames (Turns k s) m = (m ≡ k) ⊎ (m ≡ s)
+  WayNames (Iterations k s) m = (m ≡ k) ⊎ (m ≡ s)
   WayNames (Operand k) m = m ≡ k
 
   -- it names m once, and not as the repetition that it goes on with
@@ -20,7 +20,7 @@ module _ (start : ℕ) (nodes : List Shape) (bodies : List ℕ) where
   WayNamesOnce (Body id) m = Unit {0}
   WayNamesOnce (Members ms) m = (i j : ℕ) → slice_get ms i ≡ Some m → slice_get ms j ≡ Some m → i ≡ j
   WayNamesOnce (Alternatives ms) m = (i j : ℕ) → slice_get ms i ≡ Some m → slice_get ms j ≡ Some m → i ≡ j
-  WayNamesOnce (Turns k s) m = m ≡ s → ⊥
+  WayNamesOnce (Iterations k s) m = m ≡ s → ⊥
   WayNamesOnce (Operand k) m = Unit {0}
 
   abbrev pub DoesNotRepeat : Way → Type 0
@@ -28,7 +28,7 @@ module _ (start : ℕ) (nodes : List Shape) (bodies : List ℕ) where
   DoesNotRepeat (Body id) = Unit {0}
   DoesNotRepeat (Members ms) = Unit {0}
   DoesNotRepeat (Alternatives ms) = Unit {0}
-  DoesNotRepeat (Turns k s) = ⊥
+  DoesNotRepeat (Iterations k s) = ⊥
   DoesNotRepeat (Operand k) = Unit {0}
 
   -- Node m is named by one node, once, and is not the start rule's body.
@@ -40,7 +40,7 @@ module _ (start : ℕ) (nodes : List Shape) (bodies : List ℕ) where
     pub once : WayNamesOnce (way_of asker shape) m
     pub not_root : slice_get bodies start ≡ Some m → ⊥
 
-  -- nodes that are asked for at one place at most
+  -- nodes that are asked for at one position at most
   pub data Single : ℕ → Type 0 where
     single_root : {m : ℕ} → slice_get bodies start ≡ Some m
         → ((i : ℕ) (other : Shape) → slice_get nodes i ≡ Some other → WayNames (way_of i other) m → ⊥) → Single m
@@ -53,10 +53,10 @@ module _ (start : ℕ) (nodes : List Shape) (bodies : List ℕ) where
   WayEntersOnce (Body id) m = Unit {0}
   WayEntersOnce (Members ms) m = (i j : ℕ) → slice_get ms i ≡ Some m → slice_get ms j ≡ Some m → i ≡ j
   WayEntersOnce (Alternatives ms) m = (i j : ℕ) → slice_get ms i ≡ Some m → slice_get ms j ≡ Some m → i ≡ j
-  WayEntersOnce (Turns k s) m = m ≡ k → ⊥
+  WayEntersOnce (Iterations k s) m = m ≡ k → ⊥
   WayEntersOnce (Operand k) m = Unit {0}
 
-  -- Node m is a repetition that is named by itself and by one node that is asked for at one place at most.
+  -- Node m is a repetition that is named by itself and by one node that is asked for at one position at most.
   pub record IsLoop (m : ℕ) : Type 0 where
     pub operand : ℕ
     pub is_star : slice_get nodes m ≡ Some (Star operand)

@@ -5,7 +5,7 @@ use Rattle.fixpoint.specs.NumberMarks.{IsMarked}
 use Rattle.pegnodes.specs.KeyMarks.{Single}
 use Rattle.pegnodes.specs.Namers.{AreNamers, name_rows}
 use Rattle.pegnodes.specs.Nodes.{Shape, Star}
-use Rattle.pegnodes.specs.NodeWays.{Way, Leaf, Body, Members, Alternatives, Turns, Operand, way_of}
+use Rattle.pegnodes.specs.NodeWays.{Way, Leaf, Body, Members, Alternatives, Iterations, Operand, way_of}
 use Rattle.pegnodes.specs.declared.keys.GoesOn.{GoesOn}
 use Rattle.pegnodes.specs.declared.keys.GoesOn.TheVariants.{Missing, Once, Again}
 use Rattle.pegnodes.specs.declared.namers.Namer.{Namer}
@@ -17,7 +17,7 @@ going_of Leaf = Once
 going_of (Body id) = Once
 going_of (Members ms) = Once
 going_of (Alternatives ms) = Once
-going_of (Turns k s) = Again k s
+going_of (Iterations k s) = Again k s
 going_of (Operand k) = Once
 
 module _ (nodes : List Shape) where
@@ -25,13 +25,13 @@ module _ (nodes : List Shape) where
   pub record GoesOnce (n : ℕ) : Type 0 where
     pub shape : Shape
     pub at : slice_get nodes n ≡ Some shape
-    pub once : (k s : ℕ) → way_of n shape ≡ Turns k s → ⊥
+    pub once : (k s : ℕ) → way_of n shape ≡ Iterations k s → ⊥
 
   -- the node goes on with operand k and then with repetition s
   pub record GoesAgain (n k s : ℕ) : Type 0 where
     pub shape : Shape
     pub at : slice_get nodes n ≡ Some shape
-    pub again : way_of n shape ≡ Turns k s
+    pub again : way_of n shape ≡ Iterations k s
 
   -- how node n goes on
   abbrev pub IsGoing : ℕ → GoesOn → Type 0
@@ -43,14 +43,14 @@ module _ (nodes : List Shape) where
   pub record MayBePlain (a m : ℕ) : Type 0 where
     pub shape : Shape
     pub at : slice_get nodes a ≡ Some shape
-    pub other : (k s : ℕ) → way_of a shape ≡ Turns k s → m ≡ s → ⊥
+    pub other : (k s : ℕ) → way_of a shape ≡ Iterations k s → m ≡ s → ⊥
     pub no_star : (k : ℕ) → slice_get nodes m ≡ Some (Star k) → ⊥
 
   -- m is a repetition, and not the operand of one with which node a goes on
   pub record MayBeLoop (a m : ℕ) : Type 0 where
     pub shape : Shape
     pub at : slice_get nodes a ≡ Some shape
-    pub other : (k s : ℕ) → way_of a shape ≡ Turns k s → m ≡ k → ⊥
+    pub other : (k s : ℕ) → way_of a shape ≡ Iterations k s → m ≡ k → ⊥
     pub operand : ℕ
     pub is_star : slice_get nodes m ≡ Some (Star operand)
 

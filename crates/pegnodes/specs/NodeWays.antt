@@ -10,7 +10,7 @@ pub data Way : Type 0 where
   Members : List ℕ → Way
   Alternatives : List ℕ → Way
   -- the operand, and then the repetition
-  Turns : (operand : ℕ) → (again : ℕ) → Way
+  Iterations : (operand : ℕ) → (again : ℕ) → Way
   Operand : ℕ → Way
 
 abbrev pub way_of : ℕ → Shape → Way
@@ -20,8 +20,8 @@ way_of n (Set s) = Leaf
 way_of n (Name id) = Body id
 way_of n (Seq ms) = Members ms
 way_of n (Choice ms) = Alternatives ms
-way_of n (Star k) = Turns k n
-way_of n (Plus k s) = Turns k s
+way_of n (Star k) = Iterations k n
+way_of n (Plus k s) = Iterations k s
 way_of n (Opt k) = Operand k
 way_of n (And k) = Operand k
 way_of n (Not k) = Operand k

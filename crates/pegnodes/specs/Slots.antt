@@ -1,4 +1,4 @@
--- Where the text of an action is cut: at the words that the capture takes the place of.
+-- Where the text of an action is cut: at the words that the capture takes the position of.
 use Rattle.std.specs.Prelude.{◌≡◌, ℕ, ◌≤◌, List, [], ◌∷◌, ◌++◌, length, slice_get, slice_range, Option, Some, None}
 use Rattle.std.specs.Fmt.{decimal}
 use Rattle.pegnodes.specs.declared.template.Put.{Put}
@@ -18,7 +18,7 @@ abbrev pub run_text : List ℕ → List ℕ → Option Put → List ℕ
 run_text capture run None = run
 run_text capture run (Some p) = put_text capture p
 
--- the text from one place to another, with the capture put in the slots between them
+-- the text from one position to another, with the capture put in the slots between them
 abbrev pub put_in : List ℕ → List ℕ → ℕ → List Slot → ℕ → List ℕ
 put_in text capture from [] to = slice_range text from to
 put_in text capture from (slot ∷ slots) to =
@@ -45,14 +45,15 @@ pub record IsCut (text : List ℕ) (cut : Template) : Type 0 where
   pub between_blanks : (capture : List ℕ) → filled (trimmed text) capture
       ≡ put_in text capture cut.from cut.slots.items cut.to
 
--- the cut of a node's template, at the place that the node has in a list
-pub record HasCut (places : List ℕ) (cuts : List Template) (n : ℕ) (text : List ℕ) : Type 0 where
-  pub place : ℕ
+-- the cut of a node's template, at the position that the node has in a list
+pub record HasCut (positions : List ℕ) (cuts : List Template) (n : ℕ) (text : List ℕ) : Type 0 where
+  pub position : ℕ
   pub cut : Template
-  pub at : slice_get places n ≡ Some place
-  pub there : slice_get cuts place ≡ Some cut
+  pub at : slice_get positions n ≡ Some position
+  pub there : slice_get cuts position ≡ Some cut
   pub is_cut : IsCut text cut
 
 -- each action has the cut of its template
 abbrev pub AreCuts : List Shape → List ℕ → List Template → Type 0
-AreCuts nodes places cuts = (n : ℕ) (text : List ℕ) → slice_get nodes n ≡ Some (Act text) → HasCut places cuts n text
+AreCuts nodes positions cuts = (n : ℕ) (text : List ℕ) → slice_get nodes n ≡ Some (Act text)
+    → HasCut positions cuts n text

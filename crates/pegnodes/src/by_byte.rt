@@ -27,7 +27,7 @@ pub enum ByteVerdict {
 pub struct Decided {
     /// The outcome.
     pub verdict: ByteVerdict,
-    /// How many pairs of a node and a position its evaluation visits.
+    /// How many evaluations of a node and a position its evaluation visits.
     pub count: u16,
 }
 
@@ -47,9 +47,9 @@ pub struct MarkedNodes<'a> {
 // How deep a node is looked into.
 const MOST_LEVELS: usize = 40;
 
-// How many pairs are evaluated at most where a byte decides. So what a byte decides of a choice of very many
+// How many evaluations are evaluated at most where a byte decides. So what a byte decides of a choice of very many
 // alternatives is soon found, or left open.
-const MOST_PAIRS: u16 = 1000;
+const MOST_EVALS: u16 = 1000;
 
 /// Returns the node of that number.
 pub(crate) fn node_at(nodes: &[Node], n: usize) -> Option<&Node>
@@ -71,7 +71,7 @@ pub(crate) fn summed(verdict: ByteVerdict, count: u16, more: u16) -> Option<Deci
     ensures { IfSome result (λ d. (d.verdict ≡ verdict) × (d.count ≡ count + more)) }
 {
     let count = count.checked_add(more)?;
-    if count > MOST_PAIRS {
+    if count > MOST_EVALS {
         return None;
     }
     Some(Decided { verdict, count })
@@ -289,7 +289,7 @@ pub fn decide(grammar: &MarkedNodes<'_>, n: usize, b: u8) -> Option<Decided>
     by_node(grammar, n, b, MOST_LEVELS)
 }
 
-/// States that a byte decides one verdict of a node, with one number of pairs.
+/// States that a byte decides one verdict of a node, with one number of evaluations.
 pub fn one_verdict()
     ensures { (nodes : List Shape) (bodies : List ℕ) (marks : ℕ → Bool) (tails : ℕ → ℕ → Bool) (b n c d : ℕ)
         (v w : ByteVerdict) → ByByte nodes bodies marks tails b n v c → ByByte nodes bodies marks tails b n w d →

@@ -27,16 +27,16 @@ const MOST_RUNS: usize = 512;
 // starts soon.
 const MOST_NODES: usize = 4000;
 
-/// The tables of a grammar's choices, and of its repetitions, options and predicates; and of each node the place of its
-/// table, if it has one.
+/// The tables of a grammar's choices, and of its repetitions, options and predicates; and of each node the position of
+/// its table, if it has one.
 #[derive(Drop)]
 pub struct ByteTables {
     pub runs: Vec<RunTable>,
     pub choices: Vec<ChoiceTable>,
-    pub places: Vec<Option<u16>>,
+    pub positions: Vec<Option<u16>>,
 }
 
-// Adds the table of a node's outcomes to fewer than `most`, if the table is of use, and returns its place.
+// Adds the table of a node's outcomes to fewer than `most`, if the table is of use, and returns its position.
 fn add_run(
     alloc: Global,
     grammar: &MarkedNodes<'_>,
@@ -49,8 +49,8 @@ fn add_run(
     ensures added { IfOk result (λ added. IfSome added (HasTable (IsRunTableOf (shapes_of grammar.now.nodes.now)
         grammar.now.bodies.now (marks_in grammar.now) n) runs.new.items)) }
 {
-    let place = runs.len();
-    if place >= most {
+    let position = runs.len();
+    if position >= most {
         return Ok(None);
     }
     let table = RunTable::new(alloc, grammar, n)?;
@@ -58,7 +58,7 @@ fn add_run(
         return Ok(None);
     }
     runs.push(table)?;
-    Ok(Some(place as u16))
+    Ok(Some(position as u16))
 }
 
 // Returns whether byte 0 decides anything of the first alternative, which is no key. Few alternatives begin with that
@@ -72,7 +72,7 @@ fn may_skip(grammar: &MarkedNodes<'_>, alternatives: &[usize]) -> bool {
     }
 }
 
-// Adds the table of a choice, if the table is of use, and returns its place.
+// Adds the table of a choice, if the table is of use, and returns its position.
 fn add_choice(
     alloc: Global,
     grammar: &MarkedNodes<'_>,
@@ -80,13 +80,13 @@ fn add_choice(
     choices: &mut Vec<ChoiceTable>,
 ) -> Result<Option<u16>, Memory>
     ensures kept { IfOk result (λ _. (more : List ChoiceTable) × (choices.new.items ≡ choices.old.items ++ more)) }
-    ensures added { IfOk result (λ added. IfSome added (λ place. (n : ℕ) →
+    ensures added { IfOk result (λ added. IfSome added (λ position. (n : ℕ) →
         slice_get (shapes_of grammar.now.nodes.now) n ≡ Some (Choice alternatives.now) →
         HasTable (IsChoiceTableOf (shapes_of grammar.now.nodes.now) grammar.now.bodies.now (marks_in grammar.now) n
-        alternatives.now) choices.new.items place)) }
+        alternatives.now) choices.new.items position)) }
 {
-    let place = choices.len();
-    if place >= MOST_TABLES || alternatives.len() > MOST_ALTERNATIVES {
+    let position = choices.len();
+    if position >= MOST_TABLES || alternatives.len() > MOST_ALTERNATIVES {
         return Ok(None);
     }
     if !may_skip(grammar, alternatives) {
@@ -97,7 +97,7 @@ fn add_choice(
         return Ok(None);
     }
     choices.push(table)?;
-    Ok(Some(place as u16))
+    Ok(Some(position as u16))
 }
 
 // Returns whether a node is an option or a predicate.
@@ -120,7 +120,7 @@ fn is_test(node: &Node) -> bool
     }
 }
 
-// Adds the table of a node, if it has one, and returns its place.
+// Adds the table of a node, if it has one, and returns its position.
 fn add_table(
     alloc: Global,
     grammar: &MarkedNodes<'_>,
@@ -130,7 +130,7 @@ fn add_table(
     ensures runs { IfOk result (λ _. (more : List RunTable) × (tables.new.runs.items ≡ tables.old.runs.items ++ more)) }
     ensures choices { IfOk result (λ _. (more : List ChoiceTable) ×
         (tables.new.choices.items ≡ tables.old.choices.items ++ more)) }
-    ensures places { IfOk result (λ _. tables.new.places.items ≡ tables.old.places.items) }
+    ensures positions { IfOk result (λ _. tables.new.positions.items ≡ tables.old.positions.items) }
     ensures added { IfOk result (λ added. IfSome added (HasByteTable (shapes_of grammar.now.nodes.now)
         grammar.now.bodies.now (marks_in grammar.now) tables.new.runs.items tables.new.choices.items n)) }
 {
@@ -161,17 +161,17 @@ fn add_table(
 /// `Memory` if an allocation fails.
 pub fn find_tables(alloc: Global, grammar: &MarkedNodes<'_>) -> Result<ByteTables, Memory>
     ensures { IfOk result (λ tables. AreByteTables (shapes_of grammar.now.nodes.now) grammar.now.bodies.now
-        (marks_in grammar.now) tables.places.items tables.runs.items tables.choices.items) }
+        (marks_in grammar.now) tables.positions.items tables.runs.items tables.choices.items) }
 {
-    let places = Vec::with_capacity(alloc, grammar.nodes.len())?;
+    let positions = Vec::with_capacity(alloc, grammar.nodes.len())?;
     let mut tables = ByteTables {
         runs: Vec::new(alloc),
         choices: Vec::new(alloc),
-        places,
+        positions,
     };
     for n in 0..grammar.nodes.len() {
-        let place = add_table(alloc, grammar, n, &mut tables)?;
-        tables.places.push(place)?;
+        let position = add_table(alloc, grammar, n, &mut tables)?;
+        tables.positions.push(position)?;
     }
     Ok(tables)
 }

@@ -12,11 +12,11 @@ use crate::keys::mark_or;
 use ruletable::Memory;
 use std::alloc::Global;
 
-/// How many of the first alternatives of a choice a byte decides to fail, and how many pairs that evaluates.
+/// How many of the first alternatives of a choice a byte decides to fail, and how many evaluations that evaluates.
 #[derive(Clone, Copy)]
 pub struct Skip {
     pub index: u16,
-    pub pairs: u32,
+    pub evals: u32,
 }
 
 /// Of each byte how many of the first alternatives of a choice it decides to fail.
@@ -29,7 +29,8 @@ pub struct ChoiceTable {
 // How many alternatives a choice with a table has at most.
 pub(crate) const MOST_ALTERNATIVES: usize = 1000;
 
-// Returns how many pairs are evaluated up to an alternative's end, if a byte decides that it fails and it is no key.
+// Returns how many evaluations are evaluated up to an alternative's end, if a byte decides that it fails and it is no
+// key.
 fn failing(grammar: &MarkedNodes<'_>, m: usize, b: u8, before: u16) -> Option<u16>
     ensures { IfSome result (λ sum. (c : ℕ) × (sum ≡ before + c)
         × Below (shapes_of grammar.now.nodes.now) grammar.now.bodies.now (mark_in grammar.now) (tail_in grammar.now) b m
@@ -54,21 +55,21 @@ fn skip_by(grammar: &MarkedNodes<'_>, alternatives: &[usize], b: u8) -> Skip
     requires { length alternatives.now ≤ 1000 }
     ensures { (n : ℕ) → slice_get (shapes_of grammar.now.nodes.now) n ≡ Some (Choice alternatives.now) →
         FailFirst (shapes_of grammar.now.nodes.now) grammar.now.bodies.now (mark_in grammar.now) (tail_in grammar.now) b
-        n alternatives.now result.index result.pairs }
+        n alternatives.now result.index result.evals }
 {
-    let mut pairs = 0;
+    let mut evals = 0;
     for i in 0..alternatives.len() {
-        let Some(sum) = failing(grammar, alternatives[i], b, pairs) else {
+        let Some(sum) = failing(grammar, alternatives[i], b, evals) else {
             return Skip {
                 index: i as u16,
-                pairs: u32::from(pairs),
+                evals: u32::from(evals),
             };
         };
-        pairs = sum;
+        evals = sum;
     }
     Skip {
         index: alternatives.len() as u16,
-        pairs: u32::from(pairs),
+        evals: u32::from(evals),
     }
 }
 

@@ -109,7 +109,7 @@ fn may_be_loop(nodes: &[Node], namer: usize, m: usize) -> bool
     }
 }
 
-// Returns what a node needs before it is asked for at one place at most: that its only namer is.
+// Returns what a node needs before it is asked for at one position at most: that its only namer is.
 fn single_need<'a>(nodes: &[Node], namers: &'a [Namer], root: usize, m: usize) -> Need<'a>
     ensures within { (a : ℕ) → Contains (row_of (demand_of result)) a → a < length nodes.now }
     ensures justified { (start : ℕ) (bodies : List ℕ) → AreKnown start (shapes_of nodes.now) bodies root namers.now
@@ -131,7 +131,7 @@ fn single_need<'a>(nodes: &[Node], namers: &'a [Namer], root: usize, m: usize) -
     Need::One(&[])
 }
 
-// Returns what each node needs before it is asked for at one place at most.
+// Returns what each node needs before it is asked for at one position at most.
 fn single_needs<'a>(
     alloc: Global,
     nodes: &[Node],
@@ -152,7 +152,7 @@ fn single_needs<'a>(
     Ok(needs)
 }
 
-// Marks nodes that are asked for at one place at most.
+// Marks nodes that are asked for at one position at most.
 fn singles(
     alloc: Global,
     nodes: &[Node],

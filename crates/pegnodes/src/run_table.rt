@@ -2,7 +2,7 @@
 ghost use Rattle.std.specs.Prelude.{◌≡◌, ◌↔◌, ◌<◌, ◌≤◌, ℕ, length, IfOk, IfSome, slice_get, true, Some};
 ghost use Rattle.pegnodes.specs.Decides.{mark_in, tail_in};
 ghost use Rattle.pegnodes.specs.Nodes.{shapes_of};
-ghost use Rattle.pegnodes.specs.RunTables.{IsTable, turn_pairs, OthersTake, IsStop, IsRun, IsRunTo};
+ghost use Rattle.pegnodes.specs.RunTables.{IsTable, iteration_evals, OthersTake, IsStop, IsRun, IsRunTo};
 ghost use Rattle.pegnodes.specs.declared.by_byte.Decided.{Decided};
 
 use crate::by_byte::{ByteVerdict, Decided, MarkedNodes, decide};
@@ -15,8 +15,8 @@ use std::alloc::Global;
 pub struct StopByte {
     /// The byte.
     pub byte: u8,
-    /// How many pairs an iteration over each other byte begins.
-    pub pairs: u64,
+    /// How many evaluations an iteration over each other byte begins.
+    pub evals: u64,
 }
 
 /// A run of bytes that a node takes, one at a time.
@@ -24,8 +24,8 @@ pub struct StopByte {
 pub struct Run {
     /// The position after the last byte.
     pub end: usize,
-    /// How many pairs the iterations of a repetition over it begin.
-    pub pairs: u128,
+    /// How many evaluations the iterations of a repetition over it begin.
+    pub evals: u128,
 }
 
 /// The outcomes of a node that one byte decides, by that byte. A repetition of the node takes a run of bytes by it.
@@ -39,9 +39,9 @@ pub struct RunTable {
     pub ghost stops: { IsStop entries.items stop },
 }
 
-// Returns how many pairs a turn over the byte of this entry is, or 0 if the byte is not taken.
-fn pairs_of(entry: Option<Decided>) -> u64
-    ensures pairs { result ≡ turn_pairs (Some entry) }
+// Returns how many evaluations an iteration over the byte of this entry is, or 0 if the byte is not taken.
+fn evals_of(entry: Option<Decided>) -> u64
+    ensures evals { result ≡ iteration_evals (Some entry) }
     ensures fits { result ≤ 65536 }
 {
     match entry {
@@ -57,41 +57,42 @@ fn pairs_of(entry: Option<Decided>) -> u64
 // Returns the first byte that is not known to be taken.
 fn first_left(entries: &[Option<Decided>]) -> Option<u8>
     requires { length entries.now ≡ 256 }
-    ensures { IfSome result (λ b. turn_pairs (slice_get entries.now b) ≡ 0) }
+    ensures { IfSome result (λ b. iteration_evals (slice_get entries.now b) ≡ 0) }
 {
     for b in 0..=u8::MAX {
-        if pairs_of(entries[usize::from(b)]) == 0 {
+        if evals_of(entries[usize::from(b)]) == 0 {
             return Some(b);
         }
     }
     None
 }
 
-// Returns whether all bytes but one are taken, with so many pairs.
-fn others_take(entries: &[Option<Decided>], byte: u8, pairs: u64) -> bool
+// Returns whether all bytes but one are taken, with so many evaluations.
+fn others_take(entries: &[Option<Decided>], byte: u8, evals: u64) -> bool
     requires { length entries.now ≡ 256 }
-    ensures { result ≡ true → OthersTake entries.now byte pairs }
+    ensures { result ≡ true → OthersTake entries.now byte evals }
 {
     for b in 0..entries.len() {
-        if b != usize::from(byte) && pairs_of(entries[b]) != pairs {
+        if b != usize::from(byte) && evals_of(entries[b]) != evals {
             return false;
         }
     }
     true
 }
 
-// Returns the byte that alone is not taken, if there is one and a turn over each other byte is as many pairs.
+// Returns the byte that alone is not taken, if there is one and an iteration over each other byte is as many
+// evaluations.
 fn find_stop(entries: &[Option<Decided>]) -> Option<StopByte>
     requires { length entries.now ≡ 256 }
     ensures { IsStop entries.now result }
 {
     let byte = first_left(entries)?;
     let other = if byte == 0 { 1 } else { 0 };
-    let pairs = pairs_of(entries[other]);
-    if pairs == 0 || !others_take(entries, byte, pairs) {
+    let evals = evals_of(entries[other]);
+    if evals == 0 || !others_take(entries, byte, evals) {
         return None;
     }
-    Some(StopByte { byte, pairs })
+    Some(StopByte { byte, evals })
 }
 
 // Returns of each byte what it decides of a node.
@@ -121,9 +122,9 @@ fn run_to(stop: StopByte, window: &[u8], from: usize, to: usize) -> Run
         Some(i) => from + i,
         None => to,
     };
-    let turns = (end - from) as u128;
-    let pairs = turns * u128::from(stop.pairs);
-    Run { end, pairs }
+    let iterations = (end - from) as u128;
+    let evals = iterations * u128::from(stop.evals);
+    Run { end, evals }
 }
 
 // Returns how far bytes are taken, with the sum of their numbers.
@@ -133,15 +134,15 @@ fn run_along(entries: &[Option<Decided>], window: &[u8], from: usize, to: usize)
     requires to { to ≤ length window.now }
     ensures { IsRun entries.now window.now from to result }
 {
-    let mut pairs: u128 = 0;
+    let mut evals: u128 = 0;
     for end in from..to {
-        let turn = pairs_of(entries[usize::from(window[end])]);
-        if turn == 0 {
-            return Run { end, pairs };
+        let iteration = evals_of(entries[usize::from(window[end])]);
+        if iteration == 0 {
+            return Run { end, evals };
         }
-        pairs += u128::from(turn);
+        evals += u128::from(iteration);
     }
-    Run { end: to, pairs }
+    Run { end: to, evals }
 }
 
 impl RunTable {
@@ -176,7 +177,7 @@ impl RunTable {
         self.entries[usize::from(b)]
     }
 
-    /// Returns how far the node takes the bytes of a window from a position up to another, and how many pairs the
+    /// Returns how far the node takes the bytes of a window from a position up to another, and how many evaluations the
     /// iterations of a repetition over them are.
     pub fn run(&self, window: &[u8], from: usize, to: usize) -> Run
         requires from { from ≤ to }

@@ -78,7 +78,7 @@ fn back_blanks(text: &[u8]) -> usize
     end
 }
 
-// Returns what takes the place of a run of word bytes; `None` where it stands.
+// Returns what takes the position of a run of word bytes; `None` where it stands.
 fn put_for(run: &[u8]) -> Option<Put>
     ensures { (capture : List ℕ) → filled_piece capture (Piece.Word run.now) ≡ run_text capture run.now result }
 {
@@ -103,7 +103,7 @@ fn add_slot(text: &[u8], from: usize, to: usize, slots: &mut Vec<Slot>) -> Resul
     Ok(())
 }
 
-// Returns the slots of a text between two places.
+// Returns the slots of a text between two positions.
 fn slots_of(alloc: Global, text: &[u8], from: usize, to: usize) -> Result<Vec<Slot>, Memory>
     requires order { from ≤ to }
     requires within { to ≤ length text.now }
@@ -140,7 +140,7 @@ pub(crate) fn cut_template(alloc: Global, text: &[u8]) -> Result<Template, Memor
 #[derive(Drop)]
 pub struct Templates {
     /// Of each node the index of its template's cut.
-    pub places: Vec<usize>,
+    pub positions: Vec<usize>,
     /// The cuts.
     pub cuts: Vec<Template>,
 }
@@ -149,15 +149,15 @@ pub struct Templates {
 ///
 /// `Memory` if an allocation fails.
 pub fn cut_templates(alloc: Global, nodes: &[Node]) -> Result<Templates, Memory>
-    ensures { IfOk result (λ all. AreCuts (shapes_of nodes.now) all.places.items all.cuts.items) }
+    ensures { IfOk result (λ all. AreCuts (shapes_of nodes.now) all.positions.items all.cuts.items) }
 {
-    let mut places = Vec::with_capacity(alloc, nodes.len())?;
+    let mut positions = Vec::with_capacity(alloc, nodes.len())?;
     let mut cuts = Vec::new(alloc);
     for node in nodes {
-        places.push(cuts.len())?;
+        positions.push(cuts.len())?;
         if let Node::Act(text) = node {
             cuts.push(cut_template(alloc, text)?)?;
         }
     }
-    Ok(Templates { places, cuts })
+    Ok(Templates { positions, cuts })
 }

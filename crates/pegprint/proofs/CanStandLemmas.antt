@@ -26,12 +26,12 @@ use Rattle.pegread.specs.Words.{SayAll}
 use Rattle.pegread.proofs.GrammarViabilityLemmas.{hopeless-next, too_deep-next}
 use Rattle.pegread.proofs.IsShallowLemmas.{shallow-next}
 use Rattle.pegread.proofs.SaysLemmas.{bad-silent}
-use Rattle.pegprint.specs.declared.faults.stand.Place.{Place}
+use Rattle.pegprint.specs.declared.faults.stand.Position.{Position}
 use Rattle.pegprint.specs.declared.faults.stand.Stand.{Stand}
 use Rattle.pegprint.specs.declared.faults.stand.Stand.TheVariants as stands
 use Rattle.pegprint.specs.PegExpected.{CanStand}
-use Rattle.pegprint.specs.PegStands.{place_of, stand_of, goes, allows}
-use Rattle.pegprint.proofs.StandLemmas.{kind_said, says-kind, place_after, step-goes}
+use Rattle.pegprint.specs.PegStands.{position_of, stand_of, goes, allows}
+use Rattle.pegprint.proofs.StandLemmas.{kind_said, says-kind, position_after, step-goes}
 
 no_span : Span
 no_span = record { start = 0; end = 0 }
@@ -72,20 +72,20 @@ some-sample kinds.Action = inr (sample-of kinds.Action (123 ∷ 125 ∷ []) (Act
 some-sample kinds.Bad = inl refl
 some-sample kinds.End = inr (sample-of kinds.End [] End says_end)
 
-pub after-some : (x : Option Config) (p : Place) → place_after x ≡ Some p → (d : Config) × (x ≡ Some d)
-    × (place_of d ≡ p)
+pub after-some : (x : Option Config) (p : Position) → position_after x ≡ Some p → (d : Config) × (x ≡ Some d)
+    × (position_of d ≡ p)
 after-some None p e = cc
-after-some (Some d) p e = (d, refl, let same : place_of d ≡ p = cc in same)
+after-some (Some d) p e = (d, refl, let same : position_of d ≡ p = cc in same)
 
-pub after-none : (x : Option Config) → place_after x ≡ None → x ≡ None
+pub after-none : (x : Option Config) → position_after x ≡ None → x ≡ None
 after-none None e = refl
 after-none (Some d) e = cc
 
-some-there : (x : Option Place) → is_some x ≡ true → (p : Place) × (x ≡ Some p)
+some-there : (x : Option Position) → is_some x ≡ true → (p : Position) × (x ≡ Some p)
 some-there None e = cc
 some-there (Some p) e = (p, refl)
 
-none-there : (x : Option Place) → is_some x ≡ false → x ≡ None
+none-there : (x : Option Position) → is_some x ≡ false → x ≡ None
 none-there None e = refl
 none-there (Some p) e = cc
 
@@ -100,7 +100,7 @@ bad-at stands.Name n = refl
 bad-at stands.PrefixedName n = refl
 bad-at stands.Done n = refl
 
-pub goes-bad : (p : Place) → goes p.stand p.depth kinds.Bad ≡ None
+pub goes-bad : (p : Position) → goes p.stand p.depth kinds.Bad ≡ None
 goes-bad p = bad-at p.stand p.depth
 
 whole-taken : (ts : List Tok) (t : Tok) → take (length ts + 1) (ts ++ t ∷ []) ≡ ts ++ t ∷ []
@@ -129,26 +129,27 @@ viable-onward {ts} {ws} c say runs within t w d says steps = elim (cases_lt MAX_
 ]
 
 module _ {ts : List Tok} {ws : List Word} (c : Config) (say : SayAll ts ws) (runs : run start ws ≡ Some c)
-    (within : AreWithin ts) (place : Place) (stands : place_of c ≡ place) where
-  goes-there : (k : Kind) → goes (stand_of c) (levels_in c) k ≡ goes place.stand place.depth k
-  goes-there k = ap (λ (p : Place). goes p.stand p.depth k) stands
+    (within : AreWithin ts) (position : Position) (stands : position_of c ≡ position) where
+  goes-there : (k : Kind) → goes (stand_of c) (levels_in c) k ≡ goes position.stand position.depth k
+  goes-there k = ap (λ (p : Position). goes p.stand p.depth k) stands
 
   -- the step by a word goes where its kind does
-  pub step-there : (w : Word) (k : Kind) → kind_said w ≡ k → place_after (step c w) ≡ goes place.stand place.depth k
+  pub step-there : (w : Word) (k : Kind) → kind_said w ≡ k → position_after (step c w)
+      ≡ goes position.stand position.depth k
   step-there w k e = step-goes c w ∙ ap (λ (j : Kind). goes (stand_of c) (levels_in c) j) e ∙ goes-there k
 
-  pub stops-there : (t : Tok) → goes place.stand place.depth (kind_of t) ≡ None → (w : Word) → Says t w
+  pub stops-there : (t : Tok) → goes position.stand position.depth (kind_of t) ≡ None → (w : Word) → Says t w
       → step c w ≡ None
   stops-there t none w says = after-none (step c w) (step-there w (kind_of t) (says-kind says) ∙ none)
 
-  pub can-stand : (k : Kind) → allows place k ≡ true → (us : List Tok) → CanStand (ts ++ us) (length ts) k
-  can-stand k e us = by-sample (some-sample k) (some-there (goes place.stand place.depth k) e)
+  pub can-stand : (k : Kind) → allows position k ≡ true → (us : List Tok) → CanStand (ts ++ us) (length ts) k
+  can-stand k e us = by-sample (some-sample k) (some-there (goes position.stand position.depth k) e)
     where
-      by-sample : (k ≡ kinds.Bad) ⊎ Sample k → (p : Place) × (goes place.stand place.depth k ≡ Some p)
+      by-sample : (k ≡ kinds.Bad) ⊎ Sample k → (p : Position) × (goes position.stand position.depth k ≡ Some p)
           → CanStand (ts ++ us) (length ts) k
       by-sample (inl bad) p =
-          let none = goes-bad place in
-          let some : goes place.stand place.depth kinds.Bad ≡ Some p.0 = rw bad at p.1 in
+          let none = goes-bad position in
+          let some : goes position.stand position.depth kinds.Bad ≡ Some p.0 = rw bad at p.1 in
           absurd (let no : None ≡ Some p.0 = sym none ∙ some in cc)
       by-sample (inr s) p =
           let d = after-some (step c s.word) p.0 (step-there s.word k (says-kind s.says ∙ s.kind) ∙ p.1) in
@@ -159,10 +160,11 @@ module _ {ts : List Tok} {ws : List Word} (c : Config) (say : SayAll ts ws) (run
                 (viable-onward c say runs within s.token s.word d.0 s.says d.1);
           }
 
-  pub cannot-stand : (k : Kind) → allows place k ≡ false → (us : List Tok) → CanStand (ts ++ us) (length ts) k → ⊥
+  pub cannot-stand : (k : Kind) → allows position k ≡ false → (us : List Tok) → CanStand (ts ++ us) (length ts) k → ⊥
   cannot-stand k e us h =
-      let none : goes place.stand place.depth (kind_of h.token) ≡ None =
-      ap (λ (j : Kind). goes place.stand place.depth j) h.kind ∙ none-there (goes place.stand place.depth k) e in
+      let none : goes position.stand position.depth (kind_of h.token) ≡ None =
+      ap (λ (j : Kind). goes position.stand position.depth j) h.kind
+      ∙ none-there (goes position.stand position.depth k) e in
       let stop = hopeless-next c say runs within h.token [] (stops-there h.token none) in
       let v = h.viable in
       let w : Viable (ts ++ h.token ∷ []) = rw (take-append_seam ts us) at v in

@@ -21,7 +21,7 @@ use Rattle.pegread.proofs.FirstByteLemmas.{first-ident, first-sign}
 use Rattle.pegread.proofs.SliceLemmas.{NoMore, names-longest, names-before, body-before, white-shorter}
 use Rattle.pegprint.proofs.SameWordsLemmas.{SameWord, same_word, same_name, SameWords, same_none, same_more}
 use Rattle.std.specs.List.{flat_map}
-use Rattle.pegprint.specs.declared.place.Context.TheVariants.{Alternative, Member, OfPrefix, OfAmp, OfSuffix}
+use Rattle.pegprint.specs.declared.position.Context.TheVariants.{Alternative, Member, OfPrefix, OfAmp, OfSuffix}
 use Rattle.pegprint.specs.Brackets.{wraps, around}
 use Rattle.pegprint.specs.Canon.{text_of, joined, more_joined, grammar_text}
 use Rattle.pegread.specs.Escapes.{escaped, class_text}
@@ -51,7 +51,7 @@ pub data Cuts : List ℕ → List Word → Type 0 where
   next : {k : Kind} {t m r s : List ℕ} {w : Word} {ws : List Word} → White t m → First k m r → m ≡ s ++ r
       → is_end k ≡ false → ((p : Span) → SaysLike k s p w) → Cuts r ws → Cuts t (w ∷ ws)
 
--- the tokens with their places, and the words that they say
+-- the tokens with their positions, and the words that they say
 pub record Placed (total : ℕ) (t : List ℕ) (ws : List Word) : Type 0 where
   pub tokens : List Tok
   pub are_tokens : AreTokens total t tokens
@@ -69,7 +69,7 @@ cuts-placed total le (nothing w) =
         white = w;
         first = at_end;
         cut = refl;
-        place = omega arith;
+        position = omega arith;
         size = omega arith;
       }) refl;
       words = words.End ∷ [];
@@ -84,7 +84,7 @@ cuts-placed total le (next {k} {t} {m} {r} {s} w f e h y c) =
     let rest = cuts-placed total (omega (arith, length-append s r)) c in
     record {
       tokens = tok k s span ∷ rest.tokens;
-      are_tokens = one_more (record { token = m; white = w; first = f; cut = e; place = omega arith; size = refl }) h
+      are_tokens = one_more (record { token = m; white = w; first = f; cut = e; position = omega arith; size = refl }) h
           rest.are_tokens;
       words = here.word ∷ rest.words;
       say = say_more here.says rest.say;

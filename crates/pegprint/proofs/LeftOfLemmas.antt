@@ -8,7 +8,7 @@ use Rattle.ruletable.specs.Rules as table
 use Rattle.ruletable.proofs.LeavesLemmas as left
 use Rattle.ruletable.proofs.LeavesLemmas.{Leaves, leaves-all, from-item, marked-left, same-left}
 use Rattle.pegread.specs.declared.expr.Expr.{Expr}
-use Rattle.pegprint.specs.declared.place.Context.{Context}
+use Rattle.pegprint.specs.declared.position.Context.{Context}
 use Rattle.pegprint.specs.Brackets.{around, wraps}
 use Rattle.pegprint.specs.Canon.{text_of, joined, more_joined, definition_text, grammar_text}
 use Rattle.pegread.specs.Pattern.{Patterns}

@@ -2,7 +2,7 @@
 -- Serves: is_read_back
 use Rattle.std.proofs.Common.{Bool, true, false, List, [], ◌∷◌, ◌≡◌, refl, sym, subst}
 use Rattle.ruletable.specs.declared.span.Span.{Span}
-use Rattle.pegprint.specs.declared.place.Context.TheVariants.{Alternative, Member, OfPrefix, OfAmp, OfSuffix}
+use Rattle.pegprint.specs.declared.position.Context.TheVariants.{Alternative, Member, OfPrefix, OfAmp, OfSuffix}
 use Rattle.pegprint.specs.Brackets.{wraps, is_act}
 use Rattle.pegread.proofs.GrammarViabilityLemmas.{nowhere}
 use Rattle.pegread.specs.Pattern.{Pattern, Any, Bytes, Set, Name, Seq, Choice, Star, Plus, Opt, And, Not, Act, Open}
@@ -62,7 +62,7 @@ pub record SpellsOne (s r : List Word) (x : Pattern) : Type 0 where
   pub same : sequence items ≡ x
   pub spelled : Items s r items
 
--- what a pattern's words spell at each place: the operand of a suffix, that of a prefix, a member, an alternative, a
+-- what a pattern's words spell at each position: the operand of a suffix, that of a prefix, a member, an alternative, a
 -- body
 pub record Fits (suffix prefix member alternative body : List Word → List Word) (x : Pattern) : Type 0 where
   pub primary : (ws : List Word) → Primary (suffix ws) ws x

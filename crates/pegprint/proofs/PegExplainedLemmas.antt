@@ -15,10 +15,10 @@ use Rattle.pegread.specs.Reading.{IsHopeless, IsTooDeep, IsDecidedAt, IsFaultOf}
 use Rattle.pegread.specs.Tokens.{Tok, AreTokens}
 use Rattle.ruletable.specs.declared.fault.ReadFault.{ReadFault}
 use Rattle.ruletable.specs.declared.fault.ReadFault.TheVariants as faults
-use Rattle.pegprint.specs.declared.faults.stand.Place.{Place}
+use Rattle.pegprint.specs.declared.faults.stand.Position.{Position}
 use Rattle.pegprint.specs.PegDecisions.{IsTokenOf, ReportsKinds, NoneDecides}
 use Rattle.pegprint.specs.PegExpected.{CanStand, phrases}
-use Rattle.pegprint.specs.PegExplained.{token_place, Why, hopeless, too_deep}
+use Rattle.pegprint.specs.PegExplained.{token_position, Why, hopeless, too_deep}
 use Rattle.pegprint.specs.PegMistakes.{mistake_reported}
 use Rattle.pegprint.specs.PegStands.{allows}
 
@@ -34,28 +34,28 @@ start-within text t D lies h =
     let within = here.within in
     omega arith
 
-module _ (place : Place) (ts : List Tok) (i : ℕ) (h : ReportsKinds place ts i) where
-  by-test : (k : Kind) (b : Bool) → allows place k ≡ b → CanStand ts i k → allows place k ≡ true
+module _ (position : Position) (ts : List Tok) (i : ℕ) (h : ReportsKinds position ts i) where
+  by-test : (k : Kind) (b : Bool) → allows position k ≡ b → CanStand ts i k → allows position k ≡ true
   by-test k true e s = e
   by-test k false e s = absurd (h.other k e s)
 
-  -- what the place says can stand there
-  pub place-reports : {ws : List (List ℕ)} → AreAllReported (λ k. allows place k ≡ true) phrases ws
+  -- what the position says can stand there
+  pub position-reports : {ws : List (List ℕ)} → AreAllReported (λ k. allows position k ≡ true) phrases ws
       → AreAllReported (CanStand ts i) phrases ws
-  place-reports t = reported-same h.stand (λ k s. by-test k (allows place k) refl s) t
+  position-reports t = reported-same h.stand (λ k s. by-test k (allows position k) refl s) t
 
 module _ (text : List ℕ) (t : Tok) (within : length text ≤ MAX_GRAMMAR) where
-  pub hopeless-why : (place : Place) (reported : List (List ℕ)) (why : List ℕ) →
-      IsTokenOf text t (λ ts i. IsHopeless ts i × ReportsKinds place ts i)
-      → AreAllReported (λ k. allows place k ≡ true) phrases reported
-      → ((all : List Tok) → AreTokens (length text) text all → why ≡ token_place text t ++ (codes "expected "
+  pub hopeless-why : (position : Position) (reported : List (List ℕ)) (why : List ℕ) →
+      IsTokenOf text t (λ ts i. IsHopeless ts i × ReportsKinds position ts i)
+      → AreAllReported (λ k. allows position k ≡ true) phrases reported
+      → ((all : List Tok) → AreTokens (length text) text all → why ≡ token_position text t ++ (codes "expected "
       ++ (listed reported ++ (codes "\n" ++ mistake_reported text all t))))
       → Why text why
-  hopeless-why place reported why h reports e = rw (e h.all h.are_tokens)
-      (hopeless within h.are_tokens h.there h.holds.0 (place-reports place h.all h.number h.holds.1 reports))
+  hopeless-why position reported why h reports e = rw (e h.all h.are_tokens)
+      (hopeless within h.are_tokens h.there h.holds.0 (position-reports position h.all h.number h.holds.1 reports))
 
   pub deep-why : (why : List ℕ) → IsTokenOf text t IsTooDeep
-      → why ≡ token_place text t ++ codes "200 brackets are open before it\n" → Why text why
+      → why ≡ token_position text t ++ codes "200 brackets are open before it\n" → Why text why
   deep-why why h e = rw e (too_deep within h.are_tokens h.there h.holds)
 
 -- a fault of what is not too long is that of a token
@@ -74,11 +74,11 @@ fault-decided text faults.Memory m l h = absurd (m refl)
 fault-decided text (faults.NumberTooLarge line) m l h = absurd h
 
 -- the pieces, one after the other
-pub two-join : (o a b place said : List ℕ) → o ≡ [] → a ≡ o ++ place → b ≡ a ++ said → b ≡ place ++ said
-two-join o a b place said z f g = rw (g, f, z) refl
+pub two-join : (o a b position said : List ℕ) → o ≡ [] → a ≡ o ++ position → b ≡ a ++ said → b ≡ position ++ said
+two-join o a b position said z f g = rw (g, f, z) refl
 
-pub five-join : (o a b c d e place said reported end facts : List ℕ) → o ≡ [] → a ≡ o ++ place → b ≡ a ++ said
-    → c ≡ b ++ reported → d ≡ c ++ end → e ≡ d ++ facts → e ≡ place ++ (said ++ (reported ++ (end ++ facts)))
-five-join o a b c d e place said reported end facts z f g h k l =
-    let whole : e ≡ (((place ++ said) ++ reported) ++ end) ++ facts = rw (l, k, h, g, f, z) refl in
+pub five-join : (o a b c d e position said reported end facts : List ℕ) → o ≡ [] → a ≡ o ++ position → b ≡ a ++ said
+    → c ≡ b ++ reported → d ≡ c ++ end → e ≡ d ++ facts → e ≡ position ++ (said ++ (reported ++ (end ++ facts)))
+five-join o a b c d e position said reported end facts z f g h k l =
+    let whole : e ≡ (((position ++ said) ++ reported) ++ end) ++ facts = rw (l, k, h, g, f, z) refl in
     whole ∙ simp append_assoc

@@ -16,7 +16,7 @@ use Rattle.pegread.specs.Tokens.{Tok, AreTokens}
 use Rattle.pegread.proofs.IsShallowLemmas.{shallow-take}
 use Rattle.pegread.proofs.SliceLemmas.{tokens-one}
 use Rattle.pegprint.specs.PegExpected.{CanStand, phrases}
-use Rattle.pegprint.specs.PegExplained.{Why, too_long, hopeless, too_deep, Explains, token_place}
+use Rattle.pegprint.specs.PegExplained.{Why, too_long, hopeless, too_deep, Explains, token_position}
 use Rattle.pegprint.specs.PegMistakes.{mistake_reported}
 
 abbrev Decides : List Tok → ℕ → Type 0
@@ -56,7 +56,7 @@ not-both text all others i j t u are are' at at' h k =
 
 abbrev reported_lines : List ℕ → List Tok → Tok → List (List ℕ) → List ℕ
 reported_lines text all t reported =
-    token_place text t ++ (codes "expected " ++ (listed reported ++ (codes "\n" ++ mistake_reported text all t)))
+    token_position text t ++ (codes "expected " ++ (listed reported ++ (codes "\n" ++ mistake_reported text all t)))
 
 one-why : (text a b : List ℕ) → Why text a → Why text b → a ≡ b
 one-why text a b (too_long l) (too_long m) = refl
@@ -80,7 +80,7 @@ one-why text a b (too_deep {all = all} {i = i} {t = t} w are at h)
 one-why text a b (too_deep {all = all} {i = i} {t = t} w are at h)
     (too_deep {all = others} {i = j} {t = u} v are' at' k) =
     let one = one-token text all others i j t u are are' at at' (inr h) (inr k) in
-    ap (λ (x : Tok). token_place text x ++ codes "200 brackets are open before it\n") one.tokens
+    ap (λ (x : Tok). token_position text x ++ codes "200 brackets are open before it\n") one.tokens
 
 pub one-explanation : (text : List ℕ) (fault : ReadFault) (a b : List ℕ) → Explains text fault a → Explains text fault b
     → a ≡ b

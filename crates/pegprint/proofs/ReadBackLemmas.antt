@@ -2,8 +2,8 @@
 -- Serves: is_read_back, print_peg
 use Rattle.std.proofs.Common.{◌≡◌, ℕ, suc, ◌+◌, ◌≤◌, max, Bool, true, false, List, [], ◌∷◌, sym, subst, arith}
 use Rattle.std.proofs.Common.{length, ap, ◌∙◌}
-use Rattle.pegprint.specs.declared.place.Context.{Context}
-use Rattle.pegprint.specs.declared.place.Context.TheVariants.{Alternative, Member, OfPrefix, OfAmp, OfSuffix}
+use Rattle.pegprint.specs.declared.position.Context.{Context}
+use Rattle.pegprint.specs.declared.position.Context.TheVariants.{Alternative, Member, OfPrefix, OfAmp, OfSuffix}
 use Rattle.pegprint.specs.Brackets.{wraps, is_act}
 use Rattle.pegread.specs.Limits.{IsShallow}
 use Rattle.pegread.specs.Pattern.{Pattern, Any, Bytes, Set, Name, Seq, Choice, Opt, And, Not, Act, Open, Close}

@@ -18,25 +18,25 @@ use Rattle.pegread.proofs.GrammarViabilityLemmas.{stops-begins}
 use Rattle.pegprint.specs.declared.faults.stand.Stand.{Stand}
 use Rattle.pegprint.specs.declared.faults.stand.Stand.TheVariants as stands
 use Rattle.pegprint.specs.PegExpected.{CanStand, phrases}
-use Rattle.pegprint.specs.PegStands.{allows, place_at, place_of}
+use Rattle.pegprint.specs.PegStands.{allows, position_at, position_of}
 use Rattle.pegprint.proofs.CanStandLemmas.{can-stand, cannot-stand, goes-bad}
 
 -- the position of a kind among those that begin an item
-abbrev item_place : Kind → ℕ
-item_place kinds.Literal = 1
-item_place kinds.Class = 2
-item_place kinds.Dot = 3
-item_place kinds.LParen = 4
-item_place kinds.Begin = 5
-item_place kinds.EndCap = 6
-item_place kinds.Action = 7
-item_place _ = 0
+abbrev item_position : Kind → ℕ
+item_position kinds.Literal = 1
+item_position kinds.Class = 2
+item_position kinds.Dot = 3
+item_position kinds.LParen = 4
+item_position kinds.Begin = 5
+item_position kinds.EndCap = 6
+item_position kinds.Action = 7
+item_position _ = 0
 
 -- where a token of the kind can stand
 abbrev MeantAt : Stand → ℕ → Kind → Type 0
-MeantAt s n k = IsMeant (allows (place_at s n)) phrases k
+MeantAt s n k = IsMeant (allows (position_at s n)) phrases k
 
-kind-meant : (s : Stand) (n : ℕ) (k : Kind) → allows (place_at s n) k ≡ true → MeantAt s n k
+kind-meant : (s : Stand) (n : ℕ) (k : Kind) → allows (position_at s n) k ≡ true → MeantAt s n k
 kind-meant s n kinds.Arrow e = means-at _ phrases kinds.Arrow 1 0 refl refl (rw e refl) refl refl
 kind-meant s n kinds.Amp e = means-at _ phrases kinds.Amp 4 0 refl refl (rw e refl) refl refl
 kind-meant s n kinds.Bang e = means-at _ phrases kinds.Bang 5 0 refl refl (rw e refl) refl refl
@@ -46,14 +46,14 @@ kind-meant s n kinds.Plus e = means-at _ phrases kinds.Plus 8 0 refl refl (rw e 
 kind-meant s n kinds.Slash e = means-at _ phrases kinds.Slash 9 0 refl refl (rw e refl) refl refl
 kind-meant s n kinds.RParen e = means-at _ phrases kinds.RParen 10 0 refl refl (rw e refl) refl refl
 kind-meant s n kinds.End e = means-at _ phrases kinds.End 11 0 refl refl (rw e refl) refl refl
-kind-meant s n kinds.Bad e = let no : true ≡ false = sym e ∙ ap is_some (goes-bad (place_at s n)) in cc
+kind-meant s n kinds.Bad e = let no : true ≡ false = sym e ∙ ap is_some (goes-bad (position_at s n)) in cc
 kind-meant stands.Start n kinds.Ident e = means-at _ phrases kinds.Ident 0 0 refl refl refl refl refl
 kind-meant stands.Start n k e = let no : false ≡ true = e in cc
 kind-meant stands.Named n k e = let no : false ≡ true = e in cc
 kind-meant stands.And n kinds.Action e = let no : false ≡ true = e in cc
-kind-meant stands.And n k e = means-at _ phrases k 3 (item_place k) refl refl refl refl refl
+kind-meant stands.And n k e = means-at _ phrases k 3 (item_position k) refl refl refl refl refl
 kind-meant stands.Done n k e = let no : false ≡ true = e in cc
-kind-meant s n k e = means-at _ phrases k 2 (item_place k) refl refl refl refl refl
+kind-meant s n k e = means-at _ phrases k 2 (item_position k) refl refl refl refl refl
 
 -- the machine takes words that begin a grammar
 words-taken : (ws : List Word) (x : Option Config) → run start ws ≡ x → Begins ws → (c : Config)
@@ -77,14 +77,15 @@ pub kinds-reported : (all : List Tok) (i : ℕ) (reported : List (List ℕ)) →
 kinds-reported all i reported h t =
     let v = h.before in
     let c = words-taken v.0 (run start v.0) refl v.2 in
-    let onto : (k : Kind) → allows (place_of c.0) k ≡ true → CanStand all i k =
-    λ k e. can-take i all k (can-stand c.0 v.1 c.1 h.within (place_of c.0) refl k e []) in
-    let back : (k : Kind) → CanStand all i k → allows (place_of c.0) k ≡ true =
-    λ k s. by-test k (allows (place_of c.0) k) refl (λ e. cannot-stand c.0 v.1 c.1 h.within (place_of c.0) refl k e []
+    let onto : (k : Kind) → allows (position_of c.0) k ≡ true → CanStand all i k =
+    λ k e. can-take i all k (can-stand c.0 v.1 c.1 h.within (position_of c.0) refl k e []) in
+    let back : (k : Kind) → CanStand all i k → allows (position_of c.0) k ≡ true =
+    λ k s. by-test k (allows (position_of c.0) k) refl
+    (λ e. cannot-stand c.0 v.1 c.1 h.within (position_of c.0) refl k e []
     (take-can i all k s)) in
-    report-same onto back (report-all (allows (place_of c.0)) phrases
+    report-same onto back (report-all (allows (position_of c.0)) phrases
     (AllPass-from_list_all (λ p. nat_lt 0 (length p.kinds)) phrases refl)
-    (kind-meant (place_of c.0).stand (place_of c.0).depth) (reported-same back onto t))
+    (kind-meant (position_of c.0).stand (position_of c.0).depth) (reported-same back onto t))
   where
     by-test : {A : Type 0} (k : A) (b : Bool) {x : Bool} → x ≡ b → (x ≡ false → ⊥) → x ≡ true
     by-test k true e f = e

@@ -15,8 +15,8 @@ use Rattle.pegread.specs.Machine.{Config, start, named, body, done, Head, Level,
 use Rattle.pegread.specs.Machine.{levels_in, Mark, no_mark}
 use Rattle.pegread.specs.Machine.{not_mark, and_mark, fresh, read, read_name, snoc, apply, fresh_step, read_step}
 use Rattle.pegread.specs.Machine.{name_step, step}
-use Rattle.pegprint.specs.declared.faults.stand.Place.{Place}
-use Rattle.pegprint.specs.PegStands.{place_of, stand_of, goes, after_primary}
+use Rattle.pegprint.specs.declared.faults.stand.Position.{Position}
+use Rattle.pegprint.specs.PegStands.{position_of, stand_of, goes, after_primary}
 
 -- the kind of the tokens that say a word
 abbrev pub kind_said : Word → Kind
@@ -58,12 +58,12 @@ says-kind (says_action h) = refl
 says-kind says_end = refl
 
 -- where the machine stands after a step
-abbrev pub place_after : Option Config → Option Place
-place_after None = None
-place_after (Some c) = Some (place_of c)
+abbrev pub position_after : Option Config → Option Position
+position_after None = None
+position_after (Some c) = Some (position_of c)
 
 fresh-goes : (h : Head) (o : List Level) (bs es : Patterns) (m : Mark) (w : Word)
-    → place_after (fresh_step h o bs es m w) ≡ goes (stand_of (body h o bs es m fresh)) (levels o) (kind_said w)
+    → position_after (fresh_step h o bs es m w) ≡ goes (stand_of (body h o bs es m fresh)) (levels o) (kind_said w)
 fresh-goes h [] bs es no_mark RParen = refl
 fresh-goes h (level b f m ∷ o) bs es no_mark RParen = refl
 fresh-goes h [] bs es no_mark End = refl
@@ -105,14 +105,14 @@ fresh-goes h o bs es and_mark (Action t) = refl
 fresh-goes h o bs es and_mark End = refl
 
 read-goes : (h : Head) (o : List Level) (bs es : Patterns) (m : Mark) (x : Pattern) (w : Word)
-    → place_after (read_step h o bs es m x w) ≡ after_primary (levels o) (kind_said w)
+    → position_after (read_step h o bs es m x w) ≡ after_primary (levels o) (kind_said w)
 read-goes h o bs es m x Quest = refl
 read-goes h o bs es m x Star = refl
 read-goes h o bs es m x Plus = refl
 read-goes h o bs es m x w = fresh-goes h o bs (snoc es (apply m x)) no_mark w
 
 name-goes : (h : Head) (o : List Level) (bs es : Patterns) (m : Mark) (n : List ℕ) (p : Span) (w : Word)
-    → place_after (name_step h o bs es m n p w) ≡ goes (stand_of (body h o bs es m (read_name n p))) (levels o)
+    → position_after (name_step h o bs es m n p w) ≡ goes (stand_of (body h o bs es m (read_name n p))) (levels o)
     (kind_said w)
 name-goes h [] bs es no_mark n p Arrow = refl
 name-goes h (l ∷ o) bs es no_mark n p Arrow = refl
@@ -124,7 +124,7 @@ name-goes h o bs es no_mark n p w = read-goes h o bs es no_mark (Name n) w
 name-goes h o bs es not_mark n p w = read-goes h o bs es not_mark (Name n) w
 name-goes h o bs es and_mark n p w = read-goes h o bs es and_mark (Name n) w
 
-pub step-goes : (c : Config) (w : Word) → place_after (step c w) ≡ goes (stand_of c) (levels_in c) (kind_said w)
+pub step-goes : (c : Config) (w : Word) → position_after (step c w) ≡ goes (stand_of c) (levels_in c) (kind_said w)
 step-goes start (Ident n p) = refl
 step-goes start Arrow = refl
 step-goes start Begin = refl

@@ -24,16 +24,16 @@ use Rattle.pegread.proofs.GrammarViabilityLemmas.{hopeless-next, too_deep-next}
 use Rattle.pegread.proofs.IsShallowLemmas.{shallow-none, shallow-next, shallow-take}
 use Rattle.pegread.proofs.SaysLemmas.{token-says}
 use Rattle.pegread.proofs.SliceLemmas.{tokens-one}
-use Rattle.pegprint.specs.declared.faults.stand.Place.{Place}
+use Rattle.pegprint.specs.declared.faults.stand.Position.{Position}
 use Rattle.pegprint.specs.declared.faults.stand.Stand.TheVariants.{Start}
 use Rattle.pegprint.specs.PegDecisions.{IsTokenOf, ReportsKinds, NoneDecides}
-use Rattle.pegprint.specs.PegStands.{place_of, place_at, goes}
+use Rattle.pegprint.specs.PegStands.{position_of, position_at, goes}
 use Rattle.pegprint.proofs.CanStandLemmas.{after-some, goes-bad, viable-taken, step-there, stops-there, can-stand}
 use Rattle.pegprint.proofs.CanStandLemmas.{cannot-stand}
 use Rattle.pegprint.proofs.StandLemmas.{says-kind}
 
 -- the tokens so far and those that are left are the text's, and the machine took what those so far say
-pub record HasTaken (text : List ℕ) (left : List Tok → Type 0) (place : Place) (ts : List Tok) : Type 0 where
+pub record HasTaken (text : List ℕ) (left : List Tok → Type 0) (position : Position) (ts : List Tok) : Type 0 where
   pub rest : List Tok
   pub are_left : left rest
   pub all : AreTokens (length text) text (ts ++ rest)
@@ -42,8 +42,8 @@ pub record HasTaken (text : List ℕ) (left : List Tok → Type 0) (place : Plac
   pub config : Config
   pub reached : run start words ≡ Some config
   pub shallow : AreWithin ts
-  pub stands : place_of config ≡ place
-  pub few : place.depth ≤ MAX_OPEN
+  pub stands : position_of config ≡ position
+  pub few : position.depth ≤ MAX_OPEN
 
 -- what is left of the text's tokens
 abbrev pub AreLeft : TokenIter Kind → List Tok → Type 0
@@ -51,8 +51,9 @@ AreLeft = lexed.AreLeft White First is_end
 
 -- before the first token
 pub none-taken : (text : List ℕ) (left : List Tok → Type 0) (all : List Tok) → left all
-    → AreTokens (length text) text all → (place : Place) → place ≡ place_at Start 0 → HasTaken text left place []
-none-taken text left all are h place e = record {
+    → AreTokens (length text) text all → (position : Position) → position ≡ position_at Start 0
+    → HasTaken text left position []
+none-taken text left all are h position e = record {
   rest = all;
   are_left = are;
   all = h;
@@ -62,14 +63,15 @@ none-taken text left all are h place e = record {
   reached = refl;
   shallow = shallow-none MAX_OPEN;
   stands = sym e;
-  few = (let d : place.depth ≡ 0 = ap (λ (p : Place). p.depth) e in omega arith);
+  few = (let d : position.depth ≡ 0 = ap (λ (p : Position). p.depth) e in omega arith);
 }
 
 get-seam : (ts : List Tok) (t : Tok) (us : List Tok) → slice_get (ts ++ t ∷ us) (length ts) ≡ Some t
 get-seam ts t us = slice_get-get_or (ts ++ t ∷ us) (length ts) t (omega (arith, length-append ts (t ∷ us)))
     ∙ ap Some (get_or-append_seam ts t us t)
 
-module _ {text : List ℕ} {left : List Tok → Type 0} {place : Place} {ts : List Tok} (h : HasTaken text left place ts)
+module _ {text : List ℕ} {left : List Tok → Type 0} {position : Position} {ts : List Tok}
+    (h : HasTaken text left position ts)
     (t : Tok) (others : List Tok) (given : h.rest ≡ t ∷ others) where
   tokens-whole : AreTokens (length text) text (ts ++ t ∷ others)
   tokens-whole = (let a = h.all in rw given at a)
@@ -84,26 +86,26 @@ module _ {text : List ℕ} {left : List Tok → Type 0} {place : Place} {ts : Li
   }
 
   -- no token of its kind can stand there
-  pub hopeless-there : goes place.stand place.depth (kind_of t) ≡ None
-      → IsTokenOf text t (λ us i. IsHopeless us i × ReportsKinds place us i) × (place.depth ≤ MAX_OPEN)
+  pub hopeless-there : goes position.stand position.depth (kind_of t) ≡ None
+      → IsTokenOf text t (λ us i. IsHopeless us i × ReportsKinds position us i) × (position.depth ≤ MAX_OPEN)
   hopeless-there none = (
-    there-is (λ us i. IsHopeless us i × ReportsKinds place us i) (
+    there-is (λ us i. IsHopeless us i × ReportsKinds position us i) (
       hopeless-next h.config h.say h.reached h.shallow t others
-          (stops-there h.config h.say h.reached h.shallow place h.stands t none),
+          (stops-there h.config h.say h.reached h.shallow position h.stands t none),
       record {
-        stand = λ k e. can-stand h.config h.say h.reached h.shallow place h.stands k e (t ∷ others);
-        other = λ k e. cannot-stand h.config h.say h.reached h.shallow place h.stands k e (t ∷ others);
+        stand = λ k e. can-stand h.config h.say h.reached h.shallow position h.stands k e (t ∷ others);
+        other = λ k e. cannot-stand h.config h.say h.reached h.shallow position h.stands k e (t ∷ others);
       },
     ),
     h.few,
   )
 
-  module _ {total : ℕ} {s r : List ℕ} (cut : Next total s t r) (next : Place)
-      (some : goes place.stand place.depth (kind_of t) ≡ Some next) where
+  module _ {total : ℕ} {s r : List ℕ} (cut : Next total s t r) (next : Position)
+      (some : goes position.stand position.depth (kind_of t) ≡ Some next) where
     no-bad : kind_of t ≡ kinds.Bad → ⊥
     no-bad e =
-        let bad : goes place.stand place.depth kinds.Bad ≡ Some next = rw e at some in
-        let no : None ≡ Some next = sym (goes-bad place) ∙ bad in
+        let bad : goes position.stand position.depth kinds.Bad ≡ Some next = rw e at some in
+        let no : None ≡ Some next = sym (goes-bad position) ∙ bad in
         cc
 
     -- the token's word, and the step by it
@@ -112,20 +114,20 @@ module _ {text : List ℕ} {left : List Tok → Type 0} {place : Place} {ts : Li
       says : Says t word
       config : Config
       steps : step h.config word ≡ Some config
-      stands : place_of config ≡ next
+      stands : position_of config ≡ next
 
     goes-on : Onward
     goes-on =
         let w = token-says total s r t cut no-bad in
         let d = after-some (step h.config w.0) next
-        (step-there h.config h.say h.reached h.shallow place h.stands w.0 (kind_of t) (says-kind w.1) ∙ some) in
+        (step-there h.config h.say h.reached h.shallow position h.stands w.0 (kind_of t) (says-kind w.1) ∙ some) in
         record { word = w.0; says = w.1; config = d.0; steps = d.1; stands = d.2 }
 
     -- too many brackets are open after it
     pub deep-there : MAX_OPEN < next.depth → IsTokenOf text t IsTooDeep
     deep-there lt =
         let o = goes-on in
-        let depth : levels_in o.config ≡ next.depth = ap (λ (p : Place). p.depth) o.stands in
+        let depth : levels_in o.config ≡ next.depth = ap (λ (p : Position). p.depth) o.stands in
         there-is IsTooDeep (too_deep-next h.config h.say h.reached h.shallow t others o.config o.word o.says o.steps
         (omega arith))
 
@@ -134,7 +136,7 @@ module _ {text : List ℕ} {left : List Tok → Type 0} {place : Place} {ts : Li
         → HasTaken text onward next (ts ++ t ∷ [])
     one-taken onward are le =
         let o = goes-on in
-        let depth : levels_in o.config ≡ next.depth = ap (λ (p : Place). p.depth) o.stands in
+        let depth : levels_in o.config ≡ next.depth = ap (λ (p : Position). p.depth) o.stands in
         record {
           rest = others;
           are_left = are;
@@ -152,8 +154,8 @@ within-take : (i : ℕ) (ts : List Tok) → AreWithin ts → AreWithin (take i t
 within-take i ts h = shallow-take MAX_OPEN 0 i ts h
 
 -- no token is left
-pub none-decide : {text : List ℕ} {left : List Tok → Type 0} {place : Place} {ts : List Tok}
-    (h : HasTaken text left place ts) → h.rest ≡ [] → NoneDecides text
+pub none-decide : {text : List ℕ} {left : List Tok → Type 0} {position : Position} {ts : List Tok}
+    (h : HasTaken text left position ts) → h.rest ≡ [] → NoneDecides text
 none-decide {text} {ts = ts} h none = λ all are i decides.
     let every : AreTokens (length text) text ts = (let a = h.all in simp (none, append-nil) at a) in
     let same : all ≡ ts = tokens-one are every in

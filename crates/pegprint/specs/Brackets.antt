@@ -1,8 +1,8 @@
 -- Where the canonical text puts parentheses round a pattern.
 use Prim.Native.Char.{code}
 use Rattle.std.specs.Prelude.{ℕ, ◌||◌, nat_lt, Bool, true, false, List, [], ◌∷◌, ◌++◌}
-use Rattle.pegprint.specs.declared.place.Context.{Context}
-use Rattle.pegprint.specs.declared.place.Context.TheVariants.{Alternative, Member, OfPrefix, OfAmp, OfSuffix}
+use Rattle.pegprint.specs.declared.position.Context.{Context}
+use Rattle.pegprint.specs.declared.position.Context.TheVariants.{Alternative, Member, OfPrefix, OfAmp, OfSuffix}
 use Rattle.pegread.specs.Pattern.{Pattern, Seq, Choice, Star, Plus, Opt, And, Not, Act}
 
 -- how tightly a pattern holds together

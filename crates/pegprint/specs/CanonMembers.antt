@@ -3,7 +3,7 @@ use Rattle.std.specs.Prelude.{ℕ, codes, List}
 use Rattle.pegprint.specs.Brackets.{wraps, around}
 use Rattle.pegprint.specs.Canon.{joined, more_joined, text_of}
 use Rattle.pegread.specs.Pattern.{Pattern, Patterns}
-use Rattle.pegprint.specs.declared.place.Context.TheVariants.{Member}
+use Rattle.pegprint.specs.declared.position.Context.TheVariants.{Member}
 
 -- a member, in parentheses where it needs them
 abbrev pub member_text : Pattern → List ℕ

@@ -7,7 +7,7 @@ use Rattle.pegread.specs.Reading.{IsHopeless, IsTooDeep}
 use Rattle.pegread.specs.Tokens.{Tok, AreTokens}
 use Rattle.pegprint.specs.declared.faults.deciding_token.Decision.{Decision}
 use Rattle.pegprint.specs.declared.faults.deciding_token.Decision.TheVariants.{Hopeless, TooDeep}
-use Rattle.pegprint.specs.declared.faults.stand.Place.{Place}
+use Rattle.pegprint.specs.declared.faults.stand.Position.{Position}
 use Rattle.pegprint.specs.PegExpected.{CanStand}
 use Rattle.pegprint.specs.PegStands.{allows}
 
@@ -19,14 +19,14 @@ pub record IsTokenOf (text : List ℕ) (t : Tok) (Holds : List Tok → ℕ → T
   pub there : slice_get all number ≡ Some t
   pub holds : Holds all number
 
--- the place says which kinds can stand where token i does
-pub record ReportsKinds (place : Place) (ts : List Tok) (i : ℕ) : Type 0 where
-  pub stand : (k : Kind) → allows place k ≡ true → CanStand ts i k
-  pub other : (k : Kind) → allows place k ≡ false → CanStand ts i k → ⊥
+-- the position says which kinds can stand where token i does
+pub record ReportsKinds (position : Position) (ts : List Tok) (i : ℕ) : Type 0 where
+  pub stand : (k : Kind) → allows position k ≡ true → CanStand ts i k
+  pub other : (k : Kind) → allows position k ≡ false → CanStand ts i k → ⊥
 
 abbrev pub Decides : List ℕ → Decision → Type 0
-Decides text (Hopeless place token) =
-    IsTokenOf text (tok_of token) (λ ts i. IsHopeless ts i × ReportsKinds place ts i) × (place.depth ≤ max_open)
+Decides text (Hopeless position token) =
+    IsTokenOf text (tok_of token) (λ ts i. IsHopeless ts i × ReportsKinds position ts i) × (position.depth ≤ max_open)
 Decides text (TooDeep token) = IsTokenOf text (tok_of token) IsTooDeep
 
 -- no token of the text decides

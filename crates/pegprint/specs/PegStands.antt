@@ -8,7 +8,7 @@ use Rattle.pegread.specs.Machine.{read, read_name, levels_in}
 use Rattle.pegprint.specs.declared.faults.stand.Stand.{Stand}
 use Rattle.pegprint.specs.declared.faults.stand.Stand.TheVariants.{Start, Named, Fresh, Not, And, Primary, Name}
 use Rattle.pegprint.specs.declared.faults.stand.Stand.TheVariants.{PrefixedName, Done}
-use Rattle.pegprint.specs.declared.faults.stand.Place.{Place}
+use Rattle.pegprint.specs.declared.faults.stand.Position.{Position}
 
 -- where the machine's configuration stands
 abbrev pub stand_of : Config → Stand
@@ -22,67 +22,67 @@ stand_of (body h o bs es no_mark (read_name n p)) = Name
 stand_of (body h o bs es _ (read_name n p)) = PrefixedName
 stand_of (done rules) = Done
 
-abbrev pub place_at : Stand → ℕ → Place
-place_at s n = record { stand = s; depth = n }
+abbrev pub position_at : Stand → ℕ → Position
+position_at s n = record { stand = s; depth = n }
 
-abbrev pub place_of : Config → Place
-place_of c = place_at (stand_of c) (levels_in c)
+abbrev pub position_of : Config → Position
+position_of c = position_at (stand_of c) (levels_in c)
 
 -- after a closing bracket, where n are open
-abbrev pub closed : ℕ → Option Place
+abbrev pub closed : ℕ → Option Position
 closed zero = None
-closed (suc n) = Some (place_at Primary n)
+closed (suc n) = Some (position_at Primary n)
 
 -- after the end
-abbrev pub ended : ℕ → Option Place
-ended zero = Some (place_at Done 0)
+abbrev pub ended : ℕ → Option Position
+ended zero = Some (position_at Done 0)
 ended (suc n) = None
 
 -- after a definition's arrow
-abbrev pub begun : ℕ → Option Place
-begun zero = Some (place_at Fresh 0)
+abbrev pub begun : ℕ → Option Position
+begun zero = Some (position_at Fresh 0)
 begun (suc n) = None
 
 -- after a primary that is neither a name nor an action
-abbrev pub primary : ℕ → Kind → Option Place
-primary n Literal = Some (place_at Primary n)
-primary n Class = Some (place_at Primary n)
-primary n Dot = Some (place_at Primary n)
-primary n Begin = Some (place_at Primary n)
-primary n EndCap = Some (place_at Primary n)
-primary n LParen = Some (place_at Fresh (suc n))
+abbrev pub primary : ℕ → Kind → Option Position
+primary n Literal = Some (position_at Primary n)
+primary n Class = Some (position_at Primary n)
+primary n Dot = Some (position_at Primary n)
+primary n Begin = Some (position_at Primary n)
+primary n EndCap = Some (position_at Primary n)
+primary n LParen = Some (position_at Fresh (suc n))
 primary n _ = None
 
 -- where no prefix waits
-abbrev pub unmarked : ℕ → Kind → Option Place
-unmarked n Ident = Some (place_at Name n)
-unmarked n Action = Some (place_at Primary n)
-unmarked n Bang = Some (place_at Not n)
-unmarked n Amp = Some (place_at And n)
-unmarked n Slash = Some (place_at Fresh n)
+abbrev pub unmarked : ℕ → Kind → Option Position
+unmarked n Ident = Some (position_at Name n)
+unmarked n Action = Some (position_at Primary n)
+unmarked n Bang = Some (position_at Not n)
+unmarked n Amp = Some (position_at And n)
+unmarked n Slash = Some (position_at Fresh n)
 unmarked n RParen = closed n
 unmarked n End = ended n
 unmarked n k = primary n k
 
 -- where a prefix waits, which an action may follow or not
-abbrev pub prefixed : ℕ → Kind → Bool → Option Place
-prefixed n Ident acts = Some (place_at PrefixedName n)
-prefixed n Action true = Some (place_at Primary n)
+abbrev pub prefixed : ℕ → Kind → Bool → Option Position
+prefixed n Ident acts = Some (position_at PrefixedName n)
+prefixed n Action true = Some (position_at Primary n)
 prefixed n Action false = None
 prefixed n k acts = primary n k
 
 -- after a primary
-abbrev pub after_primary : ℕ → Kind → Option Place
-after_primary n Quest = Some (place_at Fresh n)
-after_primary n Star = Some (place_at Fresh n)
-after_primary n Plus = Some (place_at Fresh n)
+abbrev pub after_primary : ℕ → Kind → Option Position
+after_primary n Quest = Some (position_at Fresh n)
+after_primary n Star = Some (position_at Fresh n)
+after_primary n Plus = Some (position_at Fresh n)
 after_primary n k = unmarked n k
 
--- the place after a token of the kind, where n brackets are open
-abbrev pub goes : Stand → ℕ → Kind → Option Place
-goes Start n Ident = Some (place_at Named n)
+-- the position after a token of the kind, where n brackets are open
+abbrev pub goes : Stand → ℕ → Kind → Option Position
+goes Start n Ident = Some (position_at Named n)
 goes Start n _ = None
-goes Named n Arrow = Some (place_at Fresh n)
+goes Named n Arrow = Some (position_at Fresh n)
 goes Named n _ = None
 goes Fresh n k = unmarked n k
 goes Not n k = prefixed n k true
@@ -94,5 +94,5 @@ goes PrefixedName n k = after_primary n k
 goes Done n k = None
 
 -- whether a token of the kind can stand there
-abbrev pub allows : Place → Kind → Bool
+abbrev pub allows : Position → Kind → Bool
 allows p k = is_some (goes p.stand p.depth k)

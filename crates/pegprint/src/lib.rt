@@ -2,7 +2,7 @@
 #![tactic(auto)]
 
 mod faults;
-mod place;
+mod position;
 mod print;
 mod print_bytes;
 

@@ -8,20 +8,20 @@ ghost use Rattle.pegprint.specs.CanonMembers.{member_text};
 ghost use Rattle.pegprint.specs.ReadBack.{IsRead, ReadsAs, ReadsFormed, ReadBack, SpansUnseen, PrintsItself};
 ghost use Rattle.pegread.specs.PegViews.{pattern_of, patterns_of, rules_of};
 
-use crate::place::{Context, is_wrapped};
+use crate::position::{Context, is_wrapped};
 use crate::print_bytes::{print_action, print_literal, print_set};
 use pegread::{Expr, Peg};
 use ruletable::{Sink, WriteFault, write_pieces, write_whole};
 
 // An expression within another, in parentheses where it needs them.
 #[cycle(printing)]
-fn print_at<W: Sink>(e: &Expr, place: Context, w: &mut W) -> Result<(), WriteFault>
+fn print_at<W: Sink>(e: &Expr, position: Context, w: &mut W) -> Result<(), WriteFault>
     requires { W.failed w.old ≡ false }
     ensures bytes { Writes (W.contents w.old) (W.contents w.new)
-        (around (wraps place (pattern_of e.now)) (canon.text_of (pattern_of e.now))) result }
+        (around (wraps position (pattern_of e.now)) (canon.text_of (pattern_of e.now))) result }
     ensures flag { Flags (W.failed w.old) (W.failed w.new) result }
 {
-    if !is_wrapped(e, place) {
+    if !is_wrapped(e, position) {
         return print_expr(e, w);
     }
     match write_whole(w, b"(") {
@@ -65,16 +65,16 @@ fn print_suffixed<W: Sink>(operand: &Expr, mark: &[u8], w: &mut W) -> Result<(),
 fn print_prefixed<W: Sink>(
     mark: &[u8],
     operand: &Expr,
-    place: Context,
+    position: Context,
     w: &mut W,
 ) -> Result<(), WriteFault>
     requires { W.failed w.old ≡ false }
     ensures bytes { Writes (W.contents w.old) (W.contents w.new)
-        (mark.now ++ around (wraps place (pattern_of operand.now)) (canon.text_of (pattern_of operand.now))) result }
+        (mark.now ++ around (wraps position (pattern_of operand.now)) (canon.text_of (pattern_of operand.now))) result }
     ensures flag { Flags (W.failed w.old) (W.failed w.new) result }
 {
     match write_whole(w, mark) {
-        Ok(()) => print_at(operand, place, w),
+        Ok(()) => print_at(operand, position, w),
         Err(fault) => Err(fault),
     }
 }
@@ -109,9 +109,14 @@ pub fn print_expr<W: Sink>(e: &Expr, w: &mut W) -> Result<(), WriteFault>
 
 // Members or alternatives, with a mark between each two.
 #[cycle(printing)]
-fn print_all<W: Sink>(es: &[Expr], place: Context, mark: &[u8], w: &mut W) -> Result<(), WriteFault>
+fn print_all<W: Sink>(
+    es: &[Expr],
+    position: Context,
+    mark: &[u8],
+    w: &mut W,
+) -> Result<(), WriteFault>
     requires { W.failed w.old ≡ false }
-    ensures bytes { Writes (W.contents w.old) (W.contents w.new) (canon.joined place mark.now (patterns_of es.now))
+    ensures bytes { Writes (W.contents w.old) (W.contents w.new) (canon.joined position mark.now (patterns_of es.now))
         result }
     ensures flag { Flags (W.failed w.old) (W.failed w.new) result }
 {
@@ -120,7 +125,7 @@ fn print_all<W: Sink>(es: &[Expr], place: Context, mark: &[u8], w: &mut W) -> Re
             Ok(()) => {}
             Err(fault) => return Err(fault),
         }
-        match print_at(e, place, w) {
+        match print_at(e, position, w) {
             Ok(()) => {}
             Err(fault) => return Err(fault),
         }

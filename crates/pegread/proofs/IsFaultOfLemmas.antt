@@ -38,17 +38,18 @@ one-deciding : (ts : List Tok) (i j : ℕ) → Decides ts i → Decides ts j →
 one-deciding = viability.one-deciding Viable AreWithin viable-take within-take
 
 -- two tokens of a text that decide are one
-record OnePlace (text : List ℕ) (a b : ℕ) (D E : List Tok → ℕ → Type 0) : Type 0 where
+record OnePosition (text : List ℕ) (a b : ℕ) (D E : List Tok → ℕ → Type 0) : Type 0 where
   all : List Tok
   number : ℕ
   first : D all number
   second : E all number
   lines : a ≡ b
 
-one-place : (text : List ℕ) (a b : ℕ) (D E : List Tok → ℕ → Type 0) → ((ts : List Tok) (i : ℕ) → D ts i → Decides ts i)
+one-position : (text : List ℕ) (a b : ℕ) (D E : List Tok → ℕ → Type 0)
+    → ((ts : List Tok) (i : ℕ) → D ts i → Decides ts i)
     → ((ts : List Tok) (i : ℕ) → E ts i → Decides ts i) →
-    IsDecidedAt text a D → IsDecidedAt text b E → OnePlace text a b D E
-one-place text a b D E f g h k =
+    IsDecidedAt text a D → IsDecidedAt text b E → OnePosition text a b D E
+one-position text a b D E f g h k =
     let all : k.all ≡ h.all = tokens-one k.are_tokens h.are_tokens in
     let there : E h.all k.number = rw all at k.decides in
     let number : k.number ≡ h.number = one-deciding h.all k.number h.number (g h.all k.number there)
@@ -81,24 +82,25 @@ deep-decides ts i h = inr h
 
 module _ (text : List ℕ) (a b : ℕ) where
   both-syntax : IsDecidedAt text a IsSyntax → IsDecidedAt text b IsSyntax → a ≡ b
-  both-syntax h k = (one-place text a b IsSyntax IsSyntax syntax-decides syntax-decides h k).lines
+  both-syntax h k = (one-position text a b IsSyntax IsSyntax syntax-decides syntax-decides h k).lines
 
   both-code : IsDecidedAt text a IsCode → IsDecidedAt text b IsCode → a ≡ b
-  both-code h k = (one-place text a b IsCode IsCode code-decides code-decides h k).lines
+  both-code h k = (one-position text a b IsCode IsCode code-decides code-decides h k).lines
 
   both-deep : IsDecidedAt text a IsTooDeep → IsDecidedAt text b IsTooDeep → a ≡ b
-  both-deep h k = (one-place text a b IsTooDeep IsTooDeep deep-decides deep-decides h k).lines
+  both-deep h k = (one-position text a b IsTooDeep IsTooDeep deep-decides deep-decides h k).lines
 
   syntax-code : IsDecidedAt text a IsSyntax → IsDecidedAt text b IsCode → ⊥
-  syntax-code h k = let p = one-place text a b IsSyntax IsCode syntax-decides code-decides h k in let s = p.first in
+  syntax-code h k = let p = one-position text a b IsSyntax IsCode syntax-decides code-decides h k in let s = p.first in
       let c = p.second in s.1 c.1
 
   syntax-deep : IsDecidedAt text a IsSyntax → IsDecidedAt text b IsTooDeep → ⊥
-  syntax-deep h k = let p = one-place text a b IsSyntax IsTooDeep syntax-decides deep-decides h k in let s = p.first in
+  syntax-deep h k = let p = one-position text a b IsSyntax IsTooDeep syntax-decides deep-decides h k in let s = p.first
+      in
       viability.not-both Viable AreWithin viable-take within-take p.all p.number s.0 p.second
 
   code-deep : IsDecidedAt text a IsCode → IsDecidedAt text b IsTooDeep → ⊥
-  code-deep h k = let p = one-place text a b IsCode IsTooDeep code-decides deep-decides h k in let c = p.first in
+  code-deep h k = let p = one-position text a b IsCode IsTooDeep code-decides deep-decides h k in let c = p.first in
       viability.not-both Viable AreWithin viable-take within-take p.all p.number c.0 p.second
 
 pub one-fault : (text : List ℕ) (a b : ReadFault) → IsFaultOf text a → IsFaultOf text b → a ≢ faults.Memory

@@ -82,19 +82,19 @@ kind-there : (ts : List Tok) (t : Tok) (us : List Tok) → slice_get (map kind_o
 kind-there ts t us = slice_get-map kind_of (ts ++ t ∷ us) (length ts) ∙ ap (option_map kind_of) (get-seam ts t us)
 
 -- where the last token stands
-last-place : (ts us : List Tok) (k : Kind) → last_kind ts ≡ Some k → (place : ℕ) × (length ts ≡ suc place)
-    × (slice_get (map kind_of (ts ++ us)) place ≡ Some k)
-last-place [] us k e = cc
-last-place (t ∷ []) us k e = (0, refl, e)
-last-place (t ∷ u ∷ ts) us k e = let p = last-place (u ∷ ts) us k e in (suc p.0, ap suc p.1, p.2)
+last-position : (ts us : List Tok) (k : Kind) → last_kind ts ≡ Some k → (position : ℕ) × (length ts ≡ suc position)
+    × (slice_get (map kind_of (ts ++ us)) position ≡ Some k)
+last-position [] us k e = cc
+last-position (t ∷ []) us k e = (0, refl, e)
+last-position (t ∷ u ∷ ts) us k e = let p = last-position (u ∷ ts) us k e in (suc p.0, ap suc p.1, p.2)
 
-place-last : (ts us : List Tok) (k : Kind) (place : ℕ) → length ts ≡ place + 1
-    → slice_get (map kind_of (ts ++ us)) place ≡ Some k → last_kind ts ≡ Some k
-place-last [] us k place e h = absurd (omega (arith, e))
-place-last (t ∷ []) us k zero e h = h
-place-last (t ∷ []) us k (suc place) e h = absurd (omega (arith, e))
-place-last (t ∷ u ∷ ts) us k zero e h = absurd (omega (arith, e))
-place-last (t ∷ u ∷ ts) us k (suc place) e h = place-last (u ∷ ts) us k place (omega (arith, e)) h
+position-last : (ts us : List Tok) (k : Kind) (position : ℕ) → length ts ≡ position + 1
+    → slice_get (map kind_of (ts ++ us)) position ≡ Some k → last_kind ts ≡ Some k
+position-last [] us k position e h = absurd (omega (arith, e))
+position-last (t ∷ []) us k zero e h = h
+position-last (t ∷ []) us k (suc position) e h = absurd (omega (arith, e))
+position-last (t ∷ u ∷ ts) us k zero e h = absurd (omega (arith, e))
+position-last (t ∷ u ∷ ts) us k (suc position) e h = position-last (u ∷ ts) us k position (omega (arith, e)) h
 
 -- the word of an end
 only-end : {z : List ℕ} {p : Span} {ws : List Word} → SayAll (tok End z p ∷ []) ws → ws ≡ words.End ∷ []
@@ -158,9 +158,9 @@ module _ {text : List ℕ} {left : TokenIter Kind} {c : Config} {before : Option
         where
           after-amp : (before ≡ Some Amp) × (kind_of t ≡ Action) → IsCodePredicate (ts ++ t ∷ others) (length ts)
           after-amp (amp, action) =
-              let p = last-place ts (t ∷ others) Amp (sym h.last ∙ amp) in
+              let p = last-position ts (t ∷ others) Amp (sym h.last ∙ amp) in
               record {
-                place = p.0;
+                position = p.0;
                 next = omega (arith, p.1);
                 amp = p.2;
                 action = kind-there ts t others ∙ ap Some action;
@@ -169,7 +169,7 @@ module _ {text : List ℕ} {left : TokenIter Kind} {c : Config} {before : Option
       no-predicate : is_predicate before (kind_of t) ≡ false → IsCodePredicate (ts ++ t ∷ others) (length ts) → ⊥
       no-predicate e p =
           let action : Some (kind_of t) ≡ Some Action = sym (kind-there ts t others) ∙ p.action in
-          let amp : last_kind ts ≡ Some Amp = place-last ts (t ∷ others) Amp p.place p.next p.amp in
+          let amp : last_kind ts ≡ Some Amp = position-last ts (t ∷ others) Amp p.position p.next p.amp in
           let kind : kind_of t ≡ Action = cc in
           predicate-not before (kind_of t) (h.last ∙ amp) kind e
 

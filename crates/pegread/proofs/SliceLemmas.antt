@@ -47,7 +47,7 @@ letter-kind : {k : Kind} {b : ℕ} {bs r : List ℕ} → starts_name b ≡ true 
 letter-kind e (ident h n) = refl
 letter-kind e _ = cc
 
--- two tokens that stand at one place and end at one place are of one kind
+-- two tokens that stand at one position and end at one position are of one kind
 kinds-one : {k j : Kind} {t r s : List ℕ} → r ≡ s → Stands k t r → Stands j t s → k ≡ j
 kinds-one e (ident h n) y = sym (letter-kind h y)
 kinds-one e x (ident h n) = letter-kind h x

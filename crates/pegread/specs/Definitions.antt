@@ -6,7 +6,7 @@ use Rattle.pegread.specs.declared.expr.Expr.{Expr}
 use Rattle.pegread.specs.Pattern.{Rule}
 use Rattle.pegread.specs.PegViews.{rules_of}
 
--- the place of the rule of that name among these
+-- the position of the rule of that name among these
 abbrev pub id_in : List Rule → List ℕ → Option ℕ
 id_in rules n = position (λ rule. bytes_eq n rule.name) rules
 

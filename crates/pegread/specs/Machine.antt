@@ -44,7 +44,7 @@ pub data Last : Type 0 where
 pub data Level : Type 0 where
   level : Patterns → Patterns → Mark → Level
 
--- the definitions that ended, and the name of the one that goes on, with its place
+-- the definitions that ended, and the name of the one that goes on, with its position
 pub data Head : Type 0 where
   head : List Rule → List ℕ → Span → Head
 

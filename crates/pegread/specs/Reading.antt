@@ -26,9 +26,9 @@ pub record Reads (text : List ℕ) (definitions : List Rule) : Type 0 where
 
 -- an action right after an `&`
 pub record IsCodePredicate (ts : List Tok) (i : ℕ) : Type 0 where
-  pub place : ℕ
-  pub next : i ≡ place + 1
-  pub amp : slice_get (map kind_of ts) place ≡ Some Amp
+  pub position : ℕ
+  pub next : i ≡ position + 1
+  pub amp : slice_get (map kind_of ts) position ≡ Some Amp
   pub action : slice_get (map kind_of ts) i ≡ Some Action
 
 -- at most 200 brackets are open at once

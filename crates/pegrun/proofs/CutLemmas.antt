@@ -35,8 +35,8 @@ use Rattle.matchfailure.specs.NoMatches.{IsNoMatchReported, unit_before}
 use Rattle.pegrun.specs.PastUnits.{EndsAfter, LinesAfter}
 use Rattle.pegrun.specs.StopsExplained.{MayLack, StopLines, ReportsNothing, UnitBefore, WhyStopped, one_before}
 use Rattle.pegrun.specs.declared.past.Past.{Past}
-use Rattle.matchfailure.specs.InputPlaces.{place_after}
-use Rattle.matchfailure.specs.declared.explain.place.TextPlace.{TextPlace}
+use Rattle.matchfailure.specs.InputPositions.{position_after}
+use Rattle.matchfailure.specs.declared.explain.position.TextPosition.{TextPosition}
 use Rattle.pegrun.proofs.FollowsLemmas.{unit_at_byte}
 use Rattle.toolrun.proofs.ExplainedIfLemmas.{if_asked, if_not_asked}
 use Rattle.pegrun.proofs.WhyStoppedLemmas.{no_lines, some_reported}
@@ -44,32 +44,33 @@ use Rattle.pegrun.proofs.SomeReplyLemmas.{units_go_on, unit_goes_on}
 use Rattle.pegrun.specs.declared.unit.UnitStep.TheVariants.{Takes, Stops}
 
 module _ (rules : List Rule) (start : ℕ) (settings : PegSettings) (input : Input) (old mid new : Option (List ℕ))
-    (place : ℕ) (text : List ℕ) (taken : ℕ)
-    (units : Units rules start settings input place text) (wrote : Appends old mid text) where
-  pub one_more_unit : (n : ℕ) → IsStep rules start settings input place mid new (Ok (Takes n)) →
-      (longer : List ℕ) × (later : Units rules start settings input (place + n) longer) × Appends old new longer ×
+    (position : ℕ) (text : List ℕ) (taken : ℕ)
+    (units : Units rules start settings input position text) (wrote : Appends old mid text) where
+  pub one_more_unit : (n : ℕ) → IsStep rules start settings input position mid new (Ok (Takes n)) →
+      (longer : List ℕ) × (later : Units rules start settings input (position + n) longer) × Appends old new longer ×
       (unit_count rules start settings input later ≡ suc (unit_count rules start settings input units))
   one_more_unit n (unit, is, more, some) = (
     text ++ unit,
-    one_more place n text unit units is some,
+    one_more position n text unit units is some,
     Appends-join old mid new text unit wrote more,
     refl,
   )
 
   -- the unit that was taken is the one before the next, and is kept
-  pub unit_kept : (n : ℕ) → IsStep rules start settings input place mid new (Ok (Takes n)) → (past : Past)
-      (before items : List ℕ) → length before ≡ place → (next : TextPlace) → next ≡ place_after before
+  pub unit_kept : (n : ℕ) → IsStep rules start settings input position mid new (Ok (Takes n)) → (past : Past)
+      (before items : List ℕ) → length before ≡ position → (next : TextPosition) → next ≡ position_after before
       → past.at ≡ next → past.bytes.items ≡ take n items → n ≤ length items →
-      UnitBefore rules start settings input (place + n) (unit_before past.at.byte (length past.bytes.items))
+      UnitBefore rules start settings input (position + n) (unit_before past.at.byte (length past.bytes.items))
   unit_kept n (unit, is, more, some) past before items here next stands at bytes le =
       rw (unit_at_byte past.at past.bytes.items before items n (at ∙ stands) bytes le some, here)
-      (one_before place n text unit units is some)
+      (one_before position n text unit units is some)
 
   pub stops_plain : settings.explain ≡ false → (stop : Stop)
-      → IsStep rules start settings input place mid new (Ok (Stops stop)) → taken ≡ taken_at settings input place →
+      → IsStep rules start settings input position mid new (Ok (Stops stop)) → taken ≡ taken_at settings input position
+      →
       IsCut rules start settings input taken old new (Ok (Plain stop))
   stops_plain plain stop (inl refused) took = (
-    place,
+    position,
     text,
     [],
     units,
@@ -78,42 +79,44 @@ module _ (rules : List Rule) (start : ℕ) (settings : PegSettings) (input : Inp
     (refl, inl (record { refused = refused.0; nothing = refl; unexplained = refl })),
   )
   stops_plain plain stop (inr ended) took = (
-    place,
+    position,
     text,
     ended.0,
     units,
     Appends-join old mid new text ended.0 wrote ended.2,
     took,
-    (refl, inr (ended.1, if_not_asked settings.explain (StopLines rules start settings input place stop) plain)),
+    (refl, inr (ended.1, if_not_asked settings.explain (StopLines rules start settings input position stop) plain)),
   )
 
   -- the bytes before here and those that are held are what is taken, and the last unit before is kept
-  module _ (asked : settings.explain ≡ true) (past : Past) (before held more : List ℕ) (here : length before ≡ place)
-      (bytes : input.bytes ≡ (before ++ held) ++ more) (took : length (before ++ held) ≡ taken_at settings input place)
+  module _ (asked : settings.explain ≡ true) (past : Past) (before held more : List ℕ) (here : length before ≡ position)
+      (bytes : input.bytes ≡ (before ++ held) ++ more)
+      (took : length (before ++ held) ≡ taken_at settings input position)
       (unit : past.lost ≡ false
-      → UnitBefore rules start settings input place (unit_before past.at.byte (length past.bytes.items))) where
-    taken_is : take (taken_at settings input place) input.bytes ≡ before ++ held
+      → UnitBefore rules start settings input position (unit_before past.at.byte (length past.bytes.items))) where
+    taken_is : take (taken_at settings input position) input.bytes ≡ before ++ held
     taken_is = subst (λ (n : ℕ). take n input.bytes ≡ before ++ held) took
         (ap (take (length (before ++ held))) bytes ∙ take-append_seam (before ++ held) more)
 
-    front_is : take place input.bytes ≡ before
+    front_is : take position input.bytes ≡ before
     front_is = subst (λ (n : ℕ). take n input.bytes ≡ before) here
         (ap (take (length before)) (bytes ∙ append_assoc before held more) ∙ take-append_seam before (held ++ more))
 
     lines_are : (stop : Stop) (why : List ℕ) → LinesAfter rules start past before held stop why
-        → StopLines rules start settings input place stop why
+        → StopLines rules start settings input position stop why
     lines_are (Quiet status) why lines = absurd lines
     lines_are (NoMatch at) why (kept, reported) = (
       unit_before past.at.byte (length past.bytes.items),
       unit kept,
-      subst (λ (t : List ℕ). IsNoMatchReported rules start t (unit_before past.at.byte (length past.bytes.items)) place
+      subst (λ (t : List ℕ). IsNoMatchReported rules start t
+          (unit_before past.at.byte (length past.bytes.items)) position
           why)
           (sym taken_is)
           (subst (λ (n : ℕ). IsNoMatchReported rules start (before ++ held)
           (unit_before past.at.byte (length past.bytes.items)) n why) here reported),
     )
     lines_are (LongUnit at limit) why lines =
-        lines ∙ ap (λ (t : List ℕ). long_unit_lines (place_after t)) (sym front_is)
+        lines ∙ ap (λ (t : List ℕ). long_unit_lines (position_after t)) (sym front_is)
     lines_are (LongLine line limit) why lines = absurd lines
     lines_are Broken why lines = absurd lines
     lines_are NoMemory why lines = absurd lines
@@ -121,16 +124,16 @@ module _ (rules : List Rule) (start : ℕ) (settings : PegSettings) (input : Inp
     lines_are Unreadable why lines = absurd lines
 
     ends_so : (stop : Stop) (last : List ℕ) (ending : Ending) → EndsAfter rules start past before held stop ending
-        → Ends rules start settings input place last stop →
+        → Ends rules start settings input position last stop →
         EndsReported (Units rules start settings input) (Ends rules start settings input) (taken_at settings input)
-        ReportsNothing (WhyStopped rules start settings input) (MayLack rules start settings input) place last ending
+        ReportsNothing (WhyStopped rules start settings input) (MayLack rules start settings input) position last ending
     ends_so stop last (Plain is) (same, without) ends =
         rw same (
           refl,
           inr (
             ends,
-            if_asked settings.explain (StopLines rules start settings input place stop) [] asked
-                (no_lines rules start settings input place stop without),
+            if_asked settings.explain (StopLines rules start settings input position stop) [] asked
+                (no_lines rules start settings input position stop without),
           ),
         )
     ends_so stop last (Explained reported is why) (alone, same, lines) ends =
@@ -138,7 +141,7 @@ module _ (rules : List Rule) (start : ℕ) (settings : PegSettings) (input : Inp
           alone,
           inr (
             ends,
-            if_asked settings.explain (StopLines rules start settings input place stop) why.items asked
+            if_asked settings.explain (StopLines rules start settings input position stop) why.items asked
                 (lines_are stop why.items lines),
           ),
         )
@@ -146,18 +149,18 @@ module _ (rules : List Rule) (start : ℕ) (settings : PegSettings) (input : Inp
 
     refused_so : (ending : Ending) → EndsAfter rules start past before held NoMemory ending
         → EndsReported (Units rules start settings input) (Ends rules start settings input) (taken_at settings input)
-        ReportsNothing (WhyStopped rules start settings input) (MayLack rules start settings input) place [] ending
+        ReportsNothing (WhyStopped rules start settings input) (MayLack rules start settings input) position [] ending
     refused_so (Plain is) (same, without) =
         (refl, inl (record { refused = same; nothing = refl; unexplained = refl }))
     refused_so (Explained reported is why) (alone, same, lines) = absurd lines
     refused_so (Unexplained reported is) (alone, same, has) = absurd has
 
     pub stops_explained : (stop : Stop) (ending : Ending)
-        → IsStep rules start settings input place mid new (Ok (Stops stop))
-        → EndsAfter rules start past before held stop ending → taken ≡ taken_at settings input place →
+        → IsStep rules start settings input position mid new (Ok (Stops stop))
+        → EndsAfter rules start past before held stop ending → taken ≡ taken_at settings input position →
         IsCut rules start settings input taken old new (Ok ending)
     stops_explained stop ending (inl refused) after at = (
-      place,
+      position,
       text,
       [],
       units,
@@ -166,7 +169,7 @@ module _ (rules : List Rule) (start : ℕ) (settings : PegSettings) (input : Inp
       refused_so ending (subst (λ (s : Stop). EndsAfter rules start past before held s ending) refused.0 after),
     )
     stops_explained stop ending (inr ended) after at = (
-      place,
+      position,
       text,
       ended.0,
       units,
@@ -175,26 +178,27 @@ module _ (rules : List Rule) (start : ℕ) (settings : PegSettings) (input : Inp
       ends_so stop ended.0 ending after ended.1,
     )
 
-  module _ (past : Past) (before held more : List ℕ) (here : length before ≡ place)
-      (bytes : input.bytes ≡ (before ++ held) ++ more) (took : length (before ++ held) ≡ taken_at settings input place)
+  module _ (past : Past) (before held more : List ℕ) (here : length before ≡ position)
+      (bytes : input.bytes ≡ (before ++ held) ++ more)
+      (took : length (before ++ held) ≡ taken_at settings input position)
       (unit : settings.explain ≡ true → past.lost ≡ false
-      → UnitBefore rules start settings input place (unit_before past.at.byte (length past.bytes.items)))
-      (stop : Stop) (ending : Ending) (step : IsStep rules start settings input place mid new (Ok (Stops stop)))
+      → UnitBefore rules start settings input position (unit_before past.at.byte (length past.bytes.items)))
+      (stop : Stop) (ending : Ending) (step : IsStep rules start settings input position mid new (Ok (Stops stop)))
       (plain : settings.explain ≡ false → ending ≡ Plain stop)
       (reported : settings.explain ≡ true → EndsAfter rules start past before held stop ending)
-      (at : taken ≡ taken_at settings input place) where
+      (at : taken ≡ taken_at settings input position) where
     stops_by : (asked : Bool) → settings.explain ≡ asked → IsCut rules start settings input taken old new (Ok ending)
     stops_by true e = stops_explained e past before held more here bytes took (unit e) stop ending step (reported e) at
     stops_by false e = rw (plain e) (stops_plain e stop step at)
 
-    pub stops_at_place : IsCut rules start settings input taken old new (Ok ending)
-    stops_at_place = stops_by settings.explain refl
+    pub stops_at_position : IsCut rules start settings input taken old new (Ok ending)
+    stops_at_position = stops_by settings.explain refl
 
-  pub fails_there : (fault : WriteFault) → IsStep rules start settings input place mid new (Err fault)
-      → taken ≡ taken_at settings input place →
+  pub fails_there : (fault : WriteFault) → IsStep rules start settings input position mid new (Err fault)
+      → taken ≡ taken_at settings input position →
       IsCut rules start settings input taken old new (Err fault)
   fails_there fault (k, unit, is, part) took = (
-    place,
+    position,
     k,
     text,
     unit,
@@ -205,11 +209,11 @@ module _ (rules : List Rule) (start : ℕ) (settings : PegSettings) (input : Inp
   )
 
 -- the units are the steps of a run
-pub goes_on : (g : Grammar) → IsSoundGrammar g → (settings : PegSettings) (input : Input) (place : ℕ) (text : List ℕ)
-    → Units (rules_of g.rules) g.start settings input place text →
+pub goes_on : (g : Grammar) → IsSoundGrammar g → (settings : PegSettings) (input : Input) (position : ℕ) (text : List ℕ)
+    → Units (rules_of g.rules) g.start settings input position text →
     Begins (Units (rules_of g.rules) g.start settings input) (Ends (rules_of g.rules) g.start settings input)
-    (taken_at settings input) (taken_at settings input place) text
-goes_on g sound settings input place text units = units_go_on g settings input sound place text units
+    (taken_at settings input) (taken_at settings input position) text
+goes_on g sound settings input position text units = units_go_on g settings input sound position text units
 
 -- what `cut` says, in the words of all runs
 pub cut_has_run : (g : Grammar) → IsSoundGrammar g → (settings : PegSettings) (input : Input) (taken : ℕ)
@@ -219,8 +223,8 @@ pub cut_has_run : (g : Grammar) → IsSoundGrammar g → (settings : PegSettings
     (taken_at settings input) ReportsNothing (WhyStopped (rules_of g.rules) g.start settings input)
     (MayLack (rules_of g.rules) g.start settings input) taken old new r
 cut_has_run g sound settings input taken old new (Ok ending) cut = cut
-cut_has_run g sound settings input taken old new (Err fault) (place, k, text, last, units, unit, part, took) =
-    let goes = unit_goes_on g settings input sound place k text last units unit in
+cut_has_run g sound settings input taken old new (Err fault) (position, k, text, last, units, unit, part, took) =
+    let goes = unit_goes_on g settings input sound position k text last units unit in
     let reported = some_reported (rules_of g.rules) g.start settings input goes.reply goes.replies in (
       text ++ last,
       record {

@@ -77,7 +77,7 @@ pub firsts_are_apart : (ds known : List Rule) → AreApart (firsts known ds)
 firsts_are_apart [] known = λ i j a b at bt same. absurd (cc at)
 firsts_are_apart (d ∷ ds) known = firsts_are_apart_by known ds d (id_in known d.name) refl (firsts_are_apart ds)
 
--- the rule at a place of the names
+-- the rule at a position of the names
 record HasName (rules : List Rule) (id : ℕ) (n : List ℕ) : Type 0 where
   rule : Rule
   there : slice_get rules id ≡ Some rule

@@ -6,8 +6,8 @@ use Rattle.std.proofs.Common.{Vec, Global}
 use Rattle.std.specs.Prelude.{Result, Ok, Err, IfOk}
 use Rattle.ruletable.specs.declared.memory.Memory.{Memory}
 use Rattle.matchfailure.specs.NoMatches.{IsNoMatchReported, unit_before}
-use Rattle.matchfailure.specs.InputPlaces.{place_after}
-use Rattle.matchfailure.specs.declared.explain.place.TextPlace.{TextPlace}
+use Rattle.matchfailure.specs.InputPositions.{position_after}
+use Rattle.matchfailure.specs.declared.explain.position.TextPosition.{TextPosition}
 use Rattle.pegread.specs.Pattern.{Rule}
 use Rattle.pegrun.specs.PastUnits.{EndsAfter, Follows, IsEndingWith}
 use Rattle.pegrun.specs.StopsExplained.{UnitBefore, none_before}
@@ -19,7 +19,7 @@ use Rattle.toolrun.specs.declared.ending.Ending.TheVariants.{Plain, Explained, U
 use Rattle.toolrun.specs.declared.stop.Stop.TheVariants.{NoMatch}
 
 -- nothing is kept at the front
-pub follows_front : (past : Past) → past.at ≡ place_after [] → past.bytes.items ≡ [] → past.next ≡ place_after []
+pub follows_front : (past : Past) → past.at ≡ position_after [] → past.bytes.items ≡ [] → past.next ≡ position_after []
     → Follows past []
 follows_front past at bytes next = record {
   next = next;
@@ -35,7 +35,7 @@ pub front_is_first : (rules : List Rule) (start : ℕ) (settings : PegSettings) 
 front_is_first rules start settings input past bytes = rw bytes none_before
 
 -- the unit that was taken is kept after the bytes before it
-pub unit_at_byte : (at : TextPlace) (bytes before items : List ℕ) (n : ℕ) → at ≡ place_after before
+pub unit_at_byte : (at : TextPosition) (bytes before items : List ℕ) (n : ℕ) → at ≡ position_after before
     → bytes ≡ take n items → n ≤ length items → 0 < n → unit_before at.byte (length bytes) ≡ Some (length before)
 unit_at_byte at bytes before items zero is kept le some = absurd (omega (arith, some))
 unit_at_byte at bytes before items (suc n) is kept le some =
@@ -62,7 +62,8 @@ ends_unmatched rules start past before held at why (Unexplained first is) report
 pub reported_after_kept : (rules : List Rule) (start : ℕ) (past : Past) (held seen : List ℕ) (last : ℕ)
     (result : Result (Vec ℕ Global) Memory) → past.lost ≡ false → seen ≡ past.bytes.items ++ held
     → last ≡ length past.bytes.items →
-    IfOk result (λ why. (front : List ℕ) → past.at ≡ place_after front → IsNoMatchReported rules start (front ++ seen)
+    IfOk result (λ why. (front : List ℕ) → past.at ≡ position_after front
+    → IsNoMatchReported rules start (front ++ seen)
     (unit_before past.at.byte last) (past.at.byte + last) why.items) →
     IfOk result (λ why. (before : List ℕ) → Follows past before → (past.lost ≡ false)
     × IsNoMatchReported rules start (before ++ held) (unit_before past.at.byte (length past.bytes.items))
@@ -73,7 +74,7 @@ reported_after_kept rules start past held seen last (Ok why) kept is many report
     let whole : before ≡ follows.front ++ past.bytes.items = follows.whole kept in
     let text : follows.front ++ seen ≡ before ++ held = ap (λ (t : List ℕ). follows.front ++ t) is
     ∙ sym (append_assoc follows.front past.bytes.items held) ∙ ap (λ (t : List ℕ). t ++ held) (sym whole) in
-    let here : past.at.byte ≡ length follows.front = ap (λ (a : TextPlace). a.byte) follows.at in
+    let here : past.at.byte ≡ length follows.front = ap (λ (a : TextPosition). a.byte) follows.at in
     let size = ap length whole in
     let byte : past.at.byte + last ≡ length before =
     omega (arith, here, many, size, length-append follows.front past.bytes.items) in (

@@ -48,5 +48,5 @@ no_calls_given rules start settings calls None failed = tt
 no_calls_given rules start settings calls (Some given) failed = (
   [],
   refl,
-  record { place = 0; within = omega arith; text = []; units = none; few = omega arith },
+  record { position = 0; within = omega arith; text = []; units = none; few = omega arith },
 )

@@ -45,7 +45,7 @@ module _ (rules : List Rule) (start : ℕ) (settings : PegSettings) (input : Inp
   abbrev EndsAt : ℕ → List ℕ → Stop → Type 0
   EndsAt s last stop = Ends rules start settings input s last stop
 
-  -- one outcome at a place
+  -- one outcome at a position
   one_gift : (s : ℕ) (o c : Outcome) (d : Gives s o) (g : Gives s c) → o ≡ c
   one_gift s o c d g =
       (same_of_start rules start (rest_from input s) d.looked g.looked o c d.gives g.gives).outcome
@@ -55,7 +55,7 @@ module _ (rules : List Rule) (start : ℕ) (settings : PegSettings) (input : Inp
     bytes : k ≡ j
     texts : text ≡ other
 
-  -- one number of bytes and one text at a place
+  -- one number of bytes and one text at a position
   one_unit : (s k j : ℕ) (text other : List ℕ) → UnitAt s k text → UnitAt s j other → OneUnit k j text other
   one_unit s k j text other u v =
       let h = one_gift s (Takes k u.events) (Takes j v.events) u.gives v.gives in
@@ -70,7 +70,8 @@ module _ (rules : List Rule) (start : ℕ) (settings : PegSettings) (input : Inp
     some : 0 < bytes
     within : s + bytes ≤ s'
 
-  -- two places to which units lead: the same, with the same text, or from one of them a unit leads on towards the other
+  -- two positions to which units lead: the same, with the same text, or from one of them a unit leads on towards the
+  -- other
   data Compares (s : ℕ) (text : List ℕ) (s' : ℕ) (text' : List ℕ) : Type 0 where
     same : s ≡ s' → text ≡ text' → Compares s text s' text'
     before : Reaches s s' → Compares s text s' text'
@@ -176,7 +177,7 @@ module _ (rules : List Rule) (start : ℕ) (settings : PegSettings) (input : Inp
       (so_far (at + k') (front ++ more') (one_more at k' front more' u' unit' some'))
       (goes_on s k text more u unit some so_far at front u')
 
-  -- all places to which units lead compare
+  -- all positions to which units lead compare
   units_compare : (s : ℕ) (text : List ℕ) → UnitsTo s text → (s' : ℕ) (text' : List ℕ) → UnitsTo s' text'
       → Compares s text s' text'
   units_compare s text none s' text' u' = compares_begin s' text' u'
@@ -222,7 +223,7 @@ module _ (rules : List Rule) (start : ℕ) (settings : PegSettings) (input : Inp
     lasts : last ≡ other
     stops : stop ≡ end
 
-  -- one end at a place
+  -- one end at a position
   one_end : (s : ℕ) (last other : List ℕ) (stop end : Stop) → EndsAt s last stop → EndsAt s other end
       → OneEnd last other stop end
   one_end s last other stop end (broken f few) (broken f' few') = record { lasts = refl; stops = refl }
@@ -345,7 +346,7 @@ module _ (rules : List Rule) (start : ℕ) (settings : PegSettings) (input : Inp
   abbrev PlainReply : Reply → Type 0
   PlainReply reply = PlainReplies rules start settings input reply
 
-  -- two runs of the units end in one way at one place
+  -- two runs of the units end in one way at one position
   record OneRun (a b : Reply) (r : PlainReply a) (q : PlainReply b) : Type 0 where
     replies : a ≡ b
     points : r.point ≡ q.point
@@ -373,7 +374,7 @@ module _ (rules : List Rule) (start : ℕ) (settings : PegSettings) (input : Inp
   one_run : (a b : Reply) (r : PlainReply a) (q : PlainReply b) → OneRun a b r q
   one_run a b r q = replies_settled a b r q (units_compare r.point r.before r.steps q.point q.before q.steps)
 
-  -- the unit before a place is one, as compared
+  -- the unit before a position is one, as compared
   one_before_of : (s k s' k' : ℕ) (text last text' last' : List ℕ) → UnitAt s k last → UnitAt s' k' last' → 0 < k
       → 0 < k' → s + k ≡ s' + k' → Compares s text s' text' → s ≡ s'
   one_before_of s k s' k' text last text' last' unit unit' some some' e (same here is) = here

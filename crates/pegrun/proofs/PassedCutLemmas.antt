@@ -31,10 +31,10 @@ use Rattle.pegrun.specs.declared.passed.Passed.TheVariants.{Broken, Units as Pas
 use Rattle.pegrun.proofs.CutLemmas.{stops_plain}
 
 module _ (rules : List Rule) (start : ℕ) (settings : PegSettings) (input : Input) (old mid new : Option (List ℕ))
-    (place : ℕ) (text : List ℕ) (taken : ℕ) (units : Units rules start settings input place text)
+    (position : ℕ) (text : List ℕ) (taken : ℕ) (units : Units rules start settings input position text)
     (wrote : Appends old mid text) where
-  pub units_passed : (s n : ℕ) → s ≡ place → HasComeTo rules start settings input s taken mid new (Ok (Passes n)) →
-      (longer : List ℕ) × (later : Units rules start settings input (place + n) longer) × Appends old new longer
+  pub units_passed : (s n : ℕ) → s ≡ position → HasComeTo rules start settings input s taken mid new (Ok (Passes n)) →
+      (longer : List ℕ) × (later : Units rules start settings input (position + n) longer) × Appends old new longer
       × (unit_count rules start settings input later ≡ unit_count rules start settings input units + n)
   units_passed s n here passed =
       let is = subst (λ (at : ℕ). HasComeTo rules start settings input at taken mid new (Ok (Passes n))) here passed in
@@ -42,11 +42,11 @@ module _ (rules : List Rule) (start : ℕ) (settings : PegSettings) (input : Inp
       (text ++ is.0, later.0, Appends-join old mid new text is.0 wrote is.2, later.1)
 
   -- The same, with what is kept of the unit before, which is asked for only where no unit was run so, and the calls.
-  pub written_passed : (s n : ℕ) → s ≡ place → HasComeTo rules start settings input s taken mid new (Ok (Passes n)) →
-      (IsKept : ℕ → Type 0) → (settings.explain ≡ true → n ≡ 0) → (settings.explain ≡ true → IsKept place) →
+  pub written_passed : (s n : ℕ) → s ≡ position → HasComeTo rules start settings input s taken mid new (Ok (Passes n)) →
+      (IsKept : ℕ → Type 0) → (settings.explain ≡ true → n ≡ 0) → (settings.explain ≡ true → IsKept position) →
       (was calls : ℕ) → calls ≤ was + 2 * unit_count rules start settings input units →
-      (longer : List ℕ) × (later : Units rules start settings input (place + n) longer) × Appends old new longer
-      × (settings.explain ≡ true → IsKept (place + n))
+      (longer : List ℕ) × (later : Units rules start settings input (position + n) longer) × Appends old new longer
+      × (settings.explain ≡ true → IsKept (position + n))
       × (calls ≤ was + 2 * unit_count rules start settings input later)
   written_passed s n here passed IsKept none kept was calls few =
       let u = units_passed s n here passed in (
@@ -57,31 +57,31 @@ module _ (rules : List Rule) (start : ℕ) (settings : PegSettings) (input : Inp
         omega (arith, few, u.3),
       )
 
-  pub cut_at_fault : (s : ℕ) → s ≡ place → settings.explain ≡ false
+  pub cut_at_fault : (s : ℕ) → s ≡ position → settings.explain ≡ false
       → HasComeTo rules start settings input s taken mid new (Ok Broken)
       → IsCut rules start settings input taken old new (Ok (Plain stop.Broken))
-  cut_at_fault s here plain passed = at_place plain
+  cut_at_fault s here plain passed = at_position plain
       (subst (λ (at : ℕ). HasComeTo rules start settings input at taken mid new (Ok Broken)) here passed)
     where
-      at_place : settings.explain ≡ false → HasComeTo rules start settings input place taken mid new (Ok Broken)
+      at_position : settings.explain ≡ false → HasComeTo rules start settings input position taken mid new (Ok Broken)
           → IsCut rules start settings input taken old new (Ok (Plain stop.Broken))
-      at_place plain (n, more, goes, wrote_more, ends, took) =
+      at_position plain (n, more, goes, wrote_more, ends, took) =
           let later = goes text units in
-          stops_plain rules start settings input old new new (place + n) (text ++ more) taken later.0
+          stops_plain rules start settings input old new new (position + n) (text ++ more) taken later.0
           (Appends-join old mid new text more wrote wrote_more) plain stop.Broken (inr ([], ends, Appends-same new))
           took
 
-  pub cut_at_write_fault : (s : ℕ) → s ≡ place → (fault : WriteFault)
+  pub cut_at_write_fault : (s : ℕ) → s ≡ position → (fault : WriteFault)
       → HasComeTo rules start settings input s taken mid new (Err fault)
       → IsCut rules start settings input taken old new (Err fault)
-  cut_at_write_fault s here fault passed = at_place
+  cut_at_write_fault s here fault passed = at_position
       (subst (λ (at : ℕ). HasComeTo rules start settings input at taken mid new (Err fault)) here passed)
     where
-      at_place : HasComeTo rules start settings input place taken mid new (Err fault)
+      at_position : HasComeTo rules start settings input position taken mid new (Err fault)
           → IsCut rules start settings input taken old new (Err fault)
-      at_place (n, more, last, goes, unit, part, took) =
+      at_position (n, more, last, goes, unit, part, took) =
           let later = goes text units in (
-            place + n,
+            position + n,
             1,
             text ++ more,
             last,
@@ -151,12 +151,12 @@ module _ {R : Type 0} (grown held skipped : Feed R) (before : List ℕ) (n : ℕ
       (flow ∙ same.flow) agrees)
 
 -- what is held and what may come still, after a feed read more and n bytes were dropped
-pub room_after : {R : Type 0} (remaining : R → Option (List ℕ)) (old grown held skipped : Feed R) (limit place n : ℕ)
+pub room_after : {R : Type 0} (remaining : R → Option (List ℕ)) (old grown held skipped : Feed R) (limit position n : ℕ)
     → Grows remaining old grown → SameFeed grown held → bytes_of skipped ≡ drop n (bytes_of held)
     → allowance_of skipped ≡ allowance_of held → n ≤ length (bytes_of grown)
-    → place + length (bytes_of old) + allowance_of old ≡ limit
-    → place + n + length (bytes_of skipped) + allowance_of skipped ≡ limit
-room_after remaining old grown held skipped limit place n grew same bytes allowance le within =
+    → position + length (bytes_of old) + allowance_of old ≡ limit
+    → position + n + length (bytes_of skipped) + allowance_of skipped ≡ limit
+room_after remaining old grown held skipped limit position n grew same bytes allowance le within =
     let kept = ap length bytes in
     let held_len = ap length same.bytes in
     let more = ap length grew.bytes in
@@ -178,10 +178,10 @@ room_after remaining old grown held skipped limit place n grew same bytes allowa
 
 module _ {R : Type 0} (remaining : R → Option (List ℕ)) (units : ByteUnits) (settings : PegSettings) (old new : Feed R)
     (was is : Option (List ℕ)) (result : Result Passed WriteFault)
-    (p : HasPassed remaining units settings old new was is result) (limit place : ℕ)
-    (within : place + length (bytes_of old) + allowance_of old ≡ limit) where
+    (p : HasPassed remaining units settings old new was is result) (limit position : ℕ)
+    (within : position + length (bytes_of old) + allowance_of old ≡ limit) where
   -- likewise, after units of m bytes were run
-  pub room_passed : (m : ℕ) → length p.gone ≡ m → place + m + length (bytes_of new) + allowance_of new ≡ limit
+  pub room_passed : (m : ℕ) → length p.gone ≡ m → position + m + length (bytes_of new) + allowance_of new ≡ limit
   room_passed m count =
       let now = ap length p.bytes in
       let left = p.allowance in
@@ -196,7 +196,7 @@ module _ {R : Type 0} (remaining : R → Option (List ℕ)) (units : ByteUnits) 
       )
 
   -- all that is seen, where the feed began after these bytes
-  pub seen_fits : (before : List ℕ) → length before ≡ place
+  pub seen_fits : (before : List ℕ) → length before ≡ position
       → allowance_of new + length (before ++ (bytes_of old ++ p.more)) ≡ limit
   seen_fits before here =
       let left = p.allowance in
@@ -209,26 +209,26 @@ module _ {R : Type 0} (remaining : R → Option (List ℕ)) (units : ByteUnits) 
         within,
       )
 
--- What was written so far of each input that agrees with what is seen: the units up to a place, what is kept of the
+-- What was written so far of each input that agrees with what is seen: the units up to a position, what is kept of the
 -- last of them, and how many matches were asked for.
 abbrev pub WrittenTo : {R : Type 0} → (R → Option (List ℕ)) → List Rule → ℕ → PegSettings → Option (List ℕ)
     → Option (List ℕ) → ℕ → (List ℕ → Type 0) → (Input → ℕ → Type 0) → Feed R → ℕ → Option (List ℕ) → ℕ → Type 0
-WrittenTo remaining rules start settings first old was IsPast IsKept feed place out calls =
-    (before : List ℕ) × (length before ≡ place) × (settings.explain ≡ true → IsPast before)
+WrittenTo remaining rules start settings first old was IsPast IsKept feed position out calls =
+    (before : List ℕ) × (length before ≡ position) × (settings.explain ≡ true → IsPast before)
     × Consumes first (remaining (reader_of feed)) (before ++ bytes_of feed)
     × ((input : Input) → Agrees (before ++ bytes_of feed) (flow_of feed) input → (text : List ℕ)
-    × (units : Units rules start settings input place text) × Appends old out text
-    × (settings.explain ≡ true → IsKept input place)
+    × (units : Units rules start settings input position text) × Appends old out text
+    × (settings.explain ≡ true → IsKept input position)
     × (calls ≤ was + 2 * unit_count rules start settings input units))
 
 pub written_on : {R : Type 0} (remaining : R → Option (List ℕ)) (g : Grammar) (settings : PegSettings)
     (first old : Option (List ℕ)) (was : ℕ) (IsPast : List ℕ → Type 0) (IsKept : Input → ℕ → Type 0)
-    (units : ByteUnits) → AreByteUnits g settings.options.raw units → (feed next : Feed R) (place calls n : ℕ)
+    (units : ByteUnits) → AreByteUnits g settings.options.raw units → (feed next : Feed R) (position calls n : ℕ)
     (out now : Option (List ℕ)) → HasPassed remaining units settings feed next out now (Ok (Passes n))
     → (settings.explain ≡ true → n ≡ 0)
-    → WrittenTo remaining (rules_of g.rules) g.start settings first old was IsPast IsKept feed place out calls
-    → WrittenTo remaining (rules_of g.rules) g.start settings first old was IsPast IsKept next (place + n) now calls
-written_on remaining g settings first old was IsPast IsKept units are feed next place calls n out now p none
+    → WrittenTo remaining (rules_of g.rules) g.start settings first old was IsPast IsKept feed position out calls
+    → WrittenTo remaining (rules_of g.rules) g.start settings first old was IsPast IsKept next (position + n) now calls
+written_on remaining g settings first old was IsPast IsKept units are feed next position calls n out now p none
     (before, here, past, seen, written) =
     let p_count = p.count in (
       before ++ p.gone,
@@ -241,7 +241,7 @@ written_on remaining g settings first old was IsPast IsKept units are feed next 
           let there = subst (λ (t : List ℕ). Agrees t (flow_of next) input)
           (seen_now remaining units settings feed next out now (Ok (Passes n)) p before) b in
           let front = written input (p.earlier before input there) in
-          written_passed (rules_of g.rules) g.start settings input old out now place front.0
+          written_passed (rules_of g.rules) g.start settings input old out now position front.0
           (length (before ++ (bytes_of feed ++ p.more))) front.1 front.2 (length before) n here
           (p.follows g before input are there) (IsKept input) none front.3 was calls front.4,
     )

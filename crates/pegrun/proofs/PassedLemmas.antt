@@ -121,10 +121,10 @@ module _ (g : Grammar) (settings : PegSettings) (input : Input) (units : ByteUni
       }
 
   record More (s n : ℕ) (before text : List ℕ) (units0 : UnitsTo s before) : Type 0 where
-    place : ℕ
+    position : ℕ
     whole : List ℕ
-    later : UnitsTo place whole
-    at : place ≡ s + n
+    later : UnitsTo position whole
+    at : position ≡ s + n
     is : whole ≡ before ++ text
     count : count_of later ≡ count_of units0 + n
 
@@ -132,7 +132,7 @@ module _ (g : Grammar) (settings : PegSettings) (input : Input) (units : ByteUni
       (input.fault ≡ true → 0 < length bytes → s + length bytes + settings.limit ≤ length input.bytes) →
       (before : List ℕ) (units0 : UnitsTo s before) → More s (length bytes) before (texts_of units bytes) units0
   more_units [] s tail here known may before units0 = record {
-    place = s;
+    position = s;
     whole = before;
     later = units0;
     at = omega arith;
@@ -145,7 +145,7 @@ module _ (g : Grammar) (settings : PegSettings) (input : Input) (units : ByteUni
       let next = more_units bytes (s + 1) tail (drop_one s input.bytes b (bytes ++ tail) here) known
       (λ f some. let m = may f (omega arith) in omega (arith, m)) (before ++ one.0) later in
       record {
-        place = next.place;
+        position = next.position;
         whole = next.whole;
         later = next.later;
         at = omega (arith, next.at);
@@ -154,25 +154,26 @@ module _ (g : Grammar) (settings : PegSettings) (input : Input) (units : ByteUni
         count = let c = next.count in omega (arith, c);
       }
 
-  moved_to : (place s : ℕ) (whole text : List ℕ) (later : UnitsTo place whole) (n : ℕ) → place ≡ s → whole ≡ text
+  moved_to : (position s : ℕ) (whole text : List ℕ) (later : UnitsTo position whole) (n : ℕ) → position ≡ s → whole
+      ≡ text
       → count_of later ≡ n → (l : UnitsTo s text) × (count_of l ≡ n)
-  moved_to place s whole text later n at is c =
+  moved_to position s whole text later n at is c =
       subst (λ (p : ℕ). (l : UnitsTo p text) × (count_of l ≡ n)) at
-      (subst (λ (w : List ℕ). (l : UnitsTo place w) × (count_of l ≡ n)) is (later, c))
+      (subst (λ (w : List ℕ). (l : UnitsTo position w) × (count_of l ≡ n)) is (later, c))
 
   goes_on : (bytes : List ℕ) (s : ℕ) (tail : List ℕ) → drop s input.bytes ≡ bytes ++ tail → AllKnown units bytes →
       (input.fault ≡ true → 0 < length bytes → s + length bytes + settings.limit ≤ length input.bytes) →
       GoesOn (rules_of g.rules) g.start settings input s (length bytes) (texts_of units bytes)
   goes_on bytes s tail here known may before units0 =
       let m = more_units bytes s tail here known may before units0 in
-      moved_to m.place (s + length bytes) m.whole (before ++ texts_of units bytes) m.later _ m.at m.is m.count
+      moved_to m.position (s + length bytes) m.whole (before ++ texts_of units bytes) m.later _ m.at m.is m.count
 
   -- the first bytes that are held are such units, and enough bytes follow them
   module _ (before held : List ℕ) {flow : Flow} (agrees : Agrees (before ++ held) flow input) (bytes tail : List ℕ)
       (are_first : held ≡ bytes ++ tail) (known : AllKnown units bytes)
       (may : input.fault ≡ true → 0 < length bytes → length bytes + settings.limit ≤ length held) where
-    at_place : drop (length before) input.bytes ≡ bytes ++ (tail ++ agrees.more)
-    at_place = rest_is before held refl agrees ∙ ap (λ t. t ++ agrees.more) are_first
+    at_position : drop (length before) input.bytes ≡ bytes ++ (tail ++ agrees.more)
+    at_position = rest_is before held refl agrees ∙ ap (λ t. t ++ agrees.more) are_first
         ∙ append_assoc bytes tail agrees.more
 
     may_there : input.fault ≡ true → 0 < length bytes
@@ -182,7 +183,7 @@ module _ (g : Grammar) (settings : PegSettings) (input : Input) (units : ByteUni
 
     pub units_pass : GoesOn (rules_of g.rules) g.start settings input (length before) (length bytes)
         (texts_of units bytes)
-    units_pass = goes_on bytes (length before) (tail ++ agrees.more) at_place known may_there
+    units_pass = goes_on bytes (length before) (tail ++ agrees.more) at_position known may_there
 
     -- the writer failed: the last of them is not written whole, for all that is known
     pub pass_fails : (old new : Option (List ℕ)) (fault : WriteFault) → AppendsPart old new (texts_of units bytes) →
@@ -198,7 +199,7 @@ module _ (g : Grammar) (settings : PegSettings) (input : Input) (units : ByteUni
         ap length last.2 ∙ length-append front (b ∷ []) ∙ omega arith in
         let all = (rw last.2 at known) in
         let one = (known_after units front (b ∷ []) all).0 in
-        let here = at_place ∙ ap (λ t. t ++ (tail ++ agrees.more)) last.2
+        let here = at_position ∙ ap (λ t. t ++ (tail ++ agrees.more)) last.2
         ∙ append_assoc front (b ∷ []) (tail ++ agrees.more) in (
           length front,
           texts_of units front,

@@ -144,7 +144,7 @@ module _ (g : Grammar) (settings : PegSettings) (input : Input) where
         (goes_to_stop s text [] (NoMatch s) units (over_before_end over may (omega arith)))
   ]
 
-  -- whatever stands at a place within so many bytes of the end, some reply goes on from it
+  -- whatever stands at a position within so many bytes of the end, some reply goes on from it
   abbrev GoesFrom : ℕ → Type 0
   GoesFrom fuel = (s : ℕ) (text : List ℕ) → UnitsTo s text → s ≤ length input.bytes → length input.bytes < s + fuel
       → Goes g settings input s text

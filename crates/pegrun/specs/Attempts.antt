@@ -48,29 +48,29 @@ abbrev pub FrontFlags : Bool → Bool → Option (Result Attempt WriteFault) →
 FrontFlags old new None = new ≡ old
 FrontFlags old new (Some attempted) = Flags old new attempted
 
--- how a run ends at a place where no unit goes on
+-- how a run ends at a position where no unit goes on
 abbrev pub stop_at : ℕ → ℕ → Stop
-stop_at place len = if place == len then stop.Quiet Done else stop.NoMatch place
+stop_at position len = if position == len then stop.Quiet Done else stop.NoMatch position
 
--- how a run ends at a place where the start rule fails: with `whole` the input must be a unit
+-- how a run ends at a position where the start rule fails: with `whole` the input must be a unit
 abbrev pub failed_at : PegSettings → ℕ → ℕ → Stop
-failed_at settings place len = if settings.options.whole then stop.NoMatch place else stop_at place len
+failed_at settings position len = if settings.options.whole then stop.NoMatch position else stop_at position len
 
--- what follows at a place where this came of the start rule
+-- what follows at a position where this came of the start rule
 abbrev pub step_after : PegSettings → ℕ → ℕ → Result Attempt WriteFault → Result UnitStep WriteFault
-step_after settings place len (Ok (Printed zero)) = Ok (Stops (stop_at place len))
-step_after settings place len (Ok (Printed (suc n))) = Ok (Goes (suc n))
-step_after settings place len (Ok Failed) = Ok (Stops (failed_at settings place len))
-step_after settings place len (Ok TooLong) = Ok (Stops (stop.LongUnit place settings.limit))
-step_after settings place len (Ok NoMemory) = Ok (Stops stop.NoMemory)
-step_after settings place len (Err fault) = Err fault
+step_after settings position len (Ok (Printed zero)) = Ok (Stops (stop_at position len))
+step_after settings position len (Ok (Printed (suc n))) = Ok (Goes (suc n))
+step_after settings position len (Ok Failed) = Ok (Stops (failed_at settings position len))
+step_after settings position len (Ok TooLong) = Ok (Stops (stop.LongUnit position settings.limit))
+step_after settings position len (Ok NoMemory) = Ok (Stops stop.NoMemory)
+step_after settings position len (Err fault) = Err fault
 
--- how a run ends at a place where no unit is tried, if it is held so
+-- how a run ends at a position where no unit is tried, if it is held so
 abbrev pub step_held : Held → ℕ → ℕ → UnitStep
-step_held held.Fault place len = Stops stop.Broken
-step_held _ place len = Stops (stop_at place len)
+step_held held.Fault position len = Stops stop.Broken
+step_held _ position len = Stops (stop_at position len)
 
--- what follows at a place from which these bytes are held
+-- what follows at a position from which these bytes are held
 abbrev pub IsStepOn : Grammar → List ℕ → Bool → PegSettings → ℕ → Option (List ℕ) → Option (List ℕ)
     → Result UnitStep WriteFault → Type 0
 IsStepOn g items more settings s old new result = (attempted : Result Attempt WriteFault)

@@ -15,8 +15,8 @@ calls_of matches m = matches m.matcher
 pub record HasFewCalls (rules : List Rule) (start : ℕ) (settings : PegSettings) (input : Input) (taken was calls : ℕ)
     : Type 0 where
   -- where the run stopped
-  pub place : ℕ
-  pub within : place ≤ taken
+  pub position : ℕ
+  pub within : position ≤ taken
   pub text : List ℕ
-  pub units : Units rules start settings input place text
+  pub units : Units rules start settings input position text
   pub few : calls ≤ was + 2 * (unit_count rules start settings input units + 1)

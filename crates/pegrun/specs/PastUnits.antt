@@ -4,7 +4,7 @@ use Rattle.std.proofs.Common.{Vec, Global}
 use Rattle.pegread.specs.Pattern.{Rule}
 use Rattle.matchfailure.specs.NoMatchLines.{long_unit_lines}
 use Rattle.matchfailure.specs.NoMatches.{IsNoMatchReported, unit_before}
-use Rattle.matchfailure.specs.InputPlaces.{place_after}
+use Rattle.matchfailure.specs.InputPositions.{position_after}
 use Rattle.ruletable.specs.declared.memory.Memory.{Memory}
 use Rattle.pegrun.specs.StopsExplained.{HasLines}
 use Rattle.pegrun.specs.declared.past.Past.{Past}
@@ -17,9 +17,9 @@ use Rattle.toolrun.specs.declared.stop.Stop.TheVariants.{Unreadable}
 
 -- the next unit begins after these bytes, and the last of them are kept, unless an allocation failed
 pub record Follows (past : Past) (before : List ℕ) : Type 0 where
-  pub next : past.next ≡ place_after before
+  pub next : past.next ≡ position_after before
   pub front : List ℕ
-  pub at : past.at ≡ place_after front
+  pub at : past.at ≡ position_after front
   pub room : length front + length past.bytes.items ≤ length before
   pub whole : past.lost ≡ false → before ≡ front ++ past.bytes.items
 
@@ -30,7 +30,7 @@ LinesAfter rules start past before held (NoMatch at) why = (past.lost ≡ false)
     × IsNoMatchReported rules start (before ++ held) (unit_before past.at.byte (length past.bytes.items))
     (length before)
     why
-LinesAfter rules start past before held (LongUnit at limit) why = why ≡ long_unit_lines (place_after before)
+LinesAfter rules start past before held (LongUnit at limit) why = why ≡ long_unit_lines (position_after before)
 LinesAfter rules start past before held (LongLine line limit) why = ⊥
 LinesAfter rules start past before held Broken why = ⊥
 LinesAfter rules start past before held NoMemory why = ⊥

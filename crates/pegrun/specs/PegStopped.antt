@@ -15,12 +15,12 @@ use Rattle.toolrun.specs.declared.ending.Ending.{Ending}
 -- what explains that if it is asked, or an allocation fails; or a prefix of the text of units.
 abbrev pub IsCut : List Rule → ℕ → PegSettings → Input → ℕ → Option (List ℕ) → Option (List ℕ)
     → Result Ending WriteFault → Type 0
-IsCut rules start settings input taken old new (Ok ending) = (place : ℕ) × (text last : List ℕ) ×
-    Units rules start settings input place text × Appends old new (text ++ last)
-    × (taken ≡ taken_at settings input place) ×
+IsCut rules start settings input taken old new (Ok ending) = (position : ℕ) × (text last : List ℕ) ×
+    Units rules start settings input position text × Appends old new (text ++ last)
+    × (taken ≡ taken_at settings input position) ×
     EndsReported (Units rules start settings input) (Ends rules start settings input)
     (taken_at settings input) ReportsNothing
-    (WhyStopped rules start settings input) (MayLack rules start settings input) place last ending
-IsCut rules start settings input taken old new (Err fault) = (place k : ℕ) × (text last : List ℕ) ×
-    Units rules start settings input place text × IsUnit rules start settings input place k last
-    × AppendsPart old new (text ++ last) × (taken ≡ taken_at settings input place)
+    (WhyStopped rules start settings input) (MayLack rules start settings input) position last ending
+IsCut rules start settings input taken old new (Err fault) = (position k : ℕ) × (text last : List ℕ) ×
+    Units rules start settings input position text × IsUnit rules start settings input position k last
+    × AppendsPart old new (text ++ last) × (taken ≡ taken_at settings input position)

@@ -3,7 +3,7 @@ use Rattle.std.specs.Prelude.{◌≡◌, ℕ, ◌+◌, ◌<◌, ⊤, true, List,
 use Rattle.pegread.specs.Pattern.{Rule}
 use Rattle.matchfailure.specs.NoMatchLines.{long_unit_lines}
 use Rattle.matchfailure.specs.NoMatches.{IsNoMatchReported}
-use Rattle.matchfailure.specs.InputPlaces.{place_after}
+use Rattle.matchfailure.specs.InputPositions.{position_after}
 use Rattle.pegrun.specs.Units.{IsUnit, Units, taken_at}
 use Rattle.toolrun.specs.Explained.{Explained}
 use Rattle.toolrun.specs.Input.{Input}
@@ -25,10 +25,10 @@ HasLines Unreadable = ⊥
 
 -- such a run writes nothing before its message
 abbrev pub ReportsNothing : ℕ → List ℕ → Type 0
-ReportsNothing place reported = reported ≡ []
+ReportsNothing position reported = reported ≡ []
 
 module _ (rules : List Rule) (start : ℕ) (settings : PegSettings) (input : Input) where
-  -- the place of the unit before the one that is begun at s, or none where no unit is before it
+  -- the position of the unit before the one that is begun at s, or none where no unit is before it
   pub data UnitBefore : ℕ → Option ℕ → Type 0 where
     none_before : UnitBefore 0 None
     one_before : (s k : ℕ) (text last : List ℕ) → Units rules start settings input s text
@@ -40,7 +40,7 @@ module _ (rules : List Rule) (start : ℕ) (settings : PegSettings) (input : Inp
   StopLines s (Quiet status) why = why ≡ []
   StopLines s (NoMatch at) why = (before : Option ℕ) × UnitBefore s before
       × IsNoMatchReported rules start (take (taken_at settings input s) input.bytes) before s why
-  StopLines s (LongUnit at limit) why = why ≡ long_unit_lines (place_after (take s input.bytes))
+  StopLines s (LongUnit at limit) why = why ≡ long_unit_lines (position_after (take s input.bytes))
   StopLines s (LongLine line limit) why = why ≡ []
   StopLines s Broken why = why ≡ []
   StopLines s NoMemory why = why ≡ []

@@ -3,14 +3,14 @@ ghost use Rattle.std.specs.Prelude.{◌≡◌, ℕ, ◌+◌, ◌^◌, ◌<◌, �
 ghost use Rattle.feed.specs.Feed.{SameFeed, bytes_of};
 ghost use Rattle.matchfailure.specs.FailureSearches.{evaluated_by};
 ghost use Rattle.matchfailure.specs.NoMatches.{IsNoMatchReported, unit_before};
-ghost use Rattle.matchfailure.specs.InputPlaces.{place_after};
+ghost use Rattle.matchfailure.specs.InputPositions.{position_after};
 ghost use Rattle.pegread.specs.PegViews.{rules_of};
 ghost use Rattle.pegrun.specs.PastUnits.{EndsAfter, Follows, IsEndingWith};
 
 use crate::options::PegSettings;
 use feed::{Feed, Source};
 use gramcheck::SoundPeg;
-use matchfailure::{FailureSearch, TextPlace, explain_long_unit};
+use matchfailure::{FailureSearch, TextPosition, explain_long_unit};
 use ruletable::Memory;
 use std::alloc::Global;
 use toolrun::{Ending, ReportedRefusals, Stop};
@@ -21,39 +21,39 @@ pub struct Past {
     /// Where its bytes, and the lines of an explanation, are allocated.
     pub alloc: Global,
     /// Where it begins; the front of the input if there is none.
-    pub at: TextPlace,
+    pub at: TextPosition,
     /// Its bytes; none if there is none.
     pub bytes: Vec<u8>,
     /// Whether an allocation failed in keeping them.
     pub lost: bool,
     /// Where the next unit begins.
-    pub next: TextPlace,
+    pub next: TextPosition,
 }
 
 impl Past {
     /// Returns the state at the front of an input: no unit was taken.
     pub fn new(alloc: Global) -> Past
-        ensures at { result.at ≡ place_after [] }
+        ensures at { result.at ≡ position_after [] }
         ensures bytes { result.bytes.items ≡ [] }
         ensures lost { result.lost ≡ false }
-        ensures next { result.next ≡ place_after [] }
+        ensures next { result.next ≡ position_after [] }
     {
         Past {
             alloc,
-            at: TextPlace::front(),
+            at: TextPosition::front(),
             bytes: Vec::new(alloc),
             lost: false,
-            next: TextPlace::front(),
+            next: TextPosition::front(),
         }
     }
 
     /// Keeps a unit of these bytes.
     fn keep(&mut self, unit: &[u8])
-        requires stands { (front : List ℕ) × (self.old.next ≡ place_after front)
+        requires stands { (front : List ℕ) × (self.old.next ≡ position_after front)
             × (length front + length unit.now < 2 ^ 63) }
         ensures at { self.new.at ≡ self.old.next }
-        ensures next { (front : List ℕ) → self.old.next ≡ place_after front
-            → self.new.next ≡ place_after (front ++ unit.now) }
+        ensures next { (front : List ℕ) → self.old.next ≡ position_after front
+            → self.new.next ≡ position_after (front ++ unit.now) }
         ensures bytes { self.new.lost ≡ false → self.new.bytes.items ≡ unit.now }
         ensures room { length self.new.bytes.items ≤ length unit.now }
     {
@@ -67,11 +67,11 @@ impl Past {
     #[inline(never)]
     fn take<R: Source>(&mut self, feed: &mut Feed<'_, R>, n: usize)
         requires held { n ≤ length (bytes_of feed.old) }
-        requires stands { (front : List ℕ) × (self.old.next ≡ place_after front) × (length front + n < 2 ^ 63) }
+        requires stands { (front : List ℕ) × (self.old.next ≡ position_after front) × (length front + n < 2 ^ 63) }
         ensures same { SameFeed feed.old feed.new }
         ensures at { self.new.at ≡ self.old.next }
-        ensures next { (front : List ℕ) → self.old.next ≡ place_after front
-            → self.new.next ≡ place_after (front ++ take n (bytes_of feed.old)) }
+        ensures next { (front : List ℕ) → self.old.next ≡ position_after front
+            → self.new.next ≡ position_after (front ++ take n (bytes_of feed.old)) }
         ensures bytes { self.new.lost ≡ false → self.new.bytes.items ≡ take n (bytes_of feed.old) }
         ensures room { length self.new.bytes.items ≤ n }
     {

@@ -1,7 +1,7 @@
 //! The language of peg(1), whose grammars are run on units of an input.
 ghost use Rattle.gramcheck.specs.Grammar.{IsRankedFor};
 ghost use Rattle.pegprint.specs.PegExplained.{Explains};
-ghost use Rattle.pegexplain.specs.PegNotes.{ArePegPlaces, ExplainsNote, IsPegRead};
+ghost use Rattle.pegexplain.specs.PegNotes.{ArePegPositions, ExplainsNote, IsPegRead};
 ghost use Rattle.pegexplain.specs.PegHints.{ArePegHints};
 ghost use Rattle.pegprint.specs.Canon.{grammar_text};
 ghost use Rattle.pegread.specs.PegViews.{rules_of};
@@ -15,7 +15,7 @@ use crate::options::{PegOptions, PegSettings};
 use feed::Source;
 use gramcheck::{RankedNodes, SoundPeg, judge_peg, redefinitions};
 use packrat::Packrat;
-use pegexplain::{PegPlaces, explain_peg_note, peg_hints, peg_places};
+use pegexplain::{PegPositions, explain_peg_note, peg_hints, peg_positions};
 use pegprint::{explain_fault, print_peg};
 use pegread::{Expr, Peg, read_peg};
 use ruletable::{Memory, Note, ReadFault, RuleTable, Sink, WriteFault};
@@ -36,7 +36,7 @@ impl Language for PegLanguage {
 
     type Sound = SoundPeg;
 
-    type Places = PegPlaces;
+    type Positions = PegPositions;
 
     ghost states = { States };
 
@@ -44,7 +44,7 @@ impl Language for PegLanguage {
 
     ghost explains = { Explains };
 
-    ghost are_places = { λ text start. ArePegPlaces text };
+    ghost are_positions = { λ text start. ArePegPositions text };
 
     ghost explains_note = { ExplainsNote };
 
@@ -54,7 +54,7 @@ impl Language for PegLanguage {
 
     ghost are_rules = { IsPegRead };
 
-    ghost held = { λ places. places.rules };
+    ghost held = { λ positions. positions.rules };
 
     ghost is_checked = { IsChecked };
 
@@ -76,34 +76,34 @@ impl Language for PegLanguage {
         explain_fault(alloc, text, fault)
     }
 
-    fn places(
+    fn positions(
         alloc: Global,
         text: &[u8],
         rules: RuleTable<Expr>,
         _start: Option<&str>,
-    ) -> Result<PegPlaces, Memory> {
-        peg_places(alloc, text, rules)
+    ) -> Result<PegPositions, Memory> {
+        peg_positions(alloc, text, rules)
     }
 
-    fn into_rules(places: PegPlaces) -> RuleTable<Expr> {
-        places.rules
+    fn into_rules(positions: PegPositions) -> RuleTable<Expr> {
+        positions.rules
     }
 
     fn explain_note(
         alloc: Global,
-        places: &PegPlaces,
+        positions: &PegPositions,
         start: Option<&str>,
         note: &Note,
     ) -> Result<Vec<u8>, Memory> {
-        explain_peg_note(alloc, places, start, note)
+        explain_peg_note(alloc, positions, start, note)
     }
 
     fn hints(
         alloc: Global,
-        places: &PegPlaces,
+        positions: &PegPositions,
         _settings: &PegSettings<'_>,
     ) -> Result<Vec<u8>, Memory> {
-        peg_hints(alloc, places)
+        peg_hints(alloc, positions)
     }
 
     fn check(

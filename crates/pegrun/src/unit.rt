@@ -29,42 +29,42 @@ pub enum UnitStep {
 }
 
 /// Returns how a run ends where no unit goes on at a position.
-fn stop_where(place: usize, len: usize) -> Stop
-    ensures { result ≡ stop_at place len }
+fn stop_where(position: usize, len: usize) -> Stop
+    ensures { result ≡ stop_at position len }
 {
-    if place == len {
+    if position == len {
         Stop::Quiet(Status::Done)
     } else {
-        Stop::NoMatch(place)
+        Stop::NoMatch(position)
     }
 }
 
 /// Returns how a run ends at a position where the start rule fails.
-fn stop_failed(settings: &PegSettings<'_>, place: usize, len: usize) -> Stop
-    ensures { result ≡ failed_at settings.now place len }
+fn stop_failed(settings: &PegSettings<'_>, position: usize, len: usize) -> Stop
+    ensures { result ≡ failed_at settings.now position len }
 {
     if settings.options.whole {
-        return Stop::NoMatch(place);
+        return Stop::NoMatch(position);
     }
-    stop_where(place, len)
+    stop_where(position, len)
 }
 
 /// Returns the next step at a position, by the result of the start rule.
 fn step_of(
     attempted: Result<Attempt, WriteFault>,
     settings: &PegSettings<'_>,
-    place: usize,
+    position: usize,
     len: usize,
 ) -> Result<UnitStep, WriteFault>
-    ensures { result ≡ step_after settings.now place len attempted }
+    ensures { result ≡ step_after settings.now position len attempted }
 {
     match attempted {
-        Ok(Attempt::Printed(0)) => Ok(UnitStep::Stops(stop_where(place, len))),
+        Ok(Attempt::Printed(0)) => Ok(UnitStep::Stops(stop_where(position, len))),
         Ok(Attempt::Printed(n)) => Ok(UnitStep::Takes(n)),
-        Ok(Attempt::Failed) => Ok(UnitStep::Stops(stop_failed(settings, place, len))),
+        Ok(Attempt::Failed) => Ok(UnitStep::Stops(stop_failed(settings, position, len))),
         Ok(Attempt::TooLong) => {
             let limit = settings.limit;
-            Ok(UnitStep::Stops(Stop::LongUnit { place, limit }))
+            Ok(UnitStep::Stops(Stop::LongUnit { position, limit }))
         }
         Ok(Attempt::NoMemory) => Ok(UnitStep::Stops(Stop::NoMemory)),
         Err(fault) => Err(fault),

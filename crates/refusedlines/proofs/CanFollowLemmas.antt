@@ -10,15 +10,15 @@ use Rattle.abnfread.specs.Element.{Rule}
 use Rattle.abnfcheck.specs.Prefixes.{BeginsMember, IsFurthest}
 use Rattle.abnfcheck.specs.Derivable.{AreLetters, RuleDerives}
 use Rattle.flatgrammar.proofs.CallOfLemmas.{some_same}
-use Rattle.flatgrammar.proofs.PlacesLemmas.{holds_origin}
-use Rattle.flatgrammar.specs.Flat.{Flat, Place, at, Set, Has, Node, Reads, reads, letter, Letters, Concat, Alt, Rep}
-use Rattle.flatgrammar.specs.Flat.{Turns, Opt, Name, Nothing}
+use Rattle.flatgrammar.proofs.PositionsLemmas.{holds_origin}
+use Rattle.flatgrammar.specs.Flat.{Flat, Dot, at, Set, Has, Node, Reads, reads, letter, Letters, Concat, Alt, Rep}
+use Rattle.flatgrammar.specs.Flat.{Iterations, Opt, Name, Nothing}
 use Rattle.flatgrammar.specs.FlatVerdicts.{IsLastSet}
 use Rattle.flatgrammar.specs.Holds.{Holds, begins, called, has_read, returned}
 use Rattle.flatgrammar.specs.NodeSteps.{IfSomeSet}
 use Rattle.lowering.specs.GivenPrefixes.{GivesPrefixes}
-use Rattle.flatgrammar.specs.Blocks.{dot}
-use Rattle.flatgrammar.specs.declared.block.DottedRule.{DottedRule}
+use Rattle.flatgrammar.specs.ItemClosures.{dot}
+use Rattle.flatgrammar.specs.declared.closure.DottedRule.{DottedRule}
 use Rattle.earleyitems.specs.ChartSets.{AreDotsOf, IsSet}
 use Rattle.lazydfa.specs.ExpectedSets.{AreReadersAt}
 use Rattle.refusedlines.specs.LetterRuns.{AreApartFrom, RunsHave}
@@ -46,7 +46,7 @@ Agree x y n = (k : ℕ) → k < n → slice_get x k ≡ slice_get y k
 
 module _ (flat : Flat) where
   -- their first sets hold the same
-  same_held : (x y : List ℕ) (n : ℕ) → Agree x y n → {j i : ℕ} {p : Place} → Holds flat x j p i → j ≤ n
+  same_held : (x y : List ℕ) (n : ℕ) → Agree x y n → {j i : ℕ} {p : Dot} → Holds flat x j p i → j ≤ n
       → Holds flat y j p i
   same_held x y n same (begins st) le = begins st
   same_held x y n same (called h c st) le = called (same_held x y n same h le) c st
@@ -58,16 +58,16 @@ module _ (flat : Flat) where
 
   -- an item of set n reads the letter
   record ReadsOn (x : List ℕ) (n c : ℕ) : Type 0 where
-    place : Place
-    next : Place
+    position : Dot
+    next : Dot
     origin : ℕ
     set : Set
-    held : Holds flat x n place origin
-    reads : Reads flat place set next
+    held : Holds flat x n position origin
+    reads : Reads flat position set next
     has : Has set c
 
   -- so it is where the set after it has an item
-  item_reads : (x : List ℕ) (n c : ℕ) → slice_get x n ≡ Some c → {j i : ℕ} {p : Place} → Holds flat x j p i → j ≡ n + 1
+  item_reads : (x : List ℕ) (n c : ℕ) → slice_get x n ≡ Some c → {j i : ℕ} {p : Dot} → Holds flat x j p i → j ≡ n + 1
       → ReadsOn x n c
   item_reads x n c is (begins st) e = absurd (omega (arith, e))
   item_reads x n c is (called h d st) e = item_reads x n c is h e
@@ -75,7 +75,7 @@ module _ (flat : Flat) where
       let same : j ≡ n = omega (arith, e) in
       let one : d ≡ c = some_same (sym get ∙ ap (λ v. slice_get x v) same ∙ is) in
       record {
-        place = q;
+        position = q;
         next = r;
         origin = i;
         set = set;
@@ -85,27 +85,27 @@ module _ (flat : Flat) where
       }
   item_reads x n c is (returned h d g k takes) e = item_reads x n c is h e
 
-  -- places and dotted rules
-  place_reads : {q r : Place} {set : Set} (c : ℕ) → Reads flat q set r → Has set c
+  -- positions and dotted rules
+  position_reads : {q r : Dot} {set : Set} (c : ℕ) → Reads flat q set r → Has set c
       → (s : ℕ) × (k : ℕ) × (q ≡ at s k) × DotReads flat (dot s k) c
-  place_reads c (reads {s = s} {k = k} {set = set} node (letter {sets = sets} at_k)) has =
+  position_reads c (reads {s = s} {k = k} {set = set} node (letter {sets = sets} at_k)) has =
       (s, k, refl, rw (node, at_k) has)
 
   letters_reads : (s : DottedRule) (c : ℕ) (sets : List Set) → slice_get flat.nodes s.node ≡ Some (Letters sets)
       → (o : Option Set) → slice_get sets s.step ≡ o → IfSomeSet o c
-      → (set : Set) × (r : Place) × Reads flat (at s.node s.step) set r × Has set c
+      → (set : Set) × (r : Dot) × Reads flat (at s.node s.step) set r × Has set c
   letters_reads s c sets node None is h = elim h [ ]
   letters_reads s c sets node (Some set) is h = (set, at s.node (s.step + 1), reads node (letter is), h)
 
   dot_reads : (s : DottedRule) (c : ℕ) (o : Option Node) → slice_get flat.nodes s.node ≡ o
       → IfSomeSet (read_by o s.step) c
-      → (set : Set) × (r : Place) × Reads flat (at s.node s.step) set r × Has set c
+      → (set : Set) × (r : Dot) × Reads flat (at s.node s.step) set r × Has set c
   dot_reads s c None is h = elim h [ ]
   dot_reads s c (Some (Letters sets)) is h = letters_reads s c sets is (slice_get sets s.step) refl h
   dot_reads s c (Some (Concat ms)) is h = elim h [ ]
   dot_reads s c (Some (Alt ms)) is h = elim h [ ]
   dot_reads s c (Some (Rep a b m)) is h = elim h [ ]
-  dot_reads s c (Some (Turns b m)) is h = elim h [ ]
+  dot_reads s c (Some (Iterations b m)) is h = elim h [ ]
   dot_reads s c (Some (Opt m)) is h = elim h [ ]
   dot_reads s c (Some (Name r)) is h = elim h [ ]
   dot_reads s c (Some Nothing) is h = elim h [ ]
@@ -138,7 +138,7 @@ module _ (has : ℕ → Bool) (rules : List Rule) (id : ℕ) (flat : Flat) (pref
         (prefixes.viable (z ++ c ∷ []) (length z + 1) (omega (arith, size, short)) (letters_push has z c letters is)
         (omega arith) (omega (arith, size))).0
         (record {
-          place = found.1;
+          position = found.1;
           origin = there.0;
           held = has_read on found.2 (get_last z c) found.3;
         })
@@ -151,7 +151,7 @@ module _ (has : ℕ → Bool) (rules : List Rule) (id : ℕ) (flat : Flat) (pref
         (letters_push has z c letters is) (omega arith) (omega (arith, size))).1 b in
         let r = item_reads flat (z ++ c ∷ []) (length z) c (get_last z c) item.held refl in
         let back = same_held flat (z ++ c ∷ []) z (length z) (get_front z c) r.held (omega arith) in
-        let s = place_reads flat c r.reads r.has in
+        let s = position_reads flat c r.reads r.has in
         record {
           dot = dot s.0 s.1;
           stands = are.all (dot s.0 s.1) r.origin r.set r.next
@@ -162,7 +162,7 @@ module _ (has : ℕ → Bool) (rules : List Rule) (id : ℕ) (flat : Flat) (pref
 
     pub are_following : (runs : List LetterRun) (ends : Bool) → AreApartFrom 0 runs
         → ((c : ℕ) → RunsHave runs c ↔ ((has c ≡ true) × DotsRead flat dots c))
-        → (IsTrue ends ↔ Holds flat z (length z) (at flat.whole 1) 0)
+        → (IsTrue ends ↔ Holds flat z (length z) (at flat.start 1) 0)
         → AreFollowing has rules id z (length z) runs ends
     are_following runs ends apart report end =
         let all = take-length z in
@@ -188,7 +188,7 @@ module _ (has : ℕ → Bool) (rules : List Rule) (id : ℕ) (flat : Flat) (pref
         }
 
 -- the dotted rules of a whole item set
-pub readers_of_set : (flat : Flat) (z : List ℕ) (n : ℕ) (set : List (Place × ℕ)) → IsSet flat z n set
+pub readers_of_set : (flat : Flat) (z : List ℕ) (n : ℕ) (set : List (Dot × ℕ)) → IsSet flat z n set
     → (dots : List DottedRule) → AreDotsOf set dots → AreReadersAt flat z n dots
 readers_of_set flat z n set is_set dots are = record {
   held = λ s stands.
@@ -263,7 +263,7 @@ pub following_of_set : (has : ℕ → Bool) (rules : List Rule) (id : ℕ) (flat
     → (x : List ℕ) (n : ℕ) → length x + 1 ≤ flat.limit → AreLetters has x → n ≤ length x → (dots : List DottedRule)
     → AreReadersAt flat x n dots → (runs : List LetterRun) (ends : Bool) → AreApartFrom 0 runs
     → ((c : ℕ) → RunsHave runs c ↔ ((has c ≡ true) × DotsRead flat dots c))
-    → (IsTrue ends ↔ Holds flat x n (at flat.whole 1) 0) → AreFollowing has rules id x n runs ends
+    → (IsTrue ends ↔ Holds flat x n (at flat.start 1) 0) → AreFollowing has rules id x n runs ends
 following_of_set has rules id flat prefixes x n short letters within dots are runs ends apart report end =
     let size = length-take-le n x within in
     take_following has rules id x (take n x) n (length (take n x)) runs ends refl within refl
@@ -271,7 +271,7 @@ following_of_set has rules id flat prefixes x n short letters within dots are ru
     (letters_front has n x letters) dots
     (subst (λ v. AreReadersAt flat (take n x) v dots) (sym size) (readers_of_front flat x n within dots are))
     runs ends apart report
-    (subst (λ v. IsTrue ends ↔ Holds flat (take n x) v (at flat.whole 1) 0) (sym size) (
+    (subst (λ v. IsTrue ends ↔ Holds flat (take n x) v (at flat.start 1) 0) (sym size) (
       λ yes. same_held flat x (take n x) n (agree_front x n) (end.0 yes) (omega arith),
       λ held. end.1 (same_held flat (take n x) x n (λ k lt. sym (agree_front x n k lt)) held (omega arith)),
     )))

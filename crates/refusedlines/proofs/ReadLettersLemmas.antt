@@ -6,8 +6,8 @@ use Rattle.std.proofs.Common.{slice_index_or, suc, [], ◌∷◌}
 use Rattle.std.proofs.lemmas.List.{take_more}
 use Rattle.flatgrammar.proofs.InLemmas.{among_more, at_end, from_front, in_front, in_left}
 use Rattle.flatgrammar.specs.Flat.{Flat}
-use Rattle.flatgrammar.specs.Places.{In}
-use Rattle.flatgrammar.specs.declared.block.DottedRule.{DottedRule}
+use Rattle.flatgrammar.specs.Positions.{In}
+use Rattle.flatgrammar.specs.declared.closure.DottedRule.{DottedRule}
 use Rattle.letters.specs.Letters.{has}
 use Rattle.letters.specs.declared.alphabet.Alphabet.{Alphabet}
 use Rattle.refusedlines.specs.LetterRuns.{RunsHave}

@@ -24,15 +24,15 @@ use Rattle.refusedlines.specs.Refusals.{IsExplained, name_at, octet_count, octet
 use Rattle.refusedlines.specs.declared.refusal.RefusedAt.{RefusedAt}
 
 -- the lines, put one after another
-pub lines_pushed : (alphabet : Alphabet) (number : ℕ) (line : List ℕ) (at : RefusedAt) (place : ℕ)
+pub lines_pushed : (alphabet : Alphabet) (number : ℕ) (line : List ℕ) (at : RefusedAt) (position : ℕ)
     (shown runs : List LetterRun) (ends : Bool) (old a b c new : List ℕ) → shown ≡ runs → a ≡ old ++ at_text number at
-    → b ≡ a ++ expected_text alphabet shown ends → c ≡ b ++ codes "\n" → new ≡ c ++ picture line place
-    → new ≡ old ++ reported_expected alphabet number line at place runs ends
-lines_pushed alphabet number line at place shown runs ends old a b c new same e f g h =
+    → b ≡ a ++ expected_text alphabet shown ends → c ≡ b ++ codes "\n" → new ≡ c ++ picture line position
+    → new ≡ old ++ reported_expected alphabet number line at position runs ends
+lines_pushed alphabet number line at position shown runs ends old a b c new same e f g h =
     let x = at_text number at in
     let y = expected_text alphabet runs ends in
     let z = codes "\n" in
-    let w = picture line place in
+    let w = picture line position in
     let expected : b ≡ a ++ y = f ∙ ap (λ v. a ++ expected_text alphabet v ends) same in
     h ∙ ap (λ v. v ++ w) (g ∙ ap (λ v. v ++ z) (expected ∙ ap (λ v. v ++ y) e))
     ∙ append_assoc ((old ++ x) ++ y) z w ∙ append_assoc (old ++ x) y (z ++ w) ∙ append_assoc old x (y ++ (z ++ w))
@@ -110,23 +110,23 @@ octets_at_least [] = omega arith
 octets_at_least (x ∷ xs) = let rest = octets_at_least xs in let some = octets_some x in omega (arith, rest, some)
 
 module _ (rules : List Rule) (judged : ℕ) (line : List ℕ) (number_of : ℕ) (runs : List LetterRun) (ends : Bool)
-    (name : List ℕ) (at : RefusedAt) (place : ℕ) (old new : List ℕ) (named : name ≡ name_at rules judged) where
-  pub reported_bytes : new ≡ old ++ refusal_text Bytes name number_of line at place runs ends
-      → IsFurthest (has Bytes) rules judged line place
-      → AreFollowing (has Bytes) rules judged line place runs ends → at ≡ refused_at place (length line) false
+    (name : List ℕ) (at : RefusedAt) (position : ℕ) (old new : List ℕ) (named : name ≡ name_at rules judged) where
+  pub reported_bytes : new ≡ old ++ refusal_text Bytes name number_of line at position runs ends
+      → IsFurthest (has Bytes) rules judged line position
+      → AreFollowing (has Bytes) rules judged line position runs ends → at ≡ refused_at position (length line) false
       → IsExplained Bytes rules judged line number_of old new
   reported_bytes put furthest following where_at =
       let torn : nat_lt (length line) (length line) ≡ false = le-ltb (length line) (length line) (omega arith) in
       let within = furthest.within in
-      let count : octet_count Bytes (take place line) ≡ place =
-      bytes_count (take place line) ∙ length-take-le place line within in (
-        refusal_text Bytes name number_of line at place runs ends,
+      let count : octet_count Bytes (take position line) ≡ position =
+      bytes_count (take position line) ∙ length-take-le position line within in (
+        refusal_text Bytes name number_of line at position runs ends,
         put,
         record {
           first = line;
           size = length line;
           letters = (refl, refl);
-          after = place;
+          after = position;
           furthest = furthest;
           runs = runs;
           ends = ends;
@@ -135,14 +135,14 @@ module _ (rules : List Rule) (judged : ℕ) (line : List ℕ) (number_of : ℕ) 
         },
       )
 
-  pub reported_points : new ≡ old ++ refusal_text Utf8 name number_of line at place runs ends
+  pub reported_points : new ≡ old ++ refusal_text Utf8 name number_of line at position runs ends
       → (points : List ℕ) (size after : ℕ) → IsLongestText line size → Spells points (take size line)
       → IsFurthest (has Utf8) rules judged points after
       → AreFollowing (has Utf8) rules judged points after runs ends
       → at ≡ refused_at after (length points) (nat_lt size (length line))
-      → place ≡ octet_count Utf8 (take after points) → IsExplained Utf8 rules judged line number_of old new
+      → position ≡ octet_count Utf8 (take after points) → IsExplained Utf8 rules judged line number_of old new
   reported_points put points size after longest spelled furthest following where_at count = (
-    refusal_text Utf8 name number_of line at place runs ends,
+    refusal_text Utf8 name number_of line at position runs ends,
     put,
     record {
       first = points;

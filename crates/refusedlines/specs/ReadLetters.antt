@@ -2,8 +2,8 @@
 use Rattle.std.specs.Prelude.{ℕ, ◌↔◌, ◌⊎◌, List, slice_get, Option, Some, None}
 use Rattle.flatgrammar.specs.Flat.{Flat, Node, Set}
 use Rattle.flatgrammar.specs.NodeSteps.{IfSomeSet, read_at}
-use Rattle.flatgrammar.specs.Places.{In}
-use Rattle.flatgrammar.specs.declared.block.DottedRule.{DottedRule}
+use Rattle.flatgrammar.specs.Positions.{In}
+use Rattle.flatgrammar.specs.declared.closure.DottedRule.{DottedRule}
 use Rattle.refusedlines.specs.LetterRuns.{RunsHave}
 use Rattle.refusedlines.specs.declared.letterruns.run.LetterRun.{LetterRun}
 

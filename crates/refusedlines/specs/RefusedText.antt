@@ -64,9 +64,9 @@ nothing_text number name = codes "line " ++ (decimal number ++ (codes ": rule '"
 
 -- what is expected at a position of a line of bytes, and a picture of the position
 abbrev pub reported_expected : Alphabet → ℕ → List ℕ → RefusedAt → ℕ → List LetterRun → Bool → List ℕ
-reported_expected alphabet number line at place runs ends = at_text number at ++ (expected_text alphabet runs ends
-    ++ (codes "\n" ++ picture line place))
+reported_expected alphabet number line at position runs ends = at_text number at ++ (expected_text alphabet runs ends
+    ++ (codes "\n" ++ picture line position))
 
 abbrev pub refusal_text : Alphabet → List ℕ → ℕ → List ℕ → RefusedAt → ℕ → List LetterRun → Bool → List ℕ
-refusal_text alphabet name number line at place runs ends = if is_none runs ends then nothing_text number name
-    else reported_expected alphabet number line at place runs ends
+refusal_text alphabet name number line at position runs ends = if is_none runs ends then nothing_text number name
+    else reported_expected alphabet number line at position runs ends

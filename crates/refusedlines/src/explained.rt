@@ -112,12 +112,12 @@ fn explain_bytes(
         explainer.now.grammar.now.judged line.entry.bytes.now line.entry.number out.old.items out.new.items) }
 {
     let following = find_following(alloc, chart, automaton, explainer.flat, line.bytes)?;
-    let place = following.after;
-    let at = refused_at(place, line.bytes.len(), false);
+    let position = following.after;
+    let at = refused_at(position, line.bytes.len(), false);
     let refusal = Refusal {
         alphabet: Alphabet::Bytes,
         at,
-        place,
+        position,
         following,
     };
     push_refusal(alloc, judged_name(explainer.grammar), line, &refusal, out)?;
@@ -146,11 +146,11 @@ fn explain_points(
     let following = find_following(alloc, chart, automaton, explainer.flat, points)?;
     let after = following.after;
     let at = refused_at(after, points.len(), first.size < line.bytes.len());
-    let place = octets_of(&points[..after]);
+    let position = octets_of(&points[..after]);
     let refusal = Refusal {
         alphabet: Alphabet::Utf8,
         at,
-        place,
+        position,
         following,
     };
     push_refusal(alloc, judged_name(explainer.grammar), line, &refusal, out)?;

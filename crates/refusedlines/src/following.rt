@@ -29,7 +29,7 @@ pub struct Following {
 }
 
 // Returns how many symbols the longest viable prefix of a line has.
-fn furthest_place<L: Letter>(chart: &mut Chart, flat: &Flat, line: &[L]) -> Result<usize, Memory>
+fn furthest_position<L: Letter>(chart: &mut Chart, flat: &Flat, line: &[L]) -> Result<usize, Memory>
     requires { length line.now ≤ flat.now.limit }
     ensures within { IfOk result (λ n. n ≤ length line.now) }
     ensures furthest { IfOk result (λ n. (rules : List Rule) (judged : ℕ)
@@ -128,7 +128,7 @@ pub fn find_following<L: Letter>(
     if let Some(reported) = find_by_states(alloc, automaton, flat, line)? {
         return Ok(reported);
     }
-    let after = furthest_place(chart, flat, line)?;
+    let after = furthest_position(chart, flat, line)?;
     find_after(alloc, chart, flat, &line[..after])
 }
 

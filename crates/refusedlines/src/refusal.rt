@@ -1,6 +1,6 @@
 //! The lines that explain a rejected line.
 ghost use Rattle.std.specs.Prelude.{◌≡◌, ◌+◌, ◌<◌, ◌≤◌, ◌^◌, ◌++◌, codes, decimal, length, OnOk};
-ghost use Rattle.refusedlines.specs.RefusedText.{at_text, reported_expected, nothing_text, refused_at as the_place};
+ghost use Rattle.refusedlines.specs.RefusedText.{at_text, reported_expected, nothing_text, refused_at as the_position};
 ghost use Rattle.refusedlines.specs.RefusedText.{refusal_text};
 
 use crate::following::Following;
@@ -38,7 +38,7 @@ pub(crate) struct Refusal {
     /// Where it is rejected, by its symbols.
     pub(crate) at: RefusedAt,
     /// After how many of its bytes it is rejected.
-    pub(crate) place: usize,
+    pub(crate) position: usize,
     /// The symbols that can follow there.
     pub(crate) following: Following,
 }
@@ -47,7 +47,7 @@ pub(crate) struct Refusal {
 /// not UTF-8 or the end.
 pub(crate) fn refused_at(after: usize, letters: usize, torn: bool) -> RefusedAt
     requires { after + 1 < 2 ^ 64 }
-    ensures { result ≡ the_place after letters torn }
+    ensures { result ≡ the_position after letters torn }
 {
     if after < letters {
         RefusedAt::Letter(after + 1)
@@ -101,9 +101,9 @@ fn push_lines(
     refusal: &Refusal,
     out: &mut Vec<u8>,
 ) -> Result<(), Memory>
-    requires { refusal.now.place ≤ length line.bytes.now }
+    requires { refusal.now.position ≤ length line.bytes.now }
     ensures { OnOk result (out.new.items ≡ out.old.items ++ reported_expected refusal.now.alphabet line.entry.number
-        line.entry.bytes.now refusal.now.at refusal.now.place refusal.now.following.runs.items
+        line.entry.bytes.now refusal.now.at refusal.now.position refusal.now.following.runs.items
         refusal.now.following.ends) }
 {
     push_at(line.number, refusal.at, out)?;
@@ -119,7 +119,7 @@ fn push_lines(
         out,
         LineAround {
             line: line.bytes,
-            before: refusal.place,
+            before: refusal.position,
         },
     )
 }
@@ -134,9 +134,9 @@ pub(crate) fn push_refusal(
     refusal: &Refusal,
     out: &mut Vec<u8>,
 ) -> Result<(), Memory>
-    requires { refusal.now.place ≤ length line.bytes.now }
+    requires { refusal.now.position ≤ length line.bytes.now }
     ensures { OnOk result (out.new.items ≡ out.old.items ++ refusal_text refusal.now.alphabet name.now
-        line.entry.number line.entry.bytes.now refusal.now.at refusal.now.place refusal.now.following.runs.items
+        line.entry.number line.entry.bytes.now refusal.now.at refusal.now.position refusal.now.following.runs.items
         refusal.now.following.ends) }
 {
     if refusal.following.runs.is_empty() && !refusal.following.ends {

@@ -2,10 +2,10 @@
 ghost use Rattle.std.specs.Prelude.{◌≡◌, drop, take};
 
 /// Returns the items from that position on.
-pub fn items_after<T>(items: &[T], place: usize) -> &[T]
-    ensures { result.now ≡ drop place items.now }
+pub fn items_after<T>(items: &[T], position: usize) -> &[T]
+    ensures { result.now ≡ drop position items.now }
 {
-    &items[place.min(items.len())..]
+    &items[position.min(items.len())..]
 }
 
 /// Returns so many of the items, or all if there are fewer.

@@ -7,38 +7,38 @@ use Rattle.std.proofs.lemmas.Bool.Decides.{nat_tests}
 use Rattle.abnfread.specs.Element.{Element, Elements, Rule}
 use Rattle.abnfcheck.specs.Derivable.{AreLetters, RuleDerives}
 use Rattle.flatgrammar.specs.Flat.{calls, Calls, capped, Ends, ends, Flat, name_ends, name_starts}
-use Rattle.flatgrammar.specs.Flat.{Node, Place, reads, Reads, Set, Starts, starts, Takes, in_turns}
+use Rattle.flatgrammar.specs.Flat.{Node, Dot, reads, Reads, Set, Starts, starts, Takes, in_iterations}
 use Rattle.flatgrammar.specs.FlatVerdicts.{DerivesLine}
 use Rattle.flatgrammar.specs.Holds.{begins, called, has_read, Holds, returned}
 use Rattle.lowering.specs.Lowered.{capped_most, IsLowered, Shows, shows_alt, shows_concat, shows_name, shows_opt}
-use Rattle.lowering.specs.Lowered.{shows_prose, shows_range, shows_rep, shows_reversed, shows_text, shows_turns}
+use Rattle.lowering.specs.Lowered.{shows_prose, shows_range, shows_rep, shows_reversed, shows_text, shows_iterations}
 use Rattle.lowering.specs.Lowered.{shows_values, spell_more, spell_none, SpellAll, Spells, spells}
 use Rattle.lowering.proofs.RuleDerivesLemmas.{derives_exactly}
 use Rattle.rulelines.specs.CountsWithin.{AllCountsWithin, CountsWithin, MostWithin, RuleCountsWithin}
 
 -- the same grammar for lines of at most m symbols
 abbrev with_limit : Flat → ℕ → Flat
-with_limit flat m = record { nodes = flat.nodes; bodies = flat.bodies; whole = flat.whole; limit = m }
+with_limit flat m = record { nodes = flat.nodes; bodies = flat.bodies; start = flat.start; limit = m }
 
 module _ (flat : Flat) (l m : ℕ) where
-  starts_same : {s : ℕ} {p : Place} → Starts (with_limit flat l) s p → Starts (with_limit flat m) s p
+  starts_same : {s : ℕ} {p : Dot} → Starts (with_limit flat l) s p → Starts (with_limit flat m) s p
   starts_same (starts is b) = starts is b
   starts_same (name_starts is at st) = name_starts is at (starts_same st)
 
-  ends_same : {s : ℕ} {p : Place} → Ends (with_limit flat l) p s → Ends (with_limit flat m) p s
+  ends_same : {s : ℕ} {p : Dot} → Ends (with_limit flat l) p s → Ends (with_limit flat m) p s
   ends_same (ends is d) = ends is d
   ends_same (name_ends is at en) = name_ends is at (ends_same en)
 
-  reads_same : {p r : Place} {set : Set} → Reads (with_limit flat l) p set r → Reads (with_limit flat m) p set r
+  reads_same : {p r : Dot} {set : Set} → Reads (with_limit flat l) p set r → Reads (with_limit flat m) p set r
   reads_same (reads is rd) = reads is rd
 
-  calls_same : {p r : Place} {s : ℕ} → Calls (with_limit flat l) p s r → Calls (with_limit flat m) p s r
+  calls_same : {p r : Dot} {s : ℕ} → Calls (with_limit flat l) p s r → Calls (with_limit flat m) p s r
   calls_same (calls is c) = calls is c
 
-  takes_same : {p : Place} → Takes (with_limit flat m) p → Takes (with_limit flat l) p
-  takes_same (in_turns is t) = in_turns is t
+  takes_same : {p : Dot} → Takes (with_limit flat m) p → Takes (with_limit flat l) p
+  takes_same (in_iterations is t) = in_iterations is t
 
-  holds_same : (x : List ℕ) {j i : ℕ} {p : Place} → Holds (with_limit flat l) x j p i
+  holds_same : (x : List ℕ) {j i : ℕ} {p : Dot} → Holds (with_limit flat l) x j p i
       → Holds (with_limit flat m) x j p i
   holds_same x (begins st) = begins (starts_same st)
   holds_same x (called h c st) = called (holds_same x h) (calls_same c) (starts_same st)
@@ -70,8 +70,8 @@ module _ (rules : List Rule) (l m : ℕ) (le : l ≤ m) (nodes : List Node) wher
     shows_more (shows_alt ms) all = shows_alt (spell_all_more ms all)
     shows_more (shows_rep {a = a} {b = b} low high bounds never sp) all = shows_rep (low ∙ least_same l m a all.0 le)
         (high ∙ most_same l m b all.1 le) bounds never (spells_more sp all.2)
-    shows_more (shows_turns {a = a} {b = b} high bounds empty sp) all =
-        shows_turns (high ∙ most_same l m b all.1 le) bounds empty (spells_more sp all.2)
+    shows_more (shows_iterations {a = a} {b = b} high bounds empty sp) all =
+        shows_iterations (high ∙ most_same l m b all.1 le) bounds empty (spells_more sp all.2)
     shows_more (shows_reversed lt) all = shows_reversed lt
     shows_more (shows_opt sp) all = shows_opt (spells_more sp all)
     shows_more (shows_name is) all = shows_name is

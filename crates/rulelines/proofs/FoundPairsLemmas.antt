@@ -8,9 +8,9 @@ use Rattle.std.proofs.lemmas.List.{take-append-drop}
 use Rattle.std.proofs.lemmas.Option.{slice_get_within}
 use Rattle.abnfread.specs.Element.{Rule}
 use Rattle.abnfcheck.specs.Derivable.{AreLetters}
-use Rattle.flatgrammar.specs.Flat.{Flat, Place}
+use Rattle.flatgrammar.specs.Flat.{Flat, Dot}
 use Rattle.letterclasses.specs.Stacks.{Accepts, ReadBy, Reach, begins, moved, has_read}
-use Rattle.letterclasses.proofs.FrontLemmas.{taken_by_tops, nothing_below}
+use Rattle.letterclasses.proofs.StackClosureLemmas.{taken_by_tops, nothing_below}
 use Rattle.rulelines.specs.FirstLines.{ComesFirst, HasNoLineUpTo, IsFirstLine, IsOfOldAlone, IsShortlexBefore, shorter}
 use Rattle.rulelines.specs.FirstLines.{sort_key}
 use Rattle.rulelines.specs.FoundPairs.{AreFound, AreSearched, EndWithNew, FoundPair, IsFoundBefore, IsOldDead, IsWordOf}
@@ -36,23 +36,23 @@ symbols_then has [] c all is = (is, tt)
 symbols_then has (b ∷ w) c all is = (all.0, symbols_then has w c all.1 is)
 
 -- where a stack is reached, stacks were reached before
-reached_before : (flat : Flat) (last : Place → Bool) (x : List ℕ) {m : ℕ} {s : List Place} → Reach flat last x m s
-    → (j : ℕ) → j ≤ m → (t : List Place) × Reach flat last x j t
+reached_before : (flat : Flat) (last : Dot → Bool) (x : List ℕ) {m : ℕ} {s : List Dot} → Reach flat last x m s
+    → (j : ℕ) → j ≤ m → (t : List Dot) × Reach flat last x j t
 reached_before flat last x (begins {p = p} st) j le =
     (p ∷ [], subst (λ v. Reach flat last x v (p ∷ [])) (omega (arith, le)) (begins st))
 reached_before flat last x (moved {j = m} h mv) j le = reached_before flat last x h j le
 reached_before flat last x (has_read {j = m} {c = c} {q = q} {r = r} {set = set} {below = below} h rd at lies) j le =
     by (λ less. reached_before flat last x h j less) (cases_lt m j)
   where
-    by : (j ≤ m → (t : List Place) × Reach flat last x j t) → (m < j) ⊎ (j ≤ m)
-        → (t : List Place) × Reach flat last x j t
+    by : (j ≤ m → (t : List Dot) × Reach flat last x j t) → (m < j) ⊎ (j ≤ m)
+        → (t : List Dot) × Reach flat last x j t
     by up (inl lt) = (
       r ∷ below,
       subst (λ v. Reach flat last x v (r ∷ below)) (omega (arith, lt, le)) (has_read h rd at lies),
     )
     by up (inr less) = up less
 
-none_read : (flat : Flat) (last : Place → Bool) (tops : List (List Place)) (c : ℕ) (s : List Place) → tops ≡ []
+none_read : (flat : Flat) (last : Dot → Bool) (tops : List (List Dot)) (c : ℕ) (s : List Dot) → tops ≡ []
     → ReadBy flat last (Contains tops) c s → ⊥
 none_read flat last tops c s none (ReadBy.reads {q = q} {below = below} h rd lies) = omega (arith, ap length none, h.1)
 
@@ -78,7 +78,7 @@ none_after found first is_first start le = omega (arith, le, slice_get_within fo
 none_after found first is_first (next {i = i} {e = e} is earlier h) le =
     omega (arith, le, slice_get_within found i e is)
 
-module _ (has : ℕ → Bool) (old : Flat) (old_last : Place → Bool) (new : Flat) (new_last : Place → Bool)
+module _ (has : ℕ → Bool) (old : Flat) (old_last : Dot → Bool) (new : Flat) (new_last : Dot → Bool)
     (found : List FoundPair) (found_so : AreFound old old_last new new_last found has) where
   pub words_ascend : {i j : ℕ} {u v : List ℕ} → IsWordOf found i u → IsWordOf found j v → i < j
       → IsShortlexBefore u v
@@ -231,7 +231,8 @@ module _ (has : ℕ → Bool) (old : Flat) (old_last : Place → Bool) (new : Fl
           → ⊥
       some_left j c is lt here none =
           let tops = here.entry.pair.old in
-          let plain = nothing_below old old_last x j (Contains tops) here.entry.pair.old_ended here.fronts.old_front in
+          let plain = nothing_below old old_last x j
+          (Contains tops) here.entry.pair.old_ended here.fronts.old_closure in
           let g = (taken_by_tops old old_last x j c c is (λ q r set rd. (λ h. h, λ h. h)) (Contains tops) [] plain).0
           (reached_before old old_last x accepted.reached (j + 1) (omega (arith, lt))) in
           none_read old old_last tops c g.0 none g.1
@@ -267,8 +268,8 @@ module _ (has : ℕ → Bool) (old : Flat) (old_last : Place → Bool) (new : Fl
       alone_past not_new = by (at_each (length x) (omega arith))
         where
           at_end : (here : AtFound (length x)) → (here.index < n) ⊎ (n ≤ here.index) → IsNotAfter
-          at_end here (inl less) = absurd (not_new (here.fronts.new_front.accepts.1 (
-            agree here.index here.entry less here.is (here.fronts.old_front.accepts.0 accepted).0,
+          at_end here (inl less) = absurd (not_new (here.fronts.new_closure.accepts.1 (
+            agree here.index here.entry less here.is (here.fronts.old_closure.accepts.0 accepted).0,
             inl refl,
           )))
           at_end here (inr le) = stop_there (length x) here le
@@ -278,7 +279,7 @@ module _ (has : ℕ → Bool) (old : Flat) (old_last : Place → Bool) (new : Fl
           by (inl here) = at_end here (cases_lt here.index n)
 
 module _ (has : ℕ → Bool) (old_rules new_rules : List Rule) (old_rule new_rule : ℕ) (old : Flat)
-    (old_last : Place → Bool) (new : Flat) (new_last : Place → Bool) (most : ℕ)
+    (old_last : Dot → Bool) (new : Flat) (new_last : Dot → Bool) (most : ℕ)
     (old_reports : AcceptsRule has old_rules old_rule old old_last most)
     (new_reports : AcceptsRule has new_rules new_rule new new_last most) (samples : List ℕ)
     (each : AreSamples old new has samples) (found : List FoundPair)
@@ -318,10 +319,10 @@ module _ (has : ℕ → Bool) (old_rules new_rules : List Rule) (old_rule new_ru
     of_old = record {
       symbols = symbols_are;
       derives = accepted_derived has old_rules old_rule old old_last most old_reports w within_most symbols_are
-          (fronts_there.old_front.accepts.1 (ended, inl refl));
+          (fronts_there.old_closure.accepts.1 (ended, inl refl));
       not_new = λ d. cc (
         runs,
-        (fronts_there.new_front.accepts.0
+        (fronts_there.new_closure.accepts.0
             (derived_accepted has new_rules new_rule new new_last most new_reports w within_most symbols_are d)).0,
       );
     }

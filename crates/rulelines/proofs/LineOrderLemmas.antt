@@ -80,17 +80,17 @@ module _ (table : Table) (is : IsStateTable table) (limit : ℕ) where
     symbols = r.symbols;
     within = (let e = r.count in omega (arith, e, le));
     derives = accepted_holds (grammar_of table.states) is.grammar.uncounted w (last_in table.states)
-        is.grammar.tail_places is.grammar.one.0 is.grammar.one.1
-        (takes_accepted (grammar_of table.states) (last_in table.states) Start is.begins.front w r.takes);
+        is.grammar.tail_positions is.grammar.one.0 is.grammar.one.1
+        (takes_accepted (grammar_of table.states) (last_in table.states) Start is.begins.closure w r.takes);
   }
 
   pub line_rest : (w : List ℕ) (k : ℕ) → length w ≡ k → Lines w → IsStartRest k w
   line_rest w k size l = record {
     symbols = l.symbols;
     count = size;
-    takes = accepted_takes (grammar_of table.states) (last_in table.states) Start is.begins.front w
+    takes = accepted_takes (grammar_of table.states) (last_in table.states) Start is.begins.closure w
         (holds_accepted (grammar_of table.states) is.grammar.uncounted w (last_in table.states)
-        is.grammar.tail_places is.grammar.one.0 is.grammar.one.1 l.derives);
+        is.grammar.tail_positions is.grammar.one.0 is.grammar.one.1 l.derives);
   }
 
   -- no line is that long

@@ -37,8 +37,8 @@ table_begun flat none table inner s more begins seen starts rise rows levels sym
       is = refl;
       one = subst (λ v. IsOne v) (sym same) s.one;
       uncounted = subst (λ v. AreUncounted v) (sym same) s.uncounted;
-      tail_places = subst (λ v. MarksLast (flat_of v) (last_of v)) (sym more.same)
-          (subst (λ v. MarksLast v (last_in none)) (sym s.is) s.tail_places);
+      tail_positions = subst (λ v. MarksLast (flat_of v) (last_of v)) (sym more.same)
+          (subst (λ v. MarksLast v (last_in none)) (sym s.is) s.tail_positions);
     };
     begins = begins;
     seen = (let lt = slice_get_within table.states.states table.start begins.state begins.is in

@@ -12,7 +12,7 @@ use Rattle.flatgrammar.specs.Flat.{Flat}
 use Rattle.flatgrammar.specs.FlatVerdicts.{DerivesLine}
 use Rattle.flatgrammar.specs.NodeSteps.{flat_of}
 use Rattle.flatgrammar.proofs.CallOfLemmas.{get_map}
-use Rattle.letterclasses.specs.Stacks.{AreUncounted, IsFront, MarksLast}
+use Rattle.letterclasses.specs.Stacks.{AreUncounted, IsStackClosure, MarksLast}
 use Rattle.lazydfa.specs.Conts.{last_of}
 use Rattle.lazydfa.specs.RunVerdicts.{IsOne}
 use Rattle.lazydfa.specs.StateSets.{AreMoreStates, AreStatesOf, grammar_of, IsStartState, last_in, StateSets}
@@ -54,7 +54,7 @@ of_states flat sets s = record {
   is = s.is;
   one = subst (λ v. IsOne v) (sym s.is) s.one;
   uncounted = subst (λ v. AreUncounted v) (sym s.is) s.uncounted;
-  tail_places = subst (λ v. MarksLast v (last_in sets)) (sym s.is) s.tail_places;
+  tail_positions = subst (λ v. MarksLast v (last_in sets)) (sym s.is) s.tail_positions;
 }
 
 pub still_of : (flat : Flat) (old new : StateSets) → new.tables ≡ old.tables → AreOfGrammar flat old
@@ -63,7 +63,7 @@ still_of flat old new same a = record {
   is = ap (λ v. flat_of v) same ∙ a.is;
   one = subst (λ v. IsOne (flat_of v)) (sym same) a.one;
   uncounted = subst (λ v. AreUncounted (flat_of v)) (sym same) a.uncounted;
-  tail_places = subst (λ v. MarksLast (flat_of v) (last_of v)) (sym same) a.tail_places;
+  tail_positions = subst (λ v. MarksLast (flat_of v) (last_of v)) (sym same) a.tail_positions;
 }
 
 pub begun_of : (flat : Flat) (none some : StateSets) → AreStatesOf flat none → AreMoreStates none some
@@ -78,10 +78,10 @@ module _ (olds news : StateSets) (a b : ℕ) (old_start : IsStartState olds a) (
   starts_there : IsStartPair (grammar_of olds) (last_in olds) (grammar_of news) (last_in news)
       (found_pair olds news Opening).pair
   starts_there = record {
-    old_starts = λ x. subst (λ v. IsFront (grammar_of olds) (last_in olds) x 0 (Contains v.stacks) v.ended [])
-        (sym (state_is olds a old_start.state old_start.is)) (old_start.front x);
-    new_starts = λ x. subst (λ v. IsFront (grammar_of news) (last_in news) x 0 (Contains v.stacks) v.ended [])
-        (sym (state_is news b new_start.state new_start.is)) (new_start.front x);
+    old_starts = λ x. subst (λ v. IsStackClosure (grammar_of olds) (last_in olds) x 0 (Contains v.stacks) v.ended [])
+        (sym (state_is olds a old_start.state old_start.is)) (old_start.closure x);
+    new_starts = λ x. subst (λ v. IsStackClosure (grammar_of news) (last_in news) x 0 (Contains v.stacks) v.ended [])
+        (sym (state_is news b new_start.state new_start.is)) (new_start.closure x);
   }
 
   only_first : (i : ℕ) (p : SearchedPair) → slice_get (Opening ∷ []) i ≡ Some p → (i ≡ 0) × (Opening ≡ p)
@@ -124,7 +124,7 @@ accepts_lines : (has : ℕ → Bool) (rules : List Rule) (rule : ℕ) (flat : Fl
 accepts_lines has rules rule flat sets a derives most = record {
   body = a.one.0;
   whole = a.one.1;
-  tail_places = a.tail_places;
+  tail_positions = a.tail_positions;
   uncounted = a.uncounted;
   derives = λ x short symbols.
       subst (λ v. DerivesLine v x ↔ RuleDerives has rules rule x) (sym a.is) (derives x symbols);

@@ -6,7 +6,7 @@ use Rattle.std.proofs.Common.{ap, subst, arith}
 use Rattle.std.proofs.lemmas.Bool.{cases_lt}
 use Rattle.std.proofs.lemmas.Bool.Decides.{nat_tests}
 use Rattle.std.specs.Prelude.{Bool, true, None, Some, Contains}
-use Rattle.flatgrammar.specs.Flat.{Flat, Place}
+use Rattle.flatgrammar.specs.Flat.{Flat, Dot}
 use Rattle.letterclasses.specs.Stacks.{IsNext}
 use Rattle.lazydfa.specs.StateSets.{StateSet}
 use Rattle.rulelines.specs.FirstLines.{ComesFirst, IsShortlexBefore, later, shorter, sort_key, symbol}
@@ -17,7 +17,7 @@ use Rattle.rulelines.proofs.ComesFirstLemmas.{one_key}
 use Rattle.rulelines.proofs.SamplesLemmas.{key_symbol}
 use Rattle.rulelines.proofs.TakesLemmas.{takes_after, takes_alike, takes_before}
 
-module _ (flat : Flat) (last : Place → Bool) (has : ℕ → Bool) where
+module _ (flat : Flat) (last : Dot → Bool) (has : ℕ → Bool) where
   abbrev Rest : StateSet → ℕ → List ℕ → Type 0
   Rest = IsRest flat last has
 

@@ -413,9 +413,9 @@ search_next has samples in_order old new pairs more n k m s p at_n c at_k a b ol
 
 -- from one pair to the next
 module _ (has : ℕ → Bool) (samples : List ℕ) (old new : StateSets) (pairs : List SearchedPair) (n m : ℕ) where
-  pub search_turn : (k : ℕ) → length samples ≤ k → IsPairSearch has samples old new pairs n k m
+  pub search_iteration : (k : ℕ) → length samples ≤ k → IsPairSearch has samples old new pairs n k m
       → IsPairSearch has samples old new pairs (n + 1) 0 m
-  search_turn k le s = record {
+  search_iteration k le s = record {
     old_within = s.old_within;
     new_within = s.new_within;
     found = s.found;

@@ -1,107 +1,107 @@
--- What tops on parts accept, and what states accept.
--- Serves: parts_include.
+-- What tops on suffixes accept, and what states accept.
+-- Serves: suffixes_include.
 use Rattle.std.proofs.Common.{◌≡◌, ℕ, zero, suc, ◌+◌, ◌<◌, ◌≤◌, List, [], ◌∷◌, ◌++◌, length, refl, sym, ◌∙◌, ap}
 use Rattle.std.proofs.Common.{subst, arith, length-append, drop}
 use Rattle.std.specs.Prelude.{Bool, true, false, Contains, slice_get, Some}
 use Rattle.abnfcheck.specs.Derivable.{AreLetters}
-use Rattle.flatgrammar.specs.Flat.{Calls, calls, Calling, Flat, Has, Node, Place, Reading, Reads}
+use Rattle.flatgrammar.specs.Flat.{Calls, calls, Calling, Flat, Has, Node, Dot, Reading, Reads}
 use Rattle.flatgrammar.specs.Flat as f
 use Rattle.letterclasses.specs.Stacks.{Accepts, AreAlike, IsDoneAt, is_done, IsNext, IsReading, reading, Led, led}
 use Rattle.letterclasses.specs.Stacks.{Moves, call, tail_call, return, Reach, ReadBy}
 use Rattle.rulelines.specs.StatePairs.{AreSamples, StatePair}
-use Rattle.rulelines.specs.StackSets.{AreAllJoined, AreClosedByParts, AreFull, by_stack, cut, done, Drains, ends}
+use Rattle.rulelines.specs.StackSets.{AreAllJoined, AreClosedBySuffixes, AreFull, by_stack, cut, done, Drains, ends}
 use Rattle.rulelines.specs.StackSets.{FollowsFrom, IsStartStack, is_start, IsStateFrom, more, moves, one, reads}
 use Rattle.rulelines.specs.StackSets.{SomeDrains, StateAccepts}
 
-module _ (flat : Flat) (last : Place → Bool) where
-  abbrev Drain : List Place → List ℕ → Type 0
+module _ (flat : Flat) (last : Dot → Bool) where
+  abbrev Drain : List Dot → List ℕ → Type 0
   Drain = Drains flat last
 
-  -- a top comes to its end, and then the part does
-  record Splits (top part : List Place) (w : List ℕ) : Type 0 where
+  -- a top comes to its end, and then the suffix does
+  record Splits (top suffix : List Dot) (w : List ℕ) : Type 0 where
     pub first : List ℕ
     pub rest : List ℕ
     pub word : w ≡ first ++ rest
     pub top_drains : Drain top first
-    pub part_drains : Drain part rest
+    pub suffix_drains : Drain suffix rest
 
-  by_move : {top next part : List Place} {w : List ℕ} → Moves flat last top next → Splits next part w
-      → Splits top part w
+  by_move : {top next suffix : List Dot} {w : List ℕ} → Moves flat last top next → Splits next suffix w
+      → Splits top suffix w
   by_move m s = record {
     first = s.first;
     rest = s.rest;
     word = s.word;
     top_drains = moves m s.top_drains;
-    part_drains = s.part_drains;
+    suffix_drains = s.suffix_drains;
   }
 
-  no_rest : (rest part : List Place) → (part ≡ [] → ⊥) → [] ≡ rest ++ part → ⊥
-  no_rest [] part full same = full (sym same)
-  no_rest (r ∷ rest) part full same = cc same
+  no_rest : (rest suffix : List Dot) → (suffix ≡ [] → ⊥) → [] ≡ rest ++ suffix → ⊥
+  no_rest [] suffix full same = full (sym same)
+  no_rest (r ∷ rest) suffix full same = cc same
 
-  split_drain : {s : List Place} {w : List ℕ} → Drain s w → (t : Place) (top part : List Place) → (part ≡ [] → ⊥)
-      → s ≡ t ∷ (top ++ part) → Splits (t ∷ top) part w
-  split_drain (done {p = p} d) t top part full same = absurd (no_rest top part full (cc same))
-  split_drain (moves (call {s = s} {p = p} {q = q} {r = r} {below = below} c st l) d) t top part full same =
+  split_drain : {s : List Dot} {w : List ℕ} → Drain s w → (t : Dot) (top suffix : List Dot) → (suffix ≡ [] → ⊥)
+      → s ≡ t ∷ (top ++ suffix) → Splits (t ∷ top) suffix w
+  split_drain (done {p = p} d) t top suffix full same = absurd (no_rest top suffix full (cc same))
+  split_drain (moves (call {s = s} {p = p} {q = q} {r = r} {below = below} c st l) d) t top suffix full same =
       let is : q ≡ t = cc same in
-      by_move (call (subst (λ v. Calls flat v s r) is c) st l) (split_drain d p (r ∷ top) part full (cc same))
-  split_drain (moves (tail_call {s = s} {p = p} {q = q} {r = r} {below = below} c st l) d) t top part full same =
+      by_move (call (subst (λ v. Calls flat v s r) is c) st l) (split_drain d p (r ∷ top) suffix full (cc same))
+  split_drain (moves (tail_call {s = s} {p = p} {q = q} {r = r} {below = below} c st l) d) t top suffix full same =
       let is : q ≡ t = cc same in
-      by_move (tail_call (subst (λ v. Calls flat v s r) is c) st l) (split_drain d p top part full (cc same))
-  split_drain (moves {w = w} (return {p = p} {r = r} {below = below} over) d) t [] part full same = record {
+      by_move (tail_call (subst (λ v. Calls flat v s r) is c) st l) (split_drain d p top suffix full (cc same))
+  split_drain (moves {w = w} (return {p = p} {r = r} {below = below} over) d) t [] suffix full same = record {
     first = [];
     rest = w;
     word = refl;
     top_drains = done (subst (λ v. IsDoneAt flat v) (cc same) over);
-    part_drains = subst (λ v. Drain v w) (cc same) d;
+    suffix_drains = subst (λ v. Drain v w) (cc same) d;
   }
-  split_drain (moves (return {p = p} {r = r} {below = below} over) d) t (u ∷ top) part full same =
+  split_drain (moves (return {p = p} {r = r} {below = below} over) d) t (u ∷ top) suffix full same =
       let is : p ≡ t = cc same in
       let on : r ≡ u = cc same in
-      by_move (return (subst (λ v. IsDoneAt flat v) is over)) (split_drain d u top part full (cc same))
-  split_drain (reads {q = q} {r = r} {set = set} {below = below} {c = c} {w = w} rd lies d) t top part full same =
+      by_move (return (subst (λ v. IsDoneAt flat v) is over)) (split_drain d u top suffix full (cc same))
+  split_drain (reads {q = q} {r = r} {set = set} {below = below} {c = c} {w = w} rd lies d) t top suffix full same =
       let is : q ≡ t = cc same in
-      let g = split_drain d r top part full (cc same) in
+      let g = split_drain d r top suffix full (cc same) in
       record {
         first = c ∷ g.first;
         rest = g.rest;
         word = ap (λ v. c ∷ v) g.word;
         top_drains = reads (subst (λ v. Reads flat v set r) is rd) lies g.top_drains;
-        part_drains = g.part_drains;
+        suffix_drains = g.suffix_drains;
       }
 
-  move_over : {s t : List Place} (part : List Place) → Moves flat last s t → Moves flat last (s ++ part) (t ++ part)
-  move_over part (call c st l) = call c st l
-  move_over part (tail_call c st l) = tail_call c st l
-  move_over part (return d) = return d
+  move_over : {s t : List Dot} (suffix : List Dot) → Moves flat last s t → Moves flat last (s ++ suffix) (t ++ suffix)
+  move_over suffix (call c st l) = call c st l
+  move_over suffix (tail_call c st l) = tail_call c st l
+  move_over suffix (return d) = return d
 
-  join_drains : {top part : List Place} {u v : List ℕ} → (part ≡ [] → ⊥) → Drain top u → Drain part v
-      → Drain (top ++ part) (u ++ v)
-  join_drains {part = []} full (done d) e = absurd (full refl)
-  join_drains {part = r ∷ below} full (done d) e = moves (return d) e
-  join_drains {part = part} full (moves m d) e = moves (move_over part m) (join_drains full d e)
+  join_drains : {top suffix : List Dot} {u v : List ℕ} → (suffix ≡ [] → ⊥) → Drain top u → Drain suffix v
+      → Drain (top ++ suffix) (u ++ v)
+  join_drains {suffix = []} full (done d) e = absurd (full refl)
+  join_drains {suffix = r ∷ below} full (done d) e = moves (return d) e
+  join_drains {suffix = suffix} full (moves m d) e = moves (move_over suffix m) (join_drains full d e)
   join_drains full (reads rd lies d) e = reads rd lies (join_drains full d e)
 
-  split_some : (top part : List Place) (w : List ℕ) → (top ≡ [] → ⊥) → (part ≡ [] → ⊥) → Drain (top ++ part) w
-      → Splits top part w
-  split_some [] part w some full d = absurd (some refl)
-  split_some (t ∷ top) part w some full d = split_drain d t top part full refl
+  split_some : (top suffix : List Dot) (w : List ℕ) → (top ≡ [] → ⊥) → (suffix ≡ [] → ⊥) → Drain (top ++ suffix) w
+      → Splits top suffix w
+  split_some [] suffix w some full d = absurd (some refl)
+  split_some (t ∷ top) suffix w some full d = split_drain d t top suffix full refl
 
-  rejoin_some : (tops parts stacks : List (List Place)) → AreAllJoined tops parts stacks → AreFull parts
+  rejoin_some : (tops suffixes stacks : List (List Dot)) → AreAllJoined tops suffixes stacks → AreFull suffixes
       → {u v w : List ℕ}
-      → SomeDrains flat last (Contains tops) u → SomeDrains flat last (Contains parts) v → w ≡ u ++ v
+      → SomeDrains flat last (Contains tops) u → SomeDrains flat last (Contains suffixes) v → w ≡ u ++ v
       → SomeDrains flat last (Contains stacks) w
-  rejoin_some tops parts stacks joined full t r same = record {
+  rejoin_some tops suffixes stacks joined full t r same = record {
     stack = t.stack ++ r.stack;
     is = joined t.stack r.stack t.is r.is;
     drains = subst (λ v. Drain (t.stack ++ r.stack) v) (sym same) (join_drains (full r.stack r.is) t.drains r.drains);
   }
 
   -- what some stacks drain, their state accepts
-  module _ (from : List Place → Type 0) (tops : List (List Place)) (ended : Bool)
+  module _ (from : List Dot → Type 0) (tops : List (List Dot)) (ended : Bool)
       (is : IsStateFrom flat last from tops ended) where
-    into_state : {s : List Place} {w : List ℕ} → Led flat last from s → Drain s w → StateAccepts flat last tops ended w
-    into_state l (done {p = p} d) = ends (is.ended_is.1 (record { place = p; led_to = l; done = d }))
+    into_state : {s : List Dot} {w : List ℕ} → Led flat last from s → Drain s w → StateAccepts flat last tops ended w
+    into_state l (done {p = p} d) = ends (is.ended_is.1 (record { position = p; led_to = l; done = d }))
     into_state l (moves m d) = into_state (Led.moves l m) d
     into_state l (reads {q = q} {r = r} {below = below} rd lies d) =
         by_stack (record {
@@ -110,7 +110,7 @@ module _ (flat : Flat) (last : Place → Bool) where
           drains = reads rd lies d;
         })
 
-    led_back : {s : List Place} {w : List ℕ} → Led flat last from s → Drain s w → SomeDrains flat last from w
+    led_back : {s : List Dot} {w : List ℕ} → Led flat last from s → Drain s w → SomeDrains flat last from w
     led_back {s = s} (led f) d = record { stack = s; is = f; drains = d }
     led_back (Led.moves l m) d = led_back l (moves m d)
 
@@ -118,7 +118,7 @@ module _ (flat : Flat) (last : Place → Bool) where
     out_of_state (ends e) = let g = is.ended_is.0 e in led_back g.led_to (done g.done)
     out_of_state (by_stack h) = led_back ((is.tops_are h.stack).0 h.is).1 h.drains
 
-  -- a place that reads a symbol does nothing else
+  -- a dotted rule that reads a symbol does nothing else
   sets_of : {node : Node} {k l : ℕ} {set : f.Set} → Reading node k set l
       → (sets : List f.Set) × (node ≡ f.Letters sets) × (k < length sets)
   sets_of (Reading.letter {sets = sets} {k = k} at) = (sets, refl, below sets k at)
@@ -131,8 +131,8 @@ module _ (flat : Flat) (last : Place → Bool) where
   calls_none : {node : Node} {k n l : ℕ} (sets : List f.Set) → Calling node k n l → node ≡ f.Letters sets → ⊥
   calls_none sets (Calling.member at) same = cc same
   calls_none sets (Calling.alternative at) same = cc same
-  calls_none sets (Calling.turn lt) same = cc same
-  calls_none sets Calling.turn_uncounted same = cc same
+  calls_none sets (Calling.iteration lt) same = cc same
+  calls_none sets Calling.iteration_uncounted same = cc same
   calls_none sets (Calling.takes lt) same = cc same
   calls_none sets Calling.takes_uncounted same = cc same
   calls_none sets Calling.operand same = cc same
@@ -143,32 +143,32 @@ module _ (flat : Flat) (last : Place → Bool) where
   runs_on sets (f.IsDone.concat is) same lt = cc same
   runs_on sets (f.IsDone.alt is) same lt = cc same
   runs_on sets (f.IsDone.rep least most) same lt = cc same
-  runs_on sets (f.IsDone.turns most) same lt = cc same
+  runs_on sets (f.IsDone.iterations most) same lt = cc same
   runs_on sets f.IsDone.opt same lt = cc same
   runs_on sets f.IsDone.opt_empty same lt = cc same
 
-  no_call : {q r t : Place} {set : f.Set} {n : ℕ} → Reads flat q set r → Calls flat q n t → ⊥
+  no_call : {q r t : Dot} {set : f.Set} {n : ℕ} → Reads flat q set r → Calls flat q n t → ⊥
   no_call (Reads.reads {node = node} is rd) (calls {node = other} at c) =
       let g = sets_of rd in
       let same : other ≡ node = cc (is, at) in calls_none g.0 c (same ∙ g.1)
 
-  not_done : {q r : Place} {set : f.Set} → Reads flat q set r → IsDoneAt flat q → ⊥
+  not_done : {q r : Dot} {set : f.Set} → Reads flat q set r → IsDoneAt flat q → ⊥
   not_done (Reads.reads {node = node} is rd) (is_done {node = other} at d) =
       let g = sets_of rd in
       let same : other ≡ node = cc (is, at) in runs_on g.0 d (same ∙ g.1) g.2
 
-  no_move : {s t : List Place} → IsReading flat s → Moves flat last s t → ⊥
+  no_move : {s t : List Dot} → IsReading flat s → Moves flat last s t → ⊥
   no_move (reading rd) (call c st l) = no_call rd c
   no_move (reading rd) (tail_call c st l) = no_call rd c
   no_move (reading rd) (return d) = not_done rd d
 
   -- the state after_symbol a letter
-  module _ (tops next : List (List Place)) (ended : Bool) (c d : ℕ) (alike : AreAlike flat c d)
+  module _ (tops next : List (List Dot)) (ended : Bool) (c d : ℕ) (alike : AreAlike flat c d)
       (is : IsNext flat last (Contains tops) d (Contains next) ended) where
     state_after : IsStateFrom flat last (ReadBy flat last (Contains tops) d) next ended
     state_after = record { tops_are = is.tops_are; ended_is = is.ended_is }
 
-    after_symbol : (all_read : (top : List Place) → Contains tops top → IsReading flat top) {s : List Place}
+    after_symbol : (all_read : (top : List Dot) → Contains tops top → IsReading flat top) {s : List Dot}
         {w : List ℕ}
         → Contains tops s → Drain s w → (v : List ℕ) → w ≡ c ∷ v → StateAccepts flat last next ended v
     after_symbol all_read h (done dn) v same = cc same
@@ -179,7 +179,7 @@ module _ (flat : Flat) (last : Place → Bool) where
         (led (ReadBy.reads h rd ((alike q r set rd).0 (subst (λ x. Has set x) symbol lies))))
         (subst (λ x. Drain (r ∷ below) x) (cc same) dr)
 
-    before_read : {s : List Place} {v : List ℕ} → ReadBy flat last (Contains tops) d s → Drain s v
+    before_read : {s : List Dot} {v : List ℕ} → ReadBy flat last (Contains tops) d s → Drain s v
         → SomeDrains flat last (Contains tops) (c ∷ v)
     before_read (ReadBy.reads {q = q} {r = r} {set = set} {below = below} h rd lies) dr = record {
       stack = q ∷ below;
@@ -216,10 +216,10 @@ module _ (flat : Flat) (last : Place → Bool) where
   drop_at (b ∷ x) (suc j) c is = drop_at x j c is
 
   module _ (x : List ℕ) where
-    accepts_from : {s : List Place} {w : List ℕ} → Drain s w → (j : ℕ) → Reach flat last x j s → j ≤ length x
+    accepts_from : {s : List Dot} {w : List ℕ} → Drain s w → (j : ℕ) → Reach flat last x j s → j ≤ length x
         → drop j x ≡ w → Accepts flat last x (length x)
     accepts_from (done {p = p} d) j h le same = record {
-      place = p;
+      position = p;
       reached = subst (λ v. Reach flat last x v (p ∷ [])) (at_end x j le same) h;
       done = d;
     }
@@ -230,7 +230,7 @@ module _ (flat : Flat) (last : Place → Bool) where
         accepts_from d (j + 1) (Reach.has_read h rd g.0 lies) (omega (arith, g.2))
         (subst (λ v. drop v x ≡ w) next g.1)
 
-    drains_from : {j : ℕ} {s : List Place} → Reach flat last x j s → Drain s (drop j x)
+    drains_from : {j : ℕ} {s : List Dot} → Reach flat last x j s → Drain s (drop j x)
         → SomeDrains flat last (IsStartStack flat) x
     drains_from (Reach.begins {p = p} st) d = record { stack = p ∷ []; is = is_start st; drains = d }
     drains_from (Reach.moved h m) d = drains_from h (moves m d)
@@ -240,21 +240,22 @@ module _ (flat : Flat) (last : Place → Bool) where
         (reads rd lies (subst (λ v. Drain (r ∷ below) (drop v x)) next d)))
 
     accepted_drains : Accepts flat last x (length x) → SomeDrains flat last (IsStartStack flat) x
-    accepted_drains a = drains_from a.reached (subst (λ v. Drain (a.place ∷ []) v) (sym (all_dropped x)) (done a.done))
+    accepted_drains a = drains_from a.reached
+        (subst (λ v. Drain (a.position ∷ []) v) (sym (all_dropped x)) (done a.done))
 
     drains_accepted : SomeDrains flat last (IsStartStack flat) x → Accepts flat last x (length x)
     drains_accepted h = by h.is h.drains
       where
-        by : {s : List Place} → IsStartStack flat s → Drain s x → Accepts flat last x (length x)
+        by : {s : List Dot} → IsStartStack flat s → Drain s x → Accepts flat last x (length x)
         by (is_start st) d = accepts_from d 0 (Reach.begins st) (omega arith) refl
 
 symbols_in : (has : ℕ → Bool) (u v : List ℕ) → AreLetters has (u ++ v) → AreLetters has u × AreLetters has v
 symbols_in has [] v all = (tt, all)
 symbols_in has (c ∷ u) v all = let g = symbols_in has u v all.1 in ((all.0, g.0), g.1)
 
-module _ (has : ℕ → Bool) (old : Flat) (old_last : Place → Bool) (new : Flat) (new_last : Place → Bool)
+module _ (has : ℕ → Bool) (old : Flat) (old_last : Dot → Bool) (new : Flat) (new_last : Dot → Bool)
     (samples : List ℕ) (each : AreSamples old new has samples) (pairs : List StatePair)
-    (closed : AreClosedByParts old old_last new new_last samples pairs) where
+    (closed : AreClosedBySuffixes old old_last new new_last samples pairs) where
   abbrev Old : StatePair → List ℕ → Type 0
   Old p = StateAccepts old old_last p.old p.old_ended
 
@@ -262,13 +263,13 @@ module _ (has : ℕ → Bool) (old : Flat) (old_last : Place → Bool) (new : Fl
   New p = StateAccepts new new_last p.new p.new_ended
 
   -- what a state accepts that has not ended, one of its stacks drains
-  of_top : {flat : Flat} {last : Place → Bool} {tops : List (List Place)} {ended : Bool} {w : List ℕ} → ended ≡ false
+  of_top : {flat : Flat} {last : Dot → Bool} {tops : List (List Dot)} {ended : Bool} {w : List ℕ} → ended ≡ false
       → StateAccepts flat last tops ended w → SomeDrains flat last (Contains tops) w
   of_top runs (ends e) = cc (runs, e)
   of_top runs (by_stack h) = h
 
-  wider_accepts : {flat : Flat} {last : Place → Bool} {tops others : List (List Place)} {ended now : Bool} {w : List ℕ}
-      → ((stack : List Place) → Contains tops stack → Contains others stack) → (ended ≡ true → now ≡ true)
+  wider_accepts : {flat : Flat} {last : Dot → Bool} {tops others : List (List Dot)} {ended now : Bool} {w : List ℕ}
+      → ((stack : List Dot) → Contains tops stack → Contains others stack) → (ended ≡ true → now ≡ true)
       → StateAccepts flat last tops ended w → StateAccepts flat last others now w
   wider_accepts are on (ends e) = ends (on e)
   wider_accepts are on (by_stack h) = by_stack (record { stack = h.stack; is = are h.stack h.is; drains = h.drains })
@@ -286,26 +287,26 @@ module _ (has : ℕ → Bool) (old : Flat) (old_last : Place → Bool) (new : Fl
   follows_too n up {p = p} (cut {tops = tops} {below = below} c on_tops on_below) w all le h =
       let o = of_top c.runs h in
       let g = c.cut o.stack o.is in
-      let s = split_some old old_last g.top g.part w (c.full g.top g.is_top) (c.old_full g.part g.is_part)
+      let s = split_some old old_last g.top g.suffix w (c.full g.top g.is_top) (c.old_full g.suffix g.is_suffix)
       (subst (λ v. Drains old old_last v w) g.is o.drains) in
       let size : length w ≡ length s.first + length s.rest = ap length s.word ∙ length-append s.first s.rest in
       let each = symbols_in has s.first s.rest (subst (λ v. AreLetters has v) s.word all) in
       let t = of_top c.new_tops_run (follows_too n up on_tops s.first each.0 (omega (arith, le, size))
       (by_stack (record { stack = g.top; is = g.is_top; drains = s.top_drains }))) in
-      let old_rest = into_state old old_last (Contains c.old_parts) below.old below.old_ended c.old_below
-      (led g.is_part) s.part_drains in
-      let r = out_of_state new new_last (Contains c.new_parts) below.new below.new_ended c.new_below
+      let old_rest = into_state old old_last (Contains c.old_suffixes) below.old below.old_ended c.old_below
+      (led g.is_suffix) s.suffix_drains in
+      let r = out_of_state new new_last (Contains c.new_suffixes) below.new below.new_ended c.new_below
       (follows_too n up on_below s.rest each.1 (omega (arith, le, size)) old_rest) in
-      by_stack (rejoin_some new new_last tops.new c.new_parts p.new c.joined c.new_full t r s.word)
+      by_stack (rejoin_some new new_last tops.new c.new_suffixes p.new c.joined c.new_full t r s.word)
 
   up_to : (n : ℕ) → UpTo n
   up_to n p is [] all le (ends e) = ends (closed.ends p is e)
   up_to n p is [] all le (by_stack h) = absurd (none h.stack h.is h.drains refl)
     where
-      none : (s : List Place) → Contains p.old s → {w : List ℕ} → Drains old old_last s w → w ≡ [] → ⊥
+      none : (s : List Dot) → Contains p.old s → {w : List ℕ} → Drains old old_last s w → w ≡ [] → ⊥
       none s at (done d) same = ends_reading (closed.reading p is _ at) d
         where
-          ends_reading : {q : Place} → IsReading old (q ∷ []) → IsDoneAt old q → ⊥
+          ends_reading : {q : Dot} → IsReading old (q ∷ []) → IsDoneAt old q → ⊥
           ends_reading (reading rd) d = not_done old old_last rd d
       none s at (moves m d) same = no_move old old_last (closed.reading p is _ at) m
       none s at (reads rd lies d) same = cc same
@@ -322,11 +323,11 @@ module _ (has : ℕ → Bool) (old : Flat) (old_last : Place → Bool) (new : Fl
       some_symbol : {v : List ℕ} {b : ℕ} → Old p (b ∷ v) → SomeDrains old old_last (Contains p.old) (b ∷ v)
       some_symbol (by_stack g) = g
 
-  pub accepted_by_parts : (first : StatePair) → Contains pairs first
+  pub accepted_by_suffixes : (first : StatePair) → Contains pairs first
       → IsStateFrom old old_last (IsStartStack old) first.old first.old_ended
       → IsStateFrom new new_last (IsStartStack new) first.new first.new_ended → (x : List ℕ) → AreLetters has x
       → Accepts old old_last x (length x) → Accepts new new_last x (length x)
-  accepted_by_parts first is old_first new_first x all a =
+  accepted_by_suffixes first is old_first new_first x all a =
       let d = accepted_drains old old_last x a in
       let o = into_state old old_last (IsStartStack old) first.old first.old_ended old_first (led d.is) d.drains in
       drains_accepted new new_last x (out_of_state new new_last (IsStartStack new) first.new first.new_ended new_first

@@ -1,12 +1,12 @@
 -- Pairs of states from symbol to symbol.
--- Serves: closed_pairs_include, included_lines, first_line, no_line_up_to, no_line, parts_include.
+-- Serves: closed_pairs_include, included_lines, first_line, no_line_up_to, no_line, suffixes_include.
 use Rattle.std.proofs.Common.{◌≡◌, ℕ, zero, suc, ◌+◌, ◌<◌, ◌≤◌, List, [], ◌∷◌, length, refl, subst, arith, inl}
 use Rattle.std.specs.Prelude.{Bool, true, slice_get, Some, Contains}
 use Rattle.abnfread.specs.Element.{Rule}
 use Rattle.abnfcheck.specs.Derivable.{AreLetters, RuleDerives}
-use Rattle.flatgrammar.specs.Flat.{Flat, Place}
-use Rattle.letterclasses.specs.Stacks.{Accepts, AreAlike, IsFront, IsNext}
-use Rattle.letterclasses.proofs.FrontLemmas.{next_front, nothing_below}
+use Rattle.flatgrammar.specs.Flat.{Flat, Dot}
+use Rattle.letterclasses.specs.Stacks.{Accepts, AreAlike, IsStackClosure, IsNext}
+use Rattle.letterclasses.proofs.StackClosureLemmas.{next_closure, nothing_below}
 use Rattle.letterclasses.proofs.StacksLemmas.{accepted_holds, holds_accepted}
 use Rattle.rulelines.specs.StatePairs.{AcceptsRule, AreClosed, AreSamples, IsStartPair, PairLeads}
 use Rattle.rulelines.specs.StatePairs.{StatePair}
@@ -22,33 +22,33 @@ symbol_at has [] i c all is = cc is
 symbol_at has (b ∷ x) zero c all is = subst (λ v. has v ≡ true) (cc is) all.0
 symbol_at has (b ∷ x) (suc i) c all is = symbol_at has x i c all.1 is
 
-front_on : (flat : Flat) (last : Place → Bool) (x : List ℕ) (j c d : ℕ) → slice_get x j ≡ Some c → AreAlike flat c d
-    → (tops next : List (List Place)) (ended now : Bool) → IsFront flat last x j (Contains tops) ended []
-    → IsNext flat last (Contains tops) d (Contains next) now → IsFront flat last x (j + 1) (Contains next) now []
-front_on flat last x j c d is alike tops next ended now front is_next =
-    next_front flat last x j c d is alike (Contains tops) []
-    (nothing_below flat last x j (Contains tops) ended front) (Contains next) now is_next
+closure_on : (flat : Flat) (last : Dot → Bool) (x : List ℕ) (j c d : ℕ) → slice_get x j ≡ Some c → AreAlike flat c d
+    → (tops next : List (List Dot)) (ended now : Bool) → IsStackClosure flat last x j (Contains tops) ended []
+    → IsNext flat last (Contains tops) d (Contains next) now → IsStackClosure flat last x (j + 1) (Contains next) now []
+closure_on flat last x j c d is alike tops next ended now closure is_next =
+    next_closure flat last x j c d is alike (Contains tops) []
+    (nothing_below flat last x j (Contains tops) ended closure) (Contains next) now is_next
 
-module _ (old : Flat) (old_last : Place → Bool) (new : Flat) (new_last : Place → Bool) (x : List ℕ) where
+module _ (old : Flat) (old_last : Dot → Bool) (new : Flat) (new_last : Dot → Bool) (x : List ℕ) where
   -- a pair holds the fronts of both after j symbols
   pub record ArePairFronts (j : ℕ) (pair : StatePair) : Type 0 where
-    pub old_front : IsFront old old_last x j (Contains pair.old) pair.old_ended []
-    pub new_front : IsFront new new_last x j (Contains pair.new) pair.new_ended []
+    pub old_closure : IsStackClosure old old_last x j (Contains pair.old) pair.old_ended []
+    pub new_closure : IsStackClosure new new_last x j (Contains pair.new) pair.new_ended []
 
   pub start_fronts : (p : StatePair) → IsStartPair old old_last new new_last p → ArePairFronts 0 p
-  start_fronts p starts = record { old_front = starts.old_starts x; new_front = starts.new_starts x }
+  start_fronts p starts = record { old_closure = starts.old_starts x; new_closure = starts.new_starts x }
 
   -- a symbol leads on where a sample does that is in the same sets
   pub next_fronts : (j c d : ℕ) → slice_get x j ≡ Some c → AreAlike old c d → AreAlike new c d → (p q : StatePair)
       → PairLeads old old_last new new_last d p q → ArePairFronts j p → ArePairFronts (j + 1) q
   next_fronts j c d is old_alike new_alike p q l here = record {
-    old_front = front_on old old_last x j c d is old_alike p.old q.old p.old_ended q.old_ended here.old_front
+    old_closure = closure_on old old_last x j c d is old_alike p.old q.old p.old_ended q.old_ended here.old_closure
         l.old_next;
-    new_front = front_on new new_last x j c d is new_alike p.new q.new p.new_ended q.new_ended here.new_front
+    new_closure = closure_on new new_last x j c d is new_alike p.new q.new p.new_ended q.new_ended here.new_closure
         l.new_next;
   }
 
-module _ (has : ℕ → Bool) (old : Flat) (old_last : Place → Bool) (new : Flat) (new_last : Place → Bool)
+module _ (has : ℕ → Bool) (old : Flat) (old_last : Dot → Bool) (new : Flat) (new_last : Dot → Bool)
     (samples : List ℕ) (each : AreSamples old new has samples) (pairs : List StatePair) (first : StatePair)
     (closed : AreClosed old old_last new new_last samples pairs) (is_one : Contains pairs first)
     (starts : IsStartPair old old_last new new_last first) (x : List ℕ)
@@ -84,17 +84,17 @@ module _ (has : ℕ → Bool) (old : Flat) (old_last : Place → Bool) (new : Fl
   pub accepted_too : Accepts old old_last x (length x) → Accepts new new_last x (length x)
   accepted_too a =
       let here = at_each (length x) (omega arith) in
-      here.fronts.new_front.accepts.1
-      (closed.ends here.pair here.among (here.fronts.old_front.accepts.0 a).0, inl refl)
+      here.fronts.new_closure.accepts.1
+      (closed.ends here.pair here.among (here.fronts.old_closure.accepts.0 a).0, inl refl)
 
 -- what the rule derives, stacks accept
-module _ (has : ℕ → Bool) (rules : List Rule) (id : ℕ) (flat : Flat) (last : Place → Bool) (most : ℕ)
+module _ (has : ℕ → Bool) (rules : List Rule) (id : ℕ) (flat : Flat) (last : Dot → Bool) (most : ℕ)
     (reports : AcceptsRule has rules id flat last most) (x : List ℕ) (le : length x ≤ most) (symbols : AreLetters has x)
   where
     pub derived_accepted : RuleDerives has rules id x → Accepts flat last x (length x)
-    derived_accepted d = holds_accepted flat reports.uncounted x last reports.tail_places reports.body reports.whole
+    derived_accepted d = holds_accepted flat reports.uncounted x last reports.tail_positions reports.body reports.whole
         ((reports.derives x le symbols).1 d)
 
     pub accepted_derived : Accepts flat last x (length x) → RuleDerives has rules id x
     accepted_derived a = (reports.derives x le symbols).0
-        (accepted_holds flat reports.uncounted x last reports.tail_places reports.body reports.whole a)
+        (accepted_holds flat reports.uncounted x last reports.tail_positions reports.body reports.whole a)

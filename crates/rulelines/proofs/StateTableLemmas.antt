@@ -8,7 +8,7 @@ use Rattle.std.specs.List.Sorted.{IsStrictlyIncreasing}
 use Rattle.std.specs.Prelude.{Bool, true, slice_get, Some, Contains, IsTrue}
 use Rattle.flatgrammar.specs.NodeSteps.{flat_of}
 use Rattle.flatgrammar.proofs.SliceGetLemmas.{push_cases}
-use Rattle.letterclasses.specs.Stacks.{AreUncounted, IsFront, IsNext, MarksLast}
+use Rattle.letterclasses.specs.Stacks.{AreUncounted, IsStackClosure, IsNext, MarksLast}
 use Rattle.lazydfa.specs.Conts.{last_of}
 use Rattle.lazydfa.specs.RunVerdicts.{IsOne}
 use Rattle.lazydfa.specs.StateSets.{AreMoreStates, grammar_of, IsNextState, IsStartState, last_in}
@@ -58,8 +58,8 @@ module _ (old new : StateSets) (more : AreMoreStates old new) where
   start_kept t s = record {
     state = s.state;
     is = state_kept t s.state s.is;
-    front = λ x. subst (λ v. IsFront (flat_of v) (last_of v) x 0 (Contains s.state.stacks) s.state.ended [])
-        (sym more.same) (s.front x);
+    closure = λ x. subst (λ v. IsStackClosure (flat_of v) (last_of v) x 0 (Contains s.state.stacks) s.state.ended [])
+        (sym more.same) (s.closure x);
   }
 
   pub grammar_kept : AreOfGrammar (grammar_of old) old → AreOfGrammar (grammar_of new) new
@@ -67,7 +67,7 @@ module _ (old new : StateSets) (more : AreMoreStates old new) where
     is = refl;
     one = subst (λ v. IsOne (flat_of v)) (sym more.same) a.one;
     uncounted = subst (λ v. AreUncounted (flat_of v)) (sym more.same) a.uncounted;
-    tail_places = subst (λ v. MarksLast (flat_of v) (last_of v)) (sym more.same) a.tail_places;
+    tail_positions = subst (λ v. MarksLast (flat_of v) (last_of v)) (sym more.same) a.tail_positions;
   }
 
   pub row_kept : (starts : List ℕ) (s : ℕ) (row : List ℕ) → IsRowOf old starts s row → IsRowOf new starts s row

@@ -4,7 +4,7 @@ use Rattle.std.proofs.Common.{◌≡◌, ℕ, List, [], ◌∷◌, ◌++◌, ref
 use Rattle.std.proofs.Common.{inl, inr, ◌⊎◌}
 use Rattle.std.specs.Prelude.{Bool, slice_get, map, Option, Some, None, option_map}
 use Rattle.std.proofs.lemmas.Option.{slice_get-map}
-use Rattle.flatgrammar.specs.Flat.{Flat, Place}
+use Rattle.flatgrammar.specs.Flat.{Flat, Dot}
 use Rattle.flatgrammar.proofs.CallOfLemmas.{get_map}
 use Rattle.rulelines.specs.FoundPairs.{AreFound, AreSearched, FoundPair, HasParent, IsFoundBefore, IsNewDead, IsOldDead}
 use Rattle.rulelines.specs.FoundPairs.{IsWordOf, LeadsToFound, next, start, swapped_found}
@@ -28,7 +28,7 @@ swapped_from found i e is = by (slice_get found i) refl
     )
     by (Some d) at = record { entry = d; is = at; same = cc (get_map swapped_found found i at, is) }
 
-swapped_lead : (old : Flat) (old_last : Place → Bool) (new : Flat) (new_last : Place → Bool) (c : ℕ) (p q : StatePair)
+swapped_lead : (old : Flat) (old_last : Dot → Bool) (new : Flat) (new_last : Dot → Bool) (c : ℕ) (p q : StatePair)
     → PairLeads old old_last new new_last c p q → PairLeads new new_last old old_last c (swapped p) (swapped q)
 swapped_lead old old_last new new_last c p q l = record { old_next = l.new_next; new_next = l.old_next }
 
@@ -53,7 +53,7 @@ module _ (found : List FoundPair) where
       (next {e = g.entry} g.is (omega (arith, earlier, parents))
       (subst (λ v. IsWordOf found v w) (sym parents) (swapped_word_back h)))
 
-module _ (has : ℕ → Bool) (old : Flat) (old_last : Place → Bool) (new : Flat) (new_last : Place → Bool)
+module _ (has : ℕ → Bool) (old : Flat) (old_last : Dot → Bool) (new : Flat) (new_last : Dot → Bool)
     (found : List FoundPair) (found_so : AreFound old old_last new new_last found has) where
   swapped_parent : (i : ℕ) (e : FoundPair) → HasParent old old_last new new_last found has i e
       → HasParent new new_last old old_last (map swapped_found found) has i (swapped_found e)
@@ -82,7 +82,7 @@ module _ (has : ℕ → Bool) (old : Flat) (old_last : Place → Bool) (new : Fl
         (found_so.order i j g.entry h.entry some lt g.is h.is));
   }
 
-module _ (old : Flat) (old_last : Place → Bool) (new : Flat) (new_last : Place → Bool) (samples : List ℕ)
+module _ (old : Flat) (old_last : Dot → Bool) (new : Flat) (new_last : Dot → Bool) (samples : List ℕ)
     (found : List FoundPair) (n : ℕ) (searched : AreSearched old old_last new new_last found IsNewDead samples n) where
   abbrev Found : List FoundPair
   Found = map swapped_found found

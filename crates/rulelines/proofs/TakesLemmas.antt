@@ -4,29 +4,29 @@ use Rattle.std.proofs.Common.{◌≡◌, ◌⊎◌, inl, inr, ℕ, zero, suc, �
 use Rattle.std.proofs.Common.{◌∙◌}
 use Rattle.std.proofs.Common.{ap, subst, arith, drop, append-nil}
 use Rattle.std.specs.Prelude.{Bool, true, slice_get, Some, Contains}
-use Rattle.flatgrammar.specs.Flat.{Flat, Has, Place}
-use Rattle.letterclasses.specs.Stacks.{Accepts, AreAlike, IsFront, IsNext, IsReading, reading, Led, led}
+use Rattle.flatgrammar.specs.Flat.{Flat, Has, Dot}
+use Rattle.letterclasses.specs.Stacks.{Accepts, AreAlike, IsStackClosure, IsNext, IsReading, reading, Led, led}
 use Rattle.letterclasses.specs.Stacks.{LedToEnd}
 use Rattle.letterclasses.specs.Stacks.{Lifted, moves, Moves, Reach, ReadBy, reads}
 use Rattle.lazydfa.specs.StateSets.{StateSet}
 use Rattle.rulelines.specs.Rests.{LeadToEnd, Takes}
 
-module _ (flat : Flat) (last : Place → Bool) where
-  abbrev AreAmong : (List Place → Type 0) → (List Place → Type 0) → Type 0
-  AreAmong f g = (s : List Place) → f s → g s
+module _ (flat : Flat) (last : Dot → Bool) where
+  abbrev AreAmong : (List Dot → Type 0) → (List Dot → Type 0) → Type 0
+  AreAmong f g = (s : List Dot) → f s → g s
 
-  led_among : {f g : List Place → Type 0} → AreAmong f g → AreAmong (Led flat last f) (Led flat last g)
+  led_among : {f g : List Dot → Type 0} → AreAmong f g → AreAmong (Led flat last f) (Led flat last g)
   led_among among s (led h) = led (among s h)
   led_among among s (moves h m) = moves (led_among among _ h) m
 
-  read_among : {f g : List Place → Type 0} (c : ℕ) → AreAmong f g
+  read_among : {f g : List Dot → Type 0} (c : ℕ) → AreAmong f g
       → AreAmong (ReadBy flat last f c) (ReadBy flat last g c)
   read_among c among s (reads h rd lies) = reads (among _ h) rd lies
 
-  ends_among : {f g : List Place → Type 0} → AreAmong f g → LedToEnd flat last f → LedToEnd flat last g
-  ends_among among e = record { place = e.place; led_to = led_among among _ e.led_to; done = e.done }
+  ends_among : {f g : List Dot → Type 0} → AreAmong f g → LedToEnd flat last f → LedToEnd flat last g
+  ends_among among e = record { position = e.position; led_to = led_among among _ e.led_to; done = e.done }
 
-  lead_among : (w : List ℕ) (f g : List Place → Type 0) → AreAmong f g → LeadToEnd flat last f w
+  lead_among : (w : List ℕ) (f g : List Dot → Type 0) → AreAmong f g → LeadToEnd flat last f w
       → LeadToEnd flat last g w
   lead_among [] f g among h = ends_among among h
   lead_among (c ∷ w) f g among h =
@@ -34,7 +34,7 @@ module _ (flat : Flat) (last : Place → Bool) where
       (read_among c (led_among among)) h
 
   -- a letter that is in the same sets does so too
-  read_alike : {f : List Place → Type 0} {c d : ℕ} → AreAlike flat c d
+  read_alike : {f : List Dot → Type 0} {c d : ℕ} → AreAlike flat c d
       → AreAmong (ReadBy flat last f c) (ReadBy flat last f d)
   read_alike alike s (reads {q = q} {r = r} {set = set} h rd lies) = reads h rd ((alike q r set rd).0 lies)
 
@@ -47,7 +47,7 @@ module _ (flat : Flat) (last : Place → Bool) where
       lead_among w (ReadBy flat last (Contains s.stacks) c) (ReadBy flat last (Contains s.stacks) d)
       (read_alike alike) h
 
-  pub next_alike : {c d : ℕ} → AreAlike flat c d → (tops next : List Place → Type 0) (ended : Bool)
+  pub next_alike : {c d : ℕ} → AreAlike flat c d → (tops next : List Dot → Type 0) (ended : Bool)
       → IsNext flat last tops d next ended → IsNext flat last tops c next ended
   next_alike alike tops next ended n = record {
     tops_are = λ top. (
@@ -98,27 +98,27 @@ module _ (flat : Flat) (last : Place → Bool) where
   next_dropped (b ∷ x) (suc j) c w same = let g = next_dropped x j c w same in (g.0, g.1, omega (arith, g.2))
 
   module _ (x : List ℕ) where
-    abbrev AreReached : ℕ → (List Place → Type 0) → Type 0
+    abbrev AreReached : ℕ → (List Dot → Type 0) → Type 0
     AreReached j f = AreAmong f (Reach flat last x j)
 
-    abbrev AreLed : ℕ → (List Place → Type 0) → Type 0
+    abbrev AreLed : ℕ → (List Dot → Type 0) → Type 0
     AreLed j f = AreAmong (Reach flat last x j) (Led flat last f)
 
-    led_reached : (j : ℕ) (f : List Place → Type 0) → AreReached j f → AreReached j (Led flat last f)
+    led_reached : (j : ℕ) (f : List Dot → Type 0) → AreReached j f → AreReached j (Led flat last f)
     led_reached j f among s (led h) = among s h
     led_reached j f among s (moves h m) = Reach.moved (led_reached j f among _ h) m
 
-    read_reached : (j c : ℕ) (f : List Place → Type 0) → slice_get x j ≡ Some c → AreReached j f
+    read_reached : (j c : ℕ) (f : List Dot → Type 0) → slice_get x j ≡ Some c → AreReached j f
         → AreReached (suc j) (ReadBy flat last f c)
     read_reached j c f is among s (reads {r = r} {below = below} h rd lies) =
         let next : j + 1 ≡ suc j = omega arith in
         subst (λ v. Reach flat last x v (r ∷ below)) next (Reach.has_read (among _ h) rd is lies)
 
-    accepts_led : (w : List ℕ) (j : ℕ) (f : List Place → Type 0) → j ≤ length x → drop j x ≡ w → AreReached j f
+    accepts_led : (w : List ℕ) (j : ℕ) (f : List Dot → Type 0) → j ≤ length x → drop j x ≡ w → AreReached j f
         → LeadToEnd flat last f w → Accepts flat last x (length x)
     accepts_led [] j f le same among e = record {
-      place = e.place;
-      reached = subst (λ v. Reach flat last x v (e.place ∷ [])) (all_dropped x j le same)
+      position = e.position;
+      reached = subst (λ v. Reach flat last x v (e.position ∷ [])) (all_dropped x j le same)
           (led_reached j f among _ e.led_to);
       done = e.done;
     }
@@ -127,10 +127,10 @@ module _ (flat : Flat) (last : Place → Bool) where
         accepts_led w (suc j) (ReadBy flat last (Led flat last f) c) g.2 g.1
         (read_reached j c (Led flat last f) g.0 (led_reached j f among)) h
 
-    led_read : (j c : ℕ) (f : List Place → Type 0) → slice_get x j ≡ Some c
-        → ((q : Place) (below : List Place) → IsReading flat (q ∷ below) → Reach flat last x j (q ∷ below)
+    led_read : (j c : ℕ) (f : List Dot → Type 0) → slice_get x j ≡ Some c
+        → ((q : Dot) (below : List Dot) → IsReading flat (q ∷ below) → Reach flat last x j (q ∷ below)
         → f (q ∷ below))
-        → (m : ℕ) → m ≡ suc j → (s : List Place) → Reach flat last x m s → Led flat last (ReadBy flat last f c) s
+        → (m : ℕ) → m ≡ suc j → (s : List Dot) → Reach flat last x m s → Led flat last (ReadBy flat last f c) s
     led_read j c f is among m same s (Reach.begins st) = absurd (omega (arith, same))
     led_read j c f is among m same s (Reach.moved h mv) = moves (led_read j c f is among m same _ h) mv
     led_read j c f is among m same s (Reach.has_read {j = i} {c = d} {q = q} {set = set} {below = below} h rd at lies) =
@@ -140,11 +140,11 @@ module _ (flat : Flat) (last : Place → Bool) where
         led (reads (among q below (reading rd) (subst (λ v. Reach flat last x v (q ∷ below)) here h)) rd
         (subst (λ v. Has set v) same_letter lies))
 
-    led_accepts : (w : List ℕ) (j : ℕ) (f : List Place → Type 0) → j ≤ length x → drop j x ≡ w → AreLed j f
+    led_accepts : (w : List ℕ) (j : ℕ) (f : List Dot → Type 0) → j ≤ length x → drop j x ≡ w → AreLed j f
         → Accepts flat last x (length x) → LeadToEnd flat last f w
     led_accepts [] j f le same among a = record {
-      place = a.place;
-      led_to = among _ (subst (λ v. Reach flat last x v (a.place ∷ [])) (sym (all_dropped x j le same)) a.reached);
+      position = a.position;
+      led_to = among _ (subst (λ v. Reach flat last x v (a.position ∷ [])) (sym (all_dropped x j le same)) a.reached);
       done = a.done;
     }
     led_accepts (c ∷ w) j f le same among a =
@@ -152,23 +152,23 @@ module _ (flat : Flat) (last : Place → Bool) where
         led_accepts w (suc j) (ReadBy flat last (Led flat last f) c) g.2 g.1
         (λ s h. led_read j c (Led flat last f) g.0 (λ q below r r_h. among (q ∷ below) r_h) (suc j) refl s h) a
 
-  no_led_none : (s : List Place) → Led flat last (λ v. [] ≡ v) s → (s ≡ [] → ⊥) → ⊥
+  no_led_none : (s : List Dot) → Led flat last (λ v. [] ≡ v) s → (s ≡ [] → ⊥) → ⊥
   no_led_none s (led same) some = some (sym same)
   no_led_none s (moves h m) some = no_led_none _ h (λ same. from_none m same)
     where
-      from_none : {a b : List Place} → Moves flat last a b → a ≡ [] → ⊥
+      from_none : {a b : List Dot} → Moves flat last a b → a ≡ [] → ⊥
       from_none (Moves.call c st l) same = cc same
       from_none (Moves.tail_call c st l) same = cc same
       from_none (Moves.return d) same = cc same
 
-  module _ (s : StateSet) (front : (x : List ℕ) → IsFront flat last x 0 (Contains s.stacks) s.ended []) where
-    start_reached : (x : List ℕ) (top : List Place) → Contains s.stacks top → Reach flat last x 0 top
-    start_reached x top h = ((front x).reading top ((front x).all_read top h)).1
+  module _ (s : StateSet) (closure : (x : List ℕ) → IsStackClosure flat last x 0 (Contains s.stacks) s.ended []) where
+    start_reached : (x : List ℕ) (top : List Dot) → Contains s.stacks top → Reach flat last x 0 top
+    start_reached x top h = ((closure x).reading top ((closure x).all_read top h)).1
         (inl (record { top = top; is = h; stack_is = sym (append-nil top) }))
 
-    reached_start : (x : List ℕ) (q : Place) (below : List Place) → IsReading flat (q ∷ below)
+    reached_start : (x : List ℕ) (q : Dot) (below : List Dot) → IsReading flat (q ∷ below)
         → Reach flat last x 0 (q ∷ below) → Contains s.stacks (q ∷ below)
-    reached_start x q below r h = by (((front x).reading (q ∷ below) r).0 h)
+    reached_start x q below r h = by (((closure x).reading (q ∷ below) r).0 h)
       where
         by : Lifted (Contains s.stacks) [] (q ∷ below) ⊎ ((s.ended ≡ true) × Led flat last (λ v. [] ≡ v) (q ∷ below))
             → Contains s.stacks (q ∷ below)
@@ -176,13 +176,13 @@ module _ (flat : Flat) (last : Place → Bool) where
         by (inr g) = absurd (no_led_none (q ∷ below) g.1 (λ same. cc same))
 
     pub takes_accepted : (x : List ℕ) → Takes flat last s x → Accepts flat last x (length x)
-    takes_accepted [] h = (front []).accepts.1 (h, inl refl)
+    takes_accepted [] h = (closure []).accepts.1 (h, inl refl)
     takes_accepted (c ∷ w) h =
         accepts_led (c ∷ w) w 1 (ReadBy flat last (Contains s.stacks) c) (omega arith) refl
         (read_reached (c ∷ w) 0 c (Contains s.stacks) refl (start_reached (c ∷ w))) h
 
     pub accepted_takes : (x : List ℕ) → Accepts flat last x (length x) → Takes flat last s x
-    accepted_takes [] a = ((front []).accepts.0 a).0
+    accepted_takes [] a = ((closure []).accepts.0 a).0
     accepted_takes (c ∷ w) a =
         led_accepts (c ∷ w) w 1 (ReadBy flat last (Contains s.stacks) c) (omega arith) refl
         (led_read (c ∷ w) 0 c (Contains s.stacks) refl (reached_start (c ∷ w)) 1 refl) a

@@ -31,7 +31,7 @@ pub record AreOfGrammar (flat : Flat) (sets : StateSets) : Type 0 where
   pub is : grammar_of sets ≡ flat
   pub one : IsOne (grammar_of sets)
   pub uncounted : AreUncounted (grammar_of sets)
-  pub tail_places : MarksLast (grammar_of sets) (last_in sets)
+  pub tail_positions : MarksLast (grammar_of sets) (last_in sets)
 
 -- a search of states of both grammars, whose first pair are the start states
 pub record IsBegun (old new : Flat) (search : PairSearch) : Type 0 where

@@ -1,6 +1,6 @@
 -- Pairs of states in the order in which a breadth-first search finds them.
 use Rattle.std.specs.Prelude.{◌≡◌, ◌⊎◌, ℕ, ◌<◌, ◌≤◌, Bool, true, List, [], ◌∷◌, ◌++◌, slice_get, Some, Contains}
-use Rattle.flatgrammar.specs.Flat.{Flat, Place}
+use Rattle.flatgrammar.specs.Flat.{Flat, Dot}
 use Rattle.rulelines.specs.FirstLines.{sort_key}
 use Rattle.rulelines.specs.StatePairs.{IsStartPair, PairLeads, StatePair, swapped}
 
@@ -35,7 +35,7 @@ abbrev pub EndWithNew : List FoundPair → ℕ → Type 0
 EndWithNew found n = (i : ℕ) (e : FoundPair) → i < n → slice_get found i ≡ Some e → e.pair.old_ended ≡ true
     → e.pair.new_ended ≡ true
 
-module _ (old : Flat) (old_last : Place → Bool) (new : Flat) (new_last : Place → Bool) (found : List FoundPair) where
+module _ (old : Flat) (old_last : Dot → Bool) (new : Flat) (new_last : Dot → Bool) (found : List FoundPair) where
   -- the pair of that index was found from an earlier one, by a symbol of the alphabet
   pub record HasParent (has : ℕ → Bool) (i : ℕ) (e : FoundPair) : Type 0 where
     pub earlier : e.parent < i

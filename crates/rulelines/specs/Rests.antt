@@ -2,14 +2,14 @@
 use Rattle.std.specs.Prelude.{◌≡◌, ℕ, ◌+◌, ◌<◌, ◌≤◌, Bool, true, List, [], ◌∷◌, length, Contains}
 use Rattle.std.specs.Prelude.{Option, None, Some}
 use Rattle.abnfcheck.specs.Derivable.{AreLetters}
-use Rattle.flatgrammar.specs.Flat.{Flat, Place}
+use Rattle.flatgrammar.specs.Flat.{Flat, Dot}
 use Rattle.letterclasses.specs.Stacks.{Led, LedToEnd, ReadBy}
 use Rattle.lazydfa.specs.StateSets.{StateSet}
 use Rattle.rulelines.specs.FirstLines.{ComesFirst, IsShortlexBefore, sort_key}
 
-module _ (flat : Flat) (last : Place → Bool) where
+module _ (flat : Flat) (last : Dot → Bool) where
   -- stacks lead to the end by moves and these symbols
-  abbrev pub LeadToEnd : (List Place → Type 0) → List ℕ → Type 0
+  abbrev pub LeadToEnd : (List Dot → Type 0) → List ℕ → Type 0
   LeadToEnd from [] = LedToEnd flat last from
   LeadToEnd from (c ∷ w) = LeadToEnd (ReadBy flat last (Led flat last from) c) w
 

@@ -2,16 +2,16 @@
 use Rattle.std.specs.Prelude.{◌≡◌, ◌↔◌, ℕ, ◌≤◌, Bool, true, List, [], ◌∷◌, length, slice_get, Some, Contains}
 use Rattle.abnfread.specs.Element.{Rule}
 use Rattle.abnfcheck.specs.Derivable.{AreLetters, RuleDerives}
-use Rattle.flatgrammar.specs.Flat.{Flat, Place, Concat}
+use Rattle.flatgrammar.specs.Flat.{Flat, Dot, Concat}
 use Rattle.flatgrammar.specs.FlatVerdicts.{DerivesLine}
-use Rattle.letterclasses.specs.Stacks.{AreAlike, AreUncounted, IsFront, IsNext, MarksLast}
+use Rattle.letterclasses.specs.Stacks.{AreAlike, AreUncounted, IsStackClosure, IsNext, MarksLast}
 use Rattle.rulelines.specs.FirstLines.{sort_key}
 
 -- a state of each: the stacks whose top reads a symbol, and whether the whole is done
 pub record StatePair : Type 0 where
-  pub old : List (List Place)
+  pub old : List (List Dot)
   pub old_ended : Bool
-  pub new : List (List Place)
+  pub new : List (List Dot)
   pub new_ended : Bool
 
 -- the same two states in the other order
@@ -31,11 +31,11 @@ module _ (old new : Flat) where
   abbrev pub AreSamples : (ℕ → Bool) → List ℕ → Type 0
   AreSamples has samples = (c : ℕ) → has c ≡ true → HasSample samples c
 
-module _ (old : Flat) (old_last : Place → Bool) (new : Flat) (new_last : Place → Bool) where
+module _ (old : Flat) (old_last : Dot → Bool) (new : Flat) (new_last : Dot → Bool) where
   -- the start states of both
   pub record IsStartPair (p : StatePair) : Type 0 where
-    pub old_starts : (x : List ℕ) → IsFront old old_last x 0 (Contains p.old) p.old_ended []
-    pub new_starts : (x : List ℕ) → IsFront new new_last x 0 (Contains p.new) p.new_ended []
+    pub old_starts : (x : List ℕ) → IsStackClosure old old_last x 0 (Contains p.old) p.old_ended []
+    pub new_starts : (x : List ℕ) → IsStackClosure new new_last x 0 (Contains p.new) p.new_ended []
 
   -- a symbol leads from one pair to the other
   pub record PairLeads (c : ℕ) (p q : StatePair) : Type 0 where
@@ -55,10 +55,10 @@ module _ (old : Flat) (old_last : Place → Bool) (new : Flat) (new_last : Place
 
 -- what a flat grammar needs so that its stacks accept exactly the lines, of at most so many symbols, which the rule of
 -- that id derives
-pub record AcceptsRule (has : ℕ → Bool) (rules : List Rule) (id : ℕ) (flat : Flat) (last : Place → Bool) (most : ℕ)
+pub record AcceptsRule (has : ℕ → Bool) (rules : List Rule) (id : ℕ) (flat : Flat) (last : Dot → Bool) (most : ℕ)
     : Type 0 where
   pub body : ℕ
-  pub whole : slice_get flat.nodes flat.whole ≡ Some (Concat (body ∷ []))
-  pub tail_places : MarksLast flat last
+  pub whole : slice_get flat.nodes flat.start ≡ Some (Concat (body ∷ []))
+  pub tail_positions : MarksLast flat last
   pub uncounted : AreUncounted flat
   pub derives : (x : List ℕ) → length x ≤ most → AreLetters has x → DerivesLine flat x ↔ RuleDerives has rules id x

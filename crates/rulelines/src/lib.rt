@@ -14,6 +14,6 @@ pub use alone::Alone;
 pub use comparison::{Comparison, compare};
 pub use laws::{
     any_length, closed_pairs_include, first_line, included_lines, no_line, no_line_up_to,
-    parts_include, swapped_pairs,
+    suffixes_include, swapped_pairs,
 };
 pub use list::{Lines, NextLine};

@@ -25,7 +25,7 @@ pub(crate) struct Pairs {
     /// The pairs.
     pub(crate) items: Vec<SearchedPair>,
     /// Of two states the index of their pair. No contract relies on it.
-    places: HashMap<(usize, usize), usize>,
+    positions: HashMap<(usize, usize), usize>,
 }
 
 /// Returns no pair. It takes no memory.
@@ -34,7 +34,7 @@ pub(crate) fn no_pairs(alloc: Global) -> Pairs
 {
     Pairs {
         items: Vec::new(alloc),
-        places: HashMap::new(alloc),
+        positions: HashMap::new(alloc),
     }
 }
 
@@ -42,7 +42,7 @@ pub(crate) fn no_pairs(alloc: Global) -> Pairs
 fn is_found(pairs: &Pairs, pair: SearchedPair) -> bool
     ensures { IsTrue result → HasPair pairs.now.items.items pair.old pair.new }
 {
-    let Some(index) = pairs.places.get(&(pair.old, pair.new)) else {
+    let Some(index) = pairs.positions.get(&(pair.old, pair.new)) else {
         return false;
     };
     match pairs.items.get(*index) {
@@ -59,7 +59,7 @@ pub(crate) fn add_pair(pairs: &mut Pairs, pair: SearchedPair) -> Result<(), Memo
         return Ok(());
     }
     let index = pairs.items.len();
-    pairs.places.insert((pair.old, pair.new), index)?;
+    pairs.positions.insert((pair.old, pair.new), index)?;
     pairs.items.push(pair)?;
     Ok(())
 }

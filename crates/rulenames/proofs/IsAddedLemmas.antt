@@ -14,8 +14,8 @@ use Rattle.ruletable.specs.Rules as table
 use Rattle.ruletable.specs.declared.table.Defined.{Defined}
 use Rattle.ruletable.specs.declared.table.Defined.TheVariants.{Added, Duplicate}
 use Rattle.ruletable.specs.declared.table.NameCase.{NameCase}
-use Rattle.rulenames.specs.NameUses.{IsAdded, IsPlace}
-use Rattle.rulenames.proofs.IsPlaceLemmas.{place_among, place_last, place_of, position-none}
+use Rattle.rulenames.specs.NameUses.{IsAdded, IsPosition}
+use Rattle.rulenames.proofs.IsPositionLemmas.{position_among, position_last, position_of, position-none}
 
 -- where a table finds a name
 pub found_in : {T : Type 0} (names : Rules T) (name : List ℕ)
@@ -32,20 +32,20 @@ added_by old new rule id d =
     record {
       case = ap (λ t. t.names) d.2;
       all = all ∙ ap (λ b. names_of old ++ cond b [] (rule.name ∷ [])) (sym none);
-      at = subst (λ l. IsPlace old.names rule.name l id) (sym all)
-          (subst (λ v. IsPlace old.names rule.name (names_of old ++ rule.name ∷ []) v)
-          (length-map old.rules (λ r. r.name) ∙ sym d.1) (place_last old.names rule.name (names_of old) none));
+      at = subst (λ l. IsPosition old.names rule.name l id) (sym all)
+          (subst (λ v. IsPosition old.names rule.name (names_of old ++ rule.name ∷ []) v)
+          (length-map old.rules (λ r. r.name) ∙ sym d.1) (position_last old.names rule.name (names_of old) none));
     }
 
 pub kept_by : (old new : Rules (Unit {0})) (name : List ℕ) (id : ℕ) → find_in old name ≡ Some id → new ≡ old
     → IsAdded old new name id
 kept_by old new name id found same =
-    let p = place_of old.names name (names_of old) id (sym (found_in old name) ∙ found) in
+    let p = position_of old.names name (names_of old) id (sym (found_in old name) ∙ found) in
     record {
       case = ap (λ t. t.names) same;
       all = ap names_of same ∙ sym (append-nil (names_of old)) ∙ ap (λ b. names_of old ++ cond b [] (name ∷ []))
-          (sym (place_among old.names p));
-      at = subst (λ t. IsPlace old.names name (names_of t) id) (sym same) p;
+          (sym (position_among old.names p));
+      at = subst (λ t. IsPosition old.names name (names_of t) id) (sym same) p;
     }
 
 -- the rule of a name
@@ -58,9 +58,9 @@ rule_named (rule ∷ rules) (suc id) name h = rule_named rules id name h
 
 module _ {T : Type 0} (t : Rules T) (unique : HasUniqueNames t) where
   -- each name of a table is found where it stands
-  pub own_place : (id : ℕ) (name : List ℕ) → slice_get (names_of t) id ≡ Some name
+  pub own_position : (id : ℕ) (name : List ℕ) → slice_get (names_of t) id ≡ Some name
       → position (same_name t.names name) (names_of t) ≡ Some id
-  own_place id name at =
+  own_position id name at =
       let r = rule_named t.rules id name at in
       sym (found_in t name) ∙ subst (λ n. find_in t n ≡ Some id) r.2 (unique.own id r.0 r.1)
 
@@ -80,7 +80,7 @@ module _ {T : Type 0} (t : Rules T) (unique : HasUniqueNames t) where
       let here = rw (compares, so_far) at (sym (found_in names rule.name) ∙ d.0) in
       let p = position-Some (same_name case rule.name) (take i (names_of t)) id [] here in
       let low : id < i = omega (arith, p.0, length-take i (names_of t)) in
-      let own = rw same at (own_place i rule.name at) in
+      let own = rw same at (own_position i rule.name at) in
       let q = position-Some (same_name case rule.name) (names_of t) i [] own in
       let yes = ap (same_name case rule.name) (sym (get_or-take i (names_of t) id [] low)) ∙ p.1 in
       absurd (both_ways _ (q.2 id low) yes)

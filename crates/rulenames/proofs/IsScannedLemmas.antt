@@ -8,8 +8,8 @@ use Rattle.std.proofs.lemmas.Bool.{cases_Bool}
 use Rattle.ruletable.specs.Rules.{Rules, names_of, same_name}
 use Rattle.ruletable.specs.declared.table.NameCase.{NameCase}
 use Rattle.rulenames.specs.FirstUses.{is_among, news}
-use Rattle.rulenames.specs.NameUses.{IsPlace, IsAdded, AreIdsOf, no_uses, one_use, IsScanned}
-use Rattle.rulenames.proofs.IsPlaceLemmas.{place_append, place_of, same_place}
+use Rattle.rulenames.specs.NameUses.{IsPosition, IsAdded, AreIdsOf, no_uses, one_use, IsScanned}
+use Rattle.rulenames.proofs.IsPositionLemmas.{position_append, position_of, same_position}
 
 -- the uses in one body more
 used_suc : {X : Type 0} (f : X → List (List ℕ)) (xs : List X) (i : ℕ) (used : List (List ℕ))
@@ -39,10 +39,10 @@ module _ (case : NameCase) where
   pub ids_more : {names uses : List (List ℕ)} {ids : List ℕ} (more : List (List ℕ)) → AreIdsOf case names uses ids
       → AreIdsOf case (names ++ more) uses ids
   ids_more more no_uses = no_uses
-  ids_more more (one_use p rest) = one_use (place_append case more p) (ids_more more rest)
+  ids_more more (one_use p rest) = one_use (position_append case more p) (ids_more more rest)
 
   ids_push : {names uses : List (List ℕ)} {ids : List ℕ} {used : List ℕ} {id : ℕ} → AreIdsOf case names uses ids
-      → IsPlace case used names id → AreIdsOf case names (uses ++ used ∷ []) (ids ++ id ∷ [])
+      → IsPosition case used names id → AreIdsOf case names (uses ++ used ∷ []) (ids ++ id ∷ [])
   ids_push no_uses p = one_use p no_uses
   ids_push (one_use q rest) p = one_use q (ids_push rest p)
 
@@ -72,17 +72,17 @@ module _ (case : NameCase) where
       ∙ ap (λ l. l ++ news case (known ++ news case known seen) more) (sym is)
 
   -- the id of a known name is among those of the uses exactly where the name is
-  ids_among : {names uses : List (List ℕ)} {ids : List ℕ} (name : List ℕ) (id : ℕ) → IsPlace case name names id
+  ids_among : {names uses : List (List ℕ)} {ids : List ℕ} (name : List ℕ) (id : ℕ) → IsPosition case name names id
       → AreIdsOf case names uses ids →
       list_any (λ other. other == id) ids ≡ is_among case uses name
   ids_among name id at no_uses = refl
   ids_among name id at (one_use {used = used} {uses = uses} {id = first} {ids = ids} p rest) =
-      ap (λ b. b || list_any (λ other. other == id) ids) (same_place case used name p at)
+      ap (λ b. b || list_any (λ other. other == id) ids) (same_position case used name p at)
       ∙ ap (λ b. same_name case name used || b) (ids_among name id at rest)
 
   pub known_among : (known seen uses : List (List ℕ)) (names : Rules (Unit {0})) (row : List ℕ) (name : List ℕ) (id : ℕ)
       → IsScanned case known seen uses names row →
       position (same_name case name) known ≡ Some id → list_any (λ other. other == id) row ≡ is_among case uses name
   known_among known seen uses names row name id s own =
-      ids_among name id (subst (λ l. IsPlace case name l id) (sym s.all)
-      (place_append case (news case known seen) (place_of case name known id own))) s.ids
+      ids_among name id (subst (λ l. IsPosition case name l id) (sym s.all)
+      (position_append case (news case known seen) (position_of case name known id own))) s.ids

@@ -1,5 +1,5 @@
 pub mod AreMarksLemmas
 pub mod ChosenLemmas
 pub mod IsAddedLemmas
-pub mod IsPlaceLemmas
+pub mod IsPositionLemmas
 pub mod IsScannedLemmas

@@ -7,7 +7,7 @@ ghost use Rattle.rulenames.specs.NameUses.{IsAdded, IsScanned};
 use ruletable::{Defined, Memory, NameCase, RuleTable, Span};
 use std::alloc::Global;
 
-// A name's place in the text is of no use here.
+// A name's position in the text is of no use here.
 const NOWHERE: Span = Span { start: 0, end: 0 };
 
 /// Returns the names of a table's rules, as a table of names that compare alike.

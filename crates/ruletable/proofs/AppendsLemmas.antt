@@ -45,7 +45,7 @@ pub Appends-more : (a b c : Option (List ℕ)) (at n : ℕ) (bytes : List ℕ) �
 Appends-more a b c at n bytes f s = rw (take-add at n bytes)
     (Appends-join a b c (take at bytes) (take n (drop at bytes)) f s)
 
--- beginnings
+-- prefixes
 pub IsPrefixOf-take : (n : ℕ) (xs : List ℕ) → IsPrefixOf (take n xs) xs
 IsPrefixOf-take n xs = (drop n xs, sym (take-append-drop n xs))
 
@@ -65,7 +65,7 @@ IsPrefixOf-after front part whole h = (h.0, ap (λ w. front ++ w) h.1 ∙ sym (a
 pub IsPrefixOf-trans : (a b c : List ℕ) → IsPrefixOf a b → IsPrefixOf b c → IsPrefixOf a c
 IsPrefixOf-trans a b c f s = (f.0 ++ s.0, s.1 ∙ ap (λ w. w ++ s.0) f.1 ∙ append_assoc a f.0 s.0)
 
--- proper beginnings
+-- proper prefixes
 pub IsProperPrefix-take : (n : ℕ) (xs : List ℕ) → n < length xs → IsProperPrefix (take n xs) xs
 IsProperPrefix-take n xs h = (IsPrefixOf-take n xs, simp length-take (omega arith))
 

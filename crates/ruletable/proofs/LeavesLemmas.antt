@@ -11,7 +11,7 @@ use Rattle.ruletable.specs.Rules.{Rule}
 use Rattle.ruletable.specs.Writing.{AppendsPart, Writes}
 use Rattle.ruletable.proofs.AppendsLemmas.{Appends-join, Appends-same, AppendsPart-join, AppendsPart-first}
 
--- A beginning of the whole text has been taken, and what is left goes on from there.
+-- A prefix of the whole text has been taken, and what is left goes on from there.
 pub record Leaves (a b : Option (List ℕ)) (whole left : List ℕ) : Type 0 where
   pub part : List ℕ
   pub cut : whole ≡ part ++ left
@@ -57,12 +57,12 @@ from-item xs i x same h =
     let e : drop i xs ≡ get_or xs i x ∷ drop (i + 1) xs = rw (add-one, drop-cons xs i x) refl in
     e ∙ ap (λ y. y ∷ drop (i + 1) xs) (sym same)
 
--- what stands behind the first item
+-- what stands after the first item
 pub later-left : (i : ℕ) (b : Bool) (x y : List ℕ) → ((i + 1) == 0) ≡ b → y ≡ cond b x y
 later-left i true x y h = absurd (let e = eqb-true (i + 1) 0 h in omega arith)
 later-left i false x y h = refl
 
--- an item, with a mark before it unless it is the first, and what is left behind it
+-- an item, with a mark before it unless it is the first, and what is left after it
 pub marked-left : (i : ℕ) (mark item first later : List ℕ) → cond (i == 0) (item ++ later) (mark ++ (item ++ later))
     ≡ cond (i == 0) [] mark ++ (item ++ cond ((i + 1) == 0) first later)
 marked-left i mark item first later =

@@ -6,7 +6,7 @@ use Rattle.std.proofs.Math.Bool.{or_assoc}
 use Rattle.std.proofs.lemmas.Bool.{cases_Bool, both_ways}
 use Rattle.std.proofs.lemmas.Bool.Decides.{eqb_tells, nat_tests}
 use Rattle.ruletable.specs.Runs.{push, push_if, runs_from, runs_after, runs_of, test_of, in_runs, AreApart, AreRuns}
-use Rattle.ruletable.specs.Runs.{IsFirst, place_of}
+use Rattle.ruletable.specs.Runs.{IsFirst, position_of}
 
 -- ranges that stand apart from n on do so from a lesser number on
 apart-less : (m n : ℕ) (runs : List (ℕ × ℕ)) → m ≤ n → AreApart n runs → AreApart m runs
@@ -71,7 +71,7 @@ in_runs-from f (suc k) n b = elim (cases_Bool (f n)) [
   | inr e ↦ rw e (in_runs-from f k (n + 1) b ∙ passes-skip k n b (f b) (λ is. ap f is ∙ e))
 ]
 
--- the first run begins at n or behind it, or there is none
+-- the first run begins at n or after it, or there is none
 push-apart : (n : ℕ) (runs : List (ℕ × ℕ)) → AreApart (n + 2) runs → push n runs ≡ (n, n) ∷ runs
 push-apart n [] h = refl
 push-apart n (run ∷ runs) h = elim (eqb_tells (n + 1) run.0) [
@@ -126,7 +126,7 @@ stop-at : (f : ℕ → Bool) (k n : ℕ) → (0 < k → f n ≡ false) → IsSto
 stop-at f zero n h = tt
 stop-at f (suc k) n h = h (omega arith)
 
--- what is left from a place on: nothing, or the first run and what is left behind it
+-- what is left from a position on: nothing, or the first run and what is left after it
 pub after-none : (f : ℕ → Bool) (n : ℕ) → n ≤ 256 → ((b : ℕ) → n ≤ b → b < 256 → f b ≡ false) → runs_after f n ≡ []
 unfolding runs_after
 after-none f n le h =
@@ -147,8 +147,8 @@ after-one f n a z m low out high within e le stop =
 
 -- the step of an iterator: the first number that passes, and then the first that does not
 pub after-step : (f : ℕ → Bool) (n a z : ℕ) (gap : Option ℕ) → IsFirst f n true (Some a) → IsFirst f a false gap
-    → z ≡ place_of gap - 1 →
-    runs_after f n ≡ (a, z) ∷ runs_after f (place_of gap)
+    → z ≡ position_of gap - 1 →
+    runs_after f n ≡ (a, z) ∷ runs_after f (position_of gap)
 after-step f n a z None (low, byte, on, out) within end =
     after-one f n a z 256 low out (omega arith) (λ b l h. within b l (omega arith)) (omega arith) (omega arith)
     (λ less. absurd (omega arith))

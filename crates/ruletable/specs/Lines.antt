@@ -8,8 +8,8 @@ abbrev pub begins_with_lf : List ℕ → Bool
 begins_with_lf [] = false
 begins_with_lf (b ∷ bytes) = b == code "\n"
 
--- Whether a line end ends with byte b, where `after` stands behind it: an LF, or under `Any` also a CR, which belongs
--- to an LF right behind it.
+-- Whether a line end ends with byte b, where `after` follows it: an LF, or under `Any` also a CR, which belongs
+-- to an LF right after it.
 abbrev pub ends_line : LineRule → ℕ → List ℕ → Bool
 ends_line Lf b after = b == code "\n"
 ends_line Any b after = (b == code "\n") || ((b == code "\r") && not (begins_with_lf after))

@@ -46,9 +46,9 @@ pub record AreRuns (set : List Bool) (runs : List (ℕ × ℕ)) : Type 0 where
   pub bytes : (b : ℕ) → 256 ≤ b → in_runs runs b ≡ false
 
 -- the number at which an iterator over the runs goes on: a byte, or 256 where none is left
-abbrev pub place_of : Option ℕ → ℕ
-place_of None = 256
-place_of (Some b) = b
+abbrev pub position_of : Option ℕ → ℕ
+position_of None = 256
+position_of (Some b) = b
 
 -- the first of the bytes from n on that pass, or fail where `wanted` is false
 abbrev pub IsFirst : (ℕ → Bool) → ℕ → Bool → Option ℕ → Type 0

@@ -36,8 +36,8 @@ impl ByteSet {
     pub fn has(&self, b: u8) -> bool
         ensures { result ≡ get_or self.now b false }
     {
-        let place = usize::from(b);
-        (self.words[place / 64] >> (place % 64)) & 1 == 1
+        let position = usize::from(b);
+        (self.words[position / 64] >> (position % 64)) & 1 == 1
     }
 
     // The first byte from `from` on that is a member, or with `member` false, that is none.
@@ -73,8 +73,8 @@ impl ByteSet {
         ensures count { length self.new ≡ length self.old }
         ensures members { (k : ℕ) → get_or self.new k false ≡ (get_or self.old k false || (k == b)) }
     {
-        let place = usize::from(b);
-        self.words[place / 64] |= 1 << (place % 64);
+        let position = usize::from(b);
+        self.words[position / 64] |= 1 << (position % 64);
     }
 
     /// Makes each byte from `first` to `last` a member. Where `first` is greater than `last`, the set stays as it is.

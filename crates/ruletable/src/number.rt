@@ -5,7 +5,7 @@ ghost use Rattle.ruletable.specs.Writing.{Writes, Flags};
 use crate::sink::{Sink, WriteFault, write_whole};
 use itoa::Buffer;
 
-/// Writes the number in decimal digits, without leading zeros. `WriteFault` where the writer fails; then a beginning is
+/// Writes the number in decimal digits, without leading zeros. `WriteFault` where the writer fails; then a prefix is
 /// written.
 pub fn write_number<W: Sink>(n: usize, w: &mut W) -> Result<(), WriteFault>
     requires { W.failed w.old ≡ false }

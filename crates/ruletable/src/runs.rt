@@ -21,9 +21,9 @@ impl<'a> Model for Runs<'a> {
 
     ghost Value = { List (ℕ × ℕ) };
 
-    ghost use Rattle.ruletable.specs.Runs.{runs_after, test_of, place_of};
+    ghost use Rattle.ruletable.specs.Runs.{runs_after, test_of, position_of};
 
-    ghost view = { λ r. runs_after (test_of r.set.now) (place_of r.next) };
+    ghost view = { λ r. runs_after (test_of r.set.now) (position_of r.next) };
 }
 
 impl<'a> Runs<'a> {

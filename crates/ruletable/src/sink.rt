@@ -99,7 +99,7 @@ impl<T: io::Write> Sink for SinkOf<T> {
     }
 }
 
-/// Writes all of `bytes`, in as many calls as it takes. `WriteFault` where the writer fails; then a beginning is
+/// Writes all of `bytes`, in as many calls as it takes. `WriteFault` where the writer fails; then a prefix is
 /// written, and not all.
 pub fn write_whole<W: Sink>(w: &mut W, bytes: &[u8]) -> Result<(), WriteFault>
     requires { W.failed w.old ≡ false }
@@ -118,7 +118,7 @@ pub fn write_whole<W: Sink>(w: &mut W, bytes: &[u8]) -> Result<(), WriteFault>
 
 ghost use Rattle.std.specs.List.{flat_map};
 
-/// Writes the pieces, one after another. `WriteFault` where the writer fails; then a beginning is written, and not
+/// Writes the pieces, one after another. `WriteFault` where the writer fails; then a prefix is written, and not
 /// all.
 pub fn write_pieces<W: Sink>(w: &mut W, pieces: &[&[u8]]) -> Result<(), WriteFault>
     requires { W.failed w.old ≡ false }

@@ -12,14 +12,14 @@ pub(crate) fn flat(alloc: Global, text: &[u8], limit: usize) -> Option<Flat> {
     lower(alloc, &grammar, limit).ok()
 }
 
-// Adds what a node is, if it is a name or a repetition's turns.
+// Adds what a node is, if it is a name or a repetition's iterations.
 fn add_node(flat: &Flat, n: usize, out: &mut Text) {
     if n >= flat.nodes() {
         return out.add(b"none");
     }
     match flat.node(n) {
         Node::Name(id) => add_number(b"name ", *id, out),
-        Node::Turns {
+        Node::Iterations {
             most: None,
             operand,
         } => add_number(b"turns of ", *operand, out),
@@ -37,7 +37,7 @@ fn add_number(text: &[u8], number: usize, out: &mut Text) {
 /// is, its root, and whether it is nullable.
 pub(crate) fn ends_of(alloc: Global, fields: &Fields, out: &mut Text) -> Option<()> {
     let flat = flat(alloc, fields.text(0), 7)?;
-    out.add_answer(flat.nodes() > 4 && flat.whole() == flat.nodes() - 1);
+    out.add_answer(flat.nodes() > 4 && flat.start() == flat.nodes() - 1);
     for at in 1..fields.len() {
         let n = fields.number(at);
         out.add(b";");

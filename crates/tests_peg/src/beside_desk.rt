@@ -25,22 +25,22 @@ fn is_key_alike(
     machines: &mut Machines,
     peg: &SoundPeg,
     node: usize,
-    place: usize,
+    position: usize,
 ) -> Result<bool, Memory> {
     if !peg.is_key_node(node) {
         return Ok(true);
     }
-    let found = machines.packrat.found(MatchTask::Pair { node, place })?;
-    Ok(found == machines.desk.found(node, place))
+    let found = machines.packrat.found(MatchTask::Eval { node, position })?;
+    Ok(found == machines.desk.found(node, position))
 }
 
 // Whether each node that is a key has at each position just the cell that the plain machine has, and as many cells were
 // begun as that machine has.
 fn are_keys_alike(machines: &mut Machines, peg: &SoundPeg, window: &[u8]) -> Result<bool, Memory> {
-    let places = window.len().saturating_add(1);
+    let positions = window.len().saturating_add(1);
     let mut so = machines.packrat.begun() == machines.desk.cells() as u128;
-    for at in 0..peg.nodes().saturating_mul(places) {
-        so &= is_key_alike(machines, peg, at / places, at % places)?;
+    for at in 0..peg.nodes().saturating_mul(positions) {
+        so &= is_key_alike(machines, peg, at / positions, at % positions)?;
     }
     Ok(so)
 }

@@ -29,7 +29,7 @@ fn add_visits(peg: &SoundPeg, visits: &[Visit], out: &mut Text) {
         out.add(b" ");
         out.add(leaf(peg, visit.node));
         out.add(b"@");
-        out.add_number(visit.place as u128);
+        out.add_number(visit.position as u128);
     }
 }
 
@@ -41,7 +41,7 @@ pub(crate) fn farthest_of(alloc: Global, fields: &Fields, out: &mut Text) -> Opt
     match search.farthest {
         None => out.add(b"none"),
         Some(far) => {
-            out.add_number(far.place as u128);
+            out.add_number(far.position as u128);
             out.add(b":");
             add_visits(&peg, &far.expected, out);
         }
@@ -59,8 +59,7 @@ fn position(fields: &Fields, at: usize) -> Option<u128> {
 }
 
 /// `reported_unit POSITION | POSITION`: which of two units is reported, by the farthest failing bytes of the unit
-/// before
-/// and of the last one.
+/// before and of the last one.
 pub(crate) fn reported_unit_of(fields: &Fields, out: &mut Text) {
     match reported_unit(position(fields, 0), position(fields, 1)) {
         LastUnit::Before => out.add(b"before"),

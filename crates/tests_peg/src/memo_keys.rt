@@ -36,8 +36,8 @@ fn add_found(log: &mut KeyLog, task: MatchTask, out: &mut Text) -> Option<()>
 /// `key NODE | POSITION | OUTCOME`: what is found for a key before it is stored; whether it is stored, with how many
 /// keys there are then; and what is found then, and in the next unit.
 pub(crate) fn key_of(alloc: Global, fields: &Fields, out: &mut Text) -> Option<()> {
-    let (node, place) = (fields.number(0), fields.number(1));
-    let task = MatchTask::Pair { node, place };
+    let (node, position) = (fields.number(0), fields.number(1));
+    let task = MatchTask::Eval { node, position };
     let found = outcome_of(fields, 2);
     let mut log = KeyLog::new(alloc);
     log.begin_unit(2).ok()?;
@@ -63,7 +63,13 @@ fn log_of_runs(alloc: Global) -> Result<KeyLog, Memory> {
         found: Found::Failed,
         events: 0,
     };
-    log.put(MatchTask::Pair { node: 1, place: 20 }, failed)?;
+    log.put(
+        MatchTask::Eval {
+            node: 1,
+            position: 20,
+        },
+        failed,
+    )?;
     Ok(log)
 }
 
@@ -74,8 +80,8 @@ pub(crate) fn run_of_keys(alloc: Global, fields: &Fields, out: &mut Text) -> Opt
     out.add_number(log.len() as u128);
     out.add(b";");
     for at in 0..fields.len() {
-        let place = fields.number(at);
-        add_found(&mut log, MatchTask::Pair { node: 1, place }, out)?;
+        let position = fields.number(at);
+        add_found(&mut log, MatchTask::Eval { node: 1, position }, out)?;
     }
     Some(())
 }

@@ -56,7 +56,7 @@ pub slides-len : (before items : List ℕ) (n start : ℕ) → length before ≡
     → length (before ++ take n items) ≡ start + n
 slides-len before items n start e h = simp (length-append, length-take) (omega arith)
 
--- what is held at a place, and what an input has from there on
+-- what is held at a position, and what an input has from there on
 module _ {start : ℕ} (before items : List ℕ) {flow : Flow} {input : Input} (here : length before ≡ start)
     (agrees : Agrees (before ++ items) flow input) where
   bytes_are : input.bytes ≡ before ++ (items ++ agrees.more)

@@ -18,7 +18,7 @@ use Rattle.toolrun.specs.RunEnd.{ended_status, ended_text, stop_of}
 use Rattle.toolrun.specs.Finish.{Concludes, Finishes}
 use Rattle.toolrun.specs.Plan.{Follows, IsPlan, IsPlanned, IsReportedAnd, after_notes, does_of, in_reply, met_before}
 use Rattle.toolrun.specs.Plan.{stopped, reported_after}
-use Rattle.toolrun.specs.Right.{IsRight, Comes}
+use Rattle.toolrun.specs.Right.{IsRight, RunIsRight}
 use Rattle.toolrun.specs.Stopped.{EndedAs, Fulfils}
 use Rattle.toolrun.specs.Stream.{Stream}
 use Rattle.toolrun.proofs.DeliversLemmas.{begins_nothing, reported-after}
@@ -159,7 +159,7 @@ module _ (States : Input → List ℕ → Reply → Type 0) (notes : List ℕ) (
       × EndedAs (Does (input_from given taken read_failed)) taken end wrote) →
       Appends e0 e1 notes → Flags false out_was end → Keeps s1 s2 → (out_was ≡ true → out_failed ≡ true) →
       ((reported : List ℕ) × Appends e1 e2 reported × Concludes end out_failed err_failed reported code) →
-      Comes States (record { old = old; new = new; was = false; failed = read_failed })
+      RunIsRight States (record { old = old; new = new; was = false; failed = read_failed })
       (record { old = s0; new = s2; was = false; failed = out_failed })
       (record { old = e0; new = e2; was = false; failed = err_failed }) code
   run_of None new s0 s1 s2 e0 e1 e2 read_failed out_was out_failed err_failed end code w front flag kept stays f = tt
@@ -179,7 +179,7 @@ module _ (States : Input → List ℕ → Reply → Type 0) (notes : List ℕ) (
       Fulfils Does reader mid end → mid.was ≡ false → mid.old ≡ out.old → Appends err.old e notes
       → Keeps mid.new out.new → (mid.failed ≡ true → out.failed ≡ true) →
       ((reported : List ℕ) × Appends e err.new reported × Concludes end out.failed err.failed reported code)
-      → Comes States reader out err code
+      → RunIsRight States reader out err code
   run_is_right reader mid out err e end code p fresh same front kept stays f =
       run_of reader.old reader.new out.old mid.new out.new err.old e err.new reader.failed mid.failed out.failed
       err.failed end code
@@ -293,7 +293,7 @@ module _ (States : Input → List ℕ → Reply → Type 0) (first : List ℕ) w
         err_failed = err_failed;
         status = code;
       })) →
-      Comes States (record { old = old; new = old; was = false; failed = read_failed })
+      RunIsRight States (record { old = old; new = old; was = false; failed = read_failed })
       (record { old = s0; new = s2; was = false; failed = out_failed })
       (record { old = e0; new = e2; was = false; failed = err_failed }) code
   cut_of None s0 s2 e0 e1 e2 read_failed out_failed err_failed code part out err right = tt
@@ -317,7 +317,7 @@ module _ (States : Input → List ℕ → Reply → Type 0) (first : List ℕ) w
         err = part;
         err_failed = err.failed;
         status = code;
-      })) → Comes States reader out err code
+      })) → RunIsRight States reader out err code
   cut_right reader out err e code same part kept stays right =
       rw same (cut_of reader.old out.old out.new err.old e err.new reader.failed out.failed err.failed code part kept
       stays right)
@@ -326,7 +326,7 @@ module _ (States : Input → List ℕ → Reply → Type 0) (first : List ℕ) w
   pub cut_short : ((input : Input) → (reply : Reply) × States input first reply) → (reader out err : Stream)
       (e : Option (List ℕ)) (code : ℕ) → reader.new ≡ reader.old →
       AppendsPart err.old e first → Keeps out.old out.new → Keeps e err.new → err.failed ≡ true → code ≡ 4
-      → Comes States reader out err code
+      → RunIsRight States reader out err code
   cut_short some reader out err e code same part kept stays failed is =
       cut_right reader out err e code same part kept stays
       (λ given text begun. left_right States first code given text reader.failed out.failed err.failed begun failed
@@ -359,7 +359,7 @@ module _ (States : Input → List ℕ → Reply → Type 0) (first : List ℕ) w
     pub plan_cut : (task : Result T Stop) → IsPlanned States first Does task → (reader out err : Stream)
         (e : Option (List ℕ)) (code : ℕ) → reader.new ≡ reader.old →
         AppendsPart err.old e first → Keeps out.old out.new → Keeps e err.new → err.failed ≡ true
-        → code ≡ max (code_of (met_before task)) 4 → Comes States reader out err code
+        → code ≡ max (code_of (met_before task)) 4 → RunIsRight States reader out err code
     plan_cut (Ok task) plan reader out err e code same part kept stays failed is =
         cut_short (notes_some plan) reader out err e code same part kept stays failed is
     plan_cut (Err stop) plan reader out err e code same part kept stays failed is =
@@ -382,7 +382,8 @@ module _ (States : Input → List ℕ → Reply → Type 0) (first : List ℕ) w
 module _ (reported : List ℕ) (stop : Stop) (r0 : Option (List ℕ)) (r_was r_failed : Bool) (out err : Stream)
     (e : Option (List ℕ)) (code : ℕ) (kept : Keeps out.old out.new) where
   abbrev Stops : Type 0
-  Stops = Comes (IsReportedAnd reported stop) (record { old = r0; new = r0; was = r_was; failed = r_failed }) out err
+  Stops = RunIsRight (IsReportedAnd reported stop)
+      (record { old = r0; new = r0; was = r_was; failed = r_failed }) out err
       code
 
   pub reported_stops : Appends err.old e reported
@@ -413,13 +414,14 @@ module _ (S T : Input → List ℕ → Reply → Type 0)
   }
 
   comes_from : (old new : Option (List ℕ)) (was failed : Bool) (out err : Stream) (code : ℕ) →
-      Comes S (record { old = old; new = new; was = was; failed = failed }) out err code →
-      Comes T (record { old = old; new = new; was = was; failed = failed }) out err code
+      RunIsRight S (record { old = old; new = new; was = was; failed = failed }) out err code →
+      RunIsRight T (record { old = old; new = new; was = was; failed = failed }) out err code
   comes_from None new was failed out err code is = tt
   comes_from (Some given) new was failed out err code (taken, wrote, reported, gives, writes, reports, right) =
       (taken, wrote, reported, gives, writes, reports, right_as given _ right)
 
-  pub comes_as : (reader out err : Stream) (code : ℕ) → Comes S reader out err code → Comes T reader out err code
+  pub comes_as : (reader out err : Stream) (code : ℕ) → RunIsRight S reader out err code
+      → RunIsRight T reader out err code
   comes_as reader out err code is = comes_from reader.old reader.new reader.was reader.failed out err code is
 
 -- whether a write failed

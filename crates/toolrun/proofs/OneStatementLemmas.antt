@@ -21,8 +21,7 @@ one-explained settings Why one a b g h = if-explained settings.explain Why one a
 -- spells.
 -- Of definitions, AreNotes and AreAgain say what is noted, IsRefused and IsSound which notes reject them and which do
 -- not, Runs what a run of them states, and printed what is written of them. IsReported says what is reported of notes,
--- IsHinted
--- what is with hints after them.
+-- IsHinted what is with hints after them.
 module _ {Definitions : Type 0} (IsFault : ReadFault → Type 0) (Explains : ReadFault → List ℕ → Type 0)
     (Reads : Definitions → Type 0)
     (AreNotes IsRefused IsSound AreAgain : Definitions → List Said → Type 0)

@@ -59,8 +59,7 @@ module _ (Does : Input → Reply → Type 0) (ending : Result Ending WriteFault)
 
 -- A run in steps: what is written before each point, how it ends there, what is taken by then, and that it goes on from
 -- each. Its end may be explained: Reports says what is reported of rejected lines on the way, Why what explains how it
--- ends,
--- and MayLack where an allocation may fail in that.
+-- ends, and MayLack where an allocation may fail in that.
 module _ {Point : Type 0} (Before : Input → Point → List ℕ → Type 0) (Ends : Input → Point → List ℕ → Stop → Type 0)
     (taken_at : Input → Point → ℕ)
     (goes_on : (input : Input) (point : Point) (text : List ℕ) → Before input point text →

@@ -17,8 +17,8 @@ pub record IsRight (States : Input → List ℕ → Reply → Type 0) (given : L
   pub exact : run.out_failed ≡ false → run.err_failed ≡ false → run.status ≢ 5 → length run.taken ≡ stated.taken
 
 -- where the reader states its bytes, the run was right
-abbrev pub Comes : (Input → List ℕ → Reply → Type 0) → Stream → Stream → Stream → ℕ → Type 0
-Comes States reader out err code =
+abbrev pub RunIsRight : (Input → List ℕ → Reply → Type 0) → Stream → Stream → Stream → ℕ → Type 0
+RunIsRight States reader out err code =
     IfSome reader.old (λ given. (taken wrote reported : List ℕ) × Consumes reader.old reader.new taken
     × Appends out.old out.new wrote × Appends err.old err.new reported ×
     IsRight States given (record {

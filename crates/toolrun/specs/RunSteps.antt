@@ -37,8 +37,7 @@ module _ {Point : Type 0} (Before : Point → List ℕ → Type 0) (Ends : Point
     pub taken : least ≤ reply.taken
 
   -- Reports says what is reported of rejected lines on the way to a point, Why which lines explain how a run ends
-  -- there, none
-  -- where nothing is explained, and MayLack where an allocation may fail in explaining it.
+  -- there, none where nothing is explained, and MayLack where an allocation may fail in explaining it.
   module _ (Reports : Point → List ℕ → Type 0) (Why : Point → Stop → List ℕ → Type 0) (MayLack : Point → Stop → Type 0)
     where
       -- the reply of all steps: what is reported of rejected lines, its message, and the lines that explain how the run

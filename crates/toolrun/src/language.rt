@@ -45,7 +45,7 @@ pub trait Language {
     type Sound: Drop;
 
     /// The rules of a grammar, and where its text says what explains notes on it.
-    type Places: Drop;
+    type Positions: Drop;
 
     /// Which notes, and which reply after them, are stated for a grammar's text, settings and an input.
     ghost states: { List ℕ → AllSettings Self.Options → Input → List ℕ → Reply → Type 0 };
@@ -57,7 +57,7 @@ pub trait Language {
     ghost explains: { List ℕ → Fault → List ℕ → Type 0 };
 
     /// Which positions a text has, where a name may be given for the start rule.
-    ghost are_places: { List ℕ → Option (List ℕ) → Self.Places → Type 0 };
+    ghost are_positions: { List ℕ → Option (List ℕ) → Self.Positions → Type 0 };
 
     /// Which lines explain a note on the grammar of a text, where a name may be given for the start rule.
     ghost explains_note: { List ℕ → Option (List ℕ) → Said → List ℕ → Type 0 };
@@ -72,7 +72,7 @@ pub trait Language {
     ghost are_rules: { List ℕ → Self.Rules → Type 0 };
 
     /// Which rules positions hold.
-    ghost held: { Self.Places → Self.Rules };
+    ghost held: { Self.Positions → Self.Rules };
 
     /// Which notes there are on a text's grammar for the name of a start rule, its rules, and their analysis unless a
     /// note rejects the grammar.
@@ -105,38 +105,38 @@ pub trait Language {
 
     /// Returns where a text says what explains notes. It takes the text's rules, and holds them. `Memory` if an
     /// allocation fails; the rules are dropped then.
-    fn places(
+    fn positions(
         alloc: Global,
         text: &[u8],
         rules: Self::Rules,
         start: Option<&str>,
-    ) -> Result<Self::Places, Memory>
+    ) -> Result<Self::Positions, Memory>
         requires { are_rules text.now rules }
-        ensures places { IfOk result (λ places. are_places text.now (option_copied start.entry) places) }
-        ensures rules { IfOk result (λ places. held places ≡ rules) };
+        ensures positions { IfOk result (λ positions. are_positions text.now (option_copied start.entry) positions) }
+        ensures rules { IfOk result (λ positions. held positions ≡ rules) };
 
     /// Returns the rules that positions hold.
-    fn into_rules(places: Self::Places) -> Self::Rules
-        ensures { result ≡ held places };
+    fn into_rules(positions: Self::Positions) -> Self::Rules
+        ensures { result ≡ held positions };
 
     /// Returns the lines that explain a note. `Memory` if an allocation fails.
     fn explain_note(
         alloc: Global,
-        places: &Self::Places,
+        positions: &Self::Positions,
         start: Option<&str>,
         note: &Note,
     ) -> Result<Vec<u8>, Memory>
-        ensures { IfOk result (λ why. (text : List ℕ) → are_places text (option_copied start.entry) places.now
+        ensures { IfOk result (λ why. (text : List ℕ) → are_positions text (option_copied start.entry) positions.now
             → explains_note text (option_copied start.entry) (said_of note.now) why.items) };
 
     /// Returns the hints on a grammar. `Memory` if an allocation fails.
     fn hints(
         alloc: Global,
-        places: &Self::Places,
+        positions: &Self::Positions,
         settings: &Settings<'_, Self::Options>,
     ) -> Result<Vec<u8>, Memory>
         ensures { IfOk result (λ reported. (text : List ℕ)
-            → are_places text (option_copied settings.now.start) places.now
+            → are_positions text (option_copied settings.now.start) positions.now
             → are_hints text settings.now reported.items) };
 
     /// Checks a grammar, and notes what there is to say of it. `Memory` if an allocation fails.

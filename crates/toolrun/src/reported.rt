@@ -40,18 +40,18 @@ fn push_note(alloc: Global, note: &Note, reported: &mut Vec<u8>) -> Result<(), M
 /// Adds the lines that explain a note, or nothing if an allocation fails.
 fn push_why<L: Language>(
     alloc: Global,
-    places: &L::Places,
+    positions: &L::Positions,
     start: Option<&str>,
     note: &Note,
     reported: &mut Vec<u8>,
 ) -> Result<(), Memory>
-    ensures ok { OnOk result ((text : List ℕ) → L.are_places text (option_copied start.entry) places.now
+    ensures ok { OnOk result ((text : List ℕ) → L.are_positions text (option_copied start.entry) positions.now
         → (why : List ℕ)
         × L.explains_note text (option_copied start.entry) (said_of note.now) why
         × (reported.new.items ≡ reported.old.items ++ why)) }
     ensures err { OnErr result (reported.new.items ≡ reported.old.items) }
 {
-    let why = L::explain_note(alloc, places, start, note)?;
+    let why = L::explain_note(alloc, positions, start, note)?;
     reported.extend_from_slice(why.as_slice())?;
     Ok(())
 }
@@ -60,11 +60,11 @@ fn push_why<L: Language>(
 /// last perhaps without.
 fn reported_by<L: Language>(
     alloc: Global,
-    places: &L::Places,
+    positions: &L::Positions,
     start: Option<&str>,
     notes: &[Note],
 ) -> NoteText
-    ensures { (text : List ℕ) → L.are_places text (option_copied start.entry) places.now
+    ensures { (text : List ℕ) → L.are_positions text (option_copied start.entry) positions.now
         → IsReportedOf (L.explains_note text (option_copied start.entry)) (map said_of notes.now) result }
 {
     let mut reported = Vec::new(alloc);
@@ -73,7 +73,7 @@ fn reported_by<L: Language>(
             Ok(()) => {}
             Err(Memory) => return NoteText::Part(reported),
         }
-        match push_why::<L>(alloc, places, start, note, &mut reported) {
+        match push_why::<L>(alloc, positions, start, note, &mut reported) {
             Ok(()) => {}
             Err(Memory) => return NoteText::Part(reported),
         }
@@ -96,8 +96,8 @@ pub(crate) fn reported_notes<L: Language>(
     let Ok(checked) = L::check(alloc, grammar, start) else {
         return NoteText::Part(Vec::new(alloc));
     };
-    match L::places(alloc, text, checked.rules, start) {
-        Ok(places) => reported_by::<L>(alloc, &places, start, notes),
+    match L::positions(alloc, text, checked.rules, start) {
+        Ok(positions) => reported_by::<L>(alloc, &positions, start, notes),
         Err(Memory) => NoteText::Part(Vec::new(alloc)),
     }
 }
@@ -105,15 +105,15 @@ pub(crate) fn reported_notes<L: Language>(
 /// Adds the hints on a grammar, or nothing if an allocation fails.
 fn push_hints<L: Language>(
     alloc: Global,
-    places: &L::Places,
+    positions: &L::Positions,
     settings: &Settings<'_, L::Options>,
     reported: &mut Vec<u8>,
 ) -> Result<(), Memory>
-    ensures ok { OnOk result ((text : List ℕ) → L.are_places text (option_copied settings.now.start) places.now
+    ensures ok { OnOk result ((text : List ℕ) → L.are_positions text (option_copied settings.now.start) positions.now
         → (hints : List ℕ) × L.are_hints text settings.now hints × (reported.new.items ≡ reported.old.items ++ hints)) }
     ensures err { OnErr result (reported.new.items ≡ reported.old.items) }
 {
-    let hints = L::hints(alloc, places, settings)?;
+    let hints = L::hints(alloc, positions, settings)?;
     reported.extend_from_slice(hints.as_slice())?;
     Ok(())
 }
@@ -131,15 +131,15 @@ pub(crate) fn reported_hints<L: Language>(
     ensures { IsHintedOf (L.explains_note text.now (option_copied settings.now.start))
         (L.are_hints text.now settings.now) (map said_of notes.now) rules result }
 {
-    let Ok(places) = L::places(alloc, text, rules, settings.start) else {
+    let Ok(positions) = L::positions(alloc, text, rules, settings.start) else {
         return HintText::Part(Vec::new(alloc));
     };
-    match reported_by::<L>(alloc, &places, settings.start, notes) {
+    match reported_by::<L>(alloc, &positions, settings.start, notes) {
         NoteText::Part(reported) => HintText::Part(reported),
         NoteText::Whole(reported) => {
             let mut reported = reported;
-            match push_hints::<L>(alloc, &places, settings, &mut reported) {
-                Ok(()) => HintText::Whole(reported, L::into_rules(places)),
+            match push_hints::<L>(alloc, &positions, settings, &mut reported) {
+                Ok(()) => HintText::Whole(reported, L::into_rules(positions)),
                 Err(Memory) => HintText::Part(reported),
             }
         }

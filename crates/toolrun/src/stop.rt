@@ -15,7 +15,7 @@ pub enum Stop {
     /// No unit matches at this position.
     NoMatch(usize),
     /// The unit at this position looks at more bytes than the limit.
-    LongUnit { place: usize, limit: usize },
+    LongUnit { position: usize, limit: usize },
     /// The line of this number has more bytes than the limit.
     LongLine { line: usize, limit: usize },
     /// The reader failed before all that was to be looked at was held.
@@ -63,7 +63,7 @@ pub fn write_stop<W: Sink>(stop: Stop, w: &mut W) -> Result<(), WriteFault>
     match stop {
         Stop::Quiet(_) => Ok(()),
         Stop::NoMatch(at) => write_numbers(b"no match at byte ", at, b"\n", w),
-        Stop::LongUnit { place, limit } => write_long(b"unit at byte ", place, limit, w),
+        Stop::LongUnit { position, limit } => write_long(b"unit at byte ", position, limit, w),
         Stop::LongLine { line, limit } => write_long(b"line ", line, limit, w),
         Stop::Broken => write_whole(w, b"read error\n"),
         Stop::NoMemory => write_whole(w, b"out of memory\n"),
@@ -83,8 +83,8 @@ fn write_numbers<W: Sink>(
     ensures flag { Flags (W.failed w.old) (W.failed w.new) result }
 {
     let mut digits = Buffer::new();
-    let place = digits.format(at).as_bytes();
-    let pieces: [&[u8]; 3] = [before, place, after];
+    let position = digits.format(at).as_bytes();
+    let pieces: [&[u8]; 3] = [before, position, after];
     write_pieces(w, &pieces)
 }
 
@@ -94,10 +94,10 @@ fn write_long<W: Sink>(what: &[u8], at: usize, limit: usize, w: &mut W) -> Resul
         (what.now ++ decimal at ++ codes " longer than " ++ decimal limit ++ codes " bytes\n") result }
     ensures flag { Flags (W.failed w.old) (W.failed w.new) result }
 {
-    let mut place_digits = Buffer::new();
+    let mut position_digits = Buffer::new();
     let mut limit_digits = Buffer::new();
-    let place = place_digits.format(at).as_bytes();
+    let position = position_digits.format(at).as_bytes();
     let most = limit_digits.format(limit).as_bytes();
-    let pieces: [&[u8]; 5] = [what, place, b" longer than ", most, b" bytes\n"];
+    let pieces: [&[u8]; 5] = [what, position, b" longer than ", most, b" bytes\n"];
     write_pieces(w, &pieces)
 }

@@ -2,7 +2,7 @@
 ghost use Rattle.std.specs.Prelude.{◌≡◌, false};
 ghost use Rattle.ruletable.specs.Writing.{Flags};
 ghost use Rattle.toolrun.specs.Plan.{does_of, met_before};
-ghost use Rattle.toolrun.specs.Right.{Comes};
+ghost use Rattle.toolrun.specs.Right.{RunIsRight};
 ghost use Rattle.toolrun.specs.Status.{code_of};
 ghost use Rattle.toolrun.specs.Stopped.{Fulfils, Prints};
 ghost use Rattle.toolrun.specs.Stream.{passed};
@@ -82,7 +82,7 @@ pub fn run_tool<L: Language, R: Source, O: Sink, E: Sink>(
     requires reader_is_open { R.ended reader.old ≡ false }
     requires out_is_fresh { O.failed out.old ≡ false }
     requires err_is_fresh { E.failed err.old ≡ false }
-    ensures right { Comes (L.states grammar.now settings.now) (passed R.remaining R.failed reader.old reader.new)
+    ensures right { RunIsRight (L.states grammar.now settings.now) (passed R.remaining R.failed reader.old reader.new)
         (passed O.contents O.failed out.old out.new) (passed E.contents E.failed err.old err.new) (code_of result) }
 {
     let plan = plan_of::<L>(alloc, grammar, settings);

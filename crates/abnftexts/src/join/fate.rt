@@ -50,11 +50,11 @@ fn find_same(
     requires key { key.now ≡ key_of_rule (text_rule rule.now) }
     ensures { IfOk result (λ first. first ≡ first_same (text_rule rule.now) (map text_rule rules.now)) }
 {
-    let mut place = first_number(keys, key, rules.len())?;
-    while place < rules.len() && !rule.is_same(false, &rules[place]) {
-        place += 1;
+    let mut position = first_number(keys, key, rules.len())?;
+    while position < rules.len() && !rule.is_same(false, &rules[position]) {
+        position += 1;
     }
-    Ok(place)
+    Ok(position)
 }
 
 // The fate of the rule with that number and key. All definitions that have elements are listed by name, and the

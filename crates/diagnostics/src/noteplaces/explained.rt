@@ -2,14 +2,14 @@
 ghost use Rattle.std.specs.Prelude.{◌≡◌, ◌++◌, ℕ, List, length, map, IfOk, OnOk, option_copied};
 ghost use Rattle.lexer.specs.TokenLists.{AreTokens, tok_of};
 ghost use Rattle.ruletable.specs.Notes.{said, said_of};
-ghost use Rattle.diagnostics.specs.ExplainedNotes.{ArePlaces, AreReportedBy};
+ghost use Rattle.diagnostics.specs.ExplainedNotes.{ArePositions, AreReportedBy};
 
 use crate::noteplaces::heads::heads_of;
 use crate::noteplaces::kept::kept_tokens;
 use crate::noteplaces::lines::{heads_named, push_by_heads};
 use crate::noteplaces::mentions::mentions_of;
 use crate::noteplaces::name_index::index_names;
-use crate::noteplaces::places::Places;
+use crate::noteplaces::positions::Positions;
 use crate::noteplaces::prose::push_first_prose;
 use crate::noteplaces::sign::Signs;
 use crate::noteplaces::uses::push_used;
@@ -19,22 +19,22 @@ use std::alloc::Global;
 
 // Returns where a text with these tokens defines its rules, and what their bodies mention. `Memory` if an allocation
 // fails.
-fn places_by<K: Kind, S: Signs<K>>(
+fn positions_by<K: Kind, S: Signs<K>>(
     alloc: Global,
     text: &[u8],
     tokens: &[Token<'_, K>],
     rule: LineRule,
     names: NameCase,
-) -> Result<Places, Memory>
+) -> Result<Positions, Memory>
     requires { AreTokens K.white K.first K.is_end (length text.now) text.now (map tok_of tokens.now) }
-    ensures { IfOk result (λ places. ArePlaces K.white K.first K.is_end S.sign_of rule names text.now places) }
+    ensures { IfOk result (λ positions. ArePositions K.white K.first K.is_end S.sign_of rule names text.now positions) }
 {
     K::are_cut();
     one_list::<K>();
     let heads = heads_of::<K, S>(alloc, text, tokens, rule)?;
     let mentions = mentions_of::<K, S>(alloc, text, tokens, rule)?;
     let index = index_names(alloc, &heads, &mentions, names)?;
-    Ok(Places {
+    Ok(Positions {
         names,
         heads,
         mentions,
@@ -46,36 +46,36 @@ fn places_by<K: Kind, S: Signs<K>>(
 ///
 /// # Errors
 /// `Memory` if an allocation fails.
-pub fn places_of<K: Kind, S: Signs<K>>(
+pub fn positions_of<K: Kind, S: Signs<K>>(
     alloc: Global,
     text: &[u8],
     rule: LineRule,
     names: NameCase,
-) -> Result<Places, Memory>
-    ensures { IfOk result (λ places. ArePlaces K.white K.first K.is_end S.sign_of rule names text.now places) }
+) -> Result<Positions, Memory>
+    ensures { IfOk result (λ positions. ArePositions K.white K.first K.is_end S.sign_of rule names text.now positions) }
 {
     let tokens = kept_tokens::<K>(alloc, text)?;
-    places_by::<K, S>(alloc, text, &tokens, rule, names)
+    positions_by::<K, S>(alloc, text, &tokens, rule, names)
 }
 
 // Adds the lines that explain a note of the kind on a name.
 fn push_lines(
     alloc: Global,
     out: &mut Vec<u8>,
-    places: &Places,
+    positions: &Positions,
     start: Option<&str>,
     kind: NoteKind,
     name: &[u8],
 ) -> Result<(), Memory>
-    ensures { OnOk result ((why : List ℕ) × AreReportedBy places.now (option_copied start.entry)
+    ensures { OnOk result ((why : List ℕ) × AreReportedBy positions.now (option_copied start.entry)
         (said kind name.now) why
         × (out.new.items ≡ out.old.items ++ why)) }
 {
     match kind {
-        NoteKind::Undefined => push_used(alloc, out, places, start, name),
-        NoteKind::Prose => push_first_prose(alloc, out, places, name),
+        NoteKind::Undefined => push_used(alloc, out, positions, start, name),
+        NoteKind::Prose => push_first_prose(alloc, out, positions, name),
         _ => {
-            let heads = heads_named(alloc, places, name)?;
+            let heads = heads_named(alloc, positions, name)?;
             push_by_heads(alloc, out, &heads, kind)
         }
     }
@@ -92,17 +92,18 @@ fn push_lines(
 /// `Memory` if an allocation fails.
 pub fn explain_note(
     alloc: Global,
-    places: &Places,
+    positions: &Positions,
     start: Option<&str>,
     note: &Note,
 ) -> Result<Vec<u8>, Memory>
-    ensures { IfOk result (λ why. AreReportedBy places.now (option_copied start.entry) (said_of note.now) why.items) }
+    ensures { IfOk result
+        (λ why. AreReportedBy positions.now (option_copied start.entry) (said_of note.now) why.items) }
 {
     let mut out = Vec::new(alloc);
     push_lines(
         alloc,
         &mut out,
-        places,
+        positions,
         start,
         note.kind,
         note.name.as_slice(),

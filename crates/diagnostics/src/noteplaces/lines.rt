@@ -7,7 +7,7 @@ ghost use Rattle.diagnostics.specs.NoteLines.{not_adding, redefined_lines};
 
 use crate::noteplaces::heads::Head;
 use crate::noteplaces::number_lists::{items_at, numbers_of};
-use crate::noteplaces::places::Places;
+use crate::noteplaces::positions::Positions;
 use crate::picture::{push_cut, push_number};
 use ruletable::{Memory, NameCase, NoteKind};
 use std::alloc::Global;
@@ -57,14 +57,14 @@ pub(crate) fn is_same_name(names: NameCase, a: &[u8], b: &[u8]) -> bool
 /// Returns the definitions of a name.
 pub(crate) fn heads_named<'a>(
     alloc: Global,
-    places: &'a Places,
+    positions: &'a Positions,
     name: &[u8],
 ) -> Result<Vec<&'a Head>, Memory>
     ensures { IfOk result (λ v. map (λ h. defined_at h.now) v.items
-        ≡ named places.now.names name.now (map defined_at places.now.heads.items)) }
+        ≡ named positions.now.names name.now (map defined_at positions.now.heads.items)) }
 {
-    let positions = numbers_of(&places.index.heads, name)?;
-    items_at(alloc, &places.heads, positions)
+    let indexes = numbers_of(&positions.index.heads, name)?;
+    items_at(alloc, &positions.heads, indexes)
 }
 
 // The definitions that do not add to a rule.

@@ -4,7 +4,7 @@ ghost use Rattle.diagnostics.specs.BodyMentions.{mentioned_at};
 ghost use Rattle.diagnostics.specs.MentionLines.{mention_lines_by, mentions_within};
 
 use crate::noteplaces::mentions::{Mention, MentionKind, is_kind};
-use crate::noteplaces::places::Places;
+use crate::noteplaces::positions::Positions;
 use crate::noteplaces::uses::{mentions_under, rule_of_name};
 use ruletable::Memory;
 use std::alloc::Global;
@@ -35,15 +35,15 @@ fn lines_within(
 /// `Memory` if an allocation fails.
 pub fn mention_lines(
     alloc: Global,
-    places: &Places,
+    positions: &Positions,
     kind: MentionKind,
     name: &[u8],
 ) -> Result<Vec<usize>, Memory>
-    ensures { IfOk result (λ lines. lines.items ≡ mention_lines_by places.now kind name.now) }
+    ensures { IfOk result (λ lines. lines.items ≡ mention_lines_by positions.now kind name.now) }
 {
-    let Some(head) = rule_of_name(places, name)? else {
+    let Some(head) = rule_of_name(positions, name)? else {
         return Ok(Vec::new(alloc));
     };
-    let mentions = mentions_under(alloc, places, name)?;
+    let mentions = mentions_under(alloc, positions, name)?;
     lines_within(alloc, &mentions, kind, head.start)
 }

@@ -46,7 +46,7 @@ pub(crate) fn is_kind(kind: MentionKind, mention: &Mention) -> bool
     mention.kind == kind
 }
 
-// Adds what a token mentions in the body of the definition at a place, if it mentions anything.
+// Adds what a token mentions in the body of the definition at a position, if it mentions anything.
 fn push_mention(
     alloc: Global,
     found: &mut Vec<Mention>,

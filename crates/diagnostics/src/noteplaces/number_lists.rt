@@ -50,12 +50,12 @@ pub fn numbers_of<'a>(lists: &'a RuleTable<Vec<usize>>, name: &[u8]) -> Result<&
 pub(crate) fn items_at<'a, T>(
     alloc: Global,
     items: &'a [T],
-    positions: &[usize],
+    indexes: &[usize],
 ) -> Result<Vec<&'a T>, Memory>
-    ensures { IfOk result (λ found. map (λ x. x.now) found.items ≡ those_at items.now positions.now) }
+    ensures { IfOk result (λ found. map (λ x. x.now) found.items ≡ those_at items.now indexes.now) }
 {
     let mut found = Vec::new(alloc);
-    for position in positions {
+    for position in indexes {
         if let Some(item) = items.get(*position) {
             found.push(item)?;
         }

@@ -9,7 +9,7 @@ ghost use Rattle.diagnostics.specs.UseLines.{prose_line, prose_lines};
 use crate::noteplaces::heads::Head;
 use crate::noteplaces::lines::heads_named;
 use crate::noteplaces::mentions::{Mention, MentionKind, is_kind};
-use crate::noteplaces::places::Places;
+use crate::noteplaces::positions::Positions;
 use crate::noteplaces::uses::mentions_under;
 use crate::picture::{push_cut, push_number};
 use ruletable::Memory;
@@ -94,14 +94,14 @@ fn push_prose(out: &mut Vec<u8>, found: Option<&Mention>) -> Result<(), Memory>
 pub(crate) fn push_first_prose(
     alloc: Global,
     out: &mut Vec<u8>,
-    places: &Places,
+    positions: &Positions,
     name: &[u8],
 ) -> Result<(), Memory>
-    ensures { OnOk result (out.new.items ≡ out.old.items ++ prose_lines places.now.names
-        (map defined_at places.now.heads.items) (map mentioned_at places.now.mentions.items) None name.now) }
+    ensures { OnOk result (out.new.items ≡ out.old.items ++ prose_lines positions.now.names
+        (map defined_at positions.now.heads.items) (map mentioned_at positions.now.mentions.items) None name.now) }
 {
-    let heads = heads_named(alloc, places, name)?;
+    let heads = heads_named(alloc, positions, name)?;
     let standing = standing_heads(alloc, &heads)?;
-    let mentions = mentions_under(alloc, places, name)?;
+    let mentions = mentions_under(alloc, positions, name)?;
     push_prose(out, first_prose(&mentions, &standing))
 }

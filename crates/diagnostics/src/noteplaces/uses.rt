@@ -15,7 +15,7 @@ use crate::noteplaces::lines::is_same_name;
 use crate::noteplaces::mentions::Mention;
 use crate::noteplaces::name_index::head_at;
 use crate::noteplaces::number_lists::{items_at, numbers_of};
-use crate::noteplaces::places::Places;
+use crate::noteplaces::positions::Positions;
 use crate::picture::{push_cut, push_number};
 use ruletable::{Memory, NameCase};
 use std::alloc::Global;
@@ -32,13 +32,16 @@ pub(crate) struct MentionInRule<'a> {
 /// Returns the rule of a name: its first definition.
 ///
 /// `Memory` if an allocation fails.
-pub(crate) fn rule_of_name<'a>(places: &'a Places, name: &[u8]) -> Result<Option<&'a Head>, Memory>
+pub(crate) fn rule_of_name<'a>(
+    positions: &'a Positions,
+    name: &[u8],
+) -> Result<Option<&'a Head>, Memory>
     ensures { IfOk result (λ rule. option_map (λ h. defined_at h.now) rule
-        ≡ rule_named places.now.names (map defined_at places.now.heads.items) name.now) }
+        ≡ rule_named positions.now.names (map defined_at positions.now.heads.items) name.now) }
 {
-    let positions = numbers_of(&places.index.heads, name)?;
-    match positions.first() {
-        Some(position) => Ok(places.heads.get(*position)),
+    let indexes = numbers_of(&positions.index.heads, name)?;
+    match indexes.first() {
+        Some(position) => Ok(positions.heads.get(*position)),
         None => Ok(None),
     }
 }
@@ -56,14 +59,14 @@ fn standing_in<'a>(head: &Head, rule: Option<&'a Head>) -> Option<&'a Head>
 }
 
 // Returns the rule in which the definition stands that starts at a position.
-fn rule_around(places: &Places, start: usize) -> Result<Option<&Head>, Memory>
+fn rule_around(positions: &Positions, start: usize) -> Result<Option<&Head>, Memory>
     ensures { IfOk result (λ rule. option_map (λ h. defined_at h.now) rule
-        ≡ rule_standing_at places.now.names (map defined_at places.now.heads.items) start) }
+        ≡ rule_standing_at positions.now.names (map defined_at positions.now.heads.items) start) }
 {
-    let Some(head) = head_at(&places.heads, start) else {
+    let Some(head) = head_at(&positions.heads, start) else {
         return Ok(None);
     };
-    let rule = rule_of_name(places, head.name.as_slice())?;
+    let rule = rule_of_name(positions, head.name.as_slice())?;
     Ok(standing_in(head, rule))
 }
 
@@ -91,10 +94,10 @@ fn earlier_of<'a>(
 
 // Returns the first of the mentions, in the order of the rules and of their bodies.
 fn earliest_of<'a>(
-    places: &'a Places,
+    positions: &'a Positions,
     mentions: &[&'a Mention],
 ) -> Result<Option<MentionInRule<'a>>, Memory>
-    ensures { IfOk result (λ found. IsFirstIfAny places.now.names (map defined_at places.now.heads.items)
+    ensures { IfOk result (λ found. IsFirstIfAny positions.now.names (map defined_at positions.now.heads.items)
         (map (λ m. mentioned_at m.now) mentions.now) (option_map mention_found found)) }
 {
     let mut found = None;
@@ -102,7 +105,7 @@ fn earliest_of<'a>(
     while left > 0 {
         left -= 1;
         let mention = mentions[left];
-        let rule = rule_around(places, mention.within)?;
+        let rule = rule_around(positions, mention.within)?;
         found = earlier_of(rule, mention, found);
     }
     Ok(found)
@@ -111,14 +114,14 @@ fn earliest_of<'a>(
 // Returns the uses of a name.
 fn uses_named<'a>(
     alloc: Global,
-    places: &'a Places,
+    positions: &'a Positions,
     name: &[u8],
 ) -> Result<Vec<&'a Mention>, Memory>
     ensures { IfOk result (λ v. map (λ m. mentioned_at m.now) v.items
-        ≡ uses_of places.now.names name.now (map mentioned_at places.now.mentions.items)) }
+        ≡ uses_of positions.now.names name.now (map mentioned_at positions.now.mentions.items)) }
 {
-    let positions = numbers_of(&places.index.uses, name)?;
-    items_at(alloc, &places.mentions, positions)
+    let indexes = numbers_of(&positions.index.uses, name)?;
+    items_at(alloc, &positions.mentions, indexes)
 }
 
 /// Returns the mentions in the definitions of a name.
@@ -126,16 +129,16 @@ fn uses_named<'a>(
 /// `Memory` if an allocation fails.
 pub(crate) fn mentions_under<'a>(
     alloc: Global,
-    places: &'a Places,
+    positions: &'a Positions,
     name: &[u8],
 ) -> Result<Vec<&'a Mention>, Memory>
     ensures { IfOk result (λ v. map (λ m. mentioned_at m.now) v.items
         ≡ filter (λ m. list_any (λ d. d.start == m.within)
-        (named places.now.names name.now (map defined_at places.now.heads.items)))
-        (map mentioned_at places.now.mentions.items)) }
+        (named positions.now.names name.now (map defined_at positions.now.heads.items)))
+        (map mentioned_at positions.now.mentions.items)) }
 {
-    let positions = numbers_of(&places.index.bodies, name)?;
-    items_at(alloc, &places.mentions, positions)
+    let indexes = numbers_of(&positions.index.bodies, name)?;
+    items_at(alloc, &positions.mentions, indexes)
 }
 
 // Adds the line of the use of a name.
@@ -166,20 +169,20 @@ fn is_given_name(names: NameCase, start: Option<&str>, name: &[u8]) -> bool
 pub(crate) fn push_used(
     alloc: Global,
     out: &mut Vec<u8>,
-    places: &Places,
+    positions: &Positions,
     start: Option<&str>,
     name: &[u8],
 ) -> Result<(), Memory>
     ensures { OnOk result ((first : Option RuleMention)
-        × IsFirstIfAny places.now.names (map defined_at places.now.heads.items)
-        (uses_of places.now.names name.now (map mentioned_at places.now.mentions.items)) first
-        × (out.new.items ≡ out.old.items ++ used_line places.now.names (option_copied start.entry) first name.now)) }
+        × IsFirstIfAny positions.now.names (map defined_at positions.now.heads.items)
+        (uses_of positions.now.names name.now (map mentioned_at positions.now.mentions.items)) first
+        × (out.new.items ≡ out.old.items ++ used_line positions.now.names (option_copied start.entry) first name.now)) }
 {
-    if is_given_name(places.names, start, name) {
+    if is_given_name(positions.names, start, name) {
         out.extend_from_slice(b"  given by -s\n")?;
         return Ok(());
     }
-    let uses = uses_named(alloc, places, name)?;
-    let first = earliest_of(places, &uses)?;
+    let uses = uses_named(alloc, positions, name)?;
+    let first = earliest_of(positions, &uses)?;
     push_use(out, first)
 }

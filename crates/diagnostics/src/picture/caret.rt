@@ -1,6 +1,6 @@
 //! Lines with a caret below a byte.
 ghost use Rattle.std.specs.Prelude.{◌≡◌, ◌≤◌, ◌++◌, length, replicate, OnOk};
-ghost use Rattle.diagnostics.specs.Pictures.{window_start, left_part, right_part, picture, place_reported};
+ghost use Rattle.diagnostics.specs.Pictures.{window_start, left_part, right_part, picture, position_reported};
 
 use crate::picture::around::{LineAround, line_around};
 use crate::picture::shown::{push_dots, push_number, push_shown};
@@ -20,34 +20,34 @@ fn push_blanks(out: &mut Vec<u8>, count: usize) -> Result<(), Memory>
 }
 
 // The first byte of the line that is shown.
-fn first_shown(size: usize, place: usize) -> usize
-    ensures { result ≡ window_start size place }
+fn first_shown(size: usize, position: usize) -> usize
+    ensures { result ≡ window_start size position }
 {
-    place
+    position
         .saturating_sub(MAX_SHOWN / 2)
         .min(size.saturating_sub(MAX_SHOWN))
 }
 
-// Adds what is shown before the place.
-fn push_left(out: &mut Vec<u8>, place: LineAround<'_>) -> Result<(), Memory>
-    requires { place.before ≤ length place.line.now }
-    ensures { OnOk result (out.new.items ≡ out.old.items ++ left_part place.entry.line.now place.entry.before) }
+// Adds what is shown before the position.
+fn push_left(out: &mut Vec<u8>, position: LineAround<'_>) -> Result<(), Memory>
+    requires { position.before ≤ length position.line.now }
+    ensures { OnOk result (out.new.items ≡ out.old.items ++ left_part position.entry.line.now position.entry.before) }
 {
-    let line = place.line;
-    let start = first_shown(line.len(), place.before);
+    let line = position.line;
+    let start = first_shown(line.len(), position.before);
     push_dots(out, start > 0)?;
-    push_shown(out, &line[start..place.before])
+    push_shown(out, &line[start..position.before])
 }
 
-// Adds what is shown from the place on.
-fn push_right(out: &mut Vec<u8>, place: LineAround<'_>) -> Result<(), Memory>
-    requires { place.before ≤ length place.line.now }
-    ensures { OnOk result (out.new.items ≡ out.old.items ++ right_part place.entry.line.now place.entry.before) }
+// Adds what is shown from the position on.
+fn push_right(out: &mut Vec<u8>, position: LineAround<'_>) -> Result<(), Memory>
+    requires { position.before ≤ length position.line.now }
+    ensures { OnOk result (out.new.items ≡ out.old.items ++ right_part position.entry.line.now position.entry.before) }
 {
-    let line = place.line;
-    let limit = first_shown(line.len(), place.before) + MAX_SHOWN;
+    let line = position.line;
+    let limit = first_shown(line.len(), position.before) + MAX_SHOWN;
     let end = line.len().min(limit);
-    push_shown(out, &line[place.before..end])?;
+    push_shown(out, &line[position.before..end])?;
     push_dots(out, limit < line.len())
 }
 
@@ -56,15 +56,15 @@ fn push_right(out: &mut Vec<u8>, place: LineAround<'_>) -> Result<(), Memory>
 ///
 /// # Errors
 /// `Memory` if an allocation fails.
-pub fn push_picture(out: &mut Vec<u8>, place: LineAround<'_>) -> Result<(), Memory>
-    requires { place.before ≤ length place.line.now }
-    ensures { OnOk result (out.new.items ≡ out.old.items ++ picture place.entry.line.now place.entry.before) }
+pub fn push_picture(out: &mut Vec<u8>, position: LineAround<'_>) -> Result<(), Memory>
+    requires { position.before ≤ length position.line.now }
+    ensures { OnOk result (out.new.items ≡ out.old.items ++ picture position.entry.line.now position.entry.before) }
 {
     out.extend_from_slice(b"  ")?;
     let margin = out.len();
-    push_left(out, place)?;
+    push_left(out, position)?;
     let width = out.len() - margin;
-    push_right(out, place)?;
+    push_right(out, position)?;
     out.extend_from_slice(b"\n  ")?;
     push_blanks(out, width)?;
     out.extend_from_slice(b"^\n")?;
@@ -76,19 +76,19 @@ pub fn push_picture(out: &mut Vec<u8>, place: LineAround<'_>) -> Result<(), Memo
 ///
 /// # Errors
 /// `Memory` if an allocation fails.
-pub fn push_place(
+pub fn push_position(
     out: &mut Vec<u8>,
     text: &[u8],
     offset: usize,
     rule: LineRule,
 ) -> Result<(), Memory>
     requires { offset ≤ length text.now }
-    ensures { OnOk result (out.new.items ≡ out.old.items ++ place_reported rule text.now offset) }
+    ensures { OnOk result (out.new.items ≡ out.old.items ++ position_reported rule text.now offset) }
 {
-    let place = line_around(text, offset, rule);
-    push_picture(out, place)?;
+    let position = line_around(text, offset, rule);
+    push_picture(out, position)?;
     out.extend_from_slice(b"  column ")?;
-    push_number(out, place.before + 1)?;
+    push_number(out, position.before + 1)?;
     out.extend_from_slice(b": ")?;
     Ok(())
 }

@@ -7,14 +7,14 @@ use crate::desk::frame::{FailureFrame, FailureFrames};
 use ruletable::Memory;
 
 /// Returns the frame of a node at a position that begins.
-pub(crate) fn prefix(node: usize, place: usize) -> FailureFrame
-    ensures { result ≡ begun_at node place }
+pub(crate) fn prefix(node: usize, position: usize) -> FailureFrame
+    ensures { result ≡ begun_at node position }
 {
     FailureFrame {
         node,
-        place,
+        position,
         next: 0,
-        end: place,
+        end: position,
     }
 }
 
@@ -24,13 +24,13 @@ pub(crate) fn advance(
     next: usize,
     end: usize,
     node: usize,
-    place: usize,
+    position: usize,
 ) -> Result<(), Memory>
     requires { (top : FailureFrame) × (below : List FailureFrame) × (frames.old ≡ top ∷ below) }
     ensures { (top : FailureFrame) (below : List FailureFrame) → frames.old ≡ top ∷ below →
-        OnOk result (frames.new ≡ begun_at node place
-        ∷ (record { node = top.node; place = top.place; next = next; end = end } ∷ below)) }
+        OnOk result (frames.new ≡ begun_at node position
+        ∷ (record { node = top.node; position = top.position; next = next; end = end } ∷ below)) }
 {
     frames.come_on(next, end);
-    frames.push(prefix(node, place))
+    frames.push(prefix(node, position))
 }

@@ -11,16 +11,17 @@ use std::marker::Model;
 
 /// A node at a position.
 #[derive(Clone, Copy, PartialEq, Eq, Hash)]
-pub(crate) struct Pair {
+pub(crate) struct EvalKey {
     pub(crate) node: usize,
-    pub(crate) place: usize,
+    pub(crate) position: usize,
 }
 
-/// The memo table of a desk: the outcomes of pairs of a node and a position. Contracts see the list of its entries.
+/// The memo table of a desk: the outcomes of evaluations of a node and a position. Contracts see the list of its
+/// entries.
 #[derive(Drop)]
 pub(crate) struct CellMap {
-    /// The outcome of each pair.
-    cells: HashMap<Pair, Found>,
+    /// The outcome of each evaluation.
+    cells: HashMap<EvalKey, Found>,
 }
 
 impl Model for CellMap {
@@ -58,24 +59,24 @@ impl CellMap {
     }
 
     /// Returns the outcome of the node at the position, if it has a cell there.
-    pub(crate) fn get(&self, node: usize, place: usize) -> Option<Found>
-        ensures { result ≡ found_at self.now node place }
+    pub(crate) fn get(&self, node: usize, position: usize) -> Option<Found>
+        ensures { result ≡ found_at self.now node position }
     {
-        self.cells.get(&Pair { node, place }).copied()
+        self.cells.get(&EvalKey { node, position }).copied()
     }
 
     /// Adds a cell. The node must have none at that position.
     ///
     /// # Errors
     /// `Memory` if an allocation fails; no cell is added.
-    pub(crate) fn put(&mut self, node: usize, place: usize, found: Found) -> Result<(), Memory>
-        requires { found_at self.old node place ≡ None }
-        ensures put { OnOk result (IsPut self.old self.new node place found) }
+    pub(crate) fn put(&mut self, node: usize, position: usize, found: Found) -> Result<(), Memory>
+        requires { found_at self.old node position ≡ None }
+        ensures put { OnOk result (IsPut self.old self.new node position found) }
         ensures grown { OnOk result (length self.new ≡ length self.old + 1) }
         ensures different { OnOk result (AreDifferent self.new) }
         ensures unchanged { OnErr result (self.new ≡ self.old) }
     {
-        self.cells.insert(Pair { node, place }, found)?;
+        self.cells.insert(EvalKey { node, position }, found)?;
         Ok(())
     }
 }

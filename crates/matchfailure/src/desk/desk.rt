@@ -9,7 +9,7 @@ ghost use Rattle.matchfailure.specs.Desk.{empty, prefix as begun_at, Fits, HasFr
 use crate::desk::advance::{advance, prefix};
 use crate::desk::cell_map::CellMap;
 use crate::desk::frame::FailureFrames;
-use crate::desk::turn::{Turn, next_turn};
+use crate::desk::step::{NextStep, next_step};
 use gramcheck::SoundPeg;
 use memo::Found;
 use pegmatch::Unit;
@@ -20,9 +20,9 @@ use std::marker::Model;
 /// A plain packrat evaluator (Ford 2002). It memoizes the outcome of every node at every position that it evaluates, so
 /// it evaluates none twice.
 ///
-/// It works in small steps on an explicit stack, so that deep nesting takes no call stack. A pair has either a frame or
-/// a cell: a step pushes the frame of one child, or turns the last frame into its cell. It serves the search for the
-/// farthest failure, which needs every cell.
+/// It works in small steps on an explicit stack, so that deep nesting takes no call stack. An evaluation has either a
+/// frame or a cell: a step pushes the frame of one child, or turns the last frame into its cell. It serves the search
+/// for the farthest failure, which needs every cell.
 ///
 /// Contracts see the cells, the frames with the last one first, and how many evaluations were begun.
 #[derive(Drop)]
@@ -52,7 +52,7 @@ fn ended(found: Found, begun: u128) -> Unit
     }
 }
 
-// One evaluation more; there are no more than nodes at places.
+// One evaluation more; there are no more than nodes at positions.
 fn one_more(nodes: usize, length: usize, begun: u128) -> u128
     requires { begun ≤ nodes * (length + 1) }
     ensures { result ≡ begun + 1 }
@@ -81,20 +81,20 @@ fn step_on(
         (record { cells = cells.new; frames = frames.new; begun = begun.new })) }
 {
     let top = frames.top();
-    match next_turn(peg, window, more, cells, top) {
-        Turn::Need => Ok(Some(Unit::Need)),
-        Turn::Ask {
+    match next_step(peg, window, more, cells, top) {
+        NextStep::Need => Ok(Some(Unit::Need)),
+        NextStep::Ask {
             node,
-            place,
+            position,
             next,
             end,
         } => {
-            advance(frames, next, end, node, place)?;
+            advance(frames, next, end, node, position)?;
             *begun = one_more(peg.nodes(), window.len(), *begun);
             Ok(None)
         }
-        Turn::Answer(found) => {
-            cells.put(top.node, top.place, found)?;
+        NextStep::Answer(found) => {
+            cells.put(top.node, top.position, found)?;
             frames.pop();
             if frames.is_empty() {
                 Ok(Some(ended(found, *begun)))
@@ -125,10 +125,10 @@ impl Desk {
     }
 
     /// Returns the outcome of the node at the position, if it has a cell there.
-    pub fn found(&self, node: usize, place: usize) -> Option<Found>
-        ensures { result ≡ found_at self.now.cells node place }
+    pub fn found(&self, node: usize, position: usize) -> Option<Found>
+        ensures { result ≡ found_at self.now.cells node position }
     {
-        self.cells.get(node, place)
+        self.cells.get(node, position)
     }
 
     /// Empties it, and takes no memory.

@@ -12,7 +12,7 @@ pub(crate) struct FailureFrame {
     /// The node.
     pub(crate) node: usize,
     /// The position, in bytes from the front of the window.
-    pub(crate) place: usize,
+    pub(crate) position: usize,
     /// How many of its members or alternatives are done.
     pub(crate) next: usize,
     /// Where those that are done end.
@@ -83,7 +83,7 @@ impl FailureFrames {
     pub(crate) fn come_on(&mut self, next: usize, end: usize)
         requires { (top : FailureFrame) × (below : List FailureFrame) × (self.old ≡ top ∷ below) }
         ensures { (top : FailureFrame) (below : List FailureFrame) → self.old ≡ top ∷ below →
-            self.new ≡ record { node = top.node; place = top.place; next = next; end = end } ∷ below }
+            self.new ≡ record { node = top.node; position = top.position; next = next; end = end } ∷ below }
     {
         let last = self.frames.len() - 1;
         let frame = &mut self.frames[last];

@@ -12,11 +12,11 @@ ghost use Rattle.matchfailure.specs.NoMatchLines.{long_unit_lines, no_byte_taken
 ghost use Rattle.matchfailure.specs.NoMatches.{AreReportedOf, IsNoMatchReported, failing_byte, lines_of_failure};
 ghost use Rattle.matchfailure.specs.NoMatches.{unit_before};
 ghost use Rattle.matchfailure.specs.declared.farthest.visit.Visit.{Visit};
-ghost use Rattle.matchfailure.specs.InputPlaces.{place_after};
+ghost use Rattle.matchfailure.specs.InputPositions.{position_after};
 ghost use Rattle.matchfailure.specs.UnitEnds.{EndsSo, outcome_at, takes_no_byte};
 
 use crate::explain::lines::lines_of_farthest;
-use crate::explain::place::TextPlace;
+use crate::explain::position::TextPosition;
 use crate::farthest::{
     Farthest, LastUnit, UnitSearch, farthest_failure, farthest_is_within, reported_unit,
 };
@@ -31,26 +31,26 @@ fn lines_of_found(
     alloc: Global,
     peg: &SoundPeg,
     seen: &[u8],
-    at: TextPlace,
+    at: TextPosition,
     offset: usize,
     found: &Option<Farthest>,
 ) -> Result<Vec<u8>, Memory>
     requires offset { offset ≤ length seen.now }
-    requires stands { (front : List ℕ) × (at ≡ place_after front) × (length front + length seen.now < 2 ^ 63) }
+    requires stands { (front : List ℕ) × (at ≡ position_after front) × (length front + length seen.now < 2 ^ 63) }
     requires fitting { IfSome found.now (IsFitting (length peg.now.nodes) (length (drop offset seen.now))
         (at.byte + offset)) }
     ensures { IfOk result (λ why. (reported : List Visit)
         × AreReportedOf (rules_of peg.now.rules) peg.now.start (shapes_of peg.now.nodes) peg.now.bodies
         (failure_found (at.byte + offset) found.now) reported
-        × ((front : List ℕ) → at ≡ place_after front → why.items ≡ lines_of_failure (rules_of peg.now.rules)
+        × ((front : List ℕ) → at ≡ position_after front → why.items ≡ lines_of_failure (rules_of peg.now.rules)
         (shapes_of peg.now.nodes) peg.now.bodies (front ++ seen.now) (failure_found (at.byte + offset) found.now)
         reported)) }
 {
     match found {
         Some(farthest) => {
             let unit = at.byte + offset;
-            let place = at.after(&seen[..offset + farthest.place]);
-            lines_of_farthest(alloc, peg, &seen[offset..], place, unit, farthest)
+            let position = at.after(&seen[..offset + farthest.position]);
+            lines_of_farthest(alloc, peg, &seen[offset..], position, unit, farthest)
         }
         None => Ok(Vec::new(alloc)),
     }
@@ -58,11 +58,11 @@ fn lines_of_found(
 
 /// Returns the failing byte in the input, where the unit begins after so many bytes.
 fn byte_of(found: &Option<Farthest>, unit: usize) -> Option<u128>
-    requires { IfSome found.now (λ far. unit + far.place < 2 ^ 63) }
+    requires { IfSome found.now (λ far. unit + far.position < 2 ^ 63) }
     ensures { result ≡ failing_byte (failure_found unit found.now) }
 {
     match found {
-        Some(farthest) => Some((unit + farthest.place) as u128),
+        Some(farthest) => Some((unit + farthest.position) as u128),
         None => None,
     }
 }
@@ -205,11 +205,11 @@ impl FailureSearch {
         peg: &SoundPeg,
         seen: &[u8],
         last: usize,
-        at: TextPlace,
+        at: TextPosition,
     ) -> Result<Vec<u8>, Memory>
         requires last { last ≤ length seen.now }
-        requires stands { (front : List ℕ) × (at ≡ place_after front) × (length front + length seen.now < 2 ^ 63) }
-        ensures lines { IfOk result (λ why. (front : List ℕ) → at ≡ place_after front → IsNoMatchReported
+        requires stands { (front : List ℕ) × (at ≡ position_after front) × (length front + length seen.now < 2 ^ 63) }
+        ensures lines { IfOk result (λ why. (front : List ℕ) → at ≡ position_after front → IsNoMatchReported
             (rules_of peg.now.rules) peg.now.start (front ++ seen.now) (unit_before at.byte last) (at.byte + last)
             why.items) }
         ensures twice { evaluated_by self.new ≤ evaluated_by self.old + 2 }
@@ -238,7 +238,7 @@ impl FailureSearch {
 ///
 /// # Errors
 /// `Memory` if an allocation fails.
-pub fn explain_long_unit(alloc: Global, at: TextPlace) -> Result<Vec<u8>, Memory>
+pub fn explain_long_unit(alloc: Global, at: TextPosition) -> Result<Vec<u8>, Memory>
     ensures { IfOk result (λ why. why.items ≡ long_unit_lines at) }
 {
     let mut out = Vec::new(alloc);

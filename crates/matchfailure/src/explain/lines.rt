@@ -8,11 +8,11 @@ ghost use Rattle.pegnodes.specs.Nodes.{shapes_of};
 ghost use Rattle.pegread.specs.PegViews.{rules_of};
 ghost use Rattle.matchfailure.specs.FittingFailures.{AreFitting, IsFitting};
 ghost use Rattle.matchfailure.specs.NoMatchLines.{begun_at, end_shown, expected_line, expected_lines};
-ghost use Rattle.matchfailure.specs.NoMatchLines.{failing_picture, failing_place, failure_lines, more_expected};
+ghost use Rattle.matchfailure.specs.NoMatchLines.{failing_picture, failing_position, failure_lines, more_expected};
 
 use crate::explain::node_texts::{leaf_at, rule_name};
 use crate::explain::order::in_report_order;
-use crate::explain::place::TextPlace;
+use crate::explain::position::TextPosition;
 use crate::farthest::{Farthest, Visit};
 use diagnostics::{line_around, push_cut, push_number, push_picture};
 use gramcheck::SoundPeg;
@@ -33,13 +33,13 @@ fn push_end(out: &mut Vec<u8>, is_end: bool) -> Result<(), Memory>
 }
 
 // Adds the line of the position where a unit fails, which may be the input's end. The unit begins after `unit` bytes.
-fn push_failing_place(
+fn push_failing_position(
     out: &mut Vec<u8>,
-    at: TextPlace,
+    at: TextPosition,
     is_end: bool,
     unit: usize,
 ) -> Result<(), Memory>
-    ensures { OnOk result (out.new.items ≡ out.old.items ++ failing_place at is_end unit) }
+    ensures { OnOk result (out.new.items ≡ out.old.items ++ failing_position at is_end unit) }
 {
     out.extend_from_slice(b"  byte ")?;
     push_number(out, at.byte)?;
@@ -55,11 +55,11 @@ fn push_failing_place(
 }
 
 // Adds the line of that byte of a text, with a caret below the byte, unless the line is empty.
-fn push_failing_picture(out: &mut Vec<u8>, text: &[u8], place: usize) -> Result<(), Memory>
-    requires { place ≤ length text.now }
-    ensures { OnOk result (out.new.items ≡ out.old.items ++ failing_picture text.now place) }
+fn push_failing_picture(out: &mut Vec<u8>, text: &[u8], position: usize) -> Result<(), Memory>
+    requires { position ≤ length text.now }
+    ensures { OnOk result (out.new.items ≡ out.old.items ++ failing_picture text.now position) }
 {
-    let around = line_around(text, place, LineRule::Lf);
+    let around = line_around(text, position, LineRule::Lf);
     if around.line.is_empty() {
         return Ok(());
     }
@@ -73,13 +73,13 @@ fn push_failing_picture(out: &mut Vec<u8>, text: &[u8], place: usize) -> Result<
 pub(crate) fn push_begun(
     out: &mut Vec<u8>,
     unit: usize,
-    place: usize,
+    position: usize,
     begin: usize,
 ) -> Result<(), Memory>
     requires { unit + begin < 2 ^ 63 }
-    ensures { OnOk result (out.new.items ≡ out.old.items ++ begun_at unit place begin) }
+    ensures { OnOk result (out.new.items ≡ out.old.items ++ begun_at unit position begin) }
 {
-    if begin != place {
+    if begin != position {
         out.extend_from_slice(b" from byte ")?;
         push_number(out, unit + begin)?;
     }
@@ -92,18 +92,18 @@ fn push_expected_line(
     out: &mut Vec<u8>,
     peg: &SoundPeg,
     unit: usize,
-    place: usize,
+    position: usize,
     visit: Visit,
 ) -> Result<(), Memory>
     requires node { visit.node < length peg.now.nodes }
-    requires begin { unit + visit.place < 2 ^ 63 }
+    requires begin { unit + visit.position < 2 ^ 63 }
     ensures { OnOk result (out.new.items ≡ out.old.items
-        ++ expected_line (rules_of peg.now.rules) (shapes_of peg.now.nodes) peg.now.bodies unit place visit) }
+        ++ expected_line (rules_of peg.now.rules) (shapes_of peg.now.nodes) peg.now.bodies unit position visit) }
 {
     let leaf = leaf_at(alloc, peg, visit.node)?;
     out.extend_from_slice(b"  expected ")?;
     push_cut(out, leaf.as_slice())?;
-    push_begun(out, unit, place, visit.place)?;
+    push_begun(out, unit, position, visit.position)?;
     out.extend_from_slice(b" in ")?;
     push_cut(out, rule_name(peg, visit.node))?;
     out.extend_from_slice(b"\n")?;
@@ -116,15 +116,15 @@ fn push_each(
     out: &mut Vec<u8>,
     peg: &SoundPeg,
     unit: usize,
-    place: usize,
+    position: usize,
     reported: &[Visit],
 ) -> Result<(), Memory>
     requires { AreFitting (length peg.now.nodes) unit reported.now }
     ensures { OnOk result (out.new.items ≡ out.old.items ++ flat_map (expected_line (rules_of peg.now.rules)
-        (shapes_of peg.now.nodes) peg.now.bodies unit place) reported.now) }
+        (shapes_of peg.now.nodes) peg.now.bodies unit position) reported.now) }
 {
     for visit in reported {
-        push_expected_line(alloc, out, peg, unit, place, *visit)?;
+        push_expected_line(alloc, out, peg, unit, position, *visit)?;
     }
     Ok(())
 }
@@ -147,15 +147,15 @@ fn push_expected(
     out: &mut Vec<u8>,
     peg: &SoundPeg,
     unit: usize,
-    place: usize,
+    position: usize,
     reported: &[Visit],
 ) -> Result<(), Memory>
     requires { AreFitting (length peg.now.nodes) unit reported.now }
     ensures { OnOk result (out.new.items ≡ out.old.items ++ expected_lines (rules_of peg.now.rules)
-        (shapes_of peg.now.nodes) peg.now.bodies unit place reported.now) }
+        (shapes_of peg.now.nodes) peg.now.bodies unit position reported.now) }
 {
     let shown = reported.len().min(MAX_EXPECTED);
-    push_each(alloc, out, peg, unit, place, &reported[..shown])?;
+    push_each(alloc, out, peg, unit, position, &reported[..shown])?;
     push_more(out, reported.len() - shown)?;
     Ok(())
 }
@@ -169,21 +169,21 @@ pub(crate) fn lines_of_farthest(
     alloc: Global,
     peg: &SoundPeg,
     seen: &[u8],
-    at: TextPlace,
+    at: TextPosition,
     unit: usize,
     farthest: &Farthest,
 ) -> Result<Vec<u8>, Memory>
     requires { IsFitting (length peg.now.nodes) (length seen.now) unit farthest.now }
     ensures { IfOk result (λ why. (reported : List Visit) × AreReported (rules_of peg.now.rules) peg.now.start
-        (shapes_of peg.now.nodes) peg.now.bodies unit farthest.now.place farthest.now.expected.items reported
+        (shapes_of peg.now.nodes) peg.now.bodies unit farthest.now.position farthest.now.expected.items reported
         × (why.items ≡ failure_lines (rules_of peg.now.rules) (shapes_of peg.now.nodes) peg.now.bodies seen.now at unit
-        farthest.now.place reported)) }
+        farthest.now.position reported)) }
 {
-    let place = farthest.place;
+    let position = farthest.position;
     let reported = in_report_order(alloc, peg, unit, farthest)?;
     let mut out = Vec::new(alloc);
-    push_failing_place(&mut out, at, place == seen.len(), unit)?;
-    push_failing_picture(&mut out, seen, place)?;
-    push_expected(alloc, &mut out, peg, unit, place, &reported)?;
+    push_failing_position(&mut out, at, position == seen.len(), unit)?;
+    push_failing_picture(&mut out, seen, position)?;
+    push_expected(alloc, &mut out, peg, unit, position, &reported)?;
     Ok(out)
 }

@@ -47,7 +47,7 @@ fn uses_to(far: &[Option<usize>], rule: usize) -> usize
     far.len()
 }
 
-// Returns the keys of pairs.
+// Returns the keys of evaluations.
 fn keys_of(
     alloc: Global,
     peg: &SoundPeg,
@@ -62,43 +62,43 @@ fn keys_of(
     for visit in expected {
         let rule = rule_of(peg, visit.node);
         let kind = kind_of(peg.node(visit.node));
-        keys.push([uses_to(far, rule), rule, kind, visit.node, visit.place])?;
+        keys.push([uses_to(far, rule), rule, kind, visit.node, visit.position])?;
     }
     Ok(keys)
 }
 
-// Returns the report of a pair: the expression, where it begins, and its rule.
+// Returns the report of an evaluation: the expression, where it begins, and its rule.
 fn entry_text(
     alloc: Global,
     peg: &SoundPeg,
     unit: usize,
-    place: usize,
+    position: usize,
     visit: Visit,
 ) -> Result<Vec<u8>, Memory>
     requires node { visit.node < length peg.now.nodes }
-    requires begin { unit + visit.place < 2 ^ 63 }
+    requires begin { unit + visit.position < 2 ^ 63 }
     ensures { IfOk result (λ text. text.items ≡ text_of_entry (rules_of peg.now.rules) peg.now.start
-        (shapes_of peg.now.nodes) peg.now.bodies unit place visit) }
+        (shapes_of peg.now.nodes) peg.now.bodies unit position visit) }
 {
     let mut text = leaf_at(alloc, peg, visit.node)?;
-    push_begun(&mut text, unit, place, visit.place)?;
+    push_begun(&mut text, unit, position, visit.position)?;
     text.extend_from_slice(b" in ")?;
     text.extend_from_slice(rule_name(peg, visit.node))?;
     Ok(text)
 }
 
-// Returns the pairs of the keys, of those that are reported alike the first.
+// Returns the evaluations of the keys, of those that are reported alike the first.
 fn each_once(
     alloc: Global,
     peg: &SoundPeg,
     unit: usize,
-    place: usize,
+    position: usize,
     keys: &[Key],
 ) -> Result<Vec<Visit>, Memory>
     requires { AreFitting (length peg.now.nodes) unit (map visit_of keys.now) }
     ensures reported { IfOk result (λ reported. reported.items ≡ once_each
         (text_of_entry (rules_of peg.now.rules) peg.now.start
-        (shapes_of peg.now.nodes) peg.now.bodies unit place) [] (map visit_of keys.now)) }
+        (shapes_of peg.now.nodes) peg.now.bodies unit position) [] (map visit_of keys.now)) }
     ensures fitting { IfOk result (λ reported. AreFitting (length peg.now.nodes) unit reported.items) }
 {
     let mut texts = RuleTable::new(alloc, NameCase::Exact);
@@ -106,9 +106,9 @@ fn each_once(
     for key in keys {
         let visit = Visit {
             node: key[3],
-            place: key[4],
+            position: key[4],
         };
-        let text = entry_text(alloc, peg, unit, place, visit)?;
+        let text = entry_text(alloc, peg, unit, position, visit)?;
         match texts.define(&text, (), NOWHERE)? {
             Defined::Added(_) => reported.push(visit)?,
             Defined::Duplicate(_) => {}
@@ -131,11 +131,11 @@ pub(crate) fn in_report_order(
     requires { AreFitting (length peg.now.nodes) unit farthest.now.expected.items }
     ensures reported { IfOk result (λ reported. AreReported (rules_of peg.now.rules) peg.now.start
         (shapes_of peg.now.nodes)
-        peg.now.bodies unit farthest.now.place farthest.now.expected.items reported.items) }
+        peg.now.bodies unit farthest.now.position farthest.now.expected.items reported.items) }
     ensures fitting { IfOk result (λ reported. AreFitting (length peg.now.nodes) unit reported.items) }
 {
     let far = distances(alloc, peg)?;
     let mut keys = keys_of(alloc, peg, &far, &farthest.expected)?;
     keys.sort_unstable();
-    each_once(alloc, peg, unit, farthest.place, &keys)
+    each_once(alloc, peg, unit, farthest.position, &keys)
 }

@@ -12,12 +12,12 @@ use memo::Found;
 use pegnodes::Node;
 use ruletable::Memory;
 
-// Returns where the node ends at the place, if its cell there holds a success.
-fn end_at(desk: &Desk, node: usize, place: usize) -> Option<usize>
-    ensures some { IfSome result (λ end. found_at desk.now.cells node place ≡ Some (Found.Took end)) }
-    ensures none { IfNone result ((end : ℕ) → found_at desk.now.cells node place ≡ Some (Found.Took end) → ⊥) }
+// Returns where the node ends at the position, if its cell there holds a success.
+fn end_at(desk: &Desk, node: usize, position: usize) -> Option<usize>
+    ensures some { IfSome result (λ end. found_at desk.now.cells node position ≡ Some (Found.Took end)) }
+    ensures none { IfNone result ((end : ℕ) → found_at desk.now.cells node position ≡ Some (Found.Took end) → ⊥) }
 {
-    match desk.found(node, place) {
+    match desk.found(node, position) {
         Some(Found::Took(end)) => Some(end),
         Some(Found::Failed) => None,
         None => None,
@@ -25,27 +25,27 @@ fn end_at(desk: &Desk, node: usize, place: usize) -> Option<usize>
 }
 
 // Returns whether the node's cell at the position holds a failure.
-fn fails_at(desk: &Desk, node: usize, place: usize) -> bool
-    ensures { (result ≡ true) ↔ (found_at desk.now.cells node place ≡ Some Found.Failed) }
+fn fails_at(desk: &Desk, node: usize, position: usize) -> bool
+    ensures { (result ≡ true) ↔ (found_at desk.now.cells node position ≡ Some Found.Failed) }
 {
-    match desk.found(node, place) {
+    match desk.found(node, position) {
         Some(Found::Failed) => true,
         Some(Found::Took(_)) => false,
         None => false,
     }
 }
 
-// Adds the members of a sequence that are asked for: the first at its place, and each later one where those before it
-// end.
+// Adds the members of a sequence that are asked for: the first at its position, and each later one where those before
+// it end.
 fn add_members(
     desk: &Desk,
     members: &[usize],
-    place: usize,
+    position: usize,
     seen: &mut VisitList,
 ) -> Result<(), Memory>
-    ensures { OnOk result (AddsVisits (λ m q. WalksTo desk.now.cells members.now place m q) seen.old seen.new) }
+    ensures { OnOk result (AddsVisits (λ m q. WalksTo desk.now.cells members.now position m q) seen.old seen.new) }
 {
-    let mut end = place;
+    let mut end = position;
     for member in members {
         seen.add(*member, end)?;
         match end_at(desk, *member, end) {
@@ -60,15 +60,15 @@ fn add_members(
 fn add_alternatives(
     desk: &Desk,
     alternatives: &[usize],
-    place: usize,
+    position: usize,
     seen: &mut VisitList,
 ) -> Result<(), Memory>
-    ensures { OnOk result (AddsVisits (λ m q. TriesTo desk.now.cells place alternatives.now m × (q ≡ place))
+    ensures { OnOk result (AddsVisits (λ m q. TriesTo desk.now.cells position alternatives.now m × (q ≡ position))
         seen.old seen.new) }
 {
     for alternative in alternatives {
-        seen.add(*alternative, place)?;
-        if !fails_at(desk, *alternative, place) {
+        seen.add(*alternative, position)?;
+        if !fails_at(desk, *alternative, position) {
             return Ok(());
         }
     }
@@ -76,24 +76,24 @@ fn add_alternatives(
 }
 
 // Adds the operand of a repetition, and what goes on with the repetition where the operand ends.
-fn add_turns(
+fn add_steps(
     desk: &Desk,
     operand: usize,
     again: usize,
-    place: usize,
+    position: usize,
     seen: &mut VisitList,
 ) -> Result<(), Memory>
-    ensures { OnOk result (AddsVisits (λ m q. ((m ≡ operand) × (q ≡ place)) ⊎ ((m ≡ again)
-        × (found_at desk.now.cells operand place ≡ Some (Found.Took q)))) seen.old seen.new) }
+    ensures { OnOk result (AddsVisits (λ m q. ((m ≡ operand) × (q ≡ position)) ⊎ ((m ≡ again)
+        × (found_at desk.now.cells operand position ≡ Some (Found.Took q)))) seen.old seen.new) }
 {
-    seen.add(operand, place)?;
-    match end_at(desk, operand, place) {
+    seen.add(operand, position)?;
+    match end_at(desk, operand, position) {
         Some(end) => seen.add(again, end),
         None => Ok(()),
     }
 }
 
-/// Adds what the outcome of a pair asks for, unless its node is a `!`.
+/// Adds what the outcome of an evaluation asks for, unless its node is a `!`.
 ///
 /// # Errors
 /// `Memory` if an allocation fails.
@@ -107,17 +107,17 @@ pub(crate) fn add_asked(
 ) -> Result<(), Memory>
     requires { (id : ℕ) → shape_of node.now ≡ Name id → id < length peg.now.bodies }
     ensures { OnOk result (AddsVisits (λ m q. CellAsksBy desk.now.cells peg.now.bodies (shape_of node.now) visit.node
-        visit.place m q) seen.old seen.new) }
+        visit.position m q) seen.old seen.new) }
 {
-    let place = visit.place;
+    let position = visit.position;
     match node {
-        Node::Name(id) => seen.add(peg.body_node(*id), place),
-        Node::Seq(members) => add_members(desk, members, place, seen),
-        Node::Choice(alternatives) => add_alternatives(desk, alternatives, place, seen),
-        Node::Star(operand) => add_turns(desk, *operand, visit.node, place, seen),
-        Node::Plus { operand, star } => add_turns(desk, *operand, *star, place, seen),
-        Node::Opt(operand) => seen.add(*operand, place),
-        Node::And(operand) => seen.add(*operand, place),
+        Node::Name(id) => seen.add(peg.body_node(*id), position),
+        Node::Seq(members) => add_members(desk, members, position, seen),
+        Node::Choice(alternatives) => add_alternatives(desk, alternatives, position, seen),
+        Node::Star(operand) => add_steps(desk, *operand, visit.node, position, seen),
+        Node::Plus { operand, star } => add_steps(desk, *operand, *star, position, seen),
+        Node::Opt(operand) => seen.add(*operand, position),
+        Node::And(operand) => seen.add(*operand, position),
         Node::Not(_) => Ok(()),
         Node::Any => Ok(()),
         Node::Bytes(_) => Ok(()),

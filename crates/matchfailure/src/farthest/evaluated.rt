@@ -19,8 +19,8 @@ fn end_of(unit: Unit) -> Option<usize>
     }
 }
 
-/// Evaluates the start rule at the front of a window, which is taken as the whole rest: each pair that is visited has a
-/// cell then. Returns where the start rule ends, if it succeeds.
+/// Evaluates the start rule at the front of a window, which is taken as the whole rest: each evaluation that is visited
+/// has a cell then. Returns where the start rule ends, if it succeeds.
 ///
 /// # Errors
 /// `Memory` if an allocation fails.

@@ -21,7 +21,7 @@ use std::alloc::Global;
 #[derive(Drop)]
 pub struct Farthest {
     /// The farthest byte at which a comparison outside of `!` fails, from the front of the window.
-    pub place: usize,
+    pub position: usize,
     /// The leaves whose comparison fails there, by the grammar's order and then by where they begin.
     pub expected: Vec<Visit>,
 }
@@ -46,17 +46,17 @@ fn failure_by(
     ensures { IfOk result (λ found. MatchOption found
         (NoneFails (rules_of peg.now.rules) (shapes_of peg.now.nodes) peg.now.bodies window.now peg.now.start)
         (λ far. IsFarthest (rules_of peg.now.rules) (shapes_of peg.now.nodes) peg.now.bodies window.now peg.now.start
-        far.place far.expected.items)) }
+        far.position far.expected.items)) }
 {
     let mut seen = VisitList::new(alloc);
     add_outside(peg, window, desk, &mut seen)?;
     let visits = seen.as_slice();
-    let Some(place) = greatest_stop(peg, window, visits) else {
+    let Some(position) = greatest_stop(peg, window, visits) else {
         return Ok(None);
     };
-    let mut expected = stopped_at(alloc, peg, window, visits, place)?;
+    let mut expected = stopped_at(alloc, peg, window, visits, position)?;
     put_in_order(&mut expected);
-    Ok(Some(Farthest { place, expected }))
+    Ok(Some(Farthest { position, expected }))
 }
 
 /// Evaluates the start rule at the front of the window. Finds where it ends, and the farthest byte at which a
@@ -71,7 +71,7 @@ pub fn farthest_failure(alloc: Global, peg: &SoundPeg, window: &[u8]) -> Result<
     ensures farthest { IfOk result (λ search. MatchOption search.farthest
         (NoneFails (rules_of peg.now.rules) (shapes_of peg.now.nodes) peg.now.bodies window.now peg.now.start)
         (λ far. IsFarthest (rules_of peg.now.rules) (shapes_of peg.now.nodes) peg.now.bodies window.now peg.now.start
-        far.place far.expected.items)) }
+        far.position far.expected.items)) }
     ensures end { IfOk result (λ search. EndsSo (rules_of peg.now.rules) peg.now.start window.now search.end) }
 {
     let mut desk = Desk::new(alloc);

@@ -49,7 +49,7 @@ pub fn same_on_longer()
 /// States that the farthest byte at which a comparison fails is one of the text or its end. The leaves that were
 /// expected there are nodes of the grammar, which begin in the text or at its end.
 pub fn farthest_is_within()
-    ensures place { (rules : List Rule) (start : ℕ) (nodes : List Shape) (bodies ranks x : List ℕ) (f : ℕ)
+    ensures position { (rules : List Rule) (start : ℕ) (nodes : List Shape) (bodies ranks x : List ℕ) (f : ℕ)
         (vs : List Visit) → IsRanked rules start nodes bodies ranks → IsFarthest rules nodes bodies x start f vs →
         f ≤ length x }
     ensures expected { (rules : List Rule) (start : ℕ) (nodes : List Shape) (bodies ranks x : List ℕ) (f : ℕ)

@@ -1,10 +1,10 @@
-//! Pairs in the grammar's order.
+//! Evaluations in the grammar's order.
 ghost use Rattle.std.specs.Prelude.{◌↔◌};
 ghost use Rattle.matchfailure.specs.VisitLists.{ListsVisit, AreOnce, Ascends};
 
 use crate::farthest::visit::Visit;
 
-/// Sorts pairs by the node, and then by the position.
+/// Sorts evaluations by the node, and then by the position.
 pub(crate) fn put_in_order(visits: &mut Vec<Visit>)
     requires { AreOnce visits.old.items }
     ensures ordered { Ascends visits.new.items }

@@ -1,4 +1,4 @@
-//! The pairs that are asked for outside of `!`.
+//! The evaluations that are asked for outside of `!`.
 ghost use Rattle.std.specs.Prelude.{◌≡◌, ◌↔◌, ℕ, false, [], length, OnOk};
 ghost use Rattle.pegread.specs.PegViews.{rules_of};
 ghost use Rattle.pegnodes.specs.Nodes.{shapes_of};
@@ -12,8 +12,8 @@ use crate::farthest::visit::{Visit, VisitList};
 use gramcheck::SoundPeg;
 use ruletable::Memory;
 
-/// Adds the pairs that the start rule's outcome asks for outside of `!` to an empty list. The machine has evaluated the
-/// start rule on the window, which is the whole rest.
+/// Adds the evaluations that the start rule's outcome asks for outside of `!` to an empty list. The machine has
+/// evaluated the start rule on the window, which is the whole rest.
 ///
 /// # Errors
 /// `Memory` if an allocation fails.
@@ -26,7 +26,7 @@ pub(crate) fn add_outside(
     requires done { IsDone peg.now window.now false desk.now }
     requires empty { seen.old ≡ [] }
     ensures listed { OnOk result ((v : Visit) → ListsVisit seen.new v ↔ Outside (rules_of peg.now.rules)
-        (shapes_of peg.now.nodes) peg.now.bodies window.now peg.now.start v.node v.place) }
+        (shapes_of peg.now.nodes) peg.now.bodies window.now peg.now.start v.node v.position) }
     ensures once { OnOk result (AreOnce seen.new) }
     ensures within { OnOk result (AreWithin (length peg.now.nodes) (length window.now) seen.new) }
 {

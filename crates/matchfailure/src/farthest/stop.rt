@@ -5,20 +5,21 @@ ghost use Rattle.matchfailure.specs.Farthest.{StopsBy};
 
 use pegnodes::Node;
 
-// Returns with how many of the literal's bytes the window goes on from a place.
-fn agreed(literal: &[u8], window: &[u8], place: usize) -> usize
-    requires { place ≤ length window.now }
+// Returns with how many of the literal's bytes the window goes on from a position.
+fn agreed(literal: &[u8], window: &[u8], position: usize) -> usize
+    requires { position ≤ length window.now }
     ensures within { result ≤ length literal.now }
-    ensures agree { (i : ℕ) → i < result → slice_get window.now (place + i) ≡ slice_get literal.now i }
-    ensures differ { result < length literal.now → slice_get window.now (place + result) ≡ slice_get literal.now result
+    ensures agree { (i : ℕ) → i < result → slice_get window.now (position + i) ≡ slice_get literal.now i }
+    ensures differ { result < length literal.now → slice_get window.now (position + result)
+        ≡ slice_get literal.now result
         → ⊥ }
-    ensures inside { place + result ≤ length window.now }
+    ensures inside { position + result ≤ length window.now }
 {
     for (i, byte) in literal.iter().enumerate() {
-        if i >= window.len() - place {
+        if i >= window.len() - position {
             return i;
         }
-        if window[place + i] != *byte {
+        if window[position + i] != *byte {
             return i;
         }
     }
@@ -26,30 +27,30 @@ fn agreed(literal: &[u8], window: &[u8], place: usize) -> usize
 }
 
 /// Returns the byte at which the node's own comparison fails at a position, if it makes one and that fails.
-pub(crate) fn stop_of(node: &Node, window: &[u8], place: usize) -> Option<usize>
-    requires { place ≤ length window.now }
-    ensures some { IfSome result (λ f. StopsBy window.now (shape_of node.now) place f) }
-    ensures none { IfNone result ((f : ℕ) → StopsBy window.now (shape_of node.now) place f → ⊥) }
+pub(crate) fn stop_of(node: &Node, window: &[u8], position: usize) -> Option<usize>
+    requires { position ≤ length window.now }
+    ensures some { IfSome result (λ f. StopsBy window.now (shape_of node.now) position f) }
+    ensures none { IfNone result ((f : ℕ) → StopsBy window.now (shape_of node.now) position f → ⊥) }
 {
     match node {
         Node::Any => {
-            if place < window.len() {
+            if position < window.len() {
                 None
             } else {
-                Some(place)
+                Some(position)
             }
         }
         Node::Set(set) => {
-            if place < window.len() && set.has(window[place]) {
+            if position < window.len() && set.has(window[position]) {
                 None
             } else {
-                Some(place)
+                Some(position)
             }
         }
         Node::Bytes(bytes) => {
-            let agreed = agreed(bytes, window, place);
+            let agreed = agreed(bytes, window, position);
             if agreed < bytes.len() {
-                Some(place + agreed)
+                Some(position + agreed)
             } else {
                 None
             }

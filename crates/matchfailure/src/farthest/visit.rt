@@ -1,4 +1,4 @@
-//! Pairs of a node and a position, and the list of those that were found.
+//! Evaluations of a node and a position, and the list of those that were found.
 ghost use Rattle.std.specs.Prelude.{◌≡◌, ℕ, [], OnOk};
 ghost use Rattle.matchfailure.specs.VisitLists.{AddsVisits};
 
@@ -13,17 +13,17 @@ pub struct Visit {
     /// The number of the node.
     pub node: usize,
     /// Where it begins, in bytes from the front of the window.
-    pub place: usize,
+    pub position: usize,
 }
 
-/// A list of different pairs, in the order in which they were added. Contracts see the list.
+/// A list of different evaluations, in the order in which they were added. Contracts see the list.
 ///
-/// It is a worklist: a pair is added once, and its children are added after it.
+/// It is a worklist: an evaluation is added once, and its children are added after it.
 #[derive(Drop)]
 pub(crate) struct VisitList {
-    /// The pairs, in order.
+    /// The evaluations, in order.
     visits: Vec<Visit>,
-    /// The same pairs, as a set.
+    /// The same evaluations, as a set.
     seen: HashSet<Visit>,
 }
 
@@ -50,21 +50,21 @@ impl VisitList {
         }
     }
 
-    /// Returns its pairs.
+    /// Returns its evaluations.
     pub(crate) fn as_slice(&self) -> &[Visit]
         ensures { result.now ≡ self.now }
     {
         self.visits.as_slice()
     }
 
-    /// Adds a pair, if it is not there yet.
+    /// Adds an evaluation, if it is not there yet.
     ///
     /// # Errors
     /// `Memory` if an allocation fails.
-    pub(crate) fn add(&mut self, node: usize, place: usize) -> Result<(), Memory>
-        ensures { OnOk result (AddsVisits (λ m q. (m ≡ node) × (q ≡ place)) self.old self.new) }
+    pub(crate) fn add(&mut self, node: usize, position: usize) -> Result<(), Memory>
+        ensures { OnOk result (AddsVisits (λ m q. (m ≡ node) × (q ≡ position)) self.old self.new) }
     {
-        let visit = Visit { node, place };
+        let visit = Visit { node, position };
         if self.seen.contains(&visit) {
             return Ok(());
         }

@@ -40,8 +40,8 @@ pub(crate) fn link_of(event: Kept) -> Result<Link, Memory>
     ensures before { IfOk result (λ link. (head : ℕ) → IsBefore head link) }
 {
     match event {
-        Kept::Opened(place) => Ok(Link::Opened(narrow(place)?)),
-        Kept::Closed(place) => Ok(Link::Closed(narrow(place)?)),
+        Kept::Opened(position) => Ok(Link::Opened(narrow(position)?)),
+        Kept::Closed(position) => Ok(Link::Closed(narrow(position)?)),
         Kept::Acted(node) => Ok(Link::Acted(narrow(node)?)),
     }
 }

@@ -38,8 +38,8 @@ pub(crate) fn take_event(links: &[Link], waiting: &mut Waiting) -> Option<Kept>
     'down: loop {
         match link_at(links, top as usize) {
             None => top = waiting.take()?,
-            Some(Link::Opened(place)) => return Some(Kept::Opened(place as usize)),
-            Some(Link::Closed(place)) => return Some(Kept::Closed(place as usize)),
+            Some(Link::Opened(position)) => return Some(Kept::Opened(position as usize)),
+            Some(Link::Closed(position)) => return Some(Kept::Closed(position as usize)),
             Some(Link::Acted(node)) => return Some(Kept::Acted(node as usize)),
             Some(Link::Join { first, second }) => {
                 waiting.push(second);

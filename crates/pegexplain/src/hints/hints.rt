@@ -16,7 +16,7 @@ pub(crate) struct Hint<'a> {
     /// The name of the rule.
     pub(crate) rule: &'a [u8],
     /// The index of the alternative's literal among those of the rule.
-    pub(crate) place: usize,
+    pub(crate) position: usize,
     /// The literal of the alternative.
     pub(crate) later: &'a [u8],
     /// The literal that is the earlier alternative.
@@ -27,16 +27,16 @@ pub(crate) struct Hint<'a> {
 fn push_hint<'a>(
     found: &mut Vec<Hint<'a>>,
     rule: &'a [u8],
-    place: usize,
+    position: usize,
     literal: Literal<'a>,
 ) -> Result<(), Memory>
     ensures { OnOk result (map hint_found found.new.items ≡ map hint_found found.old.items
-        ++ hint_if rule.now (place, literal_found literal.entry)) }
+        ++ hint_if rule.now (position, literal_found literal.entry)) }
 {
     if let Some(earlier) = literal.hidden_by {
         found.push(Hint {
             rule,
-            place,
+            position,
             later: literal.bytes,
             earlier,
         })?;
@@ -53,8 +53,8 @@ fn push_hints<'a>(
     ensures { OnOk result (map hint_found found.new.items ≡ map hint_found found.old.items
         ++ flat_map (hint_if rule.now) (enumerate_from 0 (map literal_found literals.now))) }
 {
-    for place in 0..literals.len() {
-        push_hint(found, rule, place, literals[place])?;
+    for position in 0..literals.len() {
+        push_hint(found, rule, position, literals[position])?;
     }
     Ok(())
 }

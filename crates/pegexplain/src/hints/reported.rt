@@ -2,14 +2,14 @@
 ghost use Rattle.std.specs.Prelude.{◌≡◌, ◌++◌, ℕ, List, map, slice_get, IfOk, OnOk};
 ghost use Rattle.std.specs.List.{flat_map};
 ghost use Rattle.diagnostics.specs.MentionLines.{mention_lines_by};
-ghost use Rattle.pegexplain.specs.PegNotes.{ArePegPlaces};
+ghost use Rattle.pegexplain.specs.PegNotes.{ArePegPositions};
 ghost use Rattle.diagnostics.specs.ShownBytes.{cut};
 ghost use Rattle.pegprint.specs.Canon.{text_of};
 ghost use Rattle.pegread.specs.Pattern.{Bytes};
 ghost use Rattle.pegexplain.specs.CodeHints.{hint_found};
 ghost use Rattle.pegexplain.specs.PegHints.{ArePegHints, hint_line, hint_reported, hints_reported, rule_reported};
 
-use crate::PegPlaces;
+use crate::PegPositions;
 use crate::hints::hints::{Hint, all_hints};
 use diagnostics::{MentionKind, mention_lines, push_cut, push_more, push_number};
 use pegprint::print_literal;
@@ -71,29 +71,29 @@ fn push_rule(out: &mut Vec<u8>, rule: &[u8]) -> Result<(), Memory>
     Ok(())
 }
 
-// The number at a place, if there is one.
-fn number_at(numbers: &[usize], place: usize) -> Option<usize>
-    ensures { result ≡ slice_get numbers.now place }
+// The number at a position, if there is one.
+fn number_at(numbers: &[usize], position: usize) -> Option<usize>
+    ensures { result ≡ slice_get numbers.now position }
 {
-    numbers.get(place).copied()
+    numbers.get(position).copied()
 }
 
 // Adds a hint.
 fn push_hint(
     alloc: Global,
     out: &mut Vec<u8>,
-    places: &PegPlaces,
+    positions: &PegPositions,
     hint: Hint<'_>,
 ) -> Result<(), Memory>
     ensures { OnOk result (out.new.items ≡ out.old.items
-        ++ hint_reported (mention_lines_by places.now.places MentionKind.Literal) (hint_found hint.entry)) }
+        ++ hint_reported (mention_lines_by positions.now.positions MentionKind.Literal) (hint_found hint.entry)) }
 {
     push_rule(out, hint.rule)?;
-    let lines = mention_lines(alloc, &places.places, MentionKind::Literal, hint.rule)?;
+    let lines = mention_lines(alloc, &positions.positions, MentionKind::Literal, hint.rule)?;
     push_line(
         alloc,
         out,
-        number_at(&lines, hint.place),
+        number_at(&lines, hint.position),
         hint.later,
         hint.earlier,
     )?;
@@ -104,14 +104,14 @@ fn push_hint(
 fn push_hints(
     alloc: Global,
     out: &mut Vec<u8>,
-    places: &PegPlaces,
+    positions: &PegPositions,
     hints: &[Hint<'_>],
 ) -> Result<(), Memory>
     ensures { OnOk result (out.new.items ≡ out.old.items ++ flat_map
-        (hint_reported (mention_lines_by places.now.places MentionKind.Literal)) (map hint_found hints.now)) }
+        (hint_reported (mention_lines_by positions.now.positions MentionKind.Literal)) (map hint_found hints.now)) }
 {
     for hint in hints {
-        push_hint(alloc, out, places, *hint)?;
+        push_hint(alloc, out, positions, *hint)?;
     }
     Ok(())
 }
@@ -120,14 +120,14 @@ fn push_hints(
 fn push_first_hints(
     alloc: Global,
     out: &mut Vec<u8>,
-    places: &PegPlaces,
+    positions: &PegPositions,
     hints: &[Hint<'_>],
 ) -> Result<(), Memory>
     ensures { OnOk result (out.new.items ≡ out.old.items
-        ++ hints_reported (mention_lines_by places.now.places MentionKind.Literal) (map hint_found hints.now)) }
+        ++ hints_reported (mention_lines_by positions.now.positions MentionKind.Literal) (map hint_found hints.now)) }
 {
     let shown = hints.len().min(MAX_HINTS);
-    push_hints(alloc, out, places, &hints[..shown])?;
+    push_hints(alloc, out, positions, &hints[..shown])?;
     push_more(out, hints.len() - shown)?;
     Ok(())
 }
@@ -138,11 +138,12 @@ fn push_first_hints(
 ///
 /// # Errors
 /// `Memory` if an allocation fails.
-pub fn peg_hints(alloc: Global, places: &PegPlaces) -> Result<Vec<u8>, Memory>
-    ensures { IfOk result (λ lines. (text : List ℕ) → ArePegPlaces text places.now → ArePegHints text lines.items) }
+pub fn peg_hints(alloc: Global, positions: &PegPositions) -> Result<Vec<u8>, Memory>
+    ensures { IfOk result
+        (λ lines. (text : List ℕ) → ArePegPositions text positions.now → ArePegHints text lines.items) }
 {
-    let hints = all_hints(alloc, &places.rules)?;
+    let hints = all_hints(alloc, &positions.rules)?;
     let mut reported = Vec::new(alloc);
-    push_first_hints(alloc, &mut reported, places, &hints)?;
+    push_first_hints(alloc, &mut reported, positions, &hints)?;
     Ok(reported)
 }

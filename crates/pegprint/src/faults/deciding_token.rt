@@ -2,7 +2,7 @@
 ghost use Rattle.std.specs.Prelude.{MatchOption};
 ghost use Rattle.pegprint.specs.PegDecisions.{Decides, NoneDecides};
 
-use crate::faults::stand::Place;
+use crate::faults::stand::Position;
 use lexer::{MAX_OPEN, Token, have_tokens, tokens};
 use pegread::Kind;
 
@@ -10,7 +10,7 @@ use pegread::Kind;
 #[derive(Clone, Copy)]
 pub(crate) enum Decision<'a> {
     /// It stands there, and with it the tokens begin no grammar any more.
-    Hopeless(Place, Token<'a, Kind>),
+    Hopeless(Position, Token<'a, Kind>),
     /// It opens one bracket more than `MAX_OPEN`.
     TooDeep(Token<'a, Kind>),
 }
@@ -20,15 +20,15 @@ pub(crate) fn deciding_token(text: &[u8]) -> Option<Decision<'_>>
     ensures { MatchOption result (NoneDecides text.now) (λ d. Decides text.now d) }
 {
     have_tokens::<Kind>(text);
-    let mut place = Place::start();
+    let mut position = Position::start();
     for token in tokens::<Kind>(text) {
-        let Some(next) = place.after(token.kind) else {
-            return Some(Decision::Hopeless(place, token));
+        let Some(next) = position.after(token.kind) else {
+            return Some(Decision::Hopeless(position, token));
         };
         if next.depth > MAX_OPEN {
             return Some(Decision::TooDeep(token));
         }
-        place = next;
+        position = next;
     }
     None
 }

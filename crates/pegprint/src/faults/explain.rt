@@ -7,7 +7,7 @@ ghost use Rattle.diagnostics.specs.ReportedPhrases.{AreAllReported};
 ghost use Rattle.pegread.specs.Reading.{IsFaultOf};
 ghost use Rattle.pegprint.specs.PegDecisions.{NoneDecides};
 ghost use Rattle.pegprint.specs.PegExpected.{phrases};
-ghost use Rattle.pegprint.specs.PegExplained.{token_place, Why, Explains};
+ghost use Rattle.pegprint.specs.PegExplained.{token_position, Why, Explains};
 ghost use Rattle.pegprint.specs.PegMistakes.{mistake_reported};
 ghost use Rattle.pegprint.specs.PegStands.{allows};
 ghost use Rattle.pegread.specs.Tokens.{Tok, AreTokens};
@@ -15,34 +15,34 @@ ghost use Rattle.pegread.specs.Tokens.{Tok, AreTokens};
 use crate::faults::deciding_token::{Decision, deciding_token};
 use crate::faults::mistakes::push_mistake;
 use crate::faults::phrases::reported_phrases;
-use crate::faults::stand::Place;
-use diagnostics::{push_phrases, push_place};
+use crate::faults::stand::Position;
+use diagnostics::{push_phrases, push_position};
 use lexer::{Token, tokens_make_up};
 use pegread::Kind;
 use ruletable::{LineRule, Memory, ReadFault};
 use std::alloc::Global;
 
 // Adds where a token stands.
-fn push_token_place(out: &mut Vec<u8>, text: &[u8], token: Token<'_, Kind>) -> Result<(), Memory>
+fn push_token_position(out: &mut Vec<u8>, text: &[u8], token: Token<'_, Kind>) -> Result<(), Memory>
     requires { token.span.start ≤ length text.now }
-    ensures { OnOk result (out.new.items ≡ out.old.items ++ token_place text.now (tok_of token.entry)) }
+    ensures { OnOk result (out.new.items ≡ out.old.items ++ token_position text.now (tok_of token.entry)) }
 {
     match token.kind {
         Kind::End => {
             out.extend_from_slice(b"  at the end of the text: ")?;
             Ok(())
         }
-        _ => push_place(out, text, token.span.start, LineRule::Any),
+        _ => push_position(out, text, token.span.start, LineRule::Any),
     }
 }
 
 // Adds what can stand there.
-fn push_expected(alloc: Global, out: &mut Vec<u8>, place: Place) -> Result<(), Memory>
-    requires { place.depth ≤ max_open }
-    ensures { OnOk result ((reported : List (List ℕ)) × AreAllReported (λ k. allows place k ≡ true) phrases reported
+fn push_expected(alloc: Global, out: &mut Vec<u8>, position: Position) -> Result<(), Memory>
+    requires { position.depth ≤ max_open }
+    ensures { OnOk result ((reported : List (List ℕ)) × AreAllReported (λ k. allows position k ≡ true) phrases reported
         × (out.new.items ≡ out.old.items ++ listed reported)) }
 {
-    let reported = reported_phrases(alloc, place)?;
+    let reported = reported_phrases(alloc, position)?;
     push_phrases(out, reported.as_slice())?;
     Ok(())
 }
@@ -51,21 +51,21 @@ fn push_expected(alloc: Global, out: &mut Vec<u8>, place: Place) -> Result<(), M
 fn hopeless_lines(
     alloc: Global,
     text: &[u8],
-    place: Place,
+    position: Position,
     token: Token<'_, Kind>,
 ) -> Result<Vec<u8>, Memory>
-    requires depth { place.depth ≤ max_open }
+    requires depth { position.depth ≤ max_open }
     requires within { token.span.start ≤ length text.now }
     ensures { IfOk result (λ v. (reported : List (List ℕ)) × AreAllReported
-        (λ k. allows place k ≡ true) phrases reported
+        (λ k. allows position k ≡ true) phrases reported
         × ((all : List Tok) → AreTokens (length text.now) text.now all
-        → v.items ≡ token_place text.now (tok_of token.entry) ++ (codes "expected " ++ (listed reported
+        → v.items ≡ token_position text.now (tok_of token.entry) ++ (codes "expected " ++ (listed reported
         ++ (codes "\n" ++ mistake_reported text.now all (tok_of token.entry)))))) }
 {
     let mut out = Vec::new(alloc);
-    push_token_place(&mut out, text, token)?;
+    push_token_position(&mut out, text, token)?;
     out.extend_from_slice(b"expected ")?;
-    push_expected(alloc, &mut out, place)?;
+    push_expected(alloc, &mut out, position)?;
     out.extend_from_slice(b"\n")?;
     push_mistake(&mut out, text, token)?;
     Ok(out)
@@ -74,11 +74,11 @@ fn hopeless_lines(
 // The lines on a bracket too many.
 fn deep_lines(alloc: Global, text: &[u8], token: Token<'_, Kind>) -> Result<Vec<u8>, Memory>
     requires { token.span.start ≤ length text.now }
-    ensures { IfOk result (λ v. v.items ≡ token_place text.now (tok_of token.entry)
+    ensures { IfOk result (λ v. v.items ≡ token_position text.now (tok_of token.entry)
         ++ codes "200 brackets are open before it\n") }
 {
     let mut out = Vec::new(alloc);
-    push_token_place(&mut out, text, token)?;
+    push_token_position(&mut out, text, token)?;
     out.extend_from_slice(b"200 brackets are open before it\n")?;
     Ok(out)
 }
@@ -91,7 +91,7 @@ fn explain_token(alloc: Global, text: &[u8]) -> Result<Vec<u8>, Memory>
 {
     tokens_make_up::<Kind>();
     match deciding_token(text) {
-        Some(Decision::Hopeless(place, token)) => hopeless_lines(alloc, text, place, token),
+        Some(Decision::Hopeless(position, token)) => hopeless_lines(alloc, text, position, token),
         Some(Decision::TooDeep(token)) => deep_lines(alloc, text, token),
         None => unreachable!(),
     }

@@ -7,7 +7,7 @@ ghost use Rattle.pegprint.specs.PegExpected.{phrases};
 ghost use Rattle.pegprint.specs.PegStands.{allows};
 ghost use Rattle.pegprint.specs.PhraseRows.{phrase_of};
 
-use crate::faults::stand::Place;
+use crate::faults::stand::Position;
 use pegread::Kind;
 use ruletable::Memory;
 use std::alloc::Global;
@@ -103,35 +103,35 @@ static PHRASES: [Phrase; 12] = [
     },
 ];
 
-fn allows_all(place: Place, kinds: &[Kind]) -> bool
-    requires { place.depth ≤ max_open }
-    ensures { result ≡ list_all (allows place) kinds.now }
+fn allows_all(position: Position, kinds: &[Kind]) -> bool
+    requires { position.depth ≤ max_open }
+    ensures { result ≡ list_all (allows position) kinds.now }
 {
     for kind in kinds {
-        if !place.allows(*kind) {
+        if !position.allows(*kind) {
             return false;
         }
     }
     true
 }
 
-fn allows_any(place: Place, kinds: &[Kind]) -> bool
-    requires { place.depth ≤ max_open }
-    ensures { result ≡ list_any (allows place) kinds.now }
+fn allows_any(position: Position, kinds: &[Kind]) -> bool
+    requires { position.depth ≤ max_open }
+    ensures { result ≡ list_any (allows position) kinds.now }
 {
     for kind in kinds {
-        if place.allows(*kind) {
+        if position.allows(*kind) {
             return true;
         }
     }
     false
 }
 
-fn is_reported(place: Place, phrase: &Phrase) -> bool
-    requires { place.depth ≤ max_open }
-    ensures { result ≡ reports (allows place) (phrase_of phrase.now) }
+fn is_reported(position: Position, phrase: &Phrase) -> bool
+    requires { position.depth ≤ max_open }
+    ensures { result ≡ reports (allows position) (phrase_of phrase.now) }
 {
-    allows_all(place, phrase.kinds) && !allows_any(place, phrase.bars)
+    allows_all(position, phrase.kinds) && !allows_any(position, phrase.bars)
 }
 
 fn all_phrases() -> &'static [Phrase]
@@ -141,14 +141,18 @@ fn all_phrases() -> &'static [Phrase]
 }
 
 // The words of the phrases of a table that are reported.
-fn reported_of(alloc: Global, place: Place, table: &[Phrase]) -> Result<Vec<&'static [u8]>, Memory>
-    requires { place.depth ≤ max_open }
-    ensures { IfOk result (λ v. AreAllReported (λ k. allows place k ≡ true) (map phrase_of table.now)
+fn reported_of(
+    alloc: Global,
+    position: Position,
+    table: &[Phrase],
+) -> Result<Vec<&'static [u8]>, Memory>
+    requires { position.depth ≤ max_open }
+    ensures { IfOk result (λ v. AreAllReported (λ k. allows position k ≡ true) (map phrase_of table.now)
         (map (λ w. w.now) v.items)) }
 {
     let mut reported = Vec::new(alloc);
     for phrase in table {
-        if is_reported(place, phrase) {
+        if is_reported(position, phrase) {
             reported.push(phrase.words)?;
         }
     }
@@ -159,9 +163,12 @@ fn reported_of(alloc: Global, place: Place, table: &[Phrase]) -> Result<Vec<&'st
 ///
 /// # Errors
 /// `Memory` if an allocation fails.
-pub(crate) fn reported_phrases(alloc: Global, place: Place) -> Result<Vec<&'static [u8]>, Memory>
-    requires { place.depth ≤ max_open }
-    ensures { IfOk result (λ v. AreAllReported (λ k. allows place k ≡ true) phrases (map (λ w. w.now) v.items)) }
+pub(crate) fn reported_phrases(
+    alloc: Global,
+    position: Position,
+) -> Result<Vec<&'static [u8]>, Memory>
+    requires { position.depth ≤ max_open }
+    ensures { IfOk result (λ v. AreAllReported (λ k. allows position k ≡ true) phrases (map (λ w. w.now) v.items)) }
 {
-    reported_of(alloc, place, all_phrases())
+    reported_of(alloc, position, all_phrases())
 }

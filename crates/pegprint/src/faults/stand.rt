@@ -32,20 +32,20 @@ pub(crate) enum Stand {
 /// A position between two tokens: the state of a machine that recognizes prefixes of grammars. All brackets are of one
 /// form, so it counts them.
 #[derive(Clone, Copy)]
-pub(crate) struct Place {
+pub(crate) struct Position {
     /// The kind of token before it.
     pub(crate) stand: Stand,
     /// How many brackets are open.
     pub(crate) depth: usize,
 }
 
-fn at(stand: Stand, depth: usize) -> Option<Place>
+fn at(stand: Stand, depth: usize) -> Option<Position>
     ensures { result ≡ Some (record { stand = stand; depth = depth }) }
 {
-    Some(Place { stand, depth })
+    Some(Position { stand, depth })
 }
 
-fn close(depth: usize) -> Option<Place>
+fn close(depth: usize) -> Option<Position>
     ensures { result ≡ closed depth }
 {
     if depth == 0 {
@@ -55,13 +55,13 @@ fn close(depth: usize) -> Option<Place>
     }
 }
 
-fn end(depth: usize) -> Option<Place>
+fn end(depth: usize) -> Option<Position>
     ensures { result ≡ ended depth }
 {
     if depth == 0 { at(Stand::Done, 0) } else { None }
 }
 
-fn begin(depth: usize) -> Option<Place>
+fn begin(depth: usize) -> Option<Position>
     ensures { result ≡ begun depth }
 {
     if depth == 0 {
@@ -72,7 +72,7 @@ fn begin(depth: usize) -> Option<Place>
 }
 
 // After a primary that is neither a name nor an action.
-fn take_primary(depth: usize, kind: Kind) -> Option<Place>
+fn take_primary(depth: usize, kind: Kind) -> Option<Position>
     requires { depth ≤ max_open }
     ensures { result ≡ primary depth kind }
 {
@@ -86,7 +86,7 @@ fn take_primary(depth: usize, kind: Kind) -> Option<Place>
 }
 
 // Where no prefix waits.
-fn take_unmarked(depth: usize, kind: Kind) -> Option<Place>
+fn take_unmarked(depth: usize, kind: Kind) -> Option<Position>
     requires { depth ≤ max_open }
     ensures { result ≡ unmarked depth kind }
 {
@@ -103,7 +103,7 @@ fn take_unmarked(depth: usize, kind: Kind) -> Option<Place>
 }
 
 // After a primary.
-fn take_after(depth: usize, kind: Kind) -> Option<Place>
+fn take_after(depth: usize, kind: Kind) -> Option<Position>
     requires { depth ≤ max_open }
     ensures { result ≡ after_primary depth kind }
 {
@@ -113,7 +113,7 @@ fn take_after(depth: usize, kind: Kind) -> Option<Place>
     }
 }
 
-fn take_prefixed(depth: usize, kind: Kind, may_act: bool) -> Option<Place>
+fn take_prefixed(depth: usize, kind: Kind, may_act: bool) -> Option<Position>
     requires { depth ≤ max_open }
     ensures { result ≡ prefixed depth kind may_act }
 {
@@ -130,18 +130,18 @@ fn take_prefixed(depth: usize, kind: Kind, may_act: bool) -> Option<Place>
     }
 }
 
-impl Place {
-    pub(crate) fn start() -> Place
+impl Position {
+    pub(crate) fn start() -> Position
         ensures { result ≡ record { stand = Stand.Start; depth = 0 } }
     {
-        Place {
+        Position {
             stand: Stand::Start,
             depth: 0,
         }
     }
 
     /// Returns the position after a token of the kind, if one can stand here.
-    pub(crate) fn after(self, kind: Kind) -> Option<Place>
+    pub(crate) fn after(self, kind: Kind) -> Option<Position>
         requires { self.depth ≤ max_open }
         ensures { result ≡ goes self.stand self.depth kind }
     {

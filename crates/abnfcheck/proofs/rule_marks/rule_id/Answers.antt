@@ -1,4 +1,4 @@
--- The place of the name, or the number of rules.
+-- The position of the name, or the number of rules.
 use Rattle.std.proofs.Common.{◌∙◌}
 use Rattle.abnfcheck.proofs.RuleIdLemmas.{id_found}
 use Rattle.abnfcheck.proofs.rule_marks.rule_id.Goals as goal

@@ -4,7 +4,7 @@ use Rattle.abnfd.proofs.CompareAnswersLemmas.{lacks_room}
 use Rattle.abnfd.specs.CompareAnswers.{CompareAnswers, no_memory}
 use Rattle.clap.specs.Words.{Row, fault_of, matches_of}
 use Rattle.cli.proofs.JobStatesLemmas.{stop_comes}
-use Rattle.toolrun.specs.Right.{Comes}
+use Rattle.toolrun.specs.Right.{RunIsRight}
 use Rattle.toolrun.specs.Status.{code_of}
 use Rattle.toolrun.specs.Stream.{no_input, passed}
 use Rattle.toolrun.specs.declared.stop.Stop.TheVariants.{NoMemory}
@@ -20,7 +20,7 @@ returns-in-Ok g c =
       right = (
         parsed.0,
         parsed.1,
-        λ none. subst (λ (rows : List Row). Comes (CompareAnswers rows) no_input out err
+        λ none. subst (λ (rows : List Row). RunIsRight (CompareAnswers rows) no_input out err
             (code_of c.compare_asked.result)) parsed.2.1 c.compare_asked.ensures.right,
       );
     }

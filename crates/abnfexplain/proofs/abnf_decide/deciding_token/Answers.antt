@@ -14,9 +14,9 @@ pub loop-token-init : goal.loop-token-init
 loop-token-init c =
     let made = c.abnf_tokens-token-items.ensures in
     rw c.into_iter-token-iterator.ensures.into_iter_gives
-    (none-taken c.args.text.now (AreLeft c.abnf_tokens-token-items.result) c.start-place.result
+    (none-taken c.args.text.now (AreLeft c.abnf_tokens-token-items.result) c.start-position.result
     (reading.none-taken c.args.text.now (AreLeft c.abnf_tokens-token-items.result) start made.left made.all refl)
-    c.start-place.ensures)
+    c.start-position.ensures)
 
 pub returns-then-not-allows : goal.returns-then-not-allows
 returns-then-not-allows c =

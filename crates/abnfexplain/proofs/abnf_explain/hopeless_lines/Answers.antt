@@ -6,7 +6,7 @@ returns c =
     let reported = c.in_ok-push_expected.ensures in (
       reported.0,
       reported.1,
-      six-pieces _ _ _ _ _ _ _ _ _ _ _ c.new-out.ensures.items c.in_ok-push_token_place.ensures
+      six-pieces _ _ _ _ _ _ _ _ _ _ _ c.new-out.ensures.items c.in_ok-push_token_position.ensures
           c.in_ok-extend_from_slice.ensures.items reported.2 c.in_ok-extend_from_slice-2.ensures.items
           c.in_ok-push_token_facts.ensures,
     )

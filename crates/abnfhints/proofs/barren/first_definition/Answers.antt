@@ -8,7 +8,7 @@ use Rattle.abnfhints.proofs.barren.first_definition.Goals as goal
 
 pub returns : goal.returns
 returns c = IfOk-weaker c.explain_note.result _ _ (λ why reported. reported.is
-    ∙ ap (defined_line c.args.places.now.names (map defined_at c.args.places.now.heads.items))
+    ∙ ap (defined_line c.args.positions.now.names (map defined_at c.args.positions.now.heads.items))
     c.in_ok-from_slice.ensures.items
-    ∙ ap (λ (names : NameCase). defined_line names (map defined_at c.args.places.now.heads.items) c.args.name.now)
+    ∙ ap (λ (names : NameCase). defined_line names (map defined_at c.args.positions.now.heads.items) c.args.name.now)
     c.requires) c.explain_note.ensures

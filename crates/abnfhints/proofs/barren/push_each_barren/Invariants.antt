@@ -7,5 +7,5 @@ use Rattle.abnfhints.proofs.barren.push_each_barren.Given as goal
 
 abbrev pub invariant-loop-name : goal.invariant-loop-name
 invariant-loop-name l = l.out.items ≡ l.fn.out.items ++ flat_map
-    (barren_reported (map defined_at l.places.heads.items))
+    (barren_reported (map defined_at l.positions.heads.items))
     (map (λ name. name.now) (take l.name-index l.names))

@@ -1,17 +1,17 @@
--- The hints by the places.
+-- The hints by the positions.
 use Rattle.std.proofs.Common.{map}
 use Rattle.abnfread.specs.AbnfViews.{rules_of}
 use Rattle.letters.specs.Letters.{has}
 use Rattle.diagnostics.specs.BodyMentions.{mentioned_at}
-use Rattle.abnfhints.proofs.AbnfHintsLemmas.{hints_by_places}
+use Rattle.abnfhints.proofs.AbnfHintsLemmas.{hints_by_positions}
 use Rattle.abnfhints.proofs.ReportedFirstLemmas.{three_from_nothing}
 use Rattle.abnfhints.proofs.hints.abnf_hints.Goals as goal
 
 pub returns : goal.returns
 returns c = λ text are.
     let j = c.in_ok-push_judged.ensures in
-    hints_by_places (has c.args.hinted.now.letters) (rules_of c.args.hinted.now.rules.now) c.args.hinted.now.count
-    c.args.hinted.now.judged c.args.hinted.now.end text c.push_judged.new.out.items c.args.hinted.now.places.now are
+    hints_by_positions (has c.args.hinted.now.letters) (rules_of c.args.hinted.now.rules.now) c.args.hinted.now.count
+    c.args.hinted.now.judged c.args.hinted.now.end text c.push_judged.new.out.items c.args.hinted.now.positions.now are
     (record {
       barren = map (λ name. name.now) c.in_ok-barren.barren.items;
       reversed = map (λ m. mentioned_at m.now) c.in_ok-reversed.reversed.items;

@@ -6,5 +6,5 @@ use Rattle.diagnostics.specs.DefinitionHeads.{defined_at}
 use Rattle.abnfhints.proofs.reversed.head_at.Given as goal
 
 abbrev pub invariant-loop-head : goal.invariant-loop-head
-invariant-loop-head l = find (λ d. d.start == l.place) (map defined_at (drop l.head-index l.heads))
-    ≡ find (λ d. d.start == l.place) (map defined_at l.heads)
+invariant-loop-head l = find (λ d. d.start == l.position) (map defined_at (drop l.head-index l.heads))
+    ≡ find (λ d. d.start == l.position) (map defined_at l.heads)

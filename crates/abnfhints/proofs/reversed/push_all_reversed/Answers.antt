@@ -8,6 +8,6 @@ use Rattle.abnfhints.proofs.reversed.push_all_reversed.Goals as goal
 
 pub returns : goal.returns
 returns c = first_join (λ m. mentioned_at m.now)
-    (reversed_reported (map defined_at c.args.places.now.heads.items))
+    (reversed_reported (map defined_at c.args.positions.now.heads.items))
     c.args.mentions.now c.min-shown.result _ _ _ c.min-shown.ensures c.in_ok-push_each_reversed.ensures
     c.in_ok-push_more.ensures

@@ -8,6 +8,6 @@ use Rattle.abnfhints.proofs.reversed.push_each_reversed.Goals as goal
 
 pub loop-mention-preserved : goal.loop-mention-preserved
 loop-mention-preserved c = each_next (λ m. mentioned_at m.now)
-    (reversed_reported (map defined_at c.args.places.now.heads.items))
+    (reversed_reported (map defined_at c.args.positions.now.heads.items))
     c.args.mentions.now c.loop-mention.mention-index c.mention-item.result _ _ _ c.loop-mention-test.true
     c.mention-item.is c.loop-mention.invariant c.in_ok-push_reversed.ensures

@@ -8,5 +8,5 @@ use Rattle.abnfhints.proofs.reversed.push_each_reversed.Given as goal
 
 abbrev pub invariant-loop-mention : goal.invariant-loop-mention
 invariant-loop-mention l = l.out.items ≡ l.fn.out.items ++ flat_map
-    (reversed_reported (map defined_at l.places.heads.items))
+    (reversed_reported (map defined_at l.positions.heads.items))
     (map (λ m. mentioned_at m.now) (take l.mention-index l.mentions))

@@ -4,8 +4,8 @@ use Rattle.abnfread.proofs.indent.indent_at.Given as goal
 
 abbrev pub invariant-loop-last : goal.invariant-loop-last
 invariant-loop-last l = record {
-  size : l.size + length l.rest ≡ l.place;
-  same : indent_from (Some 0) (take l.place l.text) ≡ plus l.size (indent_from (Some 0) l.rest);
+  size : l.size + length l.rest ≡ l.position;
+  same : indent_from (Some 0) (take l.position l.text) ≡ plus l.size (indent_from (Some 0) l.rest);
 }
 
 abbrev pub decreases-loop-last : goal.decreases-loop-last

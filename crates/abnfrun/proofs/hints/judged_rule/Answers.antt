@@ -1,4 +1,4 @@
--- A rule that is found has its place among the rules.
+-- A rule that is found has its position among the rules.
 use Rattle.std.proofs.Common.{option_copied, refl}
 use Rattle.abnfread.specs.AbnfViews.{rules_of}
 use Rattle.abnfrun.proofs.AbnfTextHintsLemmas.{judged_first, judged_found}

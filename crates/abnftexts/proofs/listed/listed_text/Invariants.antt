@@ -8,6 +8,6 @@ use Rattle.abnftexts.proofs.listed.listed_text.Given as goal
 -- the lines of the rules to come complete those so far
 abbrev pub invariant-loop-number : goal.invariant-loop-number
 invariant-loop-number l = l.out.items
-    ++ flat_map (λ p. rule_listed (map lines_placed l.places) (map text_rule l.rules) p.0 p.1)
+    ++ flat_map (λ p. rule_listed (map lines_placed l.positions) (map text_rule l.rules) p.0 p.1)
     (enumerate_from l.number (drop l.number l.fates))
-    ≡ rules_listed (map lines_placed l.places) (map text_rule l.rules) l.fates
+    ≡ rules_listed (map lines_placed l.positions) (map text_rule l.rules) l.fates

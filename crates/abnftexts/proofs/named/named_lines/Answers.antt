@@ -9,13 +9,13 @@ loop-line-preserved c = λ comments text rest.
     let named = (let e = c.in_ok-new.ensures in e) in
     let more = (let e = c.in_ok-push_line.ensures.comments in rw c.deref.ensures.value at e) in
     let whole = (let e = c.in_ok-push_line.ensures.text in rw c.deref.ensures.value at e) in
-    line-more (is_defined c.args.names.now) c.args.own.now c.args.place.now.margin c.args.place.now.lines.items
+    line-more (is_defined c.args.names.now) c.args.own.now c.args.position.now.margin c.args.position.now.lines.items
     c.loop-line.line-index _ c.items_after-bare.result.now c.in_ok-new.new.items c.loop-line.lines.comments.items
     c.loop-line.lines.text.items c.push_line.new.lines.comments.items c.push_line.new.lines.text.items comments text
     (let low = c.loop-line-test.true in rw all at low) bare named more whole c.loop-line.invariant rest
 
 pub returns : goal.returns
-returns c = lines-all (is_defined c.args.names.now) c.args.own.now c.args.place.now.margin
-    c.args.place.now.lines.items c.loop-line.line-index c.loop-line.lines.comments.items
+returns c = lines-all (is_defined c.args.names.now) c.args.own.now c.args.position.now.margin
+    c.args.position.now.lines.items c.loop-line.line-index c.loop-line.lines.comments.items
     c.loop-line.lines.text.items (let high = c.loop-line-test.false in rw c.deref-line-items.ensures.value at high)
     c.loop-line.invariant

@@ -6,5 +6,5 @@ use Rattle.abnftexts.proofs.printed.printed_text.Given as goal
 -- the rules to come complete what is printed so far
 abbrev pub invariant-loop-number : goal.invariant-loop-number
 invariant-loop-number l = l.out.items ++ printed_after (option_map (λ p. lines_placed p.now) l.before)
-    (ordered_rules (map lines_placed l.places) (drop l.number-index l.order))
-    ≡ printed_after None (ordered_rules (map lines_placed l.places) l.order)
+    (ordered_rules (map lines_placed l.positions) (drop l.number-index l.order))
+    ≡ printed_after None (ordered_rules (map lines_placed l.positions) l.order)

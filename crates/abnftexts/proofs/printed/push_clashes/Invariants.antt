@@ -7,4 +7,4 @@ use Rattle.abnftexts.proofs.printed.push_clashes.Given as goal
 
 abbrev pub invariant-loop-clash : goal.invariant-loop-clash
 invariant-loop-clash l = l.out.items ≡ l.fn.out.items
-    ++ flat_map (clash_reported (map lines_placed l.places) (map text_rule l.rules)) (take l.clash-index l.clashes)
+    ++ flat_map (clash_reported (map lines_placed l.positions) (map text_rule l.rules)) (take l.clash-index l.clashes)

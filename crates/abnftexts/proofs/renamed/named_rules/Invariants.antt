@@ -7,9 +7,9 @@ use Rattle.abnftexts.proofs.renamed.named_rules.Given as goal
 -- the rules to come complete those so far
 abbrev pub invariant-loop-rule : goal.invariant-loop-rule
 invariant-loop-rule l = record {
-  within : l.number ≤ length l.places;
+  within : l.number ≤ length l.positions;
   so_far : (others : List RuleGiven)
-      → AreRulesNamed (map lines_placed (drop l.number l.places)) (map text_rule l.rule-iterator.rest.items) others
-      → AreRulesNamed (map lines_placed l.places) (map text_rule l.fn.rules.items)
+      → AreRulesNamed (map lines_placed (drop l.number l.positions)) (map text_rule l.rule-iterator.rest.items) others
+      → AreRulesNamed (map lines_placed l.positions) (map text_rule l.fn.rules.items)
       (map text_rule l.named.items ++ others);
 }

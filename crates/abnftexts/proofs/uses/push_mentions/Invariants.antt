@@ -8,4 +8,4 @@ use Rattle.abnftexts.proofs.uses.push_mentions.Given as goal
 
 abbrev pub invariant-loop-mention : goal.invariant-loop-mention
 invariant-loop-mention l = map name_used l.uses.items ≡ map name_used l.fn.uses.items
-    ++ flat_map (used_at (lines_placed l.place)) (map mentioned_at (take l.mention-index l.mentions))
+    ++ flat_map (used_at (lines_placed l.position)) (map mentioned_at (take l.mention-index l.mentions))

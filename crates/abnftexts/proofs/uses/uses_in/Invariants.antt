@@ -8,5 +8,5 @@ use Rattle.abnftexts.proofs.uses.uses_in.Given as goal
 -- the uses of the rules to come complete those so far
 abbrev pub invariant-loop-number : goal.invariant-loop-number
 invariant-loop-number l = (more : List UsedName)
-    → AreNameUses (ordered_rules (map lines_placed l.places) (drop l.number-index l.order)) more
-    → AreNameUses (ordered_rules (map lines_placed l.places) l.order) (map name_used l.uses.items ++ more)
+    → AreNameUses (ordered_rules (map lines_placed l.positions) (drop l.number-index l.order)) more
+    → AreNameUses (ordered_rules (map lines_placed l.positions) l.order) (map name_used l.uses.items ++ more)

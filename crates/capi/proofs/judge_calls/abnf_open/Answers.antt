@@ -1,12 +1,12 @@
--- The grammar was opened into an empty place, or what is wrong is reported.
+-- The grammar was opened into an empty slot, or what is wrong is reported.
 use Rattle.capi.specs.OpenCall.{text_reported, tried}
 use Rattle.capi.proofs.OpenCallLemmas.{closed_is_none}
 use Rattle.capi.proofs.judge_calls.abnf_open.Goals as goal
 
 pub returns-clause-call : goal.returns-clause-call
 returns-clause-call c =
-    let place = c.args.place.now in
-    let empty = closed_is_none place.judge.held place.is_open place.right c.if-place.false in
+    let slot = c.args.slot.now in
+    let empty = closed_is_none slot.judge.held slot.is_open slot.right c.if-slot.false in
     tried c.in-Some.settings (text_reported c.open_judge-reported.result) empty c.in-Some.ensures
-    (rw (c.lay_reported.ensures.status, c.open_judge-reported.new.place.right) c.open_judge-reported.ensures)
+    (rw (c.lay_reported.ensures.status, c.open_judge-reported.new.slot.right) c.open_judge-reported.ensures)
     c.lay_reported.ensures.err

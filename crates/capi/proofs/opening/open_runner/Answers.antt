@@ -7,7 +7,7 @@ use Rattle.ruletable.specs.Notes.{said_of}
 
 pub returns-in-Err : goal.returns-in-Err
 returns-in-Err c =
-    opens_no_text c.args.place.now.runner.held c.requires c.text_of_fault.result c.text_of_fault.ensures
+    opens_no_text c.args.slot.now.runner.held c.requires c.text_of_fault.result c.text_of_fault.ensures
 
 pub returns-in_default : goal.returns-in_default
 returns-in_default c =
@@ -16,7 +16,7 @@ returns-in_default c =
 
 pub returns-in_err-new : goal.returns-in_err-new
 returns-in_err-new c =
-    opens_nothing c.args.place.now.runner.held c.requires c.from_residual.result c.from_residual.ensures.0
+    opens_nothing c.args.slot.now.runner.held c.requires c.from_residual.result c.from_residual.ensures.0
 
 pub returns : goal.returns
 returns c =

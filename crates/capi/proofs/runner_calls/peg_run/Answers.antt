@@ -4,10 +4,10 @@ use Rattle.capi.specs.RunCall.{not_open, runs}
 use Rattle.capi.proofs.OpenCallLemmas.{closed_is_none}
 use Rattle.capi.proofs.runner_calls.peg_run.Goals as goal
 
-pub returns-then-not-place-clause-ran : goal.returns-then-not-place-clause-ran
-returns-then-not-place-clause-ran c =
-    let place = c.args.place.now in
-    let empty = closed_is_none place.runner.held place.is_open place.right c.if-not-place.true in
+pub returns-then-not-slot-clause-ran : goal.returns-then-not-slot-clause-ran
+returns-then-not-slot-clause-ran c =
+    let slot = c.args.slot.now in
+    let empty = closed_is_none slot.runner.held slot.is_open slot.right c.if-not-slot.true in
     rw (empty, c.nothing_done.ensures) (not_open (refl, refl) (refl, refl) refl)
 
 pub returns-clause-ran : goal.returns-clause-ran

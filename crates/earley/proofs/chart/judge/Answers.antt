@@ -2,13 +2,13 @@ use Rattle.std.proofs.Common.{ℕ, ◌+◌, ◌*◌, ◌≤◌, Bool, List, Resu
 use Rattle.std.specs.Prelude.{IfSome}
 use Rattle.earleyitems.proofs.ChartSetsLemmas.{set_bound}
 use Rattle.earleyitems.specs.ChartSets.{set_at, IsSet}
-use Rattle.flatgrammar.specs.Flat.{Flat, Place}
-use Rattle.flatgrammar.specs.Places.{places}
+use Rattle.flatgrammar.specs.Flat.{Flat, Dot}
+use Rattle.flatgrammar.specs.Positions.{positions}
 use Rattle.earley.proofs.chart.judge.Goals as goal
 
-sets_bound : {E : Type 0} (flat : Flat) (x : List ℕ) (sets : List (List (Place × ℕ))) (r : Result Bool E)
+sets_bound : {E : Type 0} (flat : Flat) (x : List ℕ) (sets : List (List (Dot × ℕ))) (r : Result Bool E)
     → IfOk r (λ _. (j : ℕ) → IsSet flat x j (set_at sets j))
-    → IfOk r (λ _. (j : ℕ) → length (set_at sets j) ≤ places flat.nodes * (j + 1))
+    → IfOk r (λ _. (j : ℕ) → length (set_at sets j) ≤ positions flat.nodes * (j + 1))
 sets_bound flat x sets (Ok b) are = λ j. set_bound flat x j (set_at sets j) (are j)
 sets_bound flat x sets (Err e) are = tt
 

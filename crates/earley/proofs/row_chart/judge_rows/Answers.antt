@@ -1,7 +1,7 @@
 use Rattle.std.proofs.Common.{◌≡◌, ◌↔◌, ℕ, IsTrue, length, map, subst, sym}
 use Rattle.std.specs.Prelude.{IfSome}
 use Rattle.earleyitems.specs.ChartSets.{set_at, IsSet}
-use Rattle.flatgrammar.specs.Blocks.{AreExact}
+use Rattle.flatgrammar.specs.ItemClosures.{AreExact}
 use Rattle.flatgrammar.specs.Flat.{at}
 use Rattle.flatgrammar.specs.Holds.{Holds}
 use Rattle.flatgrammar.specs.NodeSteps.{flat_of}
@@ -23,6 +23,6 @@ returns-clause-sets g c =
 pub returns-clause-answer : goal.returns-clause-answer
 returns-clause-answer g c =
     subst (λ f. IsTrue c.in_ok-judged.judged.yes ↔ Holds (flat_of f.value) (map g.L.Letter.number c.args.line.now)
-    (length c.args.line.now) (at f.value.whole 1) 0)
+    (length c.args.line.now) (at f.value.start 1) 0)
     (subst (λ o. IfSome o (λ t. t.flat ≡ c.args.flat)) c.in-Some.is c.in_ok-table.ensures.same)
     c.in_ok-judged.ensures.answer

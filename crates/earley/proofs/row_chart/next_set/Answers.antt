@@ -30,7 +30,7 @@ fill_rows-requires-clause-begun g c =
     let same : c.len.result ≡ length c.args.table.now.dots.items = omega (arith, n, ok) in (
       map g.L.Letter.number c.args.line.now,
       c.requires.built.held,
-      begun_rows c.args.table.now.flat.value c.requires.exact.roots c.requires.exact.nulls
+      begun_rows c.args.table.now.flat.value c.requires.exact.targets c.requires.exact.nulls
           (map g.L.Letter.number c.args.line.now) (row_views c.args.table.now.dots.items c.args.filled.now.sets.items)
           c.requires.built.held c.args.table.now.dots.items c.in_ok-set.set c.begin_rows.new.set
           (c.in_ok-set.ensures ∙ ap (λ v. no_items v) same) (omega (arith, one, two, n, ok)) c.requires.built
@@ -50,7 +50,7 @@ returns-clause-built g c =
     let n = c.len.ensures in
     let ok = c.args.table.now.dots.ok.0 in
     let same : c.len.result ≡ length c.args.table.now.dots.items = omega (arith, n, ok) in
-    let begun = begun_rows c.args.table.now.flat.value c.requires.exact.roots c.requires.exact.nulls
+    let begun = begun_rows c.args.table.now.flat.value c.requires.exact.targets c.requires.exact.nulls
     (map g.L.Letter.number c.args.line.now) (row_views c.args.table.now.dots.items c.args.filled.now.sets.items)
     c.requires.built.held c.args.table.now.dots.items c.in_ok-set.set c.begin_rows.new.set
     (c.in_ok-set.ensures ∙ ap (λ v. no_items v) same) (omega (arith, one, two, n, ok)) c.requires.built
@@ -59,7 +59,7 @@ returns-clause-built g c =
     c.begin_rows.new.set) c.deref.ensures.value c.in_ok-begin_rows.ensures) in
     MatchResult-weaker c.kept_rows.result
     (ok_both c.kept_rows.result _ _ c.kept_rows.ensures.rows c.kept_rows.ensures.ascend) (λ kept is.
-    filled_rows c.args.table.now.flat.value c.requires.exact.roots c.requires.exact.nulls
+    filled_rows c.args.table.now.flat.value c.requires.exact.targets c.requires.exact.nulls
     (map g.L.Letter.number c.args.line.now) (row_views c.args.table.now.dots.items c.args.filled.now.sets.items)
     c.requires.built.held c.args.table.now.dots.items c.begin_rows.new.set c.fill_rows.new.set
     kept.rows.items c.requires.table.different c.requires.built is.0 is.1

@@ -12,7 +12,7 @@ loop-alloc-preserved g c =
     let kept = c.in_ok-kept.kept in
     let more = c.in_ok-keep_set.ensures.sets in
     record {
-      indexed = subst (λ n. AreIndexed n c.keep_set.new.filled) (c.len-places.ensures ∙ c.args.table.now.dots.ok.0)
+      indexed = subst (λ n. AreIndexed n c.keep_set.new.filled) (c.len-positions.ensures ∙ c.args.table.now.dots.ok.0)
           c.in_ok-keep_set.ensures.indexed;
       within = subst (λ v. length v ≤ length c.args.line.now + 1) (sym more)
           (let long = length-append old (kept ∷ []) in

@@ -5,8 +5,8 @@ use Rattle.earley.proofs.row_index.join_at.Goals as goal
 
 pub returns-clause-members : goal.returns-clause-members
 returns-clause-members c =
-    let row = c.index-rows-place.result in
-    joined_at c.args.rows.now c.args.place (λ x. Contains c.args.found.now x)
-    (slice_index_or c.args.rows.now c.args.place row)
-    c.join.new.self c.requires (default_same c.args.rows.now c.args.place row [] c.requires)
+    let row = c.index-rows-position.result in
+    joined_at c.args.rows.now c.args.position (λ x. Contains c.args.found.now x)
+    (slice_index_or c.args.rows.now c.args.position row)
+    c.join.new.self c.requires (default_same c.args.rows.now c.args.position row [] c.requires)
     c.in_ok-join.ensures.members

@@ -29,7 +29,7 @@ returns-clause-indexed c =
     c.deref_mut-2.ensures.value three in
     let five = subst (λ r. AreIndexedBelow (length old.sets.items) (length rows) rows old.own.items old.rest.items r
     c.index_rows.new.own c.index_rows.new.rest c.index_rows.new.union) c.deref_mut-3.ensures.value four in
-    indexed_more c.args.places c.args.kept old (record {
+    indexed_more c.args.positions c.args.kept old (record {
       sets = c.push.new.self;
       own = with_items old.own c.index_rows.new.own;
       rest = with_items old.rest c.index_rows.new.rest;

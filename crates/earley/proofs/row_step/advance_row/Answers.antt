@@ -6,8 +6,8 @@ use Rattle.earley.proofs.row_step.advance_row.Goals as goal
 pub returns-in_default : goal.returns-in_default
 returns-in_default c =
     let h = step_here c.args.table.now.flat.value c.args.table.now.dots.items c.args.table.now.steps.items
-    c.requires.table.steps c.args.place c.index.result.now c.requires.place c.index.ensures in
-    not_free c.args.table.now.flat.value c.args.table.now.dots.items c.args.place c.args.row.now h.at h.is
+    c.requires.table.steps c.args.position c.index.result.now c.requires.position c.index.ensures in
+    not_free c.args.table.now.flat.value c.args.table.now.dots.items c.args.position c.args.row.now h.at h.is
     c.args.set.now c.args.set.now c.in-Some.called
     (call_here c.args.table.now.flat.value c.args.table.now.dots.items h.at c.index.result.now c.in-Some.called
     h.reports
@@ -16,8 +16,8 @@ returns-in_default c =
 pub returns-in_default-2 : goal.returns-in_default-2
 returns-in_default-2 c =
     let h = step_here c.args.table.now.flat.value c.args.table.now.dots.items c.args.table.now.steps.items
-    c.requires.table.steps c.args.place c.index.result.now c.requires.place c.index.ensures in
-    nothing_advanced c.args.table.now.flat.value c.args.table.now.dots.items c.args.place c.args.row.now h.at h.is
+    c.requires.table.steps c.args.position c.index.result.now c.requires.position c.index.ensures in
+    nothing_advanced c.args.table.now.flat.value c.args.table.now.dots.items c.args.position c.args.row.now h.at h.is
     c.args.set.now c.args.set.now
     (no_call_here c.args.table.now.flat.value c.args.table.now.dots.items h.at c.index.result.now h.reports
     c.in_default.is)
@@ -25,7 +25,7 @@ returns-in_default-2 c =
 pub add-requires : goal.add-requires
 add-requires c =
     let h = step_here c.args.table.now.flat.value c.args.table.now.dots.items c.args.table.now.steps.items
-    c.requires.table.steps c.args.place c.index.result.now c.requires.place c.index.ensures in
+    c.requires.table.steps c.args.position c.index.result.now c.requires.position c.index.ensures in
     let call = call_here c.args.table.now.flat.value c.args.table.now.dots.items h.at c.index.result.now
     c.in-Some.called
     h.reports c.in-Some.is in
@@ -35,8 +35,8 @@ add-requires c =
 pub returns-in_ok-add-in-Some : goal.returns-in_ok-add-in-Some
 returns-in_ok-add-in-Some c =
     let h = step_here c.args.table.now.flat.value c.args.table.now.dots.items c.args.table.now.steps.items
-    c.requires.table.steps c.args.place c.index.result.now c.requires.place c.index.ensures in
-    free_advances c.args.table.now.flat.value c.args.table.now.dots.items c.args.place c.args.row.now h.at h.is
+    c.requires.table.steps c.args.position c.index.result.now c.requires.position c.index.ensures in
+    free_advances c.args.table.now.flat.value c.args.table.now.dots.items c.args.position c.args.row.now h.at h.is
     c.args.set.now c.add.new.self c.in-Some.called
     (call_here c.args.table.now.flat.value c.args.table.now.dots.items h.at c.index.result.now c.in-Some.called
     h.reports

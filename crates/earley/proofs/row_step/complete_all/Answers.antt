@@ -25,22 +25,22 @@ loop-call-preserved c =
 pub complete_call-requires-clause-after : goal.complete_call-requires-clause-after
 complete_call-requires-clause-after c =
     let look = rw c.deref.ensures.value at c.in-Some.ensures.lookup in
-    let is = found_at c.args.table.now.roots.items c.args.root c.in-Some.places.now look.0 look.1 in
+    let is = found_at c.args.table.now.targets.items c.args.target c.in-Some.positions.now look.0 look.1 in
     let lt = call_below c.args.table.now.flat.value c.args.table.now.dots.items c.args.table.now.steps.items
-    c.args.root
-    c.in-Some.places.now.calls.items c.deref-call-items.result.now c.loop-call.call-index _ c.requires.table.steps
-    (c.requires.table.roots.each c.args.root c.in-Some.places.now is).calls c.deref-call-items.ensures.value
+    c.args.target
+    c.in-Some.positions.now.calls.items c.deref-call-items.result.now c.loop-call.call-index _ c.requires.table.steps
+    (c.requires.table.targets.each c.args.target c.in-Some.positions.now is).calls c.deref-call-items.ensures.value
     c.loop-call-test.true in
     rw c.loop-call.invariant.count lt
 
 pub returns : goal.returns
 returns c =
     let look = rw c.deref.ensures.value at c.in-Some.ensures.lookup in
-    let is = found_at c.args.table.now.roots.items c.args.root c.in-Some.places.now look.0 look.1 in
+    let is = found_at c.args.table.now.targets.items c.args.target c.in-Some.positions.now look.0 look.1 in
     some_completed c.args.table.now.flat.value c.args.table.now.dots.items c.args.table.now.steps.items
-    c.requires.table.steps c.args.root c.args.filled.now.sets.items c.args.row.now
-    (length c.args.filled.now.sets.items) c.args.set.now c.in-Some.places.now.calls.items
-    (c.requires.table.roots.each c.args.root c.in-Some.places.now is).calls c.loop-call.set
+    c.requires.table.steps c.args.target c.args.filled.now.sets.items c.args.row.now
+    (length c.args.filled.now.sets.items) c.args.set.now c.in-Some.positions.now.calls.items
+    (c.requires.table.targets.each c.args.target c.in-Some.positions.now is).calls c.loop-call.set
     (subst (λ v. Gains c.args.table.now.dots.items (IsAfterSome c.args.table.now.dots.items v
     c.args.filled.now.sets.items c.args.row.now (length c.args.filled.now.sets.items)) c.args.set.now c.loop-call.set)
     (take_past c.deref-call-items.result.now c.loop-call.call-index c.loop-call-test.false
@@ -49,8 +49,8 @@ returns c =
 pub returns-in_default : goal.returns-in_default
 returns-in_default c =
     let look = rw c.deref.ensures.value at c.in_default.ensures.lookup in
-    let past = missing_past c.args.table.now.roots.items c.args.root look.0 in
+    let past = missing_past c.args.table.now.targets.items c.args.target look.0 in
     none_completed c.args.table.now.flat.value c.args.table.now.dots.items c.args.table.now.steps.items
-    c.requires.table.steps c.args.root c.args.filled.now.sets.items c.args.row.now
+    c.requires.table.steps c.args.target c.args.filled.now.sets.items c.args.row.now
     (length c.args.filled.now.sets.items) c.args.set.now
-    (let count = c.requires.table.roots.count in omega (arith, past, count))
+    (let count = c.requires.table.targets.count in omega (arith, past, count))

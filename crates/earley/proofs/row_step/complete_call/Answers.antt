@@ -13,7 +13,7 @@ complete_rest-requires-clause-own c dots = (subst (λ v. Gains dots (IsAfterOwn 
     c.args.set.now c.complete_own.new.set) c.deref.ensures.value (c.in_ok-complete_own.ensures dots)).all
 
 pub returns : goal.returns
-returns c dots = own_and_rest dots c.args.places c.args.filled.now c.requires.indexed c.args.call c.args.row.now
+returns c dots = own_and_rest dots c.args.positions c.args.filled.now c.requires.indexed c.args.call c.args.row.now
     c.args.set.now c.complete_own.new.set c.complete_rest.new.set
     (subst (λ v. Gains dots (IsAfterOwn dots c.args.call v c.args.row.now) c.args.set.now c.complete_own.new.set)
     c.deref.ensures.value (c.in_ok-complete_own.ensures dots)) (c.in_ok-complete_rest.ensures dots)

@@ -1,5 +1,5 @@
 use Rattle.std.proofs.Common.{◌≡◌, ◌-◌, ◌≤◌, List, length}
-use Rattle.flatgrammar.specs.declared.block.DottedRule.{DottedRule}
+use Rattle.flatgrammar.specs.declared.closure.DottedRule.{DottedRule}
 use Rattle.earley.specs.RowIndexes.{IsAfterIn}
 use Rattle.earley.specs.RowItems.{Gains}
 use Rattle.earley.proofs.row_step.complete_each.Given as goal

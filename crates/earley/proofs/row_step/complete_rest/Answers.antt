@@ -10,7 +10,7 @@ use Rattle.earley.proofs.row_step.complete_rest.Goals as goal
 pub returns-in_default : goal.returns-in_default
 returns-in_default c dots =
     let look = rw c.deref.ensures.value at c.in_default.ensures.lookup in
-    rest_none dots c.args.places c.args.filled.now c.requires.indexed c.args.call c.args.row.now c.args.set.now
+    rest_none dots c.args.positions c.args.filled.now c.requires.indexed c.args.call c.args.row.now c.args.set.now
     (c.requires.own dots) (missing_at c.args.filled.now.rest.items c.args.call.from look.0)
 
 pub returns-then-is_single : goal.returns-then-is_single
@@ -18,7 +18,7 @@ returns-then-is_single c dots =
     let look = rw c.deref.ensures.value at c.in-Some.ensures.lookup in
     let last = subst (λ v. Gains dots (IsAfterLast dots c.args.call v c.in_ok-both.both (length v)) c.args.set.now
     c.complete_last.new.set) c.deref-2.ensures.value (c.in_ok-complete_last.ensures dots) in
-    rest_single dots c.args.places c.args.filled.now c.requires.indexed c.args.call c.args.row.now c.args.set.now
+    rest_single dots c.args.positions c.args.filled.now c.requires.indexed c.args.call c.args.row.now c.args.set.now
     (c.requires.own dots) c.in-Some.rest.now c.in_ok-both.both
     (found_at c.args.filled.now.rest.items c.args.call.from c.in-Some.rest.now look.0 look.1) c.in_ok-both.ensures
     c.complete_last.new.set (c.is_single.ensures c.if-is_single.true) last
@@ -34,7 +34,7 @@ returns-then-has_union c dots =
     c.complete_last.new.set) c.deref-2.ensures.value (c.in_ok-complete_last.ensures dots) in
     let all = subst (λ v. (k : ℕ) → HasAt v c.args.call.from k → HasAt c.complete_last.new.set.all c.args.call.after k)
     c.deref-3.ensures.value (c.has_union.ensures c.if-has_union.true) in
-    rest_covered dots c.args.places c.args.filled.now c.requires.indexed c.args.call c.args.row.now c.args.set.now
+    rest_covered dots c.args.positions c.args.filled.now c.requires.indexed c.args.call c.args.row.now c.args.set.now
     (c.requires.own dots) c.in-Some.rest.now c.in_ok-both.both
     (found_at c.args.filled.now.rest.items c.args.call.from c.in-Some.rest.now look.0 look.1) c.in_ok-both.ensures
     c.complete_last.new.set last all
@@ -50,7 +50,7 @@ returns c dots =
     c.complete_last.new.set) c.deref-2.ensures.value (c.in_ok-complete_last.ensures dots) in
     let each = subst (λ v. Gains dots (IsAfterIn dots c.args.call v c.in_ok-both.both (length v))
     c.complete_last.new.set c.complete_each.new.set) c.deref-4.ensures.value (c.in_ok-complete_each.ensures dots) in
-    rest_added dots c.args.places c.args.filled.now c.requires.indexed c.args.call c.args.row.now c.args.set.now
+    rest_added dots c.args.positions c.args.filled.now c.requires.indexed c.args.call c.args.row.now c.args.set.now
     (c.requires.own dots) c.in-Some.rest.now c.in_ok-both.both
     (found_at c.args.filled.now.rest.items c.args.call.from c.in-Some.rest.now look.0 look.1) c.in_ok-both.ensures
     c.complete_last.new.set c.complete_each.new.set last each

@@ -9,14 +9,14 @@ use Rattle.earley.proofs.row_step.complete_row.Goals as goal
 pub returns-then-index : goal.returns-then-index
 returns-then-index c =
     let h = step_here c.args.table.now.flat.value c.args.table.now.dots.items c.args.table.now.steps.items
-    c.requires.table.steps c.args.place c.index.result.now c.requires.place c.index.ensures in
+    c.requires.table.steps c.args.position c.index.result.now c.requires.position c.index.ensures in
     let at = c.index-then-index.result.now in
-    let there : slice_get c.args.table.now.dots.items c.args.place ≡ Some at =
-    slice_get-get_or c.args.table.now.dots.items c.args.place at c.requires.place
+    let there : slice_get c.args.table.now.dots.items c.args.position ≡ Some at =
+    slice_get-get_or c.args.table.now.dots.items c.args.position at c.requires.position
     ∙ ap Some (sym c.index-then-index.ensures) in
     row_completed c.args.table.now.flat.value c.args.table.now.dots.items
     (row_views c.args.table.now.dots.items c.args.filled.now.sets.items) at.node c.args.row.now c.args.set.now
-    c.args.place h.at
+    c.args.position h.at
     h.is
     (ap (λ v. v.node) (one_dot h.is there)) (length c.args.filled.now.sets.items) c.complete_all.new.set
     (sym (length-map c.args.filled.now.sets.items (λ s. row_items c.args.table.now.dots.items s.rows.items)))
@@ -25,9 +25,9 @@ returns-then-index c =
 pub returns : goal.returns
 returns c =
     let h = step_here c.args.table.now.flat.value c.args.table.now.dots.items c.args.table.now.steps.items
-    c.requires.table.steps c.args.place c.index.result.now c.requires.place c.index.ensures in
+    c.requires.table.steps c.args.position c.index.result.now c.requires.position c.index.ensures in
     not_completed c.args.table.now.flat.value c.args.table.now.dots.items
     (row_views c.args.table.now.dots.items c.args.filled.now.sets.items) h.at.node c.args.row.now c.args.set.now
-    c.args.place h.at
+    c.args.position h.at
     h.is refl
     (λ done. let is = h.reports.done in let no = c.if-index.false in absurd (cc (is, done, no)))

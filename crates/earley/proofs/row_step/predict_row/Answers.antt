@@ -6,27 +6,27 @@ use Rattle.earley.proofs.row_step.predict_row.Goals as goal
 pub returns-in-None : goal.returns-in-None
 returns-in-None c j one =
     let h = step_here c.args.table.now.flat.value c.args.table.now.dots.items c.args.table.now.steps.items
-    c.requires.table.steps c.args.place c.index.result.now c.requires.place c.index.ensures in
-    nothing_predicted c.args.table.now.flat.value c.args.table.now.dots.items c.args.place c.args.row.now h.at h.is
+    c.requires.table.steps c.args.position c.index.result.now c.requires.position c.index.ensures in
+    nothing_predicted c.args.table.now.flat.value c.args.table.now.dots.items c.args.position c.args.row.now h.at h.is
     c.args.set.now c.args.set.now j
     (no_call_here c.args.table.now.flat.value c.args.table.now.dots.items h.at c.index.result.now h.reports
     c.in-None.is)
 
-pub returns-in_ok-predict_root-in-Some : goal.returns-in_ok-predict_root-in-Some
-returns-in_ok-predict_root-in-Some c j one =
+pub returns-in_ok-predict_target-in-Some : goal.returns-in_ok-predict_target-in-Some
+returns-in_ok-predict_target-in-Some c j one =
     let h = step_here c.args.table.now.flat.value c.args.table.now.dots.items c.args.table.now.steps.items
-    c.requires.table.steps c.args.place c.index.result.now c.requires.place c.index.ensures in
-    call_predicts c.args.table.now.flat.value c.args.table.now.dots.items c.args.place c.args.row.now h.at h.is
-    c.args.set.now c.predict_root.new.set c.in-Some.called
+    c.requires.table.steps c.args.position c.index.result.now c.requires.position c.index.ensures in
+    call_predicts c.args.table.now.flat.value c.args.table.now.dots.items c.args.position c.args.row.now h.at h.is
+    c.args.set.now c.predict_target.new.set c.in-Some.called
     (call_here c.args.table.now.flat.value c.args.table.now.dots.items h.at c.index.result.now c.in-Some.called
     h.reports
-    c.in-Some.is) j c.requires.some.0 c.args.here.now c.requires.some.1 one c.in_ok-predict_root-in-Some.ensures
+    c.in-Some.is) j c.requires.some.0 c.args.here.now c.requires.some.1 one c.in_ok-predict_target-in-Some.ensures
 
-pub predict_root-requires-clause-reached : goal.predict_root-requires-clause-reached
-predict_root-requires-clause-reached c =
+pub predict_target-requires-clause-reached : goal.predict_target-requires-clause-reached
+predict_target-requires-clause-reached c =
     let count = c.requires.table.steps.count in
-    let lt = c.requires.place in
-    let low : c.args.place < length c.args.table.now.steps.items = omega (arith, lt, count) in
-    c.requires.table.reached c.args.place c.index.result.now c.in-Some.called
-    (slice_get-get_or c.args.table.now.steps.items c.args.place c.index.result.now low
+    let lt = c.requires.position in
+    let low : c.args.position < length c.args.table.now.steps.items = omega (arith, lt, count) in
+    c.requires.table.reached c.args.position c.index.result.now c.in-Some.called
+    (slice_get-get_or c.args.table.now.steps.items c.args.position c.index.result.now low
     ∙ ap Some (sym c.index.ensures)) c.in-Some.is

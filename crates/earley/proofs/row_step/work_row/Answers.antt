@@ -6,7 +6,7 @@ use Rattle.earley.proofs.RowStepLemmas.{work_all}
 use Rattle.earley.proofs.row_step.work_row.Goals as goal
 
 pub returns : goal.returns
-returns c = work_all c.args.table.now.flat.value c.args.table.now.dots.items c.args.place c.args.row.now
+returns c = work_all c.args.table.now.flat.value c.args.table.now.dots.items c.args.position c.args.row.now
     (row_views c.args.table.now.dots.items c.args.filled.now.sets.items) (length c.args.filled.now.sets.items)
     c.args.set.now
     c.predict_row.new.set c.advance_row.new.set c.complete_row.new.set

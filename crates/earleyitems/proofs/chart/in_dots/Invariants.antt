@@ -1,6 +1,6 @@
 use Rattle.std.proofs.Common.{take, map}
-use Rattle.flatgrammar.specs.Places.{In}
-use Rattle.flatgrammar.specs.Blocks.{item_at}
+use Rattle.flatgrammar.specs.Positions.{In}
+use Rattle.flatgrammar.specs.ItemClosures.{item_at}
 use Rattle.earleyitems.proofs.chart.in_dots.Given as goal
 
 abbrev pub invariant-loop-dot : goal.invariant-loop-dot

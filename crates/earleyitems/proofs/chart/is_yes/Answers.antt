@@ -13,7 +13,7 @@ returns g c =
     ∙ ap (λ v. Some (view c.args.flat.now v c.in-Some.kept_set)) zero in
     let exact = c.requires.exact (length c.args.line.now)
     (view c.args.flat.now (length c.args.line.now) c.in-Some.kept_set) last in
-    let whole : Item = record { node = c.args.flat.now.whole; step = 1; origin = 0 } in (
+    let whole : Item = record { node = c.args.flat.now.start; step = 1; origin = 0 } in (
       (λ u. exact.held whole (c.contains.ensures.0 u)),
-      (λ h. c.contains.ensures.1 (exact.all (at c.args.flat.now.whole 1) 0 h)),
+      (λ h. c.contains.ensures.1 (exact.all (at c.args.flat.now.start 1) 0 h)),
     )

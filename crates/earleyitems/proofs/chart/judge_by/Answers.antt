@@ -2,7 +2,7 @@ use Rattle.std.proofs.Common.{◌+◌, ◌<◌, length, map, ap, ◌∙◌, sym,
 use Rattle.std.specs.Prelude.{sum_by}
 use Rattle.std.proofs.lemmas.List.{length-map}
 use Rattle.flatgrammar.specs.NodeSteps.{flat_of}
-use Rattle.flatgrammar.specs.Blocks.{AreAlone, AreHomes, AreDotLists}
+use Rattle.flatgrammar.specs.ItemClosures.{AreAlone, AreOwners, AreDotLists}
 use Rattle.earleyitems.specs.Charts.{IsExact}
 use Rattle.earleyitems.specs.ChartSets.{set_at, IsSet}
 use Rattle.earleyitems.specs.SetViews.{views}
@@ -32,10 +32,10 @@ returns-clause-more g c = more_items c.args.tables.value (map g.L.Letter.number 
     (c.in_ok-whole.ensures.more c.if-whole.false))
 
 pub fill_sets-requires-clause-alone : goal.fill_sets-requires-clause-alone
-fill_sets-requires-clause-alone g c = subst (λ v. AreAlone v) (sym c.deref.ensures) c.requires.exact.inners
+fill_sets-requires-clause-alone g c = subst (λ v. AreAlone v) (sym c.deref.ensures) c.requires.exact.inlines
 
 pub fill_sets-requires-clause-lists : goal.fill_sets-requires-clause-lists
 fill_sets-requires-clause-lists g c = subst (λ v. AreDotLists v) (sym c.deref.ensures) c.requires.exact.lists
 
-pub fill_sets-requires-clause-homes : goal.fill_sets-requires-clause-homes
-fill_sets-requires-clause-homes g c = subst (λ v. AreHomes v) (sym c.deref.ensures) c.requires.exact.homes
+pub fill_sets-requires-clause-owners : goal.fill_sets-requires-clause-owners
+fill_sets-requires-clause-owners g c = subst (λ v. AreOwners v) (sym c.deref.ensures) c.requires.exact.owners

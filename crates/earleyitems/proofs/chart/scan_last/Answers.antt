@@ -4,8 +4,8 @@ use Rattle.flatgrammar.proofs.CallOfLemmas.{get_map}
 use Rattle.earleyitems.proofs.IsBuiltLemmas.{get_is}
 use Rattle.earleyitems.proofs.ExpandLemmas.{get_views, length_views}
 use Rattle.earleyitems.proofs.ViewsLemmas.{after_last}
-use Rattle.earleyitems.specs.ItemHomes.{head_rows}
-use Rattle.earleyitems.proofs.ItemHomesLemmas.{none_homed_items, stored_row}
+use Rattle.earleyitems.specs.ItemOwners.{prediction_rows}
+use Rattle.earleyitems.proofs.ItemOwnersLemmas.{none_owned_items, stored_row}
 use Rattle.earleyitems.proofs.chart.scan_last.Goals as goal
 
 pub returns-in_ok-scan-clause-added : goal.returns-in_ok-scan-clause-added
@@ -30,18 +30,18 @@ returns-in_ok-scan-clause-added g c =
     (get_is c.args.line.now last c.index-line-last.result within c.index-line-last.is))
     c.in_ok-scan.ensures.added
 
-pub returns-in_ok-scan-clause-homes : goal.returns-in_ok-scan-clause-homes
-returns-in_ok-scan-clause-homes g c =
+pub returns-in_ok-scan-clause-owners : goal.returns-in_ok-scan-clause-owners
+returns-in_ok-scan-clause-owners g c =
     let sets = c.args.sets.now in
     let last = c.len-last.result - 1 in
     let there : slice_get sets last ≡ Some c.in-Some.kept_set = sym {b = slice_get sets last} c.in-Some.ensures in
     let some = c.if-len-gt0.true in
     let one = c.len.ensures in
     let two = c.len-last.ensures in
-    c.in_ok-scan.ensures.homes (head_rows sets) (stored_row sets last c.in-Some.kept_set there)
-    (c.requires.homed last (omega (arith, some, one, two)))
-    (none_homed_items c.args.flat.now (head_rows sets) c.args.items.now c.requires.empty)
+    c.in_ok-scan.ensures.owners (prediction_rows sets) (stored_row sets last c.in-Some.kept_set there)
+    (c.requires.owned last (omega (arith, some, one, two)))
+    (none_owned_items c.args.flat.now (prediction_rows sets) c.args.items.now c.requires.empty)
 
-pub returns-else-len-gt0-clause-homes : goal.returns-else-len-gt0-clause-homes
-returns-else-len-gt0-clause-homes g c =
-    none_homed_items c.args.flat.now (head_rows c.args.sets.now) c.args.items.now c.requires.empty
+pub returns-else-len-gt0-clause-owners : goal.returns-else-len-gt0-clause-owners
+returns-else-len-gt0-clause-owners g c =
+    none_owned_items c.args.flat.now (prediction_rows c.args.sets.now) c.args.items.now c.requires.empty

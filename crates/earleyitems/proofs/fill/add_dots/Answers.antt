@@ -1,8 +1,8 @@
 use Rattle.std.proofs.Common.{[], take, map, subst, sym, ap, ◌∙◌, arith}
-use Rattle.flatgrammar.specs.Places.{In}
+use Rattle.flatgrammar.specs.Positions.{In}
 use Rattle.flatgrammar.specs.declared.flat_item.Item.{Item}
 use Rattle.earleyitems.specs.ItemSets.{Adds}
-use Rattle.flatgrammar.specs.Blocks.{item_at}
+use Rattle.flatgrammar.specs.ItemClosures.{item_at}
 use Rattle.earleyitems.proofs.ExpandLemmas.{in_more, take_one, take_past, map_end}
 use Rattle.flatgrammar.proofs.InLemmas.{at_index_in}
 use Rattle.earleyitems.proofs.AddsLemmas.{adds_none}
@@ -15,15 +15,15 @@ loop-dot-preserved c = record {
       c.loop-dot-test.true) ∙ map_end (item_at c.args.origin) (take c.loop-dot.dot-index c.args.dots.now) _))
       (in_more (map (item_at c.args.origin) (take c.loop-dot.dot-index c.args.dots.now)) _ _ _ _
       c.loop-dot.invariant.added c.in_ok-add.ensures.added);
-  homes = λ flat rows here are. c.in_ok-add.ensures.homes flat rows
+  owners = λ flat rows here are. c.in_ok-add.ensures.owners flat rows
       (here _ (at_index_in c.args.dots.now c.loop-dot.dot-index _ c.loop-dot-test.true))
-      (c.loop-dot.invariant.homes flat rows here are);
+      (c.loop-dot.invariant.owners flat rows here are);
 }
 
 pub loop-dot-init : goal.loop-dot-init
 loop-dot-init c = record {
   added = adds_none (λ a. In a []) c.args.set.now.items (λ a h. elim h [ ]);
-  homes = λ flat rows here are. are;
+  owners = λ flat rows here are. are;
 }
 
 pub returns-clause-added : goal.returns-clause-added
@@ -32,5 +32,5 @@ returns-clause-added c =
     subst (λ v. Adds {A = Item} (λ a. In a (map (item_at c.args.origin) v)) c.args.set.now.items c.loop-dot.set.items)
     (take_past c.args.dots.now c.loop-dot.dot-index (omega (arith, test))) c.loop-dot.invariant.added
 
-pub returns-clause-homes : goal.returns-clause-homes
-returns-clause-homes c flat rows here are = c.loop-dot.invariant.homes flat rows here are
+pub returns-clause-owners : goal.returns-clause-owners
+returns-clause-owners c flat rows here are = c.loop-dot.invariant.owners flat rows here are

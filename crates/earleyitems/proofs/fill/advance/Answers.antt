@@ -11,6 +11,6 @@ returns-clause-added c = adds_both (MovesOverNullable c.args.flat.now c.args.at.
     c.in_ok-advance_nullable.ensures.added
     c.in_ok-complete.ensures.added (λ a h. h) (λ a h. inl h) (λ a h. inr h)
 
-pub returns-clause-homes : goal.returns-clause-homes
-returns-clause-homes c rows have here are = c.in_ok-complete.ensures.homes rows have here
-    (c.in_ok-advance_nullable.ensures.homes rows here are)
+pub returns-clause-owners : goal.returns-clause-owners
+returns-clause-owners c rows have here are = c.in_ok-complete.ensures.owners rows have here
+    (c.in_ok-advance_nullable.ensures.owners rows here are)

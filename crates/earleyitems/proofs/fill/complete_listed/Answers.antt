@@ -8,7 +8,7 @@ pub loop-at-init : goal.loop-at-init
 loop-at-init c = record {
   along = λ es chain. along_start c.args.waiters.now c.args.first es c.args.set.now.items chain;
   order = omega arith;
-  homes = λ flat rows first are. are;
+  owners = λ flat rows first are. are;
 }
 
 pub bounds-waiters-at : goal.bounds-waiters-at
@@ -28,14 +28,14 @@ skip_from-at-requires c =
 
 pub loop-at-smaller : goal.loop-at-smaller
 loop-at-smaller c =
-    let less = (chain_next (record { item = record { node = 0; step = 0; origin = 0 }; home = 0; next = 0 })
+    let less = (chain_next (record { item = record { node = 0; step = 0; origin = 0 }; owner = 0; next = 0 })
     (c.loop-at.invariant.along c.requires.0 c.requires.1).chain c.loop-at-test.true).less in
     let order = c.skip_from-at.ensures.order in
     omega (arith, less, order)
 
 pub loop-at-preserved : goal.loop-at-preserved
 loop-at-preserved c =
-    let less = (chain_next (record { item = record { node = 0; step = 0; origin = 0 }; home = 0; next = 0 })
+    let less = (chain_next (record { item = record { node = 0; step = 0; origin = 0 }; owner = 0; next = 0 })
     (c.loop-at.invariant.along c.requires.0 c.requires.1).chain c.loop-at-test.true).less in
     let le = chain_within (c.loop-at.invariant.along c.requires.0 c.requires.1).chain in
     let pos = c.loop-at-test.true in
@@ -48,15 +48,15 @@ loop-at-preserved c =
           c.loop-at-test.true c.in_ok-add.ensures.added in
           along_skipped c.args.waiters.now _ _ es _ _ along (c.skip_from-at.ensures.skipped along.rest along.chain);
       order = omega (arith, less, order, was);
-      homes = λ flat rows first are. c.in_ok-add.ensures.homes flat rows
+      owners = λ flat rows first are. c.in_ok-add.ensures.owners flat rows
           (first (c.loop-at.at - 1) _ lower
           (get_index c.args.waiters.now (c.loop-at.at - 1) _ (omega (arith, le, pos))))
-          (c.loop-at.invariant.homes flat rows first are);
+          (c.loop-at.invariant.owners flat rows first are);
     }
 
 pub returns-clause-added : goal.returns-clause-added
 returns-clause-added c es chain = along_end c.args.waiters.now c.loop-at.at es _ _ (c.loop-at.invariant.along es chain)
     (let test = c.loop-at-test.false in omega (arith, test))
 
-pub returns-clause-homes : goal.returns-clause-homes
-returns-clause-homes c flat rows first are = c.loop-at.invariant.homes flat rows first are
+pub returns-clause-owners : goal.returns-clause-owners
+returns-clause-owners c flat rows first are = c.loop-at.invariant.owners flat rows first are

@@ -1,5 +1,5 @@
 use Rattle.std.proofs.Common.{sym, subst, refl}
-use Rattle.flatgrammar.specs.Places.{In}
+use Rattle.flatgrammar.specs.Positions.{In}
 use Rattle.flatgrammar.proofs.InLemmas.{at_index_in, none_more}
 use Rattle.earleyitems.proofs.item.holds.Goals as goal
 

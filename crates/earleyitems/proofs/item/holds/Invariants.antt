@@ -1,5 +1,5 @@
 use Rattle.std.proofs.Common.{take}
-use Rattle.flatgrammar.specs.Places.{In}
+use Rattle.flatgrammar.specs.Positions.{In}
 use Rattle.earleyitems.proofs.item.holds.Given as goal
 
 abbrev pub invariant-loop-other : goal.invariant-loop-other

@@ -1,5 +1,5 @@
 use Rattle.std.proofs.Common.{◌≡◌, sym, subst}
-use Rattle.flatgrammar.specs.Places.{In}
+use Rattle.flatgrammar.specs.Positions.{In}
 use Rattle.earleyitems.specs.ItemSets.{Adds}
 use Rattle.earleyitems.proofs.AddsLemmas.{adds_one}
 use Rattle.earleyitems.proofs.items.add_linear.Goals as goal

@@ -1,5 +1,5 @@
 use Rattle.std.proofs.Common.{◌≡◌, length, sym, subst}
-use Rattle.flatgrammar.specs.Places.{In}
+use Rattle.flatgrammar.specs.Positions.{In}
 use Rattle.earleyitems.specs.ItemBuckets.{item_bucket, IsLast}
 use Rattle.earleyitems.specs.ItemSets.{Adds}
 use Rattle.earleyitems.proofs.AreBucketsLemmas.{last_reported}

@@ -24,12 +24,12 @@ loop-at-smaller c =
 
 pub loop-at-preserved : goal.loop-at-preserved
 loop-at-preserved c =
-    let less = (chain_next (record { item = record { node = 0; step = 0; origin = 0 }; home = 0; next = 0 })
+    let less = (chain_next (record { item = record { node = 0; step = 0; origin = 0 }; owner = 0; next = 0 })
     (c.loop-at.invariant.skipped c.requires.chain.0 c.requires.chain.1).chain c.loop-at-test.true).less in
     let order = c.loop-at.invariant.order in
     record {
       order = omega (arith, less, order);
       skipped = λ es chain. skipped_next c.args.waiters.now c.loop-at.at es c.args.list.now
-          (record { item = record { node = 0; step = 0; origin = 0 }; home = 0; next = 0 })
+          (record { item = record { node = 0; step = 0; origin = 0 }; owner = 0; next = 0 })
           (c.loop-at.invariant.skipped es chain) c.loop-at-test.true (c.is_last.ensures c.if-not-is_last.false);
     }

@@ -1,8 +1,8 @@
 use Rattle.std.proofs.Common.{sym, ◌∙◌, subst}
 use Rattle.earleyitems.specs.Chosen.{callers_of, Calls}
 use Rattle.earleyitems.proofs.AreChosenLemmas.{callers_more, chosen_past}
-use Rattle.earleyitems.specs.ItemHomes.{AreCallersHomed}
-use Rattle.earleyitems.proofs.ItemHomesLemmas.{callers_push}
+use Rattle.earleyitems.specs.ItemOwners.{AreCallersOwned}
+use Rattle.earleyitems.proofs.ItemOwnersLemmas.{callers_push}
 use Rattle.earleyitems.proofs.postdot.keep_caller.Goals as goal
 
 pub returns-in_ok-push-in-Some-clause-chosen : goal.returns-in_ok-push-in-Some-clause-chosen
@@ -17,10 +17,10 @@ returns-in-None-clause-chosen c flat seen is are = record {
   report = are.report;
 }
 
-pub returns-in_ok-push-in-Some-clause-homes : goal.returns-in_ok-push-in-Some-clause-homes
-returns-in_ok-push-in-Some-clause-homes c flat rows is are =
-    subst (λ v. AreCallersHomed flat rows v) (sym c.in_ok-push-in-Some.ensures.items)
+pub returns-in_ok-push-in-Some-clause-owners : goal.returns-in_ok-push-in-Some-clause-owners
+returns-in_ok-push-in-Some-clause-owners c flat rows is are =
+    subst (λ v. AreCallersOwned flat rows v) (sym c.in_ok-push-in-Some.ensures.items)
     (callers_push flat rows c.args.callers.now.items _ is are)
 
-pub returns-in-None-clause-homes : goal.returns-in-None-clause-homes
-returns-in-None-clause-homes c flat rows is are = are
+pub returns-in-None-clause-owners : goal.returns-in-None-clause-owners
+returns-in-None-clause-owners c flat rows is are = are

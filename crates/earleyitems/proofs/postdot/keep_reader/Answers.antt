@@ -2,8 +2,8 @@ use Rattle.std.proofs.Common.{◌++◌, ◌∷◌, [], ap, sym, ◌∙◌, subst
 use Rattle.earleyitems.specs.Chosen.{items_of, ReadsSome, AreChosen}
 use Rattle.earleyitems.proofs.AreChosenLemmas.{chosen_more, chosen_past}
 use Rattle.earleyitems.proofs.ExpandLemmas.{map_end}
-use Rattle.earleyitems.specs.ItemHomes.{AreReadersHomed}
-use Rattle.earleyitems.proofs.ItemHomesLemmas.{readers_push}
+use Rattle.earleyitems.specs.ItemOwners.{AreReadersOwned}
+use Rattle.earleyitems.proofs.ItemOwnersLemmas.{readers_push}
 use Rattle.earleyitems.proofs.postdot.keep_reader.Goals as goal
 
 pub returns-in_ok-push-clause-chosen : goal.returns-in_ok-push-clause-chosen
@@ -17,10 +17,10 @@ returns-else-reads-clause-chosen c flat seen reads are =
     chosen_past (ReadsSome flat) seen (items_of c.args.readers.now.items)
     c.args.at.item (λ r. let t = reads r in let f = c.if-reads.false in absurd cc) are
 
-pub returns-in_ok-push-clause-homes : goal.returns-in_ok-push-clause-homes
-returns-in_ok-push-clause-homes c flat rows is are =
-    subst (λ v. AreReadersHomed flat rows v) (sym c.in_ok-push.ensures.items)
+pub returns-in_ok-push-clause-owners : goal.returns-in_ok-push-clause-owners
+returns-in_ok-push-clause-owners c flat rows is are =
+    subst (λ v. AreReadersOwned flat rows v) (sym c.in_ok-push.ensures.items)
     (readers_push flat rows c.args.readers.now.items c.args.at is are)
 
-pub returns-else-reads-clause-homes : goal.returns-else-reads-clause-homes
-returns-else-reads-clause-homes c flat rows is are = are
+pub returns-else-reads-clause-owners : goal.returns-else-reads-clause-owners
+returns-else-reads-clause-owners c flat rows is are = are

@@ -1,6 +1,6 @@
 use Rattle.std.proofs.Common.{map, arith, subst}
 use Rattle.flatgrammar.proofs.InLemmas.{at_index_in}
-use Rattle.flatgrammar.specs.Blocks.{item_at}
+use Rattle.flatgrammar.specs.ItemClosures.{item_at}
 use Rattle.earleyitems.specs.ScannedItems.{AreScannedItems}
 use Rattle.earleyitems.proofs.AreScannedItemsLemmas.{read_none, scan_dots_more}
 use Rattle.earleyitems.proofs.ExpandLemmas.{take_past}
@@ -9,7 +9,7 @@ use Rattle.earleyitems.proofs.scan.scan_dots.Goals as goal
 pub loop-dot-init : goal.loop-dot-init
 loop-dot-init c = record {
   added = read_none c.args.flat.now c.args.value c.args.set.now.items;
-  homes = λ rows here are. are;
+  owners = λ rows here are. are;
 }
 
 pub loop-dot-preserved : goal.loop-dot-preserved
@@ -17,9 +17,9 @@ loop-dot-preserved c = record {
   added = scan_dots_more c.args.flat.now c.args.value c.args.origin c.args.from.now
       c.loop-dot.dot-index _ _ _ _ c.loop-dot-test.true c.loop-dot.invariant.added
       c.in_ok-scan_item.ensures.added;
-  homes = λ rows here are. c.in_ok-scan_item.ensures.homes rows
+  owners = λ rows here are. c.in_ok-scan_item.ensures.owners rows
       (here _ (at_index_in c.args.from.now c.loop-dot.dot-index _ c.loop-dot-test.true))
-      (c.loop-dot.invariant.homes rows here are);
+      (c.loop-dot.invariant.owners rows here are);
 }
 
 pub returns-clause-added : goal.returns-clause-added
@@ -29,5 +29,5 @@ returns-clause-added c =
     c.loop-dot.set.items)
     (take_past c.args.from.now c.loop-dot.dot-index (omega (arith, test))) c.loop-dot.invariant.added
 
-pub returns-clause-homes : goal.returns-clause-homes
-returns-clause-homes c rows here are = c.loop-dot.invariant.homes rows here are
+pub returns-clause-owners : goal.returns-clause-owners
+returns-clause-owners c rows here are = c.loop-dot.invariant.owners rows here are

@@ -1,5 +1,5 @@
 use Rattle.std.proofs.Common.{◌≡◌, ◌++◌, map, take}
-use Rattle.flatgrammar.specs.Blocks.{dot}
+use Rattle.flatgrammar.specs.ItemClosures.{dot}
 use Rattle.earleyitems.proofs.set_dots.push_items.Given as goal
 
 abbrev pub invariant-loop-item : goal.invariant-loop-item

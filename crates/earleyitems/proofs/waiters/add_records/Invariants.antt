@@ -3,8 +3,8 @@ use Rattle.std.specs.Prelude.{vec_len, vec_capacity}
 use Rattle.earleyitems.proofs.RecordsLemmas.{fresh}
 use Rattle.earleyitems.proofs.waiters.add_records.Given as goal
 
-abbrev pub invariant-loop-head : goal.invariant-loop-head
-invariant-loop-head l = record {
-  are : l.records.items ≡ l.initial.records.items ++ fresh (take l.head-index l.heads);
-  room : vec_len l.records + (length l.heads - l.head-index) ≤ vec_capacity l.records;
+abbrev pub invariant-loop-prediction : goal.invariant-loop-prediction
+invariant-loop-prediction l = record {
+  are : l.records.items ≡ l.initial.records.items ++ fresh (take l.prediction-index l.predictions);
+  room : vec_len l.records + (length l.predictions - l.prediction-index) ≤ vec_capacity l.records;
 }

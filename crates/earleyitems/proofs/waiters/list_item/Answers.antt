@@ -5,17 +5,17 @@ use Rattle.earleyitems.specs.Waiting.{item_from}
 use Rattle.earleyitems.proofs.ListAllLemmas.{waiting_none, waiting_more}
 use Rattle.earleyitems.proofs.AreBucketsLemmas.{get_in}
 use Rattle.earleyitems.proofs.RecordsLemmas.{below_firsts, first_at, first_set}
-use Rattle.earleyitems.specs.ItemHomes.{AreWaitersHomed}
-use Rattle.earleyitems.proofs.ItemHomesLemmas.{waiters_push}
+use Rattle.earleyitems.specs.ItemOwners.{AreWaitersOwned}
+use Rattle.earleyitems.proofs.ItemOwnersLemmas.{waiters_push}
 use Rattle.earleyitems.proofs.waiters.list_item.Goals as goal
 
 pub returns-in_default-clause-more : goal.returns-in_default-clause-more
 returns-in_default-clause-more c flat seen step call are =
-    waiting_none flat c.args.heads.now seen (item_from c.args.item step)
+    waiting_none flat c.args.predictions.now seen (item_from c.args.item step)
     (firsts_of c.args.records.now) c.args.waiters.now.items
     (λ h t l at is.
-    let same : c.args.root ≡ t = ap (λ v. v.0) (some_same (sym call ∙ is)) in
-    c.in_default.ensures.none (get_in c.args.root c.args.heads.now h (at ∙ ap Some (sym same)))) are
+    let same : c.args.target ≡ t = ap (λ v. v.0) (some_same (sym call ∙ is)) in
+    c.in_default.ensures.none (get_in c.args.target c.args.predictions.now h (at ∙ ap Some (sym same)))) are
 
 pub returns-clause-more : goal.returns-clause-more
 returns-clause-more c flat seen step call are =
@@ -29,9 +29,9 @@ returns-clause-more c flat seen step call are =
       (first_set c.args.records.now c.in-Some.index (the_record 0 0) c.len.result lt).1,
       count,
     )
-    (waiting_more flat c.args.heads.now seen (item_from c.args.item step)
+    (waiting_more flat c.args.predictions.now seen (item_from c.args.item step)
     (firsts_of c.args.records.now) c.args.waiters.now.items
-    c.in-Some.index c.args.root c.args.item.step _ call
+    c.in-Some.index c.args.target c.args.item.step _ call
     c.in-Some.ensures.found c.in-Some.ensures.only (below_firsts c.args.records.now c.in-Some.index lt) refl
     (first_at c.args.records.now c.in-Some.index (the_record 0 0) 0 lt) are)
 
@@ -41,9 +41,9 @@ returns-clause-same c =
     (let b = c.in-Some.ensures.within in let n = c.requires in omega (arith, b, n)) in
     (first_set c.args.records.now c.in-Some.index (the_record 0 0) c.len.result lt).0
 
-pub returns-in_default-clause-homes : goal.returns-in_default-clause-homes
-returns-in_default-clause-homes c flat rows is are = are
+pub returns-in_default-clause-owners : goal.returns-in_default-clause-owners
+returns-in_default-clause-owners c flat rows is are = are
 
-pub returns-clause-homes : goal.returns-clause-homes
-returns-clause-homes c flat rows is are = subst (λ v. AreWaitersHomed flat rows v) (sym c.in_ok-push.ensures.items)
+pub returns-clause-owners : goal.returns-clause-owners
+returns-clause-owners c flat rows is are = subst (λ v. AreWaitersOwned flat rows v) (sym c.in_ok-push.ensures.items)
     (waiters_push flat rows c.args.waiters.now.items _ is are)

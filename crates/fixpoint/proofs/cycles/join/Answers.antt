@@ -7,4 +7,4 @@ loop-part-preserved c =
     let ok = c.loop-part.parts.ok.0 in
     let len = c.deref.ensures.len in
     j.drops_next _ _ _ _ _ _ _ (c.in-Some.ensures).value c.deref.ensures.value
-    (omega (arith, ok)) c.pop.ensures.rest c.if-part-place.false c.loop-part.invariant
+    (omega (arith, ok)) c.pop.ensures.rest c.if-part-position.false c.loop-part.invariant

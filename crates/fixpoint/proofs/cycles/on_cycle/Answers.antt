@@ -1,6 +1,6 @@
 use Rattle.fixpoint.specs.Way.{way_of, tally_of}
 use Rattle.fixpoint.proofs.TallyLemmas as y
-use Rattle.fixpoint.proofs.TurnsLemmas as t
+use Rattle.fixpoint.proofs.IterationsLemmas as t
 use Rattle.fixpoint.proofs.cycles.on_cycle.Goals as goal
 
 pub returns-clause-marks : goal.returns-clause-marks

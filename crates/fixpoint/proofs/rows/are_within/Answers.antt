@@ -2,7 +2,7 @@ use Rattle.std.proofs.Common.{◌<◌, arith, refl, sym, subst, ⊎_elim, Contai
 use Rattle.std.proofs.lemmas.Bool.{cases_eq}
 use Rattle.fixpoint.specs.StepRows.{Step, slices_of}
 use Rattle.fixpoint.proofs.RowsOfLemmas as b
-use Rattle.fixpoint.proofs.TurnsLemmas as t
+use Rattle.fixpoint.proofs.IterationsLemmas as t
 use Rattle.fixpoint.proofs.rows.are_within.Goals as goal
 
 pub returns-then-not-are_below : goal.returns-then-not-are_below

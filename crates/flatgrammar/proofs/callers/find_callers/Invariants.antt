@@ -1,6 +1,6 @@
 use Rattle.std.proofs.Common.{◌≡◌, ◌<◌, ℕ, Some, slice_get}
-use Rattle.flatgrammar.specs.Blocks.{dot, call_at}
-use Rattle.flatgrammar.specs.Inners.{allows_in}
+use Rattle.flatgrammar.specs.ItemClosures.{dot, call_at}
+use Rattle.flatgrammar.specs.Inlines.{allows_in}
 use Rattle.flatgrammar.proofs.callers.find_callers.Given as goal
 
 abbrev pub invariant-loop-node : goal.invariant-loop-node

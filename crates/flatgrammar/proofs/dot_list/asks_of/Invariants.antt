@@ -1,5 +1,5 @@
 use Rattle.std.proofs.Common.{take}
-use Rattle.flatgrammar.specs.Blocks.{dots_of, Asks, AreAsks, Picks}
+use Rattle.flatgrammar.specs.ItemClosures.{dots_of, Asks, AreAsks, Picks}
 use Rattle.flatgrammar.proofs.dot_list.asks_of.Given as goal
 
 abbrev pub invariant-loop-dot : goal.invariant-loop-dot

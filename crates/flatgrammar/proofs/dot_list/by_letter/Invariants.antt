@@ -1,5 +1,5 @@
 use Rattle.std.proofs.Common.{◌≡◌, length}
-use Rattle.flatgrammar.specs.Blocks.{AreByLetter}
+use Rattle.flatgrammar.specs.ItemClosures.{AreByLetter}
 use Rattle.flatgrammar.proofs.dot_list.by_letter.Given as goal
 
 abbrev pub invariant-loop-value : goal.invariant-loop-value

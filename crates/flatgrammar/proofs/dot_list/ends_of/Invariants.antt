@@ -1,5 +1,5 @@
 use Rattle.std.proofs.Common.{take}
-use Rattle.flatgrammar.specs.Blocks.{AreEnds}
+use Rattle.flatgrammar.specs.ItemClosures.{AreEnds}
 use Rattle.flatgrammar.proofs.dot_list.ends_of.Given as goal
 
 abbrev pub invariant-loop-dot : goal.invariant-loop-dot

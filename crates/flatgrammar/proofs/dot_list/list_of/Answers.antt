@@ -1,6 +1,6 @@
 use Rattle.std.proofs.Common.{List, Vec, Global}
-use Rattle.flatgrammar.specs.Blocks.{AreByLetter, Picks, ReadsAny}
-use Rattle.flatgrammar.specs.declared.block.DottedRule.{DottedRule}
+use Rattle.flatgrammar.specs.ItemClosures.{AreByLetter, Picks, ReadsAny}
+use Rattle.flatgrammar.specs.declared.closure.DottedRule.{DottedRule}
 use Rattle.flatgrammar.specs.declared.tables.Tables.{Tables}
 use Rattle.flatgrammar.proofs.dot_list.list_of.Goals as goal
 

@@ -1,5 +1,5 @@
 use Rattle.std.proofs.Common.{ap, ◌∙◌}
-use Rattle.flatgrammar.specs.Blocks.{ReadsAny}
+use Rattle.flatgrammar.specs.ItemClosures.{ReadsAny}
 use Rattle.flatgrammar.proofs.DotListLemmas.{pick_one, leave_one}
 use Rattle.flatgrammar.proofs.dot_list.readers_of.Goals as goal
 use Rattle.flatgrammar.proofs.dot_list.readers_of.Goals.{then-reads_any+in_ok-push, else-reads_any}

@@ -1,5 +1,5 @@
 use Rattle.std.proofs.Common.{take}
-use Rattle.flatgrammar.specs.Blocks.{ReadsAny, Picks}
+use Rattle.flatgrammar.specs.ItemClosures.{ReadsAny, Picks}
 use Rattle.flatgrammar.proofs.dot_list.readers_of.Given as goal
 
 abbrev pub invariant-loop-dot : goal.invariant-loop-dot

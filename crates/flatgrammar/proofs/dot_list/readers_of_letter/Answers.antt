@@ -1,5 +1,5 @@
 use Rattle.std.proofs.Common.{ap, ◌∙◌}
-use Rattle.flatgrammar.specs.Blocks.{Reads}
+use Rattle.flatgrammar.specs.ItemClosures.{Reads}
 use Rattle.flatgrammar.proofs.DotListLemmas.{pick_one, leave_one}
 use Rattle.flatgrammar.proofs.dot_list.readers_of_letter.Goals as goal
 use Rattle.flatgrammar.proofs.dot_list.readers_of_letter.Goals.{then-reads_it+in_ok-push, else-reads_it}

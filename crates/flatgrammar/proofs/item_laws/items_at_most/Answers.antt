@@ -1,4 +1,4 @@
-use Rattle.flatgrammar.proofs.PlacesLemmas as counting
+use Rattle.flatgrammar.proofs.PositionsLemmas as counting
 use Rattle.flatgrammar.proofs.item_laws.items_at_most.Goals as goal
 
 pub returns : goal.returns

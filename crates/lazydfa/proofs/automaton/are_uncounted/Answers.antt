@@ -11,7 +11,7 @@ loop-node-preserved c =
     (subst (λ v. c.loop-node.node-index < length v) c.deref-node-items.ensures.value c.loop-node-test.true)
     ∙ ap (λ v. Some v) (sym (subst (λ v. c.node-item.result ≡ get_or v c.loop-node.node-index c.node-item.result)
     c.deref-node-items.ensures.value c.node-item.is)))
-    (λ h. let t = c.counts_turns.ensures.1 h in let f = c.if-counts_turns.false in absurd (cc (t, f)))
+    (λ h. let t = c.counts_iterations.ensures.1 h in let f = c.if-counts_iterations.false in absurd (cc (t, f)))
     c.loop-node.invariant
 
 pub returns : goal.returns

@@ -12,8 +12,8 @@ returns-in-Some-Concat c = λ one.
     let inside = look.0 in
     let node = c.in-Some-Concat.field-0.now in
     whole_is_one c.args.tables.now node c.in-Some-Concat.members.items
-    (subst (λ v. slice_get v c.args.tables.now.whole ≡ Some node) c.deref.ensures.value
-    (slice_get-get_or c.deref.result.now c.args.tables.now.whole node (grind (arith, inside))
+    (subst (λ v. slice_get v c.args.tables.now.start ≡ Some node) c.deref.ensures.value
+    (slice_get-get_or c.deref.result.now c.args.tables.now.start node (grind (arith, inside))
     ∙ ap (λ v. Some v) (sym look.1)))
     (ap (λ v. node_of v) c.in-Some-Concat.field-0-is)
     (let size = eqb-true c.len.result 1 one in let count = c.len.ensures in omega (arith, size, count))

@@ -2,7 +2,7 @@ use Rattle.std.proofs.Common.{◌≡◌, get_or, refl, subst, sym, ◌∙◌, ap
 use Rattle.std.specs.Prelude.{Contains, IfSome, Some, false}
 use Rattle.std.proofs.lemmas.Option.{slice_get-get_or, get_or_from_slice_get}
 use Rattle.lazydfa.specs.Conts.{AreKept, IsTransition, ReadsFrom}
-use Rattle.lazydfa.specs.StackParts.{IsSplitOff}
+use Rattle.lazydfa.specs.StackSuffixes.{IsSplitOff}
 use Rattle.lazydfa.proofs.ContsLemmas.{kept_both, kept_same}
 use Rattle.lazydfa.proofs.AreCachedLemmas.{cached_conts, grown_cached, led_cached, led_step, led_push, transition_kept}
 use Rattle.lazydfa.proofs.fill.lead.Goals as goal
@@ -42,9 +42,9 @@ returns-in_default-clause-cached c =
 
 pub split_off-requires-clause-within : goal.split_off-requires-clause-within
 split_off-requires-clause-within c =
-    let reported = (subst (λ v. IfSome v (λ front. IsTransition c.args.tables.now
+    let reported = (subst (λ v. IfSome v (λ closure. IsTransition c.args.tables.now
     (get_or c.args.samples.now c.args.class 0) c.args.cache.now.conts.items.items
-    c.as_slice-tops.result.now c.transition.new.conts.items.items front.tops.items front.ended)) c.in-Some.is
+    c.as_slice-tops.result.now c.transition.new.conts.items.items closure.tops.items closure.ended)) c.in-Some.is
     c.in_ok-reported.ensures.is) in
     reported.within
 
@@ -54,7 +54,7 @@ split_off-requires-clause-older c = c.in_ok-reported.ensures.kept.older c.requir
 pub returns-in-Some-2-clause-cached : goal.returns-in-Some-2-clause-cached
 returns-in-Some-2-clause-cached c =
     let split = (subst (λ v. IfSome v (λ split. IsSplitOff c.args.tables.now c.split_off.new.conts.items.items
-    c.in-Some.front.tops.items split.tops.items split.part)) c.in-Some-2.is c.in_ok-split.ensures.is) in
+    c.in-Some.closure.tops.items split.tops.items split.suffix)) c.in-Some-2.is c.in_ok-split.ensures.is) in
     grown_cached c.args.tables.now c.args.samples.now c.args.cache.now.conts.items.items
     c.split_off.new.conts.items.items c.state_of.new.cache.conts.items.items c.args.cache.now.states.items
     c.state_of.new.cache.states.items c.args.cache.now.cells.items c.state_of.new.cache.cells.items
@@ -79,10 +79,10 @@ pub returns-in-Some-2-clause-is : goal.returns-in-Some-2-clause-is
 returns-in-Some-2-clause-is c = λ d sample.
     led_push c.args.tables.now c.args.cache.now.conts.items.items c.transition.new.conts.items.items
     c.split_off.new.conts.items.items c.state_of.new.cache.conts.items.items c.args.cache.now.states.items
-    c.state_of.new.cache.states.items c.index.result.now c.as_slice-tops.result.now c.in-Some.front.tops.items
-    c.in-Some-2.split.tops.items c.in-Some.front.ended c.args.state c.in_ok-t.t
+    c.state_of.new.cache.states.items c.index.result.now c.as_slice-tops.result.now c.in-Some.closure.tops.items
+    c.in-Some-2.split.tops.items c.in-Some.closure.ended c.args.state c.in_ok-t.t
     (get_or c.args.samples.now c.args.class 0)
-    c.in-Some-2.split.part (c.requires.cached.within c.args.state c.index.result.now
+    c.in-Some-2.split.suffix (c.requires.cached.within c.args.state c.index.result.now
     (slice_get-get_or c.args.cache.now.states.items c.args.state c.index.result.now
     (let l = c.len.ensures in let t = c.if-state-len.false in omega (arith, l, t))
     ∙ ap (λ v. Some v) (sym c.index.ensures)))
@@ -92,13 +92,13 @@ returns-in-Some-2-clause-is c = λ d sample.
     (let l = c.len.ensures in let t = c.if-state-len.false in omega (arith, l, t))
     ∙ ap (λ v. Some v) (sym c.index.ensures))
     c.as_slice-tops.ensures.value
-    (subst (λ v. IfSome v (λ split. c.in-Some.front.ended ≡ false)) c.in-Some-2.is c.in_ok-split.ensures.running)
-    (subst (λ v. IfSome v (λ front. IsTransition c.args.tables.now
+    (subst (λ v. IfSome v (λ split. c.in-Some.closure.ended ≡ false)) c.in-Some-2.is c.in_ok-split.ensures.running)
+    (subst (λ v. IfSome v (λ closure. IsTransition c.args.tables.now
     (get_or c.args.samples.now c.args.class 0) c.args.cache.now.conts.items.items
-    c.as_slice-tops.result.now c.transition.new.conts.items.items front.tops.items front.ended)) c.in-Some.is
+    c.as_slice-tops.result.now c.transition.new.conts.items.items closure.tops.items closure.ended)) c.in-Some.is
     c.in_ok-reported.ensures.is)
     (subst (λ v. IfSome v (λ split. IsSplitOff c.args.tables.now c.split_off.new.conts.items.items
-    c.in-Some.front.tops.items split.tops.items split.part)) c.in-Some-2.is c.in_ok-split.ensures.is)
+    c.in-Some.closure.tops.items split.tops.items split.suffix)) c.in-Some-2.is c.in_ok-split.ensures.is)
     (c.any_reads.ensures.some c.if-not-any_reads.false) d
     (get_or_from_slice_get c.args.samples.now c.args.class d 0 sample)
 
@@ -107,7 +107,7 @@ returns-clause-cached c =
     led_cached c.args.tables.now c.args.samples.now c.args.cache.now.conts.items.items
     c.split_off.new.conts.items.items c.state_of-2.new.cache.conts.items.items c.args.cache.now.states.items
     c.state_of-2.new.cache.states.items c.args.cache.now.cells.items c.state_of-2.new.cache.cells.items
-    c.index.result.now c.as_slice-tops.result.now c.in-Some.front.tops.items c.in-Some.front.ended c.args.state
+    c.index.result.now c.as_slice-tops.result.now c.in-Some.closure.tops.items c.in-Some.closure.ended c.args.state
     c.in_ok-t-2.t (get_or c.args.samples.now c.args.class 0) c.requires.cached
     (kept_both c.args.cache.now.conts.items.items c.transition.new.conts.items.items
     c.split_off.new.conts.items.items c.in_ok-reported.ensures.kept c.in_ok-split.ensures.kept)
@@ -118,16 +118,16 @@ returns-clause-cached c =
     c.as_slice-tops.ensures.value
     (transition_kept c.args.tables.now (get_or c.args.samples.now c.args.class 0) c.args.cache.now.conts.items.items
     c.args.cache.now.conts.items.items c.transition.new.conts.items.items c.split_off.new.conts.items.items
-    c.as_slice-tops.result.now c.in-Some.front.tops.items c.in-Some.front.ended
+    c.as_slice-tops.result.now c.in-Some.closure.tops.items c.in-Some.closure.ended
     (kept_same c.args.cache.now.conts.items.items) c.in_ok-split.ensures.kept
     (λ id h. c.requires.cached.within c.args.state c.index.result.now
     (slice_get-get_or c.args.cache.now.states.items c.args.state c.index.result.now
     (let l = c.len.ensures in let t = c.if-state-len.false in omega (arith, l, t))
     ∙ ap (λ v. Some v) (sym c.index.ensures)) id
     (subst (λ v. Contains v id) c.as_slice-tops.ensures.value h))
-    (subst (λ v. IfSome v (λ front. IsTransition c.args.tables.now
+    (subst (λ v. IfSome v (λ closure. IsTransition c.args.tables.now
     (get_or c.args.samples.now c.args.class 0) c.args.cache.now.conts.items.items
-    c.as_slice-tops.result.now c.transition.new.conts.items.items front.tops.items front.ended)) c.in-Some.is
+    c.as_slice-tops.result.now c.transition.new.conts.items.items closure.tops.items closure.ended)) c.in-Some.is
     c.in_ok-reported.ensures.is))
 
 pub returns-clause-grows : goal.returns-clause-grows
@@ -144,7 +144,7 @@ returns-clause-is c = λ d sample.
     led_step c.args.tables.now c.args.samples.now c.args.cache.now.conts.items.items
     c.split_off.new.conts.items.items c.state_of-2.new.cache.conts.items.items c.args.cache.now.states.items
     c.state_of-2.new.cache.states.items c.args.cache.now.cells.items c.state_of-2.new.cache.cells.items
-    c.index.result.now c.as_slice-tops.result.now c.in-Some.front.tops.items c.in-Some.front.ended c.args.state
+    c.index.result.now c.as_slice-tops.result.now c.in-Some.closure.tops.items c.in-Some.closure.ended c.args.state
     c.in_ok-t-2.t (get_or c.args.samples.now c.args.class 0) c.requires.cached
     (kept_both c.args.cache.now.conts.items.items c.transition.new.conts.items.items
     c.split_off.new.conts.items.items c.in_ok-reported.ensures.kept c.in_ok-split.ensures.kept)
@@ -155,16 +155,16 @@ returns-clause-is c = λ d sample.
     c.as_slice-tops.ensures.value
     (transition_kept c.args.tables.now (get_or c.args.samples.now c.args.class 0) c.args.cache.now.conts.items.items
     c.args.cache.now.conts.items.items c.transition.new.conts.items.items c.split_off.new.conts.items.items
-    c.as_slice-tops.result.now c.in-Some.front.tops.items c.in-Some.front.ended
+    c.as_slice-tops.result.now c.in-Some.closure.tops.items c.in-Some.closure.ended
     (kept_same c.args.cache.now.conts.items.items) c.in_ok-split.ensures.kept
     (λ id h. c.requires.cached.within c.args.state c.index.result.now
     (slice_get-get_or c.args.cache.now.states.items c.args.state c.index.result.now
     (let l = c.len.ensures in let t = c.if-state-len.false in omega (arith, l, t))
     ∙ ap (λ v. Some v) (sym c.index.ensures)) id
     (subst (λ v. Contains v id) c.as_slice-tops.ensures.value h))
-    (subst (λ v. IfSome v (λ front. IsTransition c.args.tables.now
+    (subst (λ v. IfSome v (λ closure. IsTransition c.args.tables.now
     (get_or c.args.samples.now c.args.class 0) c.args.cache.now.conts.items.items
-    c.as_slice-tops.result.now c.transition.new.conts.items.items front.tops.items front.ended)) c.in-Some.is
+    c.as_slice-tops.result.now c.transition.new.conts.items.items closure.tops.items closure.ended)) c.in-Some.is
     c.in_ok-reported.ensures.is))
     (c.any_reads.ensures.some c.if-not-any_reads.false) d
     (get_or_from_slice_get c.args.samples.now c.args.class d 0 sample)

@@ -4,5 +4,5 @@ use Rattle.lazydfa.proofs.glide.glide.Goals as goal
 
 pub glide_short-requires-clause-bare : goal.glide_short-requires-clause-bare
 glide_short-requires-clause-bare g c = λ bare.
-    nil_from_length c.args.memo.now.parts.items
+    nil_from_length c.args.memo.now.suffixes.items
     (let z = c.if-len-eq0.true in let l = c.len.ensures in omega (arith, z, l))

@@ -11,25 +11,25 @@ pub loop-track-preserved : goal.loop-track-preserved
 loop-track-preserved g c = record {
   within = omega arith;
   further = omega arith;
-  glides = λ tables roots classes memo track.
+  glides = λ tables targets classes memo track.
       let x = map g.L.Letter.number c.args.line.now in
       let taken = subst (λ v. IsTaken v (length c.args.samples.now) (nat_eq c.len-is_bare.result 0)
       (c.loop-track.track.row + c.class_of-class.result) c.in-Some.row) c.as_slice-transitions.ensures.value
       (subst (λ v. IfSome v (IsTaken c.as_slice-transitions.result.now (length c.args.samples.now)
       (nat_eq c.len-is_bare.result 0) (c.loop-track.track.row + c.class_of-class.result))) c.in-Some.is
       c.next_row.ensures) in
-      stays_taken tables roots c.args.samples.now c.args.memo.now memo x c.args.low.now classes c.in-Some.row
+      stays_taken tables targets c.args.samples.now c.args.memo.now memo x c.args.low.now classes c.in-Some.row
       (c.loop-track.track.at + 1) taken.1 c.stay_on.result c.stay_on.ensures.further
       (let size = length-map c.args.line.now g.L.Letter.number in let w = c.stay_on.ensures.within in
       omega (arith, size, w))
       (subst (λ v. StaysOver c.args.low.now c.args.samples.now v x c.in-Some.row (c.loop-track.track.at + 1)
       c.stay_on.result) c.as_slice-transitions.ensures.value c.stay_on.ensures.stays)
-      (transition_taken tables roots c.args.samples.now c.args.memo.now memo x
+      (transition_taken tables targets c.args.samples.now c.args.memo.now memo x
       c.loop-track.track.row c.loop-track.track.at c.value.result c.class_of-class.result c.in-Some.row
       (nat_eq c.len-is_bare.result 0)
-      (λ bare. nil_from_length c.args.memo.now.parts.items
+      (λ bare. nil_from_length c.args.memo.now.suffixes.items
       (let z = eqb-true c.len-is_bare.result 0 bare in let l = c.len-is_bare.ensures in omega (arith, z, l)))
-      (c.loop-track.invariant.glides tables roots classes memo track)
+      (c.loop-track.invariant.glides tables targets classes memo track)
       (number_at g.L.Letter.number c.args.line.now c.loop-track.track.at c.index-line-track.result
       c.value.result c.loop-track-test.true c.index-line-track.is c.value.ensures.number)
       (c.class_of-class.ensures (flat_of tables) classes.low_are.classes classes.parted) taken);

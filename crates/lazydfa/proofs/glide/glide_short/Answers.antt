@@ -10,16 +10,16 @@ pub loop-track-preserved : goal.loop-track-preserved
 loop-track-preserved g c = record {
   within = omega arith;
   further = omega arith;
-  glides = λ tables roots classes memo track.
+  glides = λ tables targets classes memo track.
       let x = map g.L.Letter.number c.args.line.now in
       let taken = subst (λ v. IsTaken v (length c.args.samples.now) c.args.is_bare
       (c.loop-track.track.row + c.class_of-class.result) c.in-Some.row) c.as_slice-transitions.ensures.value
       (subst (λ v. IfSome v (IsTaken c.as_slice-transitions.result.now (length c.args.samples.now) c.args.is_bare
       (c.loop-track.track.row + c.class_of-class.result))) c.in-Some.is c.next_row.ensures) in
-      transition_taken tables roots c.args.samples.now c.args.memo.now memo x c.loop-track.track.row
+      transition_taken tables targets c.args.samples.now c.args.memo.now memo x c.loop-track.track.row
       c.loop-track.track.at
       c.value.result c.class_of-class.result c.in-Some.row c.args.is_bare c.requires.bare
-      (c.loop-track.invariant.glides tables roots classes memo track)
+      (c.loop-track.invariant.glides tables targets classes memo track)
       (number_at g.L.Letter.number c.args.line.now c.loop-track.track.at c.index-line-track.result
       c.value.result c.loop-track-test.true c.index-line-track.is c.value.ensures.number)
       (c.class_of-class.ensures (flat_of tables) classes.low_are.classes classes.parted) taken;

@@ -18,7 +18,7 @@ returns-then-not-branch-clause-memo g c =
       states = subst (λ v. AreGrown v.items c.begin.new.cache.states.items) c.prepare.ensures.states
           c.in_ok-begin.ensures.grows.states;
     })
-    (ap (λ v. v.items) c.prepare.ensures.unfolds) (ap (λ v. v.items) c.prepare.ensures.transitions)
+    (ap (λ v. v.items) c.prepare.ensures.resumes) (ap (λ v. v.items) c.prepare.ensures.transitions)
 
 pub go_on-requires-clause-memo : goal.go_on-requires-clause-memo
 go_on-requires-clause-memo g c =
@@ -30,7 +30,7 @@ go_on-requires-clause-memo g c =
       states = subst (λ v. AreGrown v.items c.begin.new.cache.states.items) c.prepare.ensures.states
           c.in_ok-begin.ensures.grows.states;
     })
-    (ap (λ v. v.items) c.prepare.ensures.unfolds) (ap (λ v. v.items) c.prepare.ensures.transitions)
+    (ap (λ v. v.items) c.prepare.ensures.resumes) (ap (λ v. v.items) c.prepare.ensures.transitions)
 
 pub go_on-requires-clause-tracks : goal.go_on-requires-clause-tracks
 go_on-requires-clause-tracks g c =
@@ -44,14 +44,14 @@ go_on-requires-clause-tracks g c =
       states = subst (λ v. AreGrown v.items c.begin.new.cache.states.items) c.prepare.ensures.states
           c.in_ok-begin.ensures.grows.states;
     })
-    (ap (λ v. v.items) c.prepare.ensures.unfolds) (ap (λ v. v.items) c.prepare.ensures.transitions) in
-    let started = c.glide-track.ensures.glides c.args.tables.now c.requires.roots c.requires.classes memo
+    (ap (λ v. v.items) c.prepare.ensures.resumes) (ap (λ v. v.items) c.prepare.ensures.transitions) in
+    let started = c.glide-track.ensures.glides c.args.tables.now c.requires.targets c.requires.classes memo
     (track_of c.args.tables.now c.args.classes.samples.now
     (record c.prepare.new.memo { cache = c.begin.new.cache }) (map g.L.Letter.number c.args.line.now) 0 0
     (length c.args.classes.samples.now + 1) 0 refl (omega arith)
-    (settled_start c.args.tables.now c.requires.roots (map g.L.Letter.number c.args.line.now)
-    c.begin.new.cache.conts.items.items c.begin.new.cache.states.items c.prepare.new.memo.parts.items 0
-    c.prepare.ensures.parts (c.in_ok-begin.ensures.is c.if-not-branch.false))
+    (settled_start c.args.tables.now c.requires.targets (map g.L.Letter.number c.args.line.now)
+    c.begin.new.cache.conts.items.items c.begin.new.cache.states.items c.prepare.new.memo.suffixes.items 0
+    c.prepare.ensures.suffixes (c.in_ok-begin.ensures.is c.if-not-branch.false))
     (λ some. absurd (omega (arith, some)))) in
     started
 
@@ -65,7 +65,7 @@ returns-clause-memo g c =
       states = subst (λ v. AreGrown v.items c.begin.new.cache.states.items) c.prepare.ensures.states
           c.in_ok-begin.ensures.grows.states;
     })
-    (ap (λ v. v.items) c.prepare.ensures.unfolds) (ap (λ v. v.items) c.prepare.ensures.transitions)
+    (ap (λ v. v.items) c.prepare.ensures.resumes) (ap (λ v. v.items) c.prepare.ensures.transitions)
 
 pub returns-clause-stops : goal.returns-clause-stops
 returns-clause-stops g c =
@@ -80,14 +80,14 @@ returns-clause-stops g c =
       states = subst (λ v. AreGrown v.items c.begin.new.cache.states.items) c.prepare.ensures.states
           c.in_ok-begin.ensures.grows.states;
     })
-    (ap (λ v. v.items) c.prepare.ensures.unfolds) (ap (λ v. v.items) c.prepare.ensures.transitions) in
-    let started = c.glide-track.ensures.glides c.args.tables.now c.requires.roots c.requires.classes memo
+    (ap (λ v. v.items) c.prepare.ensures.resumes) (ap (λ v. v.items) c.prepare.ensures.transitions) in
+    let started = c.glide-track.ensures.glides c.args.tables.now c.requires.targets c.requires.classes memo
     (track_of c.args.tables.now c.args.classes.samples.now
     (record c.prepare.new.memo { cache = c.begin.new.cache }) (map g.L.Letter.number c.args.line.now) 0 0
     (length c.args.classes.samples.now + 1) 0 refl (omega arith)
-    (settled_start c.args.tables.now c.requires.roots (map g.L.Letter.number c.args.line.now)
-    c.begin.new.cache.conts.items.items c.begin.new.cache.states.items c.prepare.new.memo.parts.items 0
-    c.prepare.ensures.parts (c.in_ok-begin.ensures.is c.if-not-branch.false))
+    (settled_start c.args.tables.now c.requires.targets (map g.L.Letter.number c.args.line.now)
+    c.begin.new.cache.conts.items.items c.begin.new.cache.states.items c.prepare.new.memo.suffixes.items 0
+    c.prepare.ensures.suffixes (c.in_ok-begin.ensures.is c.if-not-branch.false))
     (λ some. absurd (omega (arith, some)))) in
     record {
       within = let a = c.glide-track.ensures.within in omega (arith, a, size);

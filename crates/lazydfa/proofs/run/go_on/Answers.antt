@@ -41,7 +41,7 @@ loop-track-preserved g c =
     record {
       memo = c.in_ok-t.ensures.memo;
       within = c.glide-track.ensures.within;
-      tracks = c.glide-track.ensures.glides c.args.tables.now c.requires.roots c.requires.classes
+      tracks = c.glide-track.ensures.glides c.args.tables.now c.requires.targets c.requires.classes
           c.in_ok-t.ensures.memo (track_of c.args.tables.now c.args.classes.samples.now c.take_step.new.memo
           (map g.L.Letter.number c.args.line.now) c.in-Some.row c.in-To.t (length c.args.classes.samples.now + 1)
           (c.loop-track.track.at + 1) refl c.in-Some.ensures taken.0 (λ _. taken.1));

@@ -21,10 +21,10 @@ returns-in_default-clause-cached c =
 pub returns-clause-cached : goal.returns-clause-cached
 returns-clause-cached c =
     let is = tops_reordered c.args.tables.now c.args.value c.args.cache.now.conts.items.items c.as_slice-tops.result.now
-    c.transition.new.conts.items.items c.in-Some.front.tops.items c.in_order.result.tops.items c.in-Some.front.ended
+    c.transition.new.conts.items.items c.in-Some.closure.tops.items c.in_order.result.tops.items c.in-Some.closure.ended
     c.in_order.ensures.tops
-    (subst (λ v. IfSome v (λ front. IsTransition c.args.tables.now c.args.value c.args.cache.now.conts.items.items
-    c.as_slice-tops.result.now c.transition.new.conts.items.items front.tops.items front.ended)) c.in-Some.is
+    (subst (λ v. IfSome v (λ closure. IsTransition c.args.tables.now c.args.value c.args.cache.now.conts.items.items
+    c.as_slice-tops.result.now c.transition.new.conts.items.items closure.tops.items closure.ended)) c.in-Some.is
     c.in_ok-reported.ensures.is) in
     grown_cached c.args.tables.now [] c.args.cache.now.conts.items.items c.transition.new.conts.items.items
     c.state_of.new.cache.conts.items.items c.args.cache.now.states.items c.state_of.new.cache.states.items
@@ -51,8 +51,8 @@ returns-clause-is c =
     c.as_slice-tops.result.now c.transition.new.conts.items.items c.in_order.result.tops.items v)
     (sym c.in_order.ensures.ended)
     (tops_reordered c.args.tables.now c.args.value c.args.cache.now.conts.items.items c.as_slice-tops.result.now
-    c.transition.new.conts.items.items c.in-Some.front.tops.items c.in_order.result.tops.items c.in-Some.front.ended
+    c.transition.new.conts.items.items c.in-Some.closure.tops.items c.in_order.result.tops.items c.in-Some.closure.ended
     c.in_order.ensures.tops
-    (subst (λ v. IfSome v (λ front. IsTransition c.args.tables.now c.args.value c.args.cache.now.conts.items.items
-    c.as_slice-tops.result.now c.transition.new.conts.items.items front.tops.items front.ended)) c.in-Some.is
+    (subst (λ v. IfSome v (λ closure. IsTransition c.args.tables.now c.args.value c.args.cache.now.conts.items.items
+    c.as_slice-tops.result.now c.transition.new.conts.items.items closure.tops.items closure.ended)) c.in-Some.is
     c.in_ok-reported.ensures.is)))

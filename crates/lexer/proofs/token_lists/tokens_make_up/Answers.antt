@@ -47,7 +47,7 @@ module _ {K : Type 0} (White : List ℕ → List ℕ → Type 0) (First Stands :
       let sizes : length text ≡ length before + (length z + length r) = ap length whole
       ∙ length-append before (z ++ r) ∙ ap (λ (k : ℕ). length before + k) (length-append z r) in
       let token : length n.token ≡ length z + length r = ap length n.cut ∙ length-append z r in
-      let start : start_of x ≡ length before = (let p = n.place in omega arith) in
+      let start : start_of x ≡ length before = (let p = n.position in omega arith) in
       let size = n.size in
       let long = length-append front w.front in
       let end : length (before ++ z) ≡ end_of x = omega (arith, length-append before z) in

@@ -7,11 +7,11 @@ use Rattle.linejudge.proofs.batch.judge_front.Given as goal
 abbrev pub invariant-loop-len : goal.invariant-loop-len
 invariant-loop-len g l = record {
   work : g.J.Judge.works_in l.judge l.work;
-  place : l.next.place ≡ l.at.place + l.len;
+  position : l.next.position ≡ l.at.position + l.len;
   within : l.len ≤ length l.front;
-  counted : l.next.count ≤ l.next.place;
+  counted : l.next.count ≤ l.next.position;
   refused : l.next.refused ≤ l.next.count;
-  goes_on : (input : Input) (rest : List ℕ) → drop l.at.place input.bytes ≡ l.front ++ rest →
+  goes_on : (input : Input) (rest : List ℕ) → drop l.at.position input.bytes ≡ l.front ++ rest →
       AddsLines (g.J.Judge.reported l.judge) (g.J.Judge.explains l.judge) (g.J.Judge.refusal l.judge) l.form input l.at
       l.next l.text.items;
 }

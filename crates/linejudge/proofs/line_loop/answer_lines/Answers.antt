@@ -52,8 +52,8 @@ next_step-requires g c =
       out_is_fresh = so_far.flag ∙ c.requires.out_is_fresh;
     }
 
-pub position_after-reached-requires-clause-place : goal.position_after-reached-requires-clause-place
-position_after-reached-requires-clause-place g c =
+pub next_position-reached-requires-clause-position : goal.next_position-reached-requires-clause-position
+next_position-reached-requires-clause-position g c =
     let fits = (rw c.in-Ok-Answers.field-0-is at c.in-Ok-Answers.ensures.fits) in
     let grew = c.in-Ok-Answers.ensures.grows in
     let more = ap length grew.bytes in
@@ -72,7 +72,7 @@ loop-feed-smaller g c =
     let fits = (rw c.in-Ok-Answers.field-0-is at c.in-Ok-Answers.ensures.fits) in
     let grew = c.in-Ok-Answers.ensures.grows in
     let more = ap length grew.bytes in
-    rw (c.position_after-reached.ensures, c.in-Ok-Answers.ensures.at) (omega (
+    rw (c.next_position-reached.ensures, c.in-Ok-Answers.ensures.at) (omega (
       arith,
       fits.0,
       fits.1,
@@ -91,7 +91,7 @@ loop-feed-preserved-then-at-next g c =
     let on = c.judge_front-next.ensures in
     let part = c.front.ensures in
     let held = ap length part.1 in
-    let n : ℕ = next.place - at.place in
+    let n : ℕ = next.position - at.position in
     let le : n ≤ length items = omega (arith, on.ahead, on.within, held, length-append c.front.result.now part.0) in
     record {
       capacity = c.skip.ensures.capacity ∙ c.loop-feed.invariant.capacity;
@@ -108,7 +108,7 @@ loop-feed-preserved-then-at-next g c =
       flag = c.in_default.ensures.flag ∙ c.loop-feed.invariant.flag;
       written = (
         so_far.0 ++ take n items,
-        let e = slides-len so_far.0 items n at.place so_far.1 le in omega (arith, e, on.ahead),
+        let e = slides-len so_far.0 items n at.position so_far.1 le in omega (arith, e, on.ahead),
         rw (c.skip.ensures.reader, c.skip.ensures.bytes, slides-bytes so_far.0 items n) so_far.2,
         λ input b.
             let a = rw (c.skip.ensures.bytes, slides-bytes so_far.0 items n, c.skip.ensures.flow) at b in
@@ -165,13 +165,13 @@ loop-feed-preserved g c =
     let le : n ≤ length items = fits.1 in
     record {
       capacity = slid.capacity ∙ grew.capacity ∙ c.loop-feed.invariant.capacity;
-      counted = rw (c.position_after-reached.ensures, c.in-Ok-Answers.ensures.at)
+      counted = rw (c.next_position-reached.ensures, c.in-Ok-Answers.ensures.at)
           (omega (arith, c.loop-feed.invariant.counted, some));
-      refused = rw (c.position_after-reached.ensures, c.in-Ok-Answers.ensures.at)
+      refused = rw (c.next_position-reached.ensures, c.in-Ok-Answers.ensures.at)
           (omega (arith, c.loop-feed.invariant.refused, refused_by-one c.in-Ok-Answers.said));
       within = let kept = ap length slid.bytes in
           let more = ap length grew.bytes in
-          rw (c.position_after-reached.ensures, c.in-Ok-Answers.ensures.at) (omega (
+          rw (c.next_position-reached.ensures, c.in-Ok-Answers.ensures.at) (omega (
             arith,
             kept,
             length-drop n items,
@@ -189,15 +189,15 @@ loop-feed-preserved g c =
       flag = c.in-Ok-Answers.ensures.flag ∙ c.loop-feed.invariant.flag;
       written = (
         so_far.0 ++ take n items,
-        rw (c.position_after-reached.ensures, c.in-Ok-Answers.ensures.at)
-            (let e = slides-len so_far.0 items n c.loop-feed.reached.at.place so_far.1 le in omega (arith, e)),
+        rw (c.next_position-reached.ensures, c.in-Ok-Answers.ensures.at)
+            (let e = slides-len so_far.0 items n c.loop-feed.reached.at.position so_far.1 le in omega (arith, e)),
         rw (slid.reader, slid.bytes, slides-bytes so_far.0 items n)
             (seen_more _ _ _ grew so_far.0 _ so_far.2),
         λ input b.
             let a = rw (slid.bytes, slides-bytes so_far.0 items n, slid.flow) at b in
             let front = so_far.3 input (agrees_earlier _ _ _ grew so_far.0 input a) in
             let step = c.in-Ok-Answers.ensures.follows so_far.0 input so_far.1 a in
-            rw (c.position_after-reached.ensures, c.in-Ok-Answers.ensures.at)
+            rw (c.next_position-reached.ensures, c.in-Ok-Answers.ensures.at)
             (one_more_line (g.J.Judge.reported c.args.judge.now)
             (g.J.Judge.explains c.args.judge.now) (g.J.Judge.refusal c.args.judge.now) c.args.form input
             c.loop-feed.reached.at _ _ front.0 c.loop-feed.reached.reported front.1 front.2 front.3 _

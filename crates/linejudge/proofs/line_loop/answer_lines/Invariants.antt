@@ -13,15 +13,15 @@ use Rattle.linejudge.proofs.line_loop.answer_lines.Given as goal
 abbrev pub invariant-loop-feed : goal.invariant-loop-feed
 invariant-loop-feed g l = record {
   capacity : capacity_of l.feed ≡ l.form.limit + 1;
-  counted : l.reached.at.count ≤ l.reached.at.place;
+  counted : l.reached.at.count ≤ l.reached.at.position;
   refused : l.reached.at.refused ≤ l.reached.at.count;
-  within : l.reached.at.place + length (bytes_of l.feed) + allowance_of l.feed ≡ input_limit;
+  within : l.reached.at.position + length (bytes_of l.feed) + allowance_of l.feed ≡ input_limit;
   reported : IsTrueOfReader g.R.Source.remaining g.R.Source.failed g.R.Source.ended l.feed;
   work : g.J.Judge.works_in l.judge l.work;
   room : g.J.Judge.explains l.judge ≡ true → HasRoom l.reached.reported;
   loan : SameLoan l.fn.feed l.feed;
   flag : g.O.Sink.failed l.out ≡ g.O.Sink.failed l.fn.out;
-  written : (before : List ℕ) × (length before ≡ l.reached.at.place) ×
+  written : (before : List ℕ) × (length before ≡ l.reached.at.position) ×
       Consumes (g.R.Source.remaining (reader_of l.fn.feed)) (g.R.Source.remaining (reader_of l.feed))
       (before ++ bytes_of l.feed) ×
       ((input : Input) → Agrees (before ++ bytes_of l.feed) (flow_of l.feed) input →
@@ -32,4 +32,4 @@ invariant-loop-feed g l = record {
 }
 
 abbrev pub decreases-loop-feed : goal.decreases-loop-feed
-decreases-loop-feed g l = input_limit - l.reached.at.place
+decreases-loop-feed g l = input_limit - l.reached.at.position

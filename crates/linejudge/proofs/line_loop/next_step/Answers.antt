@@ -80,7 +80,7 @@ returns-in-Whole g c =
           (c.next_line.ensures.grows.capacity ∙ c.requires.capacity) b) in
           let size : ℕ = kept_size c.args.form c.in-Whole.n in
           let front = held_front before (bytes_of c.next_line.new.feed) b.more input.bytes size
-          c.args.reached.now.at.place b.bytes here
+          c.args.reached.now.at.position b.bytes here
           (let fits = c.in-Whole.ensures.fits in omega (arith, fits, kept_most c.args.form c.in-Whole.n)) in (
             whole_is (g.J.Judge.reported c.args.judge.now) (g.J.Judge.explains c.args.judge.now)
                 (g.J.Judge.refusal c.args.judge.now) c.args.form input c.args.reached.now.at
@@ -114,7 +114,7 @@ returns-in-Last g c =
           let next = rw here at (c.in-Last.ensures.follows before input
           (c.next_line.ensures.grows.capacity ∙ c.requires.capacity) b) in
           let front = held_front before (bytes_of c.next_line.new.feed) b.more input.bytes c.in-Last.n
-          c.args.reached.now.at.place b.bytes here (let fits = c.in-Last.ensures.fits in omega (arith, fits.1)) in (
+          c.args.reached.now.at.position b.bytes here (let fits = c.in-Last.ensures.fits in omega (arith, fits.1)) in (
             last_is (g.J.Judge.reported c.args.judge.now) (g.J.Judge.explains c.args.judge.now)
                 (g.J.Judge.refusal c.args.judge.now) c.args.form input c.args.reached.now.at
                 (g.O.Sink.contents c.args.out.now) (g.O.Sink.contents c.step_of-in-Last.new.out)

@@ -1,4 +1,4 @@
-use Rattle.lowering.specs.Lowered.{shows_rep, shows_turns}
+use Rattle.lowering.specs.Lowered.{shows_rep, shows_iterations}
 use Rattle.lowering.proofs.IsEmptyRepeatLemmas.{reversed_is_nothing}
 use Rattle.lowering.proofs.lower_elem.repeat.Goals as goal
 
@@ -7,7 +7,7 @@ returns-then-is_reversed-clause-shows c = λ rules nodes el reported sp. reverse
     (c.is_reversed.ensures.yes c.if-is_reversed.true)
 
 pub returns-then-made-clause-shows : goal.returns-then-made-clause-shows
-returns-then-made-clause-shows c = λ rules nodes el reported sp. shows_turns c.capped_most.ensures
+returns-then-made-clause-shows c = λ rules nodes el reported sp. shows_iterations c.capped_most.ensures
     (c.is_reversed.ensures.no c.if-is_reversed.false) (reported.yes c.if-made.true) sp
 
 pub returns-else-made-clause-shows : goal.returns-else-made-clause-shows

@@ -45,10 +45,10 @@ returns-clause-lowered c =
     (judged_there _ _ _ c.requires.alike c.judged-judged.ensures.sound.sound.judged_is_rule)
     c.in_ok-whole.ensures.number is.1.1.0 is.1.1.1) (λ _ _. tt)
 
-pub returns-clause-places : goal.returns-clause-places
-returns-clause-places c =
+pub returns-clause-positions : goal.returns-clause-positions
+returns-clause-positions c =
     IfOk-weaker c.new.result _ _ (λ flat nodes.
-    o.places_sized (rules_of c.args.rules.now) c.args.limit c.args.grammar.now.judged _ c.in_ok-whole.whole _ 0 _ _
+    o.positions_sized (rules_of c.args.rules.now) c.args.limit c.args.grammar.now.judged _ c.in_ok-whole.whole _ 0 _ _
     _ _ _
     flat c.in_ok-bodies.ensures (sym (length-map c.args.rules.now.rules rule_of))
     c.in_ok-whole.ensures.nodes c.in_ok-members.ensures nodes) c.new.ensures.nodes

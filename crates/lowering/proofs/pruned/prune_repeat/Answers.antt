@@ -19,5 +19,5 @@ returns-then-least-eq0 c test rules el left =
     (o.empty_left test rules c.args.least c.args.most el c.if-least-eq0.true (rw c.in-None.is at left))
 
 pub returns-else-least-eq0 : goal.returns-else-least-eq0
-returns-else-least-eq0 c test rules el left = o.no_turn test rules c.args.least c.args.most el c.if-least-eq0.false
+returns-else-least-eq0 c test rules el left = o.no_iteration test rules c.args.least c.args.most el c.if-least-eq0.false
     (rw c.in-None.is at left)

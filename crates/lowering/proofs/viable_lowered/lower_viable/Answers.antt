@@ -4,7 +4,7 @@ use Rattle.abnfread.specs.AbnfViews.{rules_of}
 use Rattle.letters.specs.Letters.{has}
 use Rattle.lowering.proofs.LoweredLemmas.{ok_both}
 use Rattle.lowering.specs.Pruned.{ArePruned}
-use Rattle.lowering.proofs.ArePrunedLemmas.{gives_prefixes, places_left, null_alike}
+use Rattle.lowering.proofs.ArePrunedLemmas.{gives_prefixes, positions_left, null_alike}
 use Rattle.lowering.proofs.viable_lowered.lower_viable.Goals as goal
 
 pub lower_rules-requires-clause-alike : goal.lower_rules-requires-clause-alike
@@ -21,19 +21,19 @@ returns-clause-prefixes c = IfOk-weaker c.lower_rules.result _ _ (λ flat lowere
     c.in_ok-pruned.ensures.pruned)
     c.args.grammar.now.judged flat lowered) c.lower_rules.ensures.lowered
 
-pub returns-clause-places : goal.returns-clause-places
-returns-clause-places c =
-    let less = places_left (has c.args.alphabet) (rules_of c.args.grammar.now.rules) (rules_of c.in_ok-pruned.pruned)
+pub returns-clause-positions : goal.returns-clause-positions
+returns-clause-positions c =
+    let less = positions_left (has c.args.alphabet) (rules_of c.args.grammar.now.rules) (rules_of c.in_ok-pruned.pruned)
     c.args.limit
     (subst (λ v. ArePruned (has c.args.alphabet) (rules_of v) (rules_of c.in_ok-pruned.pruned)) c.rules.ensures.rules
     c.in_ok-pruned.ensures.pruned) in
-    IfOk-weaker c.lower_rules.result _ _ (λ flat all. omega (arith, all, less)) c.lower_rules.ensures.places
+    IfOk-weaker c.lower_rules.result _ _ (λ flat all. omega (arith, all, less)) c.lower_rules.ensures.positions
 
 pub returns-clause-parts : goal.returns-clause-parts
 returns-clause-parts c =
     let made = c.lower_rules.ensures in
     let facts = ok_both c.lower_rules.result _ _ made.lowered
-    (ok_both c.lower_rules.result _ _ made.limit made.places) in
+    (ok_both c.lower_rules.result _ _ made.limit made.positions) in
     MatchResult-weaker c.lower_rules.result facts (λ flat is. record {
       left = rules_of c.in_ok-pruned.pruned;
       pruned = subst (λ v. ArePruned (has c.args.alphabet) (rules_of v) (rules_of c.in_ok-pruned.pruned))

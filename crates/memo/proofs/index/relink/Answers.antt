@@ -1,6 +1,6 @@
 use Rattle.std.proofs.Common.{◌∙◌, arith, length, refl, sym}
 use Rattle.std.proofs.Math.Seq.{map-set_same}
-use Rattle.memo.specs.TaskLinks.{place_of_cell}
+use Rattle.memo.specs.TaskLinks.{position_of_cell}
 use Rattle.memo.proofs.TaskLinksLemmas.{linked_set}
 use Rattle.memo.proofs.index.relink.Goals as goal
 
@@ -8,5 +8,5 @@ pub loop-i-preserved : goal.loop-i-preserved
 loop-i-preserved c = record {
   linked = linked_set (length c.loop-i.heads) c.loop-i.cells c.loop-i.heads c.loop-i.i c.bucket-at.result _
       (omega arith) refl c.loop-i.invariant.linked c.last_of-link.ensures (sym c.bucket-at.ensures.value);
-  same = map-set_same place_of_cell c.loop-i.cells c.loop-i.i _ _ refl ∙ c.loop-i.invariant.same;
+  same = map-set_same position_of_cell c.loop-i.cells c.loop-i.i _ _ refl ∙ c.loop-i.invariant.same;
 }

@@ -1,6 +1,6 @@
 use Rattle.std.proofs.Common.{arith, ap, ◌∙◌, length, slice_get}
 use Rattle.memo.specs.TaskLinks.{bucket_of}
-use Rattle.memo.proofs.TaskLinksLemmas.{sought_start, cell_of_place}
+use Rattle.memo.proofs.TaskLinksLemmas.{sought_start, cell_of_position}
 use Rattle.memo.proofs.index.walk.Goals as goal
 
 pub loop-at-init : goal.loop-at-init
@@ -10,6 +10,6 @@ loop-at-init c =
 
 pub returns-clause-none : goal.returns-clause-none
 returns-clause-none c i e p at h =
-    let m = cell_of_place c.args.cells.now (record { number = c.args.number; entry = i }) p in
+    let m = cell_of_position c.args.cells.now (record { number = c.args.number; entry = i }) p in
     c.loop-at.invariant.after m.0 m.1 (omega arith) m.2
     (ap (λ v. v.number) m.3, e, ap (λ v. slice_get c.args.entries.now v.entry) m.3 ∙ at, h)

@@ -1,6 +1,6 @@
 use Rattle.std.proofs.Common.{◌≡◌, ℕ, List, length, slice_get, Some}
 use Rattle.memo.specs.KeyLog.{tasks_of}
-use Rattle.memo.specs.LogEntries.{pairs_of}
+use Rattle.memo.specs.LogEntries.{evals_of}
 use Rattle.memo.specs.Parts.{IsIn}
 use Rattle.memo.specs.TaskLinks.{bucket_of, bucket_of_cell}
 use Rattle.memo.specs.declared.entry.Entry.{Entry}
@@ -12,7 +12,7 @@ use Rattle.memo.proofs.index.walk.Given as goal
 -- the cell is of that number, and its entry has the key
 abbrev pub Sought : List Entry → ℕ → MatchTask → IndexCell → Type 0
 Sought entries number task c =
-    (c.number ≡ number) × (e : Entry) × (slice_get entries c.entry ≡ Some e) × IsIn task (tasks_of (pairs_of e))
+    (c.number ≡ number) × (e : Entry) × (slice_get entries c.entry ≡ Some e) × IsIn task (tasks_of (evals_of e))
 
 abbrev pub invariant-loop-at : goal.invariant-loop-at
 invariant-loop-at l =

@@ -1,7 +1,7 @@
 use Rattle.std.proofs.Common.{◌≡◌, ◌⊎◌, inl, inr, ℕ, ◌+◌, ◌<◌, ◌≤◌, List, [], ◌∷◌, ◌++◌}
 use Rattle.std.proofs.Common.{subst, arith}
 use Rattle.memo.specs.Parts.{IsIn, in_here}
-use Rattle.memo.specs.TaskLinks.{Place}
+use Rattle.memo.specs.TaskLinks.{Position}
 use Rattle.memo.proofs.PartsLemmas.{in_left, in_right}
 use Rattle.memo.proofs.key_log.put_numbers.Goals as goal
 
@@ -9,13 +9,13 @@ less_or_last : (i at : ℕ) → i < at + 1 → (i < at) ⊎ (i ≡ at)
 less_or_last i at h = grind arith
 
 -- a number more
-numbers_more : (places : List Place) (first number entry : ℕ)
-    → ((n : ℕ) → first ≤ n → n < number → IsIn (record { number = n; entry = entry }) places) → (n : ℕ) → first ≤ n
+numbers_more : (positions : List Position) (first number entry : ℕ)
+    → ((n : ℕ) → first ≤ n → n < number → IsIn (record { number = n; entry = entry }) positions) → (n : ℕ) → first ≤ n
     → n < number + 1
-    → IsIn (record { number = n; entry = entry }) (places ++ record { number = number; entry = entry } ∷ [])
-numbers_more places first number entry h n low less = elim (less_or_last n number less) [
+    → IsIn (record { number = n; entry = entry }) (positions ++ record { number = number; entry = entry } ∷ [])
+numbers_more positions first number entry h n low less = elim (less_or_last n number less) [
   | inl before ↦ in_left (record { number = number; entry = entry } ∷ []) (h n low before)
-  | inr is ↦ in_right places (subst (λ m. IsIn {V = Place} (record { number = n; entry = entry })
+  | inr is ↦ in_right positions (subst (λ m. IsIn {V = Position} (record { number = n; entry = entry })
       (record { number = m; entry = entry } ∷ [])) is in_here)
 ]
 

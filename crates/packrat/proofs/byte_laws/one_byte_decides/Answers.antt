@@ -2,7 +2,7 @@ use Rattle.packrat.proofs.ByteGivesLemmas.{gives_by, found_gives}
 use Rattle.pegread.specs.PegViews.{rules_of}
 use Rattle.pegnodes.specs.Nodes.{shapes_of}
 use Rattle.packrat.proofs.ByteKidsLemmas.{by_byte_itself}
-use Rattle.packrat.proofs.RunTurnsLemmas.{decided_comes}
+use Rattle.packrat.proofs.RunIterationsLemmas.{decided_comes}
 use Rattle.packrat.proofs.byte_laws.one_byte_decides.Goals as goal
 
 pub returns-clause-gives : goal.returns-clause-gives

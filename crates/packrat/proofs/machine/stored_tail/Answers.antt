@@ -1,7 +1,7 @@
 use Rattle.memo.specs.declared.task.MatchTask.TheVariants.{Tail}
-use Rattle.packrat.proofs.RunTurnsLemmas.{not_beyond}
+use Rattle.packrat.proofs.RunIterationsLemmas.{not_beyond}
 use Rattle.packrat.proofs.machine.stored_tail.Goals as goal
 
 pub returns-then-is_new-clause-none : goal.returns-then-is_new-clause-none
 returns-then-is_new-clause-none c = λ key.
-    not_beyond c.args.log.now.stored (Tail c.args.node c.args.index c.args.place) (c.is_new.ensures c.if-is_new.true)
+    not_beyond c.args.log.now.stored (Tail c.args.node c.args.index c.args.position) (c.is_new.ensures c.if-is_new.true)

@@ -15,14 +15,16 @@ use Rattle.packrat.proofs.onward.begin_node.Goals as goal
 pub returns-in-Any : goal.returns-in-Any
 returns-in-Any c =
     let here = shape_at c.args.peg.now.nodes c.args.node _ (c.node.ensures ∙ ap Some c.in-Any.is) in
-    M.leaf_after c.args.peg.now c.args.window.now c.args.more c.requires.some c.requires.sound c.args.node c.args.place
+    M.leaf_after c.args.peg.now c.args.window.now c.args.more c.requires.some c.requires.sound c.args.node
+    c.args.position
     c.match_any.result c.leaf.result _ (shape.Any, here, refl) (spells_any here) (c.match_any.ensures.value _)
     c.match_any.ensures.looked c.leaf.ensures
 
 pub returns-in-Bytes : goal.returns-in-Bytes
 returns-in-Bytes c =
     let here = shape_at c.args.peg.now.nodes c.args.node _ (c.node.ensures ∙ ap Some c.in-Bytes.is) in
-    M.leaf_after c.args.peg.now c.args.window.now c.args.more c.requires.some c.requires.sound c.args.node c.args.place
+    M.leaf_after c.args.peg.now c.args.window.now c.args.more c.requires.some c.requires.sound c.args.node
+    c.args.position
     c.match_bytes.result c.leaf-in-Bytes.result _ (shape.Bytes _, here, refl) (spells_bytes here) (rw
     c.deref.ensures.value at (c.match_bytes.ensures.value (rules_of c.args.peg.now.rules)))
     c.match_bytes.ensures.looked c.leaf-in-Bytes.ensures
@@ -30,7 +32,8 @@ returns-in-Bytes c =
 pub returns-in-Set : goal.returns-in-Set
 returns-in-Set c =
     let here = shape_at c.args.peg.now.nodes c.args.node _ (c.node.ensures ∙ ap Some c.in-Set.is) in
-    M.leaf_after c.args.peg.now c.args.window.now c.args.more c.requires.some c.requires.sound c.args.node c.args.place
+    M.leaf_after c.args.peg.now c.args.window.now c.args.more c.requires.some c.requires.sound c.args.node
+    c.args.position
     c.match_set.result c.leaf-in-Set.result _ (shape.Set _, here, refl) (spells_set here) (c.match_set.ensures.value _)
     c.match_set.ensures.looked c.leaf-in-Set.ensures
 
@@ -39,7 +42,7 @@ returns-in-Name c =
     let here = shape_at c.args.peg.now.nodes c.args.node _ (c.node.ensures ∙ ap Some c.in-Name.is) in
     let well = c.requires.well in
     let body = c.requires.sound.spelled.spelled c.in-Name.id c.body_node.result c.body_node.ensures in
-    M.name_led c.args.peg.now c.args.window.now c.args.more c.requires.some c.requires.sound c.args.node c.args.place
+    M.name_led c.args.peg.now c.args.window.now c.args.more c.requires.some c.requires.sound c.args.node c.args.position
     c.in-Name.id c.body_node.result well here c.body_node.ensures ((body.0, body.2), well.1)
 
 pub returns-then-is_empty : goal.returns-then-is_empty
@@ -57,7 +60,8 @@ returns-then-is_empty c =
           refl,
         ),
       ),
-      L.seq_empty c.args.peg.now c.args.window.now c.args.more c.requires.some c.requires.sound c.args.node c.args.place
+      L.seq_empty c.args.peg.now c.args.window.now c.args.more c.requires.some c.requires.sound c.args.node
+          c.args.position
           c.in-Seq.members.items well.0 here none,
     ))
 
@@ -70,7 +74,7 @@ returns-else-is_empty c =
     let some : 0 < length c.in-Seq.members.items = M.some_of c.in-Seq.members.items not_none in
     rw (c.tail_from.ensures, c.deref-else-is_empty.ensures.value)
     (M.members_enter c.args.peg.now c.args.window.now c.args.more c.requires.some c.requires.sound c.args.node
-    c.args.place
+    c.args.position
     c.in-Seq.members.items well some here)
 
 pub skips_at-requires-clause-at : goal.skips_at-requires-clause-at
@@ -155,7 +159,7 @@ returns-in-Act c =
         Acted _,
         acted here,
         L.act_task c.args.peg.now c.args.window.now c.args.more c.requires.some c.requires.sound c.args.node
-            c.args.place _ here,
+            c.args.position _ here,
       ),
     )
 
@@ -164,10 +168,10 @@ returns-in-Open c =
     let here = shape_at c.args.peg.now.nodes c.args.node _ (c.node.ensures ∙ ap Some c.in-Open.is) in (
       (shape.Open, here, refl),
       (
-        Opened c.args.place,
+        Opened c.args.position,
         opened,
         L.open_task c.args.peg.now c.args.window.now c.args.more c.requires.some c.requires.sound c.args.node
-            c.args.place here,
+            c.args.position here,
       ),
     )
 
@@ -176,9 +180,9 @@ returns-in-Close c =
     let here = shape_at c.args.peg.now.nodes c.args.node _ (c.node.ensures ∙ ap Some c.in-Close.is) in (
       (shape.Close, here, refl),
       (
-        Closed c.args.place,
+        Closed c.args.position,
         closed,
         L.close_task c.args.peg.now c.args.window.now c.args.more c.requires.some c.requires.sound c.args.node
-            c.args.place here,
+            c.args.position here,
       ),
     )

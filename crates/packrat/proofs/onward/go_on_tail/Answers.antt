@@ -10,7 +10,7 @@ pub returns-in-Failed : goal.returns-in-Failed
 returns-in-Failed c = λ more some.
     let here = shape_at c.args.peg.now.nodes c.args.node _ (c.node.ensures ∙ ap Some c.in-Seq.is) in
     let well = c.requires.well in
-    (M.member_none c.args.peg.now c.args.window.now more some c.requires.sound c.args.node c.args.index c.args.place
+    (M.member_none c.args.peg.now c.args.window.now more some c.requires.sound c.args.node c.args.index c.args.position
     c.in-Seq.members.items c.args.found well here c.in-Failed.is)
 
 pub returns-then-index-len : goal.returns-then-index-len
@@ -20,7 +20,8 @@ returns-then-index-len c = λ more some.
     let lt : c.args.index + 1 < length c.in-Seq.members.items = omega (arith, c.len.ensures, c.if-index-len.true) in
     let same : suc c.args.index ≡ c.args.index + 1 = omega arith in
     rw (c.tail_from.ensures, c.deref.ensures.value)
-    (M.member_enters c.args.peg.now c.args.window.now more some c.requires.sound c.args.node c.args.index c.args.place
+    (M.member_enters c.args.peg.now c.args.window.now more some c.requires.sound c.args.node c.args.index
+    c.args.position
     c.in-Seq.members.items c.args.found well c.in-Took.end (c.args.index + 1) same here c.in-Took.is lt)
 
 pub returns-else-index-len : goal.returns-else-index-len
@@ -28,14 +29,14 @@ returns-else-index-len c = λ more some.
     let here = shape_at c.args.peg.now.nodes c.args.node _ (c.node.ensures ∙ ap Some c.in-Seq.is) in
     let well = c.requires.well in
     let le : length c.in-Seq.members.items ≤ suc c.args.index = omega (arith, c.len.ensures, c.if-index-len.false) in
-    (M.member_last c.args.peg.now c.args.window.now more some c.requires.sound c.args.node c.args.index c.args.place
+    (M.member_last c.args.peg.now c.args.window.now more some c.requires.sound c.args.node c.args.index c.args.position
     c.in-Seq.members.items c.args.found well c.in-Took.end here c.in-Took.is le)
 
 pub returns-in-Took-found : goal.returns-in-Took-found
 returns-in-Took-found c = λ more some.
     let here = shape_at c.args.peg.now.nodes c.args.node _ (c.node.ensures ∙ ap Some c.in-Choice.is) in
     let well = c.requires.well in
-    (M.other_some c.args.peg.now c.args.window.now more some c.requires.sound c.args.node c.args.index c.args.place
+    (M.other_some c.args.peg.now c.args.window.now more some c.requires.sound c.args.node c.args.index c.args.position
     c.in-Choice.alternatives.items c.args.found well c.in-Took-found.field-0 here c.in-Took-found.is)
 
 pub returns-then-index-len-2 : goal.returns-then-index-len-2
@@ -49,7 +50,7 @@ returns-then-index-len-2 c = λ more some.
     ) in
     let same : suc c.args.index ≡ c.args.index + 1 = omega arith in
     rw (c.tail_from-then-index-len-2.ensures, c.deref-then-index-len-2.ensures.value)
-    (M.other_enters c.args.peg.now c.args.window.now more some c.requires.sound c.args.node c.args.index c.args.place
+    (M.other_enters c.args.peg.now c.args.window.now more some c.requires.sound c.args.node c.args.index c.args.position
     c.in-Choice.alternatives.items c.args.found well (c.args.index + 1) same here c.in-Failed-found.is lt)
 
 pub returns-else-index-len-2 : goal.returns-else-index-len-2
@@ -61,7 +62,7 @@ returns-else-index-len-2 c = λ more some.
       c.len-in-Failed-found.ensures,
       c.if-index-len-2.false,
     ) in
-    (M.other_end c.args.peg.now c.args.window.now more some c.requires.sound c.args.node c.args.index c.args.place
+    (M.other_end c.args.peg.now c.args.window.now more some c.requires.sound c.args.node c.args.index c.args.position
     c.in-Choice.alternatives.items c.args.found well here c.in-Failed-found.is le)
 
 pub returns-in_default : goal.returns-in_default

@@ -13,13 +13,13 @@ rest_from-requires c =
 pub returns : goal.returns
 returns c = record {
   node = c.args.choice;
-  place = c.args.place;
+  position = c.args.position;
   members = c.args.alternatives.now;
   index = c.skip_at-skip.result.index;
   task = refl;
   at = c.requires.at;
   passed = c.skip_at-skip.ensures c.args.alternatives.now c.requires.at;
-  rest = subst (λ v. IsRest c.args.peg.now.keys c.args.choice c.args.alternatives.now v c.args.place
+  rest = subst (λ v. IsRest c.args.peg.now.keys c.args.choice c.args.alternatives.now v c.args.position
       c.rest_from.result) c.from.ensures
       c.rest_from.ensures;
 }

@@ -14,7 +14,7 @@ returns c =
       c.in_ok-line.ensures,
       c.deref.ensures.value,
     ) at k) in
-    step ∙ ap (λ z. c.args.out.now.items ++ z) (step-known c.args.places.now.rules
-    (nullable_by (null_mark_of c.args.places.now.rules c.args.places.now.nulls.items))
-    (mention_lines_by c.args.places.now.places kinds.Use) c.args.from c.args.to c.name-rule.result.now
+    step ∙ ap (λ z. c.args.out.now.items ++ z) (step-known c.args.positions.now.rules
+    (nullable_by (null_mark_of c.args.positions.now.rules c.args.positions.now.nulls.items))
+    (mention_lines_by c.args.positions.now.positions kinds.Use) c.args.from c.args.to c.name-rule.result.now
     c.name-name.result.now c.body-body.result.now c.name-rule.ensures c.body-body.ensures c.name-name.ensures)

@@ -11,8 +11,9 @@ pub left_way-requires-clause-within : goal.left_way-requires-clause-within
 left_way-requires-clause-within c =
     let rows = (let reported = c.in_ok-rows.ensures.rows in rw c.deref.ensures.value at reported) in
     subst AreStepsWithin (sym (ap rows_of c.deref-2.ensures.value ∙ rows))
-    (rows-within (find_in c.args.places.now.rules) _ (found-below c.args.places.now.rules)
-    (nullable_by (null_mark_of c.args.places.now.rules c.args.places.now.nulls.items)) c.args.places.now.rules.rules
+    (rows-within (find_in c.args.positions.now.rules) _ (found-below c.args.positions.now.rules)
+    (nullable_by (null_mark_of c.args.positions.now.rules c.args.positions.now.nulls.items))
+    c.args.positions.now.rules.rules
     refl)
 
 pub returns-in-Some : goal.returns-in-Some

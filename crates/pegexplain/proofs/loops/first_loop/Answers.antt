@@ -6,14 +6,15 @@ use Rattle.pegexplain.specs.NullTests.{loops_by, null_mark_of}
 use Rattle.pegexplain.proofs.RepeatsLemmas.{passes-later}
 use Rattle.pegexplain.proofs.loops.first_loop.Goals as goal
 
-pub loop-place-preserved : goal.loop-place-preserved
-loop-place-preserved c = passes-later (λ x. pattern_of x.now) c.args.repeats.now c.loop-place.place
-    c.index-repeats-place.result (loops_by (null_mark_of c.args.rules.now c.args.marks.now)) c.index-repeats-place.is
-    c.loop-place-test.true (sym c.in_ok-is_loop.ensures ∙ c.if-branch.false) c.loop-place.invariant
+pub loop-position-preserved : goal.loop-position-preserved
+loop-position-preserved c = passes-later (λ x. pattern_of x.now) c.args.repeats.now c.loop-position.position
+    c.index-repeats-position.result
+    (loops_by (null_mark_of c.args.rules.now c.args.marks.now)) c.index-repeats-position.is
+    c.loop-position-test.true (sym c.in_ok-is_loop.ensures ∙ c.if-branch.false) c.loop-position.invariant
 
 pub returns : goal.returns
 returns c = λ k d at.
     let within = slice_get_within (map (λ x. pattern_of x.now) c.args.repeats.now) k d at in
     let all = length-map c.args.repeats.now (λ x. pattern_of x.now) in
-    let past = c.loop-place-test.false in
-    c.loop-place.invariant k d (omega (arith, within, all, past)) at
+    let past = c.loop-position-test.false in
+    c.loop-position.invariant k d (omega (arith, within, all, past)) at

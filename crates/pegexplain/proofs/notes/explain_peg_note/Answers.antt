@@ -1,5 +1,5 @@
 use Rattle.std.proofs.Common.{option_copied}
-use Rattle.diagnostics.proofs.ExplainedNoteLemmas.{places-explain}
+use Rattle.diagnostics.proofs.ExplainedNoteLemmas.{positions-explain}
 use Rattle.pegread.specs.Kinds.{is_end}
 use Rattle.pegread.specs.Slices.{White, First}
 use Rattle.ruletable.specs.Notes.{said_of}
@@ -14,8 +14,9 @@ returns c = λ text are.
     record {
       lines = c.in_ok-why.why.items;
       line = w.0;
-      explains = places-explain White First is_end sign_of Any Exact text c.args.places.now.places
-          (option_copied c.args.start) (said_of c.args.note.now) c.in_ok-why.why.items are.places c.in_ok-why.ensures;
+      explains = positions-explain White First is_end sign_of Any Exact text c.args.positions.now.positions
+          (option_copied c.args.start)
+          (said_of c.args.note.now) c.in_ok-why.why.items are.positions c.in_ok-why.ensures;
       after = w.1;
       is = w.2;
     }

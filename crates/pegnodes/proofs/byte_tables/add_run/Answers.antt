@@ -9,4 +9,4 @@ pub returns-clause-added : goal.returns-clause-added
 returns-clause-added c =
     table_added (IsRunTableOf (shapes_of c.args.grammar.now.nodes.now) c.args.grammar.now.bodies.now
     (marks_in c.args.grammar.now) c.args.n) c.args.runs.now.items c.push.new.self.items c.in_ok-table.table
-    c.len-place.result (omega arith) c.in_ok-push.ensures.items c.in_ok-table.ensures
+    c.len-position.result (omega arith) c.in_ok-push.ensures.items c.in_ok-table.ensures

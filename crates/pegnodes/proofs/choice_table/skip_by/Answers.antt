@@ -7,5 +7,5 @@ loop-i-init c = λ n at. fail_none
 
 pub loop-i-preserved : goal.loop-i-preserved
 loop-i-preserved c = λ n at.
-    fails_next c.args.grammar.now c.args.b n c.args.alternatives.now c.loop-i.i c.loop-i.pairs c.in-Some.sum
+    fails_next c.args.grammar.now c.args.b n c.args.alternatives.now c.loop-i.i c.loop-i.evals c.in-Some.sum
     c.in-Some.ensures.0 c.loop-i-test.true at c.in-Some.ensures.1 c.in-Some.ensures.2 (c.loop-i.invariant n at)

@@ -8,4 +8,4 @@ use Rattle.pegnodes.proofs.choice_table.skip_by.Given as goal
 abbrev pub invariant-loop-i : goal.invariant-loop-i
 invariant-loop-i l = (n : ℕ) → slice_get (shapes_of l.grammar.nodes.now) n ≡ Some (Choice l.alternatives)
     → FailFirst (shapes_of l.grammar.nodes.now) l.grammar.bodies.now (mark_in l.grammar) (tail_in l.grammar) l.b n
-    l.alternatives l.i l.pairs
+    l.alternatives l.i l.evals

@@ -1,10 +1,10 @@
 use Rattle.std.proofs.Common.{◌≤◌, ◌*◌, ◌-◌, ◌^◌}
-use Rattle.pegnodes.specs.RunTables.{TurnsTo}
+use Rattle.pegnodes.specs.RunTables.{IterationsTo}
 use Rattle.pegnodes.proofs.run_table.run_along.Given as goal
 
--- the bytes so far are taken, with no more pairs than fit
+-- the bytes so far are taken, with no more evaluations than fit
 abbrev pub invariant-loop-end : goal.invariant-loop-end
 invariant-loop-end l = record {
-  turns : TurnsTo l.entries l.window l.from l.end l.pairs;
-  fits : l.pairs ≤ (l.end - l.from) * 2 ^ 16;
+  iterations : IterationsTo l.entries l.window l.from l.end l.evals;
+  fits : l.evals ≤ (l.end - l.from) * 2 ^ 16;
 }

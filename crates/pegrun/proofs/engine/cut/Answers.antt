@@ -6,7 +6,7 @@ use Rattle.ruletable.proofs.AppendsLemmas.{Appends-same}
 use Rattle.feed.proofs.GrowsLemmas.{Consumes-same}
 use Rattle.pegrun.specs.Units.{none}
 use Rattle.toolrun.proofs.AgreesLemmas.{agrees_earlier, seen_more, slides-len}
-use Rattle.pegrun.proofs.CutLemmas.{one_more_unit, stops_at_place, fails_there, unit_kept}
+use Rattle.pegrun.proofs.CutLemmas.{one_more_unit, stops_at_position, fails_there, unit_kept}
 use Rattle.pegrun.proofs.FollowsLemmas.{follows_front, front_is_first}
 use Rattle.matchfailure.specs.NoMatches.{unit_before}
 use Rattle.pegread.specs.PegViews.{rules_of}
@@ -42,7 +42,7 @@ loop-n-init g c = record {
   );
 }
 
--- the unit before fits below the greatest place
+-- the unit before fits below the greatest position
 pub pass-requires-clause-stands : goal.pass-requires-clause-stands
 pass-requires-clause-stands g c = λ asked.
     let so_far = c.loop-n.invariant.written in
@@ -175,7 +175,7 @@ returns-in-Ok-Broken-clause-units g c =
                 not_broken _ c.in-Ok-Broken.field-0-is (c.in-Ok-Broken.ensures.unasked asked)))
                 follow,
             record {
-              place = c.loop-n.start + n;
+              position = c.loop-n.start + n;
               within = omega (arith, length-append first (bytes_of c.skip.new.self ++ p.more), here);
               text = longer.0;
               units = longer.1;
@@ -218,7 +218,7 @@ returns-in-Err-pass_known-clause-units g c =
             cut_at_write_fault _ _ _ input _ _ _ (c.loop-n.start + n) longer.0 _ longer.1 longer.2 _
                 here c.in-Err-pass_known.fault follow,
             record {
-              place = c.loop-n.start + n;
+              position = c.loop-n.start + n;
               within = omega (arith, length-append first (bytes_of c.skip.new.self ++ p.more), here);
               text = longer.0;
               units = longer.1;
@@ -269,12 +269,12 @@ returns-in-Ok-Stops-clause-units g c =
           let a = rw same.flow at b in
           let front = so_far.4 input (agrees_earlier _ _ _ grew so_far.0 input a) in
           let step = c.in-Ok-Stops.ensures.follows so_far.0 input so_far.1 a in (
-            stops_at_place _ _ _ input _ _ _ c.loop-n.start front.0 (length (so_far.0 ++ items)) front.1 front.2
+            stops_at_position _ _ _ input _ _ _ c.loop-n.start front.0 (length (so_far.0 ++ items)) front.1 front.2
                 c.loop-n.past so_far.0 items a.more so_far.1 a.bytes step.1 front.3
                 c.in-Ok-Stops.stop c.ending_at.result (rw c.in-Ok-Stops.field-0-is at step.0) c.ending_at.ensures.plain
                 (λ asked. c.ending_at.ensures.reported asked so_far.0 (so_far.2 asked)) step.1,
             record {
-              place = c.loop-n.start;
+              position = c.loop-n.start;
               within = omega (arith, length-append so_far.0 items, so_far.1);
               text = front.0;
               units = front.1;
@@ -306,7 +306,7 @@ returns-in-Err-clause-units g c =
             fails_there _ _ _ input _ _ _ c.loop-n.start front.0 (length (so_far.0 ++ items)) front.1 front.2
                 c.in-Err.fault step.0 step.1,
             record {
-              place = c.loop-n.start;
+              position = c.loop-n.start;
               within = omega (arith, length-append so_far.0 items, so_far.1);
               text = front.0;
               units = front.1;

@@ -15,8 +15,8 @@ find_following-requires-clause-within c =
     let short = c.requires.within in
     omega (arith, bound.1, short)
 
-pub octets_of-place-requires : goal.octets_of-place-requires
-octets_of-place-requires c =
+pub octets_of-position-requires : goal.octets_of-position-requires
+octets_of-position-requires c =
     let e = c.in_ok-first.ensures in
     let bound = points_bound _ _ c.as_slice-points.result.now _ c.in_ok-following.following.after
     c.as_slice-points.ensures.value e.longest e.spelled in
@@ -28,8 +28,8 @@ push_refusal-requires c =
     let e = c.in_ok-first.ensures in
     let bound = points_bound _ _ c.as_slice-points.result.now _ c.in_ok-following.following.after
     c.as_slice-points.ensures.value e.longest e.spelled in
-    let place = c.octets_of-place.ensures in
-    omega (arith, bound.0, place)
+    let position = c.octets_of-position.ensures in
+    omega (arith, bound.0, position)
 
 pub returns-clause-reported : goal.returns-clause-reported
 returns-clause-reported c =
@@ -40,7 +40,7 @@ returns-clause-reported c =
     let points = c.as_slice-points.result.now in
     let line = c.args.line.bytes.now in
     reported_points rules grammar.judged line c.args.line.number f.runs.items f.ends c.judged_name.result.now
-    c.refused_at-at.result c.octets_of-place.result c.args.out.now.items c.push_refusal.new.out.items
+    c.refused_at-at.result c.octets_of-position.result c.args.out.now.items c.push_refusal.new.out.items
     c.judged_name.ensures c.in_ok-push_refusal.ensures
     (numbers points) c.in_ok-first.first.size f.after e.longest
     (subst (λ v. Spells (numbers v) (take c.in_ok-first.first.size line)) (sym c.as_slice-points.ensures.value)
@@ -49,4 +49,4 @@ returns-clause-reported c =
     (c.in_ok-following.ensures.following rules grammar.judged c.requires.prefixes)
     (c.refused_at-at.ensures
     ∙ ap (λ v. refused_at f.after v (nat_lt c.in_ok-first.first.size (length line))) (sym (length-map points number)))
-    (c.octets_of-place.ensures ∙ ap (λ v. octet_count Utf8 v) (sym (take-map number f.after points)))
+    (c.octets_of-position.ensures ∙ ap (λ v. octet_count Utf8 v) (sym (take-map number f.after points)))

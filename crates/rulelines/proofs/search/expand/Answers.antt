@@ -1,6 +1,6 @@
 use Rattle.std.proofs.Common.{◌∙◌}
 use Rattle.std.proofs.lemmas.Option.{slice_get-get_or}
-use Rattle.rulelines.proofs.SearchLemmas.{search_turn}
+use Rattle.rulelines.proofs.SearchLemmas.{search_iteration}
 use Rattle.rulelines.proofs.search.expand.Goals as goal
 
 pub returns-then-not-branch-clause-expanded : goal.returns-then-not-branch-clause-expanded
@@ -23,6 +23,6 @@ loop-symbol-preserved c = (
 
 pub returns-clause-expanded : goal.returns-clause-expanded
 returns-clause-expanded c = λ has m in_order s.
-    search_turn has c.args.samples.now c.loop-symbol.search.olds c.loop-symbol.search.news
+    search_iteration has c.args.samples.now c.loop-symbol.search.olds c.loop-symbol.search.news
     c.loop-symbol.search.pairs.items.items c.args.at m c.loop-symbol.symbol-index c.loop-symbol-test.false
     (c.loop-symbol.invariant.1 has m in_order s)

@@ -5,7 +5,7 @@ use Rattle.toolrun.proofs.reported.reported_by.Given as goal
 
 abbrev pub invariant-loop-note : goal.invariant-loop-note
 invariant-loop-note g l = (text : List ℕ)
-    → g.L.Language.are_places text (option_copied l.start) l.places
+    → g.L.Language.are_positions text (option_copied l.start) l.positions
     → AreNotesReported (g.L.Language.explains_note text (option_copied l.start))
     (map said_of (take l.note-index l.notes))
     l.reported.items

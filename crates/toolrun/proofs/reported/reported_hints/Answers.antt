@@ -10,5 +10,5 @@ returns-in_default g c = rw c.new.ensures.items (begun_notes (map said_of c.args
 
 pub returns-in-Err : goal.returns-in-Err
 returns-in-Err g c =
-    let reported = (let t = c.reported_by.ensures c.args.text.now c.in-Ok.ensures.places in rw c.in-Whole.is at t) in
+    let reported = (let t = c.reported_by.ensures c.args.text.now c.in-Ok.ensures.positions in rw c.in-Whole.is at t) in
     rw c.in-Err.ensures.err (begun-whole reported)

@@ -7,8 +7,8 @@ use Rattle.toolrun.proofs.reported.reported_notes.Goals as goal
 pub returns-in_default : goal.returns-in_default
 returns-in_default g c = rw c.new.ensures.items (begun_notes (map said_of c.args.notes.now) no_note)
 
-pub returns-in-Ok-places : goal.returns-in-Ok-places
-returns-in-Ok-places g c = c.reported_by.ensures c.args.text.now c.in-Ok-places.ensures.places
+pub returns-in-Ok-positions : goal.returns-in-Ok-positions
+returns-in-Ok-positions g c = c.reported_by.ensures c.args.text.now c.in-Ok-positions.ensures.positions
 
 pub returns : goal.returns
 returns g c = rw c.new-in-Err.ensures.items (begun_notes (map said_of c.args.notes.now) no_note)

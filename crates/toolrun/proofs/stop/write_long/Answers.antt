@@ -10,9 +10,9 @@ joined a b c d e = simp (append_assoc, append-nil)
 
 pub returns-clause-bytes : goal.returns-clause-bytes
 returns-clause-bytes g c =
-    let place : c.as_bytes-place.result.now ≡ decimal c.args.at = search rules in
+    let position : c.as_bytes-position.result.now ≡ decimal c.args.at = search rules in
     let most : c.as_bytes-most.result.now ≡ decimal c.args.limit = search rules in
-    let h = (rw (place, most) at c.write_pieces.ensures.bytes) in
+    let h = (rw (position, most) at c.write_pieces.ensures.bytes) in
     subst (λ (t : List ℕ). Writes (g.W.Sink.contents c.args.w.now) (g.W.Sink.contents c.write_pieces.new.w) t
     c.write_pieces.result)
     (joined c.args.what.now (decimal c.args.at) (codes " longer than ") (decimal c.args.limit) (codes " bytes\n")) h

@@ -1,4 +1,4 @@
--- A name has the place at which the table finds it.
+-- A name has the position at which the table finds it.
 use Rattle.std.proofs.Common.{◌∙◌, None, sym, arith}
 use Rattle.ruletable.specs.Rules.{names_of}
 use Rattle.abnfcheck.proofs.NameChainLemmas.{chain_by_rows, chain_of_none, chain_of_id, found_folded, judged_below}
@@ -7,23 +7,24 @@ use Rattle.abnfcheck.proofs.reached_names.NameChains.chain_to.Goals as goal
 pub returns-in_default : goal.returns-in_default
 returns-in_default c = λ rules given are.
     let names = c.args.self.now.names in
-    let place = sym (found_folded names c.args.name.now are.folds) ∙ (sym c.in_ok-id.ensures.found ∙ c.in_default.is) in
+    let position = sym (found_folded names c.args.name.now are.folds)
+    ∙ (sym c.in_ok-id.ensures.found ∙ c.in_default.is) in
     chain_by_rows rules given c.args.name.now (names_of names) are.rows are.judged None are.graph
-    (chain_of_none rules (names_of names) are.judged _ place)
+    (chain_of_none rules (names_of names) are.judged _ position)
 
 pub returns-in_default-chains : goal.returns-in_default-chains
 returns-in_default-chains c = λ rules given are.
     let names = c.args.self.now.names in
-    let place = sym (found_folded names c.args.name.now are.folds) ∙ (sym c.in_ok-id.ensures.found ∙ c.in-Some.is) in
+    let position = sym (found_folded names c.args.name.now are.folds) ∙ (sym c.in_ok-id.ensures.found ∙ c.in-Some.is) in
     let lt = judged_below rules given (names_of names) are.rows are.judged c.in-Some.id c.args.name.now are.graph
-    place in
+    position in
     let le = rw c.in_default-chains.is at are.chains in
     absurd (omega (arith, lt, le))
 
 pub returns : goal.returns
 returns c = λ rules given are.
     let names = c.args.self.now.names in
-    let place = sym (found_folded names c.args.name.now are.folds) ∙ (sym c.in_ok-id.ensures.found ∙ c.in-Some.is) in
+    let position = sym (found_folded names c.args.name.now are.folds) ∙ (sym c.in_ok-id.ensures.found ∙ c.in-Some.is) in
     chain_by_rows rules given c.args.name.now (names_of names) are.rows are.judged _ are.graph
     (chain_of_id rules given (names_of names) are.rows are.judged c.in-Some.id _ c.in_ok-chain_to.field-0 are.graph
-    place (c.in_ok-chain_to.ensures are.rows are.judged (rw c.in-Some-chains.is at are.chains)))
+    position (c.in_ok-chain_to.ensures are.rows are.judged (rw c.in-Some-chains.is at are.chains)))

@@ -122,30 +122,30 @@ same-later : (rules : List GivenRule) (rule : RuleGiven) (key numbers : List ℕ
     ≡ first_same rule (map text_rule rules))
 same-later rules rule key numbers first is listed e =
     let rows = map text_rule rules in
-    let place : first ≡ prefix_len (λ r. not (has_key key r)) rows =
+    let position : first ≡ prefix_len (λ r. not (has_key key r)) rows =
     e ∙ first-listed has_key rules key numbers listed in
     let later = search-later (is_same_rule false rule) (has_key key) (λ r. same-keyed key rule r is) rows in (
-      omega (arith, place, prefix_len-le-length (λ r. not (has_key key r)) rows, length-map rules text_rule),
+      omega (arith, position, prefix_len-le-length (λ r. not (has_key key r)) rows, length-map rules text_rule),
       subst (λ (k : ℕ). k + prefix_len (λ r. not (is_same_rule false rule r)) (drop k rows) ≡ first_same rule rows)
-          (sym place) later,
+          (sym position) later,
     )
 
-pub loop-place-init : goal.loop-place-init
-loop-place-init c =
-    let at = same-later c.args.rules.now (text_rule c.args.rule.now) c.args.key.now _ c.in_ok-place.place
-    c.requires.key (c.requires.listed.1 c.args.key.now) c.in_ok-place.ensures in
+pub loop-position-init : goal.loop-position-init
+loop-position-init c =
+    let at = same-later c.args.rules.now (text_rule c.args.rule.now) c.args.key.now _ c.in_ok-position.position
+    c.requires.key (c.requires.listed.1 c.args.key.now) c.in_ok-position.ensures in
     record { within = at.0; same = at.1 }
 
-pub loop-place-preserved : goal.loop-place-preserved
-loop-place-preserved c =
-    let more = one-fails (is_same_rule false (text_rule c.args.rule.now)) c.args.rules.now c.loop-place.place
-    c.index-rules-place.result c.is_same.result c.loop-place-test.true c.index-rules-place.is c.is_same.ensures
+pub loop-position-preserved : goal.loop-position-preserved
+loop-position-preserved c =
+    let more = one-fails (is_same_rule false (text_rule c.args.rule.now)) c.args.rules.now c.loop-position.position
+    c.index-rules-position.result c.is_same.result c.loop-position-test.true c.index-rules-position.is c.is_same.ensures
     c.if-not-is_same.true in
-    record { within = omega arith; same = omega (arith, more, c.loop-place.invariant.same) }
+    record { within = omega arith; same = omega (arith, more, c.loop-position.invariant.same) }
 
 pub returns-else-not-is_same : goal.returns-else-not-is_same
 returns-else-not-is_same c =
-    let none = one-passes (is_same_rule false (text_rule c.args.rule.now)) c.args.rules.now c.loop-place.place
-    c.index-rules-place.result c.is_same.result c.loop-place-test.true c.index-rules-place.is c.is_same.ensures
+    let none = one-passes (is_same_rule false (text_rule c.args.rule.now)) c.args.rules.now c.loop-position.position
+    c.index-rules-position.result c.is_same.result c.loop-position-test.true c.index-rules-position.is c.is_same.ensures
     c.if-not-is_same.false in
-    omega (arith, none, c.loop-place.invariant.same)
+    omega (arith, none, c.loop-position.invariant.same)

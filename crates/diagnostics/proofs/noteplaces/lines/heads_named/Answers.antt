@@ -13,13 +13,13 @@ use Rattle.diagnostics.proofs.noteplaces.lines.heads_named.Goals as goal
 
 pub returns : goal.returns
 returns c =
-    let places = c.args.places.now in
+    let positions = c.args.positions.now in
     IfOk-weaker c.items_at.result
     (λ (v : Vec (Bor Head) Global). map (λ x. x.now) v.items
-    ≡ items_at c.deref.result.now c.in_ok-positions.positions.now)
+    ≡ items_at c.deref.result.now c.in_ok-indexes.indexes.now)
     (λ (v : Vec (Bor Head) Global). map (λ h. defined_at h.now) v.items
-    ≡ named places.names c.args.name.now (map defined_at places.heads.items))
-    (λ v e. picked-mapped defined_at (λ d. same_name places.names c.args.name.now d.name)
-    (is_called places.names c.args.name.now) (λ h. refl) places.heads.items c.in_ok-positions.positions.now v.items
-    (e ∙ ap (λ xs. items_at xs c.in_ok-positions.positions.now) c.deref.ensures.value)
-    (c.in_ok-positions.ensures ∙ places.heads_listed c.args.name.now)) c.items_at.ensures
+    ≡ named positions.names c.args.name.now (map defined_at positions.heads.items))
+    (λ v e. picked-mapped defined_at (λ d. same_name positions.names c.args.name.now d.name)
+    (is_called positions.names c.args.name.now) (λ h. refl) positions.heads.items c.in_ok-indexes.indexes.now v.items
+    (e ∙ ap (λ xs. items_at xs c.in_ok-indexes.indexes.now) c.deref.ensures.value)
+    (c.in_ok-indexes.ensures ∙ positions.heads_listed c.args.name.now)) c.items_at.ensures

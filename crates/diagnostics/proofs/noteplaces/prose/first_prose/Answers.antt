@@ -11,7 +11,7 @@ use Rattle.std.proofs.Common.{◌≡◌, ℕ, ◌<◌, Bool, true, false, List, 
 use Rattle.std.proofs.Math.Seq.{drop-cons}
 use Rattle.std.specs.List.{find}
 
--- the first that passes, among those from a place on
+-- the first that passes, among those from a position on
 module _ {A B : Type 0} (f : A → B) (p : B → Bool) (xs : List A) (i : ℕ) (d : A) (lt : i < length xs) where
   find-passed : p (f (get_or xs i d)) ≡ false → find p (map f (drop i xs)) ≡ find p (map f (drop (i + 1) xs))
   find-passed e = rw (add-one, drop-cons xs i d lt, e) refl

@@ -8,7 +8,7 @@ use Rattle.diagnostics.proofs.noteplaces.prose.push_first_prose.Goals as goal
 
 pub returns : goal.returns
 returns c =
-    let places = c.args.places.now in
+    let positions = c.args.positions.now in
     let found = (let k = c.first_prose.ensures in rw (
       c.deref-3.ensures.value,
       c.in_ok-standing.ensures,
@@ -19,5 +19,5 @@ returns c =
     ) at k) in
     IfOk-equal c.push_prose.result _ _ _ c.push_prose.ensures
     (ap (λ (o : Option MentionedAt). c.args.out.now.items ++ prose_line o)
-    (found ∙ prose-under places.names (map defined_at places.heads.items) c.args.name.now
-    (map mentioned_at places.mentions.items)))
+    (found ∙ prose-under positions.names (map defined_at positions.heads.items) c.args.name.now
+    (map mentioned_at positions.mentions.items)))

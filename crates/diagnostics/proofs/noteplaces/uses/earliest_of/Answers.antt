@@ -22,8 +22,8 @@ loop-left-preserved c =
     ∙ ap (λ (k : ℕ). c.index-mentions-left.result ∷ drop k c.args.mentions.now) there in
     record {
       within = omega (arith, inside);
-      first = subst (λ l. IsFirstIfAny c.args.places.now.names (map defined_at c.args.places.now.heads.items)
+      first = subst (λ l. IsFirstIfAny c.args.positions.now.names (map defined_at c.args.positions.now.heads.items)
           (map (λ m. mentioned_at m.now) l) (option_map mention_found c.earlier_of-found.result)) (sym next)
-          (c.earlier_of-found.ensures c.args.places.now.names (map defined_at c.args.places.now.heads.items)
+          (c.earlier_of-found.ensures c.args.positions.now.names (map defined_at c.args.positions.now.heads.items)
           (map (λ m. mentioned_at m.now) (drop c.loop-left.left c.args.mentions.now)) c.in_ok-rule.ensures i.first);
     }

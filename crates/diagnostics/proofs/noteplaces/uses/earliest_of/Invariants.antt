@@ -10,7 +10,7 @@ use Rattle.diagnostics.proofs.noteplaces.uses.earliest_of.Given as goal
 abbrev pub invariant-loop-left : goal.invariant-loop-left
 invariant-loop-left l = record {
   within : l.left ≤ length l.mentions;
-  first : IsFirstIfAny l.places.names (map defined_at l.places.heads.items)
+  first : IsFirstIfAny l.positions.names (map defined_at l.positions.heads.items)
       (map (λ m. mentioned_at m.now) (drop l.left l.mentions)) (option_map mention_found l.found);
 }
 

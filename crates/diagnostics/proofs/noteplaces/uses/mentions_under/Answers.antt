@@ -15,20 +15,20 @@ use Rattle.diagnostics.proofs.noteplaces.uses.mentions_under.Goals as goal
 
 pub returns : goal.returns
 returns c =
-    let places = c.args.places.now in
+    let positions = c.args.positions.now in
     let name : List ℕ = c.args.name.now in
-    let definitions : List DefinedAt = map defined_at places.heads.items in
+    let definitions : List DefinedAt = map defined_at positions.heads.items in
     IfOk-weaker c.items_at.result
     (λ (v : Vec (Bor Mention) Global). map (λ x. x.now) v.items
-    ≡ items_at c.deref.result.now c.in_ok-positions.positions.now)
+    ≡ items_at c.deref.result.now c.in_ok-indexes.indexes.now)
     (λ (v : Vec (Bor Mention) Global). map (λ m. mentioned_at m.now) v.items
-    ≡ filter (is_under places.names definitions name) (map mentioned_at places.mentions.items))
-    (λ (v : Vec (Bor Mention) Global) e. picked-mapped mentioned_at (is_under places.names definitions name)
-    (stands_under places.names places.heads.items name)
+    ≡ filter (is_under positions.names definitions name) (map mentioned_at positions.mentions.items))
+    (λ (v : Vec (Bor Mention) Global) e. picked-mapped mentioned_at (is_under positions.names definitions name)
+    (stands_under positions.names positions.heads.items name)
     (λ (m : Mention). sym (any-mapped defined_at (λ d. d.start == m.within)
-    (filter (is_called places.names name) places.heads.items))
+    (filter (is_called positions.names name) positions.heads.items))
     ∙ ap (list_any (λ (d : DefinedAt). d.start == m.within))
-    (filter-mapped defined_at (λ d. same_name places.names name d.name) places.heads.items))
-    places.mentions.items c.in_ok-positions.positions.now v.items
-    (e ∙ ap (λ xs. items_at xs c.in_ok-positions.positions.now) c.deref.ensures.value)
-    (c.in_ok-positions.ensures ∙ places.bodies_listed name)) c.items_at.ensures
+    (filter-mapped defined_at (λ d. same_name positions.names name d.name) positions.heads.items))
+    positions.mentions.items c.in_ok-indexes.indexes.now v.items
+    (e ∙ ap (λ xs. items_at xs c.in_ok-indexes.indexes.now) c.deref.ensures.value)
+    (c.in_ok-indexes.ensures ∙ positions.bodies_listed name)) c.items_at.ensures

@@ -8,9 +8,9 @@ use Rattle.diagnostics.proofs.noteplaces.uses.push_used.Goals as goal
 
 pub returns-then-is_given_name : goal.returns-then-is_given_name
 returns-then-is_given_name c =
-    let places = c.args.places.now in
-    let first = first-some places.names (map defined_at places.heads.items)
-    (uses_of places.names c.args.name.now (map mentioned_at places.mentions.items)) in (
+    let positions = c.args.positions.now in
+    let first = first-some positions.names (map defined_at positions.heads.items)
+    (uses_of positions.names c.args.name.now (map mentioned_at positions.mentions.items)) in (
       first.0,
       first.1,
       rw (sym c.is_given_name.ensures ∙ c.if-is_given_name.true)

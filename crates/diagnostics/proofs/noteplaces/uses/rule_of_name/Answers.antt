@@ -11,25 +11,25 @@ use Rattle.diagnostics.proofs.noteplaces.uses.rule_of_name.Goals as goal
 
 pub returns-in-Some : goal.returns-in-Some
 returns-in-Some c =
-    let places = c.args.places.now in
+    let positions = c.args.positions.now in
     let name = c.args.name.now in
     let at = sym c.first.ensures.value ∙ ap option_copied c.in-Some.is in
-    let is : c.in_ok-positions.positions.now ≡ positions_from 0 (is_called places.names name) places.heads.items =
-    c.in_ok-positions.ensures ∙ places.heads_listed name in
+    let is : c.in_ok-indexes.indexes.now ≡ positions_from 0 (is_called positions.names name) positions.heads.items =
+    c.in_ok-indexes.ensures ∙ positions.heads_listed name in
     let got = (let g = c.get.ensures.lookup in rw c.deref.ensures.value at g) in
     map-twice defined_at c.get.result
-    ∙ ap (option_map defined_at) (item-got places.heads.items c.in-Some.position.now c.get.result got
-    ∙ first-passes (is_called places.names name) [] places.heads.items c.in-Some.position.now
+    ∙ ap (option_map defined_at) (item-got positions.heads.items c.in-Some.position.now c.get.result got
+    ∙ first-passes (is_called positions.names name) [] positions.heads.items c.in-Some.position.now
     (ap (λ (l : List ℕ). slice_get l 0) (sym is) ∙ at))
-    ∙ sym (find-mapped defined_at (λ d. same_name places.names name d.name) places.heads.items)
+    ∙ sym (find-mapped defined_at (λ d. same_name positions.names name d.name) positions.heads.items)
 
 pub returns-in-None : goal.returns-in-None
 returns-in-None c =
-    let places = c.args.places.now in
+    let positions = c.args.positions.now in
     let name = c.args.name.now in
     let at = sym c.first.ensures.value ∙ ap option_copied c.in-None.is in
-    let is : c.in_ok-positions.positions.now ≡ positions_from 0 (is_called places.names name) places.heads.items =
-    c.in_ok-positions.ensures ∙ places.heads_listed name in
-    sym (find-mapped defined_at (λ d. same_name places.names name d.name) places.heads.items
-    ∙ ap (option_map defined_at) (none-passes (is_called places.names name) 0 places.heads.items
+    let is : c.in_ok-indexes.indexes.now ≡ positions_from 0 (is_called positions.names name) positions.heads.items =
+    c.in_ok-indexes.ensures ∙ positions.heads_listed name in
+    sym (find-mapped defined_at (λ d. same_name positions.names name d.name) positions.heads.items
+    ∙ ap (option_map defined_at) (none-passes (is_called positions.names name) 0 positions.heads.items
     (ap (λ (l : List ℕ). slice_get l 0) (sym is) ∙ at)))

@@ -15,13 +15,13 @@ use Rattle.diagnostics.proofs.noteplaces.uses.uses_named.Goals as goal
 
 pub returns : goal.returns
 returns c =
-    let places = c.args.places.now in
+    let positions = c.args.positions.now in
     IfOk-weaker c.items_at.result
     (λ (v : Vec (Bor Mention) Global). map (λ x. x.now) v.items
-    ≡ items_at c.deref.result.now c.in_ok-positions.positions.now)
+    ≡ items_at c.deref.result.now c.in_ok-indexes.indexes.now)
     (λ (v : Vec (Bor Mention) Global). map (λ m. mentioned_at m.now) v.items
-    ≡ uses_of places.names c.args.name.now (map mentioned_at places.mentions.items))
-    (λ v e. picked-mapped mentioned_at (λ m. is_kind Use m.kind && same_name places.names c.args.name.now m.text)
-    (uses_name places.names c.args.name.now) (λ m. refl) places.mentions.items c.in_ok-positions.positions.now v.items
-    (e ∙ ap (λ xs. items_at xs c.in_ok-positions.positions.now) c.deref.ensures.value)
-    (c.in_ok-positions.ensures ∙ places.uses_listed c.args.name.now)) c.items_at.ensures
+    ≡ uses_of positions.names c.args.name.now (map mentioned_at positions.mentions.items))
+    (λ v e. picked-mapped mentioned_at (λ m. is_kind Use m.kind && same_name positions.names c.args.name.now m.text)
+    (uses_name positions.names c.args.name.now) (λ m. refl) positions.mentions.items c.in_ok-indexes.indexes.now v.items
+    (e ∙ ap (λ xs. items_at xs c.in_ok-indexes.indexes.now) c.deref.ensures.value)
+    (c.in_ok-indexes.ensures ∙ positions.uses_listed c.args.name.now)) c.items_at.ensures

@@ -1,4 +1,4 @@
--- The place gets the numbers, and stands in the queue.
+-- The dotted rule gets the numbers, and stands in the queue.
 use Rattle.std.proofs.Common.{◌≡◌, ◌↔◌, ◌⊎◌, ℕ, ◌<◌, [], length, slice_index_or, subst, sym, ◌∙◌, arith, Contains, set}
 use Rattle.earley.specs.RowSets.{HasAt, HasSome, AddsAt}
 use Rattle.earley.proofs.WordInLemmas.{default_same}
@@ -7,30 +7,30 @@ use Rattle.earley.proofs.row_set.RowSet.add.Goals as goal
 
 pub invariant_of-self : goal.invariant_of-self
 invariant_of-self c =
-    let lt = subst (λ v. c.args.place < length v.all) (sym c.self.view_is) c.requires in
+    let lt = subst (λ v. c.args.position < length v.all) (sym c.self.view_is) c.requires in
     queued_more c.self.inside.rows.items c.self.inside.pending.items c.self.inside.queue.items c.self.invariant
-    c.args.place lt c.enqueue.new.queue.items c.enqueue.ensures.kept c.enqueue.ensures.only
+    c.args.position lt c.enqueue.new.queue.items c.enqueue.ensures.kept c.enqueue.ensures.only
 
 pub invariant_of-self-in_err-merge : goal.invariant_of-self-in_err-merge
 invariant_of-self-in_err-merge c =
-    let lt = subst (λ v. c.args.place < length v.all) (sym c.self.view_is) c.requires in
+    let lt = subst (λ v. c.args.position < length v.all) (sym c.self.view_is) c.requires in
     queued_set c.self.inside.rows.items c.self.inside.pending.items c.self.inside.queue.items c.self.invariant
-    c.args.place lt c.enqueue.new.queue.items c.merge.new.self c.merge.new.pending c.enqueue.ensures.kept
-    c.enqueue.ensures.only (subst (λ v. Contains c.enqueue.new.queue.items c.args.place ⊎ HasSome v c.args.place)
+    c.args.position lt c.enqueue.new.queue.items c.merge.new.self c.merge.new.pending c.enqueue.ensures.kept
+    c.enqueue.ensures.only (subst (λ v. Contains c.enqueue.new.queue.items c.args.position ⊎ HasSome v c.args.position)
     c.deref.ensures.value c.in_ok-enqueue.ensures.there)
 
 pub invariant_of-self-2 : goal.invariant_of-self-2
 invariant_of-self-2 c =
-    let lt = subst (λ v. c.args.place < length v.all) (sym c.self.view_is) c.requires in
+    let lt = subst (λ v. c.args.position < length v.all) (sym c.self.view_is) c.requires in
     queued_set c.self.inside.rows.items c.self.inside.pending.items c.self.inside.queue.items c.self.invariant
-    c.args.place lt c.enqueue.new.queue.items c.merge.new.self c.merge.new.pending c.enqueue.ensures.kept
-    c.enqueue.ensures.only (subst (λ v. Contains c.enqueue.new.queue.items c.args.place ⊎ HasSome v c.args.place)
+    c.args.position lt c.enqueue.new.queue.items c.merge.new.self c.merge.new.pending c.enqueue.ensures.kept
+    c.enqueue.ensures.only (subst (λ v. Contains c.enqueue.new.queue.items c.args.position ⊎ HasSome v c.args.position)
     c.deref.ensures.value c.in_ok-enqueue.ensures.there)
 
 pub returns-then-has_all : goal.returns-then-has_all
 returns-then-has_all c =
     let all = c.self.inside.rows.items in
-    let p = c.args.place in
+    let p = c.args.position in
     let lt : p < length all = subst (λ v. p < length v.all) (sym c.self.view_is) c.requires in
     let row : c.index.result.now ≡ slice_index_or all p [] = c.index.ensures
     ∙ default_same all p c.index.result.now [] lt in
@@ -42,7 +42,7 @@ pub returns : goal.returns
 returns c =
     let all = c.self.inside.rows.items in
     let pending = c.self.inside.pending.items in
-    let p = c.args.place in
+    let p = c.args.position in
     let lt : p < length all = subst (λ v. p < length v.all) (sym c.self.view_is) c.requires in
     let size = c.self.invariant.count in
     let short : p < length pending = omega (arith, lt, size) in

@@ -4,5 +4,5 @@ use Rattle.earley.proofs.row_set.RowSet.new.Goals as goal
 
 pub invariant_of-result : goal.invariant_of-result
 invariant_of-result c =
-    queued_none c.args.places c.in_ok-rows.rows.items c.in_ok-pending.pending.items c.new.result.items
+    queued_none c.args.positions c.in_ok-rows.rows.items c.in_ok-pending.pending.items c.new.result.items
     c.in_ok-rows.ensures c.in_ok-pending.ensures c.new.ensures.items

@@ -1,13 +1,13 @@
 use Rattle.std.proofs.Common.{◌≡◌, length, sym, subst, arith}
-use Rattle.earleyitems.specs.ItemHomes.{AreItemsHomed}
-use Rattle.earleyitems.proofs.ItemHomesLemmas.{entry_homed}
+use Rattle.earleyitems.specs.ItemOwners.{AreItemsOwned}
+use Rattle.earleyitems.proofs.ItemOwnersLemmas.{entry_owned}
 use Rattle.earleyitems.proofs.items.Items.add.Goals as goal
 
-pub returns-clause-homes : goal.returns-clause-homes
-returns-clause-homes c flat rows is are =
+pub returns-clause-owners : goal.returns-clause-owners
+returns-clause-owners c flat rows is are =
     let count : c.len.result ≡ length c.self.inside.list.items =
     (let e = c.len.ensures in let o = c.self.inside.list.ok.0 in omega (arith, e, o)) in
-    entry_homed flat rows c.self.inside.list.items c.put.new.list.items c.self.inside.homes.items
-    c.set_entry.new.links.items c.args.item c.args.home c.len.result count c.in_ok-set_entry.ensures.here
+    entry_owned flat rows c.self.inside.list.items c.put.new.list.items c.self.inside.owners.items
+    c.set_entry.new.links.items c.args.item c.args.owner c.len.result count c.in_ok-set_entry.ensures.here
     c.in_ok-set_entry.ensures.others c.in_ok-put.ensures.one is
-    (subst (λ v. AreItemsHomed flat rows v) (sym c.self.view_is) are)
+    (subst (λ v. AreItemsOwned flat rows v) (sym c.self.view_is) are)

@@ -14,7 +14,7 @@ pub finish-requires : goal.finish-requires
 finish-requires c = λ m h.
     let d = c.deref.ensures.value in
     let v = c.deref_mut-2.ensures.value in
-    let lt = c.requires.places m (subst (λ v. Contains v m) d (s.in_rest _ _ _ m h)) in
+    let lt = c.requires.positions m (subst (λ v. Contains v m) d (s.in_rest _ _ _ m h)) in
     rw v lt
 
 pub set_all-requires : goal.set_all-requires

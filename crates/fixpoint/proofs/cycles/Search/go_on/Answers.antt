@@ -3,7 +3,7 @@ use Rattle.fixpoint.specs.Way.{way_of, tally_of, Tally}
 use Rattle.fixpoint.proofs.GoesOnLemmas as g
 use Rattle.fixpoint.proofs.AtLemmas as s
 use Rattle.fixpoint.proofs.TallyLemmas as y
-use Rattle.fixpoint.proofs.TurnsLemmas as t
+use Rattle.fixpoint.proofs.IterationsLemmas as t
 use Rattle.fixpoint.proofs.cycles.Search.go_on.Goals as goal
 
 pub look-requires-clause-within : goal.look-requires-clause-within
@@ -19,12 +19,12 @@ look-requires-clause-short c =
 pub close-requires-clause-first : goal.close-requires-clause-first
 close-requires-clause-first c = let lt = g.first_within _ _ _ c.requires.way c.requires.last in omega (arith, lt)
 
-pub close-requires-clause-places : goal.close-requires-clause-places
-close-requires-clause-places c = g.path_below _ _ c.requires.way
+pub close-requires-clause-positions : goal.close-requires-clause-positions
+close-requires-clause-positions c = g.path_below _ _ c.requires.way
 
 pub close-requires-clause-marks : goal.close-requires-clause-marks
 close-requires-clause-marks c = λ m h. let lt = g.path_below _ _ c.requires.way m h in
-    let a = c.requires.way.kept.places in let b = c.requires.way.kept.marks in omega (arith, lt, a, b)
+    let a = c.requires.way.kept.positions in let b = c.requires.way.kept.marks in omega (arith, lt, a, b)
 
 pub returns-else-len-last-clause-goes : goal.returns-else-len-last-clause-goes
 returns-else-len-last-clause-goes c =
@@ -38,7 +38,7 @@ returns-else-len-last-clause-goes c =
 
 pub close-requires-clause-ranks : goal.close-requires-clause-ranks
 close-requires-clause-ranks c = λ m h. let lt = g.path_below _ _ c.requires.way m h in
-    let a = c.requires.way.kept.places in let b = c.requires.ranked.count in omega (arith, lt, a, b)
+    let a = c.requires.way.kept.positions in let b = c.requires.ranked.count in omega (arith, lt, a, b)
 
 pub close-requires-clause-room : goal.close-requires-clause-room
 close-requires-clause-room c =
@@ -49,8 +49,8 @@ close-requires-clause-room c =
 pub returns-in_ok-look-clause-ranked : goal.returns-in_ok-look-clause-ranked
 returns-in_ok-look-clause-ranked c =
     let goes = c.in_ok-look.ensures.goes in
-    let a = goes.way.kept.places in
-    let b = c.requires.way.kept.places in
+    let a = goes.way.kept.positions in
+    let b = c.requires.way.kept.positions in
     let e = c.in_ok-look.ensures.tally in
     y.ranked_kept _ (way_of c.args.self.now) (way_of c.look.new.self) (tally_of c.args.self.now)
     (tally_of c.look.new.self) (a ∙ sym b) (ap (λ (t : Tally). t.ranks) e) (ap (λ (t : Tally). t.parts) e)

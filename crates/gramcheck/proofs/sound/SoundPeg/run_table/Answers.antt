@@ -9,14 +9,15 @@ use Rattle.pegnodes.proofs.ByteTablesLemmas.{read_at, some_read, table_read}
 use Rattle.gramcheck.proofs.sound.SoundPeg.run_table.Goals as goal
 
 module _ (c : goal.After-get-in-Some) where
-  place_is : slice_get c.self.inside.by_byte.places.items c.args.n ≡ Some (Some c.from.result)
-  place_is =
-      let found = rw c.deref.ensures.value at c.in_ok-place.ensures.lookup in
-      let low : c.args.n < length c.self.inside.by_byte.places.items =
-      ltb-true c.args.n (length c.self.inside.by_byte.places.items) (sym found.0) in
+  position_is : slice_get c.self.inside.by_byte.positions.items c.args.n ≡ Some (Some c.from.result)
+  position_is =
+      let found = rw c.deref.ensures.value at c.in_ok-position.ensures.lookup in
+      let low : c.args.n < length c.self.inside.by_byte.positions.items =
+      ltb-true c.args.n (length c.self.inside.by_byte.positions.items) (sym found.0) in
       let from = c.from.ensures in
       let is = c.in-Some.is in
-      read_at c.self.inside.by_byte.places.items c.args.n c.in_ok-place.place.now (Some c.from.result) low found.1
+      read_at c.self.inside.by_byte.positions.items c.args.n c.in_ok-position.position.now
+      (Some c.from.result) low found.1
       (cc (is, from))
 
 pub returns-in-Some : goal.returns-in-Some
@@ -28,4 +29,4 @@ returns-in-Some c =
     (some_read _ _ _ c.get-in-Some.result (λ t is s k at tabled. table_read (IsRunTableOf
     (shapes_of c.self.inside.nodes.items) c.self.inside.bodies.items (marks_of (shapes_of c.self.inside.nodes.items)
     c.self.inside.keys.nodes.items c.self.inside.keys.after.items) k) c.self.inside.by_byte.runs.items c.from.result
-    t.now ((c.self.invariant.4 c.args.n c.from.result (place_is c)).run s k at tabled) is) read.1)
+    t.now ((c.self.invariant.4 c.args.n c.from.result (position_is c)).run s k at tabled) is) read.1)

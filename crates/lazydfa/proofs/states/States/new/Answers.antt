@@ -17,6 +17,6 @@ returns c =
           c.empty_memo-memo.ensures.states;
       one = subst (λ v. IsOne v) view (subst (λ v. IsOne (flat_of v)) c.deref.ensures served.1);
       uncounted = subst (λ v. AreUncounted v) view (subst (λ v. AreUncounted (flat_of v)) c.deref.ensures served.0);
-      tail_places = subst (λ v. MarksLast v (last_of c.in_ok-tables.tables.value)) view
-          (marks_last c.in_ok-tables.tables.value c.in_ok-tables.ensures.exact.roots);
+      tail_positions = subst (λ v. MarksLast v (last_of c.in_ok-tables.tables.value)) view
+          (marks_last c.in_ok-tables.tables.value c.in_ok-tables.ensures.exact.targets);
     }

@@ -7,18 +7,18 @@ use Rattle.matchfailure.proofs.IsStepLemmas.{ended_here}
 use Rattle.matchfailure.proofs.IsStepLemmas.{ended_step}
 use Rattle.matchfailure.proofs.desk.desk.step_on.Goals as goal
 
-pub next_turn-requires-clause-spells : goal.next_turn-requires-clause-spells
-next_turn-requires-clause-spells c =
+pub next_step-requires-clause-spells : goal.next_step-requires-clause-spells
+next_step-requires-clause-spells c =
     (is_top _ _ _ c.requires.sound _ _ _ c.requires.fits
     (read_top _ _ _ _ c.requires.frame.2 (c.top-top.ensures _ _ c.requires.frame.2))).spelled
 
-pub next_turn-requires-clause-place : goal.next_turn-requires-clause-place
-next_turn-requires-clause-place c =
+pub next_step-requires-clause-position : goal.next_step-requires-clause-position
+next_step-requires-clause-position c =
     (is_top _ _ _ c.requires.sound _ _ _ c.requires.fits
     (read_top _ _ _ _ c.requires.frame.2 (c.top-top.ensures _ _ c.requires.frame.2))).high
 
-pub next_turn-requires-clause-low : goal.next_turn-requires-clause-low
-next_turn-requires-clause-low c =
+pub next_step-requires-clause-low : goal.next_step-requires-clause-low
+next_step-requires-clause-low c =
     (is_top _ _ _ c.requires.sound _ _ _ c.requires.fits
     (read_top _ _ _ _ c.requires.frame.2 (c.top-top.ensures _ _ c.requires.frame.2))).low
 

@@ -13,9 +13,9 @@ returns c rules start nodes bodies ranks text after unit k o None ranked gives l
 returns c rules start nodes bodies ranks text after unit k o (Some f) ranked gives less (is, far) =
     let count = length-drop unit text in
     let within : unit ≤ length text = omega (arith, count, less) in
-    let longer = c.same_on_longer.ensures.far rules start nodes bodies ranks (drop unit text) after k f.place o
+    let longer = c.same_on_longer.ensures.far rules start nodes bodies ranks (drop unit text) after k f.position o
     f.expected ranked gives less far in (
       is,
-      subst (λ w. IsFarthest rules nodes bodies w start f.place f.expected)
+      subst (λ w. IsFarthest rules nodes bodies w start f.position f.expected)
           (sym (drop-append-le unit text after within)) longer,
     )

@@ -7,5 +7,5 @@ use Rattle.matchfailure.proofs.explain.lines.push_each.Given as goal
 
 abbrev pub invariant-loop-visit : goal.invariant-loop-visit
 invariant-loop-visit l = l.out.items ≡ l.fn.out.items
-    ++ flat_map (expected_line (rules_of l.peg.rules) (shapes_of l.peg.nodes) l.peg.bodies l.unit l.place)
+    ++ flat_map (expected_line (rules_of l.peg.rules) (shapes_of l.peg.nodes) l.peg.bodies l.unit l.position)
     (take l.visit-index l.reported)

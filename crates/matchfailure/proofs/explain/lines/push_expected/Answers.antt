@@ -11,6 +11,6 @@ pub returns : goal.returns
 returns c =
     expected-join
     (expected_line (rules_of c.args.peg.now.rules) (shapes_of c.args.peg.now.nodes) c.args.peg.now.bodies c.args.unit
-    c.args.place)
+    c.args.position)
     c.args.reported.now c.min-shown.result _ _ _ c.min-shown.ensures c.in_ok-push_each.ensures
     c.in_ok-push_more.ensures

@@ -24,7 +24,7 @@ entry_text-requires-clause-begin c = (c.requires _ (
 pub loop-key-preserved : goal.loop-key-preserved
 loop-key-preserved c =
     let text = entry_text (rules_of c.args.peg.now.rules) c.args.peg.now.start (shapes_of c.args.peg.now.nodes)
-    c.args.peg.now.bodies c.args.unit c.args.place in
+    c.args.peg.now.bodies c.args.unit c.args.position in
     let named = c.deref.ensures.value ∙ c.in_ok-text.ensures in
     let rule : table.Rule (Unit {0}) =
     record { name = c.deref.result.now; body = tt; span = record { start = 0; end = 0 } } in
@@ -59,7 +59,7 @@ loop-key-preserved c =
 pub returns-clause-reported : goal.returns-clause-reported
 returns-clause-reported c =
     let text = entry_text (rules_of c.args.peg.now.rules) c.args.peg.now.start (shapes_of c.args.peg.now.nodes)
-    c.args.peg.now.bodies c.args.unit c.args.place in
+    c.args.peg.now.bodies c.args.unit c.args.position in
     let over = c.loop-key-test.false in
     once-done text c.args.keys.now _ c.loop-key.reported.items c.loop-key.key-index (omega (arith, over))
     c.loop-key.invariant.reported

@@ -12,7 +12,7 @@ abbrev pub invariant-loop-key : goal.invariant-loop-key
 invariant-loop-key l = record {
   exact : l.texts.names ≡ Exact;
   reported : AreAllReported (entry_text (rules_of l.peg.rules) l.peg.start
-      (shapes_of l.peg.nodes) l.peg.bodies l.unit l.place)
+      (shapes_of l.peg.nodes) l.peg.bodies l.unit l.position)
       l.keys (names_of l.texts) l.reported.items l.key-index;
   fit : AreFitting (length l.peg.nodes) l.unit l.reported.items;
 }

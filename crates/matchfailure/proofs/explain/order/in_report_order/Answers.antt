@@ -43,5 +43,5 @@ returns-clause-reported c =
       ascend = c.sort_unstable.ensures.sorted;
       are = is ∙ ap (λ (ks : List (List ℕ)). each_once (entry_text (rules_of c.args.peg.now.rules)
           c.args.peg.now.start (shapes_of c.args.peg.now.nodes) c.args.peg.now.bodies c.args.unit
-          c.args.farthest.now.place) [] (map visit_of ks)) c.deref-3.ensures.value;
+          c.args.farthest.now.position) [] (map visit_of ks)) c.deref-3.ensures.value;
     }) c.each_once.ensures.reported

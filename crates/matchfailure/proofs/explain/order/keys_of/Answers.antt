@@ -10,13 +10,13 @@ pub node-requires : goal.node-requires
 node-requires c = c.requires _ (
   c.loop-visit.visit-index,
   slice_get-get_or c.args.expected.now c.loop-visit.visit-index
-      (record { node = 0; place = 0 }) c.loop-visit-test.true,
+      (record { node = 0; position = 0 }) c.loop-visit-test.true,
 )
 
 pub loop-visit-preserved : goal.loop-visit-preserved
 loop-visit-preserved c =
     keys-more c.args.far.now (shapes_of c.args.peg.now.nodes) c.args.peg.now.bodies c.args.expected.now
-    c.loop-visit.visit-index (record { node = 0; place = 0 }) c.loop-visit.keys.items c.push.new.self.items
+    c.loop-visit.visit-index (record { node = 0; position = 0 }) c.loop-visit.keys.items c.push.new.self.items
     c.uses_to.result c.rule_of-rule.result c.kind_of-kind.result c.loop-visit-test.true c.rule_of-rule.ensures
     c.uses_to.ensures
     (c.kind_of-kind.ensures ∙ ap leaf_kind (sym (shape_at c.args.peg.now.nodes _ _ c.node.ensures)))

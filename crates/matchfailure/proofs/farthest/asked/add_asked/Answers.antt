@@ -14,10 +14,10 @@ returns-in-Name c =
     c.add.ensures)
 
 pub returns-in-Star : goal.returns-in-Star
-returns-in-Star c = rw c.in-Star.is c.add_turns.ensures
+returns-in-Star c = rw c.in-Star.is c.add_steps.ensures
 
 pub returns-in-Plus : goal.returns-in-Plus
-returns-in-Plus c = rw c.in-Plus.is c.add_turns-in-Plus.ensures
+returns-in-Plus c = rw c.in-Plus.is c.add_steps-in-Plus.ensures
 
 pub returns-in-Opt : goal.returns-in-Opt
 returns-in-Opt c = rw c.in-Opt.is c.add-in-Opt.ensures

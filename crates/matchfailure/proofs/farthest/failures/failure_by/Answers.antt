@@ -18,7 +18,7 @@ returns-in_default c =
 
 pub returns : goal.returns
 returns c =
-    is_farthest _ _ _ _ _ c.add_outside.new.seen c.in_ok-add_outside.ensures.listed c.in-Some.place
+    is_farthest _ _ _ _ _ c.add_outside.new.seen c.in_ok-add_outside.ensures.listed c.in-Some.position
     c.in_ok-expected.expected.items c.put_in_order.new.visits.items
     (rw c.as_slice-visits.ensures at c.in-Some.ensures)
     (rw c.as_slice-visits.ensures at c.in_ok-expected.ensures.listed)

@@ -3,8 +3,8 @@ use Rattle.pegnodes.specs.Nodes.{shapes_of}
 use Rattle.matchfailure.proofs.StoppedLemmas.{found_stops, none_stops, stopped_begins, stopped_same, stopped_more}
 use Rattle.matchfailure.proofs.StoppedLemmas.{stopped_ends, stops_once}
 use Rattle.matchfailure.proofs.farthest.greatest.stopped_at.Goals as goal
-use Rattle.matchfailure.proofs.farthest.greatest.stopped_at.Goals.{in-Some+then-stop-place+in_ok-push}
-use Rattle.matchfailure.proofs.farthest.greatest.stopped_at.Goals.{in-Some+else-stop-place}
+use Rattle.matchfailure.proofs.farthest.greatest.stopped_at.Goals.{in-Some+then-stop-position+in_ok-push}
+use Rattle.matchfailure.proofs.farthest.greatest.stopped_at.Goals.{in-Some+else-stop-position}
 use Rattle.matchfailure.proofs.farthest.greatest.stopped_at.Goals.{in_default}
 
 pub loop-visit-init : goal.loop-visit-init
@@ -28,20 +28,21 @@ stop_of-requires c =
 
 pub loop-visit-preserved : goal.loop-visit-preserved
 loop-visit-preserved c = elim c.match-stop_of.branch [
-  | in-Some+then-stop-place+in_ok-push w ↦ rw (w.stopped-is, w.in_ok-push.ensures.items)
-      (stopped_more (shapes_of c.args.peg.now.nodes) c.args.window.now c.args.visits.now c.args.place
+  | in-Some+then-stop-position+in_ok-push w ↦ rw (w.stopped-is, w.in_ok-push.ensures.items)
+      (stopped_more (shapes_of c.args.peg.now.nodes) c.args.window.now c.args.visits.now c.args.position
       c.loop-visit.visit-index _ (slice_get-get_or c.args.visits.now c.loop-visit.visit-index _ c.loop-visit-test.true)
       c.loop-visit.stopped.items
-      (rw w.if-stop-place.true at (found_stops c.args.peg.now.nodes c.args.window.now _ _ _ c.node.ensures
+      (rw w.if-stop-position.true at (found_stops c.args.peg.now.nodes c.args.window.now _ _ _ c.node.ensures
       w.in-Some.ensures.some)) c.loop-visit.invariant)
-  | in-Some+else-stop-place w ↦ rw w.stopped-is
-      (stopped_same (shapes_of c.args.peg.now.nodes) c.args.window.now c.args.visits.now c.args.place
+  | in-Some+else-stop-position w ↦ rw w.stopped-is
+      (stopped_same (shapes_of c.args.peg.now.nodes) c.args.window.now c.args.visits.now c.args.position
       c.loop-visit.visit-index _ (slice_get-get_or c.args.visits.now c.loop-visit.visit-index _ c.loop-visit-test.true)
       c.loop-visit.stopped.items
-      (λ s. w.if-stop-place.false (stops_once (found_stops c.args.peg.now.nodes c.args.window.now _ _ _ c.node.ensures
+      (λ s. w.if-stop-position.false
+      (stops_once (found_stops c.args.peg.now.nodes c.args.window.now _ _ _ c.node.ensures
       w.in-Some.ensures.some) s)) c.loop-visit.invariant)
   | in_default w ↦ rw w.stopped-is
-      (stopped_same (shapes_of c.args.peg.now.nodes) c.args.window.now c.args.visits.now c.args.place
+      (stopped_same (shapes_of c.args.peg.now.nodes) c.args.window.now c.args.visits.now c.args.position
       c.loop-visit.visit-index _ (slice_get-get_or c.args.visits.now c.loop-visit.visit-index _ c.loop-visit-test.true)
       c.loop-visit.stopped.items
       (none_stops c.args.peg.now.nodes c.args.window.now _ _ _ c.node.ensures w.in_default.ensures.none _)
@@ -50,7 +51,7 @@ loop-visit-preserved c = elim c.match-stop_of.branch [
 
 pub returns-clause-listed : goal.returns-clause-listed
 returns-clause-listed c =
-    stopped_ends (shapes_of c.args.peg.now.nodes) c.args.window.now c.args.visits.now c.args.place
+    stopped_ends (shapes_of c.args.peg.now.nodes) c.args.window.now c.args.visits.now c.args.position
     c.loop-visit.visit-index c.loop-visit.stopped.items c.loop-visit-test.false c.loop-visit.invariant
 
 pub returns-clause-once : goal.returns-clause-once

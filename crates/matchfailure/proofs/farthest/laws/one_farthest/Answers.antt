@@ -10,8 +10,8 @@ returns c rules nodes bodies x start f h vs ws a b =
     let same : f ≡ h = omega arith in (
       same,
       one_list vs ws a.ordered b.ordered
-          (λ v l. (b.exact v).1 (subst (λ z. FailsAt rules nodes bodies x start v.node v.place z) same
+          (λ v l. (b.exact v).1 (subst (λ z. FailsAt rules nodes bodies x start v.node v.position z) same
           ((a.exact v).0 l)))
-          (λ v l. (a.exact v).1 (subst (λ z. FailsAt rules nodes bodies x start v.node v.place z) (sym same)
+          (λ v l. (a.exact v).1 (subst (λ z. FailsAt rules nodes bodies x start v.node v.position z) (sym same)
           ((b.exact v).0 l))),
     )

@@ -1,20 +1,20 @@
 use Rattle.std.proofs.Common.{◌≡◌, ℕ, ◌+◌, ◌-◌, ◌*◌, ◌^◌, ◌<◌, ◌≤◌, length}
 use Rattle.std.proofs.Common.{sym, ◌∙◌, subst, ap, arith}
 use Rattle.memo.specs.Parts.{IsIn}
-use Rattle.memo.specs.KeyLog.{row_of, place_of, number_of, IsNarrow}
-use Rattle.memo.specs.LogEntries.{pairs_of, node_of, IsExtent}
+use Rattle.memo.specs.KeyLog.{row_of, position_of, number_of, IsNarrow}
+use Rattle.memo.specs.LogEntries.{evals_of, node_of, IsExtent}
 use Rattle.memo.specs.declared.entry.Entry.{Entry}
 use Rattle.memo.specs.declared.key_log.Given.{Given}
 use Rattle.memo.specs.declared.key_log.Stored.{Stored}
 use Rattle.memo.proofs.KeyLogLemmas.{IsSpread, of_spread, length_spread, of_rising, length_rising}
 use Rattle.std.proofs.Common.{rules}
 use Rattle.memo.specs.LogEntries.{given_of}
-use Rattle.memo.proofs.LogEntriesLemmas.{at_pair, step_at}
+use Rattle.memo.proofs.LogEntriesLemmas.{at_eval, step_at}
 use Rattle.memo.proofs.entry.Entry.extent.Goals as goal
 
--- pairs of a node at places in a row have an extent
+-- evaluations of a node at positions in a row have an extent
 spread_extent : (entry : Entry) (node : ℕ) (given : ℕ → Given) (from n highest first : ℕ)
-    → ((s : Stored) → IsIn s (pairs_of entry) → IsSpread (at_pair node given) from n s) → length (pairs_of entry) ≡ n
+    → ((s : Stored) → IsIn s (evals_of entry) → IsSpread (at_eval node given) from n s) → length (evals_of entry) ≡ n
     → node_of entry ≡ node → node < 2 ^ 32 → highest < 2 ^ 32 → (0 < n → from + n ≤ highest + 1)
     → first ≡ node * 668265263 + from
     → IsExtent entry (record { row = node; highest = highest; count = n; first = first })
@@ -22,12 +22,12 @@ spread_extent entry node given from n highest first one many own small low withi
     record {
       node = sym own;
       row = λ s i. ap (λ v. row_of v.task) (one s i).is;
-      place = λ s i.
+      position = λ s i.
           let h = one s i in
           let below = h.high in
           let above = h.low in
           let most = within (omega arith) in
-          subst (λ v. place_of v.task ≤ highest) (sym h.is) (omega arith);
+          subst (λ v. position_of v.task ≤ highest) (sym h.is) (omega arith);
       narrow = λ s i.
           let h = one s i in
           let below = h.high in
@@ -51,12 +51,12 @@ returns-in-Run-clause-extent c =
     let small : k.node < 2 ^ 32 = search rules in
     let low : k.to < 2 ^ 32 = search rules in
     let given : ℕ → Given = λ _. given_of k.ending k.end k.events in
-    let pairs = ap pairs_of k.is in
+    let evals = ap evals_of k.is in
     rw c.saturating_sub.ensures (spread_extent c.args.self k.node given k.from
-    (k.to + 1 - k.from) k.to c.pair_number.result
-    (λ s i. of_rising (at_pair k.node given) k.from (k.to + 1 - k.from) s (subst (λ v. IsIn s v) pairs i))
-    (ap length pairs ∙ length_rising (at_pair k.node given) k.from (k.to + 1 - k.from)) (ap node_of k.is) small low
-    (λ some. omega arith) c.pair_number.ensures.same)
+    (k.to + 1 - k.from) k.to c.eval_number.result
+    (λ s i. of_rising (at_eval k.node given) k.from (k.to + 1 - k.from) s (subst (λ v. IsIn s v) evals i))
+    (ap length evals ∙ length_rising (at_eval k.node given) k.from (k.to + 1 - k.from)) (ap node_of k.is) small low
+    (λ some. omega arith) c.eval_number.ensures.same)
 
 pub returns-in-Steps-clause-extent : goal.returns-in-Steps-clause-extent
 returns-in-Steps-clause-extent c =
@@ -64,10 +64,10 @@ returns-in-Steps-clause-extent c =
     let small : k.node < 2 ^ 32 = search rules in
     let wide : k.to < 2 ^ 32 = search rules in
     let low : k.to - 1 < 2 ^ 32 = omega arith in
-    let pairs = ap pairs_of k.is in
+    let evals = ap evals_of k.is in
     rw (c.saturating_sub-in-Steps.ensures, c.saturating_sub-in-Steps-2.ensures) (spread_extent c.args.self k.node
-    step_at k.from (k.to - k.from) (k.to - 1) c.pair_number-in-Steps.result
-    (λ s i. of_spread (at_pair k.node step_at) k.from (k.to - k.from) s (subst (λ v. IsIn s v) pairs i))
-    (ap length pairs ∙ length_spread (at_pair k.node step_at) k.from (k.to - k.from)) (ap node_of k.is) small low
+    step_at k.from (k.to - k.from) (k.to - 1) c.eval_number-in-Steps.result
+    (λ s i. of_spread (at_eval k.node step_at) k.from (k.to - k.from) s (subst (λ v. IsIn s v) evals i))
+    (ap length evals ∙ length_spread (at_eval k.node step_at) k.from (k.to - k.from)) (ap node_of k.is) small low
     (λ some. omega arith)
-    c.pair_number-in-Steps.ensures.same)
+    c.eval_number-in-Steps.ensures.same)

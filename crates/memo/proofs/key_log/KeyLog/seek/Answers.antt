@@ -3,8 +3,8 @@ use Rattle.std.proofs.Common.{◌∙◌, subst, ap, arith, slice_get, Some, None
 use Rattle.std.proofs.lemmas.Option.{slice_get_within}
 use Rattle.memo.specs.Parts.{IsIn}
 use Rattle.memo.specs.KeyLog.{tasks_of, number_of, IsNarrow}
-use Rattle.memo.specs.LogEntries.{pairs_of, stored_of, AreCovered}
-use Rattle.memo.specs.TaskLinks.{Place}
+use Rattle.memo.specs.LogEntries.{evals_of, stored_of, AreCovered}
+use Rattle.memo.specs.TaskLinks.{Position}
 use Rattle.memo.specs.declared.entry.Entry.{Entry}
 use Rattle.memo.specs.declared.key_log.Given.{Given}
 use Rattle.memo.specs.declared.key_log.Stored.{Stored}
@@ -16,27 +16,28 @@ use Rattle.memo.proofs.key_log.KeyLog.seek.Goals as goal
 -- where an entry has the key, it is stored
 some_stored : (items : List Entry) (task : MatchTask) (v : Option Given)
     → IfSome v (λ g. (i : ℕ) × (e : Entry) × (slice_get items i ≡ Some e)
-    × IsIn (record { task = task; given = g }) (pairs_of e))
+    × IsIn (record { task = task; given = g }) (evals_of e))
     → IfSome v (λ g. IsIn (record { task = task; given = g }) (stored_of (reverse items)))
 some_stored items task None h = tt
 some_stored items task (Some g) h = stored_of_entry items h.0 h.1 (record { task = task; given = g }) h.2 h.3
 
 -- where no entry that the index names has the key, it is not stored
-none_stored : (covered : ℕ) (items : List Entry) (places : List Place) (task : MatchTask) (number : ℕ)
+none_stored : (covered : ℕ) (items : List Entry) (positions : List Position) (task : MatchTask) (number : ℕ)
     (v : Option Given)
-    → AreCovered covered items places → length items ≤ covered → number ≡ number_of task
-    → IfNone v ((i : ℕ) (e : Entry) → IsIn (record { number = number; entry = i }) places → slice_get items i ≡ Some e
-    → IsIn task (tasks_of (pairs_of e)) → ⊥)
+    → AreCovered covered items positions → length items ≤ covered → number ≡ number_of task
+    → IfNone v ((i : ℕ) (e : Entry) → IsIn (record { number = number; entry = i }) positions → slice_get items i
+    ≡ Some e
+    → IsIn task (tasks_of (evals_of e)) → ⊥)
     → IfNone v (IsIn task (tasks_of (stored_of (reverse items))) → ⊥)
-none_stored covered items places task number (Some g) all full is h = tt
-none_stored covered items places task number None all full is h = λ i.
+none_stored covered items positions task number (Some g) all full is h = tt
+none_stored covered items positions task number None all full is h = λ i.
     let s = stored_of_task (stored_of (reverse items)) task i in
     let e = entry_of_stored items s.entry s.there in
     let lt = slice_get_within items e.index e.entry e.at in
     let there = all e.index e.entry s.entry (omega arith) e.at e.has in
     h e.index e.entry
-    (subst (λ n. IsIn (record { number = n; entry = e.index }) places) (ap number_of s.is ∙ sym is) there) e.at
-    (subst (λ v. IsIn v (tasks_of (pairs_of e.entry))) s.is (task_of_stored e.has))
+    (subst (λ n. IsIn (record { number = n; entry = e.index }) positions) (ap number_of s.is ∙ sym is) there) e.at
+    (subst (λ v. IsIn v (tasks_of (evals_of e.entry))) s.is (task_of_stored e.has))
 
 -- a key whose numbers do not fit is not stored
 none_narrow : (stored : List Stored) (task : MatchTask) → ((s : Stored) → IsIn s stored → IsNarrow s.task)

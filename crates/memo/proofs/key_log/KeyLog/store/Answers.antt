@@ -3,9 +3,9 @@ use Rattle.std.proofs.Common.{◌∙◌, subst, ap, arith, slice_get, slice_set,
 use Rattle.std.proofs.Common.{get_or, length-append}
 use Rattle.std.proofs.lemmas.Option.{slice_get_within, slice_get-get_or}
 use Rattle.memo.specs.Parts.{IsIn}
-use Rattle.memo.specs.KeyLog.{row_of, place_of, AreBelow}
-use Rattle.memo.specs.LogEntries.{pairs_of, stored_of, IsExtent, AreCovered, IsLog}
-use Rattle.memo.specs.TaskLinks.{Place}
+use Rattle.memo.specs.KeyLog.{row_of, position_of, AreBelow}
+use Rattle.memo.specs.LogEntries.{evals_of, stored_of, IsExtent, AreCovered, IsLog}
+use Rattle.memo.specs.TaskLinks.{Position}
 use Rattle.memo.specs.declared.entry.Entry.{Entry}
 use Rattle.memo.specs.declared.entry.Extent.{Extent}
 use Rattle.memo.specs.declared.key_log.Mark.{Mark}
@@ -40,13 +40,13 @@ module _ (unit : ℕ) where
 
   -- keys more of a row, whose mark is raised
   below_more : (high : List Mark) (more stored : List Stored) (r highest : ℕ) (now v : Mark) → AreBelow unit high stored
-      → ((s : Stored) → IsIn s more → row_of s.task ≡ r) → ((s : Stored) → IsIn s more → place_of s.task ≤ highest)
+      → ((s : Stored) → IsIn s more → row_of s.task ≡ r) → ((s : Stored) → IsIn s more → position_of s.task ≤ highest)
       → slice_get high r ≡ Some now → v.unit ≡ unit → highest ≤ v.highest
       → (now.unit ≡ unit → now.highest ≤ v.highest) → AreBelow unit (slice_set high r v) (more ++ stored)
-  below_more high more stored r highest now v below row place at w up kept s i =
+  below_more high more stored r highest now v below row position at w up kept s i =
       elim (in_either more stored i) [
         | inl l ↦
-            let place_is = place s l in (
+            let position_is = position s l in (
               v,
               subst (λ n. slice_get (slice_set high r v) n ≡ Some v) (sym (row s l))
                   (own_mark high r v (slice_get_within high r now at)),
@@ -64,37 +64,38 @@ module _ (unit : ℕ) where
             (raised.mark, raised.at, raised.same, omega arith)
       ]
 
-covered_push : (covered : ℕ) (items : List Entry) (places : List Place) (e : Entry) → AreCovered covered items places
-    → covered ≤ length items → AreCovered covered (items ++ e ∷ []) places
-covered_push covered items places e h within i d s less at has = elim (push_cases items e i d at) [
+covered_push : (covered : ℕ) (items : List Entry) (positions : List Position) (e : Entry)
+    → AreCovered covered items positions
+    → covered ≤ length items → AreCovered covered (items ++ e ∷ []) positions
+covered_push covered items positions e h within i d s less at has = elim (push_cases items e i d at) [
   | inl old ↦ h i d s less old has
   | inr new ↦ let is = new.0 in absurd (omega arith)
 ]
 
 -- an entry more
-log_push : (unit count covered : ℕ) (high : List Mark) (items all : List Entry) (places : List Place) (e : Entry)
-    (x : Extent) (now v : Mark) (total : ℕ) → IsLog unit count covered high items places → IsExtent e x
+log_push : (unit count covered : ℕ) (high : List Mark) (items all : List Entry) (positions : List Position) (e : Entry)
+    (x : Extent) (now v : Mark) (total : ℕ) → IsLog unit count covered high items positions → IsExtent e x
     → all ≡ items ++ e ∷ [] → total ≡ count + x.count → now ≡ get_or high x.row now → x.row < length high
     → v.unit ≡ unit → x.highest ≤ v.highest → (now.unit ≡ unit → now.highest ≤ v.highest)
-    → IsLog unit total covered (slice_set high x.row v) all places
-log_push unit count covered high items all places e x now v total log extent is sum read lt w up kept =
-    let view : stored_of (reverse all) ≡ pairs_of e ++ stored_of (reverse items) =
+    → IsLog unit total covered (slice_set high x.row v) all positions
+log_push unit count covered high items all positions e x now v total log extent is sum read lt w up kept =
+    let view : stored_of (reverse all) ≡ evals_of e ++ stored_of (reverse items) =
     ap (λ l. stored_of (reverse l)) is ∙ stored_push items e in
     let at : slice_get high x.row ≡ Some now =
     subst (λ m. slice_get high x.row ≡ Some m) (sym read) (slice_get-get_or high x.row now lt) in
     record {
-      below = rw view (below_more unit high (pairs_of e) (stored_of (reverse items)) x.row x.highest now v log.below
-          extent.row extent.place at w up kept);
-      narrow = λ s i. elim (in_either (pairs_of e) (stored_of (reverse items)) (rw view at i)) [
+      below = rw view (below_more unit high (evals_of e) (stored_of (reverse items)) x.row x.highest now v log.below
+          extent.row extent.position at w up kept);
+      narrow = λ s i. elim (in_either (evals_of e) (stored_of (reverse items)) (rw view at i)) [
         | inl l ↦ extent.narrow s l
         | inr r ↦ log.narrow s r
       ];
-      indexed = rw is (covered_push covered items places e log.indexed log.within);
+      indexed = rw is (covered_push covered items positions e log.indexed log.within);
       within = let low = log.within in omega (arith, ap length is, length-append items (e ∷ []));
       counted =
           let had = log.counted in
           let has = extent.count in
-          omega (arith, ap length view, length-append (pairs_of e) (stored_of (reverse items)));
+          omega (arith, ap length view, length-append (evals_of e) (stored_of (reverse items)));
     }
 
 pub invariant_of-self-2 : goal.invariant_of-self-2

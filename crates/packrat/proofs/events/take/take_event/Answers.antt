@@ -32,7 +32,7 @@ down-preserved-in-None c = record {
 
 pub returns-in-Some-Opened-clause-kept : goal.returns-in-Some-Opened-clause-kept
 returns-in-Some-Opened-clause-kept c =
-    let h = at_head c.args.links.now c.down.top _ (Opened c.in-Some-Opened.place) c.requires.order
+    let h = at_head c.args.links.now c.down.top _ (Opened c.in-Some-Opened.position) c.requires.order
     c.in-Some-Opened.field-0-is c.in-Some-Opened.ensures.some in
     one_reported _ c.down.top c.down.waiting.heads _ c.down.invariant.kept _ h _ refl
 
@@ -41,7 +41,7 @@ returns-in-Some-Opened-clause-waits c = waiting_next _ c.down.top c.down.waiting
 
 pub returns-in-Some-Closed-clause-kept : goal.returns-in-Some-Closed-clause-kept
 returns-in-Some-Closed-clause-kept c =
-    let h = at_head c.args.links.now c.down.top _ (Closed c.in-Some-Closed.place) c.requires.order
+    let h = at_head c.args.links.now c.down.top _ (Closed c.in-Some-Closed.position) c.requires.order
     c.in-Some-Closed.field-0-is c.in-Some-Closed.ensures.some in
     one_reported _ c.down.top c.down.waiting.heads _ c.down.invariant.kept _ h _ refl
 

@@ -1,6 +1,6 @@
 use Rattle.std.proofs.Common.{refl, sym}
-use Rattle.memo.specs.declared.task.MatchTask.TheVariants.{Pair}
-use Rattle.packrat.specs.LoopTurns.{turn_of}
+use Rattle.memo.specs.declared.task.MatchTask.TheVariants.{Eval}
+use Rattle.packrat.specs.LoopIterations.{iteration_of}
 use Rattle.packrat.specs.declared.frames.Wait.TheVariants.{First}
 use Rattle.packrat.proofs.StandsLemmas as L
 use Rattle.packrat.proofs.LeftLemmas as M
@@ -34,7 +34,7 @@ pub returns-in_ok-wait_last-in-Passes-clause-stands : goal.returns-in_ok-wait_la
 returns-in_ok-wait_last-in-Passes-clause-stands c = λ more some root s.
     L.stands_on c.args.peg.now c.args.window.now more c.args.peg.now.keys root c.args.task c.args.given
     c.args.self.now.frames c.args.self.now.log.stored c.args.self.now.events c.args.self.now.begun c.args.key s
-    (Pair c.in-Passes.node c.in-Passes.place) c.wait_last.new.frames (c.in-Passes.ensures more some)
+    (Eval c.in-Passes.node c.in-Passes.position) c.wait_last.new.frames (c.in-Passes.ensures more some)
     c.in_ok-wait_last-in-Passes.ensures
 
 pub returns-in_ok-wait_last-in-Passes-clause-less : goal.returns-in_ok-wait_last-in-Passes-clause-less
@@ -42,12 +42,12 @@ returns-in_ok-wait_last-in-Passes-clause-less c = λ more some root s.
     M.less_on c.args.peg.now c.args.window.now c.args.task
     (L.first_kid c.args.peg.now c.args.window.now more c.args.peg.now.keys root c.args.task c.args.given
     c.args.self.now.frames c.args.self.now.log.stored c.args.self.now.events c.args.self.now.begun c.args.key s)
-    (Pair c.in-Passes.node c.in-Passes.place) c.args.given c.args.key c.args.given.events c.args.self.now.frames
+    (Eval c.in-Passes.node c.in-Passes.position) c.args.given c.args.key c.args.given.events c.args.self.now.frames
     c.wait_last.new.frames
     c.args.self.now.begun
     (L.second_kid c.args.peg.now c.args.window.now more c.args.peg.now.keys root c.args.task c.args.given
     c.args.self.now.frames c.args.self.now.log.stored c.args.self.now.events c.args.self.now.begun c.args.key s
-    (Pair c.in-Passes.node c.in-Passes.place) (c.in-Passes.ensures more some)) c.in_ok-wait_last-in-Passes.ensures
+    (Eval c.in-Passes.node c.in-Passes.position) (c.in-Passes.ensures more some)) c.in_ok-wait_last-in-Passes.ensures
 
 pub returns-in_ok-enter-in-Enters-clause-stands : goal.returns-in_ok-enter-in-Enters-clause-stands
 returns-in_ok-enter-in-Enters-clause-stands c = λ more some root s.
@@ -55,7 +55,8 @@ returns-in_ok-enter-in-Enters-clause-stands c = λ more some root s.
     L.stands_as c.args.peg.now c.args.window.now more c.args.peg.now.keys refl refl (cc (sym same)) refl refl
     (L.stands_into c.args.peg.now c.args.window.now more c.args.peg.now.keys root c.args.task c.args.given
     c.args.self.now.frames c.args.self.now.log.stored c.args.self.now.events c.args.self.now.begun c.args.key s
-    c.in-Enters.entering c.wait_last-in-Enters.new.frames c.enter.new.frames (turn_of c.in_ok-enter-in-Enters.field-0)
+    c.in-Enters.entering c.wait_last-in-Enters.new.frames c.enter.new.frames
+    (iteration_of c.in_ok-enter-in-Enters.field-0)
     (L.tail_marked c.args.peg.now c.args.window.now more c.args.peg.now.keys root c.args.task c.args.given
     c.args.self.now.frames c.args.self.now.log.stored c.args.self.now.events c.args.self.now.begun c.args.key s
     c.in-Enters.entering (c.in-Enters.ensures more some)) (c.in-Enters.ensures more some)
@@ -66,7 +67,7 @@ returns-in_ok-enter-in-Enters-clause-less c = λ more some root s.
     M.less_on_in c.args.peg.now c.args.window.now c.args.self.now.log.stored c.args.task
     (L.first_kid c.args.peg.now c.args.window.now more c.args.peg.now.keys root c.args.task c.args.given
     c.args.self.now.frames c.args.self.now.log.stored c.args.self.now.events c.args.self.now.begun c.args.key s)
-    (turn_of c.in_ok-enter-in-Enters.field-0) c.in-Enters.entering c.args.given c.args.key c.args.given.events
+    (iteration_of c.in_ok-enter-in-Enters.field-0) c.in-Enters.entering c.args.given c.args.key c.args.given.events
     c.args.self.now.frames c.wait_last-in-Enters.new.frames c.enter.new.frames c.args.self.now.begun
     (L.second_tail c.args.peg.now c.args.window.now more c.args.peg.now.keys root c.args.task c.args.given
     c.args.self.now.frames c.args.self.now.log.stored c.args.self.now.events c.args.self.now.begun c.args.key s

@@ -1,29 +1,30 @@
 use Rattle.std.proofs.Common.{◌<◌, IfOk, refl, sym, subst, ◌∙◌}
 use Rattle.packrat.specs.Begins.{repeated_of}
-use Rattle.packrat.specs.TurnsLeft.{left}
-use Rattle.packrat.specs.LoopTurns.{Ask, turn_of}
-use Rattle.memo.specs.declared.task.MatchTask.TheVariants.{Pair}
+use Rattle.packrat.specs.IterationsLeft.{left}
+use Rattle.packrat.specs.LoopIterations.{Ask, iteration_of}
+use Rattle.memo.specs.declared.task.MatchTask.TheVariants.{Eval}
 use Rattle.packrat.proofs.StandsLemmas as L
 use Rattle.packrat.proofs.LeftLemmas as M
 use Rattle.packrat.proofs.machine.Machine.repeat.Goals as goal
 
-pub run_turns-requires-clause-free : goal.run_turns-requires-clause-free
-run_turns-requires-clause-free c =
+pub run_iterations-requires-clause-free : goal.run_iterations-requires-clause-free
+run_iterations-requires-clause-free c =
     let f = c.in-Some.ensures.free in
     record { decided = f.decided; task = refl; star = f.star; operand = f.operand }
 
 pub returns-in-Some-clause-stands : goal.returns-in-Some-clause-stands
 returns-in-Some-clause-stands c = λ root key fresh s.
-    c.run_turns.ensures.stands root
+    c.run_iterations.ensures.stands root
     (L.stands_as c.args.peg.now c.args.window.now c.args.more c.args.peg.now.keys (cc c.in-Some.ensures.free.task) refl
     refl refl refl s)
 
 pub returns-in-Some-clause-less : goal.returns-in-Some-clause-less
 returns-in-Some-clause-less c = λ le.
-    subst (λ v. IfOk c.run_turns.result (λ turn. left c.args.peg.now c.args.window.now (turn_of turn)
-    c.run_turns.new.self.frames c.run_turns.new.self.begun
+    subst (λ v. IfOk c.run_iterations.result
+    (λ iteration. left c.args.peg.now c.args.window.now (iteration_of iteration)
+    c.run_iterations.new.self.frames c.run_iterations.new.self.begun
     < left c.args.peg.now c.args.window.now (Ask v) c.args.self.now.frames c.args.self.now.begun))
-    (sym c.in-Some.ensures.free.task) (c.run_turns.ensures.less le)
+    (sym c.in-Some.ensures.free.task) (c.run_iterations.ensures.less le)
 
 pub returns-in_ok-push-in-None-clause-stands : goal.returns-in_ok-push-in-None-clause-stands
 returns-in_ok-push-in-None-clause-stands c = λ root key fresh s.
@@ -32,14 +33,14 @@ returns-in_ok-push-in-None-clause-stands c = λ root key fresh s.
     c.in_ok-push-in-None.ensures) refl refl (sym c.counted-begun.ensures)
     (L.stands_down c.args.peg.now c.args.window.now c.args.more c.args.peg.now.keys root (repeated_of r)
     c.args.self.now.frames c.args.self.now.log.stored c.args.self.now.events c.args.self.now.begun s
-    (λ t. fresh (key ∙ t)) (Pair r.operand r.place) c.args.key key c.requires.is.1)
+    (λ t. fresh (key ∙ t)) (Eval r.operand r.position) c.args.key key c.requires.is.1)
 
 pub returns-in_ok-push-in-None-clause-less : goal.returns-in_ok-push-in-None-clause-less
 returns-in_ok-push-in-None-clause-less c = λ le.
     let r = c.args.repeated in
-    subst (λ v. left c.args.peg.now c.args.window.now (Ask (Pair r.operand r.place)) v c.counted-begun.result
+    subst (λ v. left c.args.peg.now c.args.window.now (Ask (Eval r.operand r.position)) v c.counted-begun.result
     < left c.args.peg.now c.args.window.now (Ask (repeated_of r)) c.args.self.now.frames c.args.self.now.begun)
     (sym c.in_ok-push-in-None.ensures)
-    (M.less_down c.args.peg.now c.args.window.now (repeated_of r) (Pair r.operand r.place) c.args.key
+    (M.less_down c.args.peg.now c.args.window.now (repeated_of r) (Eval r.operand r.position) c.args.key
     c.args.self.now.frames c.args.self.now.begun c.counted-begun.result c.counted-begun.ensures le c.requires.well
     c.requires.is.1.0)

@@ -1,7 +1,7 @@
 use Rattle.std.proofs.Common.{◌≡◌, ◌<◌, ◌∷◌, ◌++◌, IfOk, sym, subst}
-use Rattle.packrat.specs.LoopTurns.{Answer, turn_of}
+use Rattle.packrat.specs.LoopIterations.{Answer, iteration_of}
 use Rattle.packrat.specs.Stands.{Stands}
-use Rattle.packrat.specs.TurnsLeft.{left}
+use Rattle.packrat.specs.IterationsLeft.{left}
 use Rattle.packrat.proofs.StandsLemmas as L
 use Rattle.packrat.proofs.LeftLemmas as M
 use Rattle.packrat.proofs.TurnedLemmas.{stands_back}
@@ -11,8 +11,9 @@ pub returns-in-First-clause-less : goal.returns-in-First-clause-less
 returns-in-First-clause-less c = λ more some root.
     subst (λ v. Stands c.args.peg.now c.args.window.now more c.args.peg.now.keys root (Answer c.args.given)
     (record { task = c.args.frame.task; key = c.args.frame.key; wait = v } ∷ c.args.self.now.frames)
-    c.args.self.now.log.stored c.args.self.now.events c.args.self.now.begun → IfOk c.after_first.result (λ turn.
-    left c.args.peg.now c.args.window.now (turn_of turn) c.after_first.new.self.frames c.after_first.new.self.begun
+    c.args.self.now.log.stored c.args.self.now.events c.args.self.now.begun → IfOk c.after_first.result (λ iteration.
+    left c.args.peg.now c.args.window.now
+    (iteration_of iteration) c.after_first.new.self.frames c.after_first.new.self.begun
     < left c.args.peg.now c.args.window.now (Answer c.args.given)
     (record { task = c.args.frame.task; key = c.args.frame.key; wait = v } ∷ c.args.self.now.frames)
     c.args.self.now.begun)) (sym c.in-First.is) (c.after_first.ensures.less more some root)

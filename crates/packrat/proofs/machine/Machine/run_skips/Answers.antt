@@ -1,5 +1,5 @@
 use Rattle.std.proofs.Common.{refl, sym}
-use Rattle.packrat.specs.LoopTurns.{turn_of}
+use Rattle.packrat.specs.LoopIterations.{iteration_of}
 use Rattle.packrat.proofs.StandsLemmas as L
 use Rattle.packrat.proofs.SkippedLemmas as K
 use Rattle.packrat.proofs.machine.Machine.run_skips.Goals as goal
@@ -12,7 +12,7 @@ returns-in_ok-enter-in-Some-clause-stands c = λ more some h root key fresh s.
     (K.stands_skipped c.args.peg.now c.args.window.now more c.args.peg.now.keys some c.requires.sound
     c.requires.keyed.1.0 c.requires.keyed.1.1 c.requires.keyed.0 root c.args.task c.args.skips h c.args.self.now.frames
     c.args.self.now.log.stored c.args.self.now.events c.args.self.now.begun s c.args.key key fresh c.in-Some.entering
-    c.in-Some.is c.wait_last.new.frames c.enter.new.frames (turn_of c.in_ok-enter-in-Some.field-0)
+    c.in-Some.is c.wait_last.new.frames c.enter.new.frames (iteration_of c.in_ok-enter-in-Some.field-0)
     c.in_ok-wait_last-in-Some.ensures c.in_ok-enter-in-Some.ensures.entered)
 
 pub returns-in_ok-enter-in-Some-clause-less : goal.returns-in_ok-enter-in-Some-clause-less
@@ -20,7 +20,8 @@ returns-in_ok-enter-in-Some-clause-less c = λ more h le.
     K.less_skipped c.args.peg.now c.args.window.now more c.args.peg.now.keys c.args.task c.args.skips h
     c.requires.well c.args.self.now.frames c.args.self.now.begun c.counted_skips-self.result
     c.counted_skips-self.ensures le c.in-Some.entering c.in-Some.is c.args.key c.args.self.now.log.stored
-    c.wait_last.new.frames c.enter.new.frames (turn_of c.in_ok-enter-in-Some.field-0) c.in_ok-wait_last-in-Some.ensures
+    c.wait_last.new.frames c.enter.new.frames
+    (iteration_of c.in_ok-enter-in-Some.field-0) c.in_ok-wait_last-in-Some.ensures
     c.in_ok-enter-in-Some.ensures.entered
 
 pub returns-in_ok-close-in-None-clause-stands : goal.returns-in_ok-close-in-None-clause-stands

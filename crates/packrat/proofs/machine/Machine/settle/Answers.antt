@@ -1,9 +1,9 @@
 use Rattle.std.proofs.Common.{◌<◌, ◌≤◌, ◌∷◌, refl, arith, subst, sym, ap}
 use Rattle.pegmatch.specs.Answers.{WasEnough}
-use Rattle.memo.specs.declared.task.MatchTask.TheVariants.{Pair}
-use Rattle.packrat.specs.LoopTurns.{Ask, Answer, turn_of}
+use Rattle.memo.specs.declared.task.MatchTask.TheVariants.{Eval}
+use Rattle.packrat.specs.LoopIterations.{Ask, Answer, iteration_of}
 use Rattle.packrat.specs.Stands.{Stands}
-use Rattle.packrat.specs.TurnsLeft.{left}
+use Rattle.packrat.specs.IterationsLeft.{left}
 use Rattle.packrat.proofs.StandsLemmas as L
 use Rattle.packrat.proofs.machine.Machine.settle.Goals as goal
 
@@ -37,8 +37,9 @@ frames-smaller c =
     c.args.peg.now.keys refl c.in-Some.ensures.some refl refl refl (c.frames.invariant.stands w.0 w.2 w.1 w.3)) in
     subst (λ v. left c.args.peg.now c.args.window.now v c.resume.new.self.frames c.resume.new.self.begun
     < left c.args.peg.now c.args.window.now (Answer c.frames.given) c.frames.self.frames c.frames.self.begun)
-    (ap turn_of c.in-Answer.is)
-    (subst (λ v. left c.args.peg.now c.args.window.now (turn_of c.in_ok-own-in-Some.field-0) c.resume.new.self.frames
+    (ap iteration_of c.in-Answer.is)
+    (subst (λ v. left c.args.peg.now c.args.window.now
+    (iteration_of c.in_ok-own-in-Some.field-0) c.resume.new.self.frames
     c.resume.new.self.begun < left c.args.peg.now c.args.window.now (Answer c.frames.given) v c.frames.self.begun)
     (sym c.in-Some.ensures.some) less)
 
@@ -52,15 +53,16 @@ frames-preserved c =
     c.frames.self.begun =
     subst (λ v. left c.args.peg.now c.args.window.now v c.resume.new.self.frames c.resume.new.self.begun
     < left c.args.peg.now c.args.window.now (Answer c.frames.given) c.frames.self.frames c.frames.self.begun)
-    (ap turn_of c.in-Answer.is)
-    (subst (λ v. left c.args.peg.now c.args.window.now (turn_of c.in_ok-own-in-Some.field-0) c.resume.new.self.frames
+    (ap iteration_of c.in-Answer.is)
+    (subst (λ v. left c.args.peg.now c.args.window.now
+    (iteration_of c.in_ok-own-in-Some.field-0) c.resume.new.self.frames
     c.resume.new.self.begun < left c.args.peg.now c.args.window.now (Answer c.frames.given) v c.frames.self.begun)
     (sym c.in-Some.ensures.some) less) in
     let before = c.frames.invariant.less in
     record {
       rows = c.in_ok-own-in-Some.ensures.rows;
       stands = λ more some root s. L.stands_as c.args.peg.now c.args.window.now more c.args.peg.now.keys
-          (ap turn_of c.in-Answer.is) refl refl refl refl (c.in_ok-own-in-Some.ensures.stands more some root
+          (ap iteration_of c.in-Answer.is) refl refl refl refl (c.in_ok-own-in-Some.ensures.stands more some root
           (L.stands_as c.args.peg.now c.args.window.now more c.args.peg.now.keys refl c.in-Some.ensures.some refl refl
           refl (c.frames.invariant.stands more some root s)));
       less = omega arith;
@@ -71,13 +73,14 @@ returns-in-Ask-clause-less c =
     let w = c.requires.stands in
     let less = c.in_ok-own-in-Some.ensures.less w.0 w.2 w.1 (L.stands_as c.args.peg.now c.args.window.now w.0
     c.args.peg.now.keys refl c.in-Some.ensures.some refl refl refl (c.frames.invariant.stands w.0 w.2 w.1 w.3)) in
-    let now : left c.args.peg.now c.args.window.now (Ask (Pair c.in-Ask.node c.in-Ask.place))
+    let now : left c.args.peg.now c.args.window.now (Ask (Eval c.in-Ask.node c.in-Ask.position))
     c.resume.new.self.frames c.resume.new.self.begun
     < left c.args.peg.now c.args.window.now (Answer c.frames.given) c.frames.self.frames c.frames.self.begun =
     subst (λ v. left c.args.peg.now c.args.window.now v c.resume.new.self.frames c.resume.new.self.begun
     < left c.args.peg.now c.args.window.now (Answer c.frames.given) c.frames.self.frames c.frames.self.begun)
-    (ap turn_of c.in-Ask.is)
-    (subst (λ v. left c.args.peg.now c.args.window.now (turn_of c.in_ok-own-in-Some.field-0) c.resume.new.self.frames
+    (ap iteration_of c.in-Ask.is)
+    (subst (λ v. left c.args.peg.now c.args.window.now
+    (iteration_of c.in_ok-own-in-Some.field-0) c.resume.new.self.frames
     c.resume.new.self.begun < left c.args.peg.now c.args.window.now (Answer c.frames.given) v c.frames.self.begun)
     (sym c.in-Some.ensures.some) less) in
     let before = c.frames.invariant.less in

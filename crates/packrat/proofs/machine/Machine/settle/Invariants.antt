@@ -1,9 +1,9 @@
 use Rattle.std.proofs.Common.{◌≡◌, ◌≤◌, Bool, length}
 use Rattle.memo.specs.declared.task.MatchTask.{MatchTask}
 use Rattle.pegmatch.specs.Answers.{WasEnough}
-use Rattle.packrat.specs.LoopTurns.{Answer}
+use Rattle.packrat.specs.LoopIterations.{Answer}
 use Rattle.packrat.specs.Stands.{Stands}
-use Rattle.packrat.specs.TurnsLeft.{left}
+use Rattle.packrat.specs.IterationsLeft.{left}
 use Rattle.packrat.proofs.machine.Machine.settle.Given as goal
 
 abbrev pub invariant-frames : goal.invariant-frames

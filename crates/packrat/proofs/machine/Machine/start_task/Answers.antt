@@ -1,10 +1,10 @@
 use Rattle.std.proofs.Common.{◌<◌, ◌+◌, refl, sym, subst, ◌∙◌}
 use Rattle.memo.specs.declared.found.Found.TheVariants.{Took}
 use Rattle.packrat.proofs.KeptAtLemmas.{grown_same}
-use Rattle.packrat.specs.LoopTurns.{Ask, turn_of}
-use Rattle.memo.specs.declared.task.MatchTask.TheVariants.{Pair}
+use Rattle.packrat.specs.LoopIterations.{Ask, iteration_of}
+use Rattle.memo.specs.declared.task.MatchTask.TheVariants.{Eval}
 use Rattle.packrat.specs.Onward.{AfterStart, tail_of}
-use Rattle.packrat.specs.TurnsLeft.{left}
+use Rattle.packrat.specs.IterationsLeft.{left}
 use Rattle.packrat.specs.View.{weight}
 use Rattle.packrat.proofs.StandsLemmas as L
 use Rattle.packrat.proofs.LeftLemmas as M
@@ -37,18 +37,18 @@ returns-in_ok-close-in-Marks-clause-stands c = λ more h root key fresh s.
     (L.stands_leaf c.args.peg.now c.args.window.now more c.args.peg.now.keys root c.args.task
     c.args.self.now.frames c.args.self.now.log.stored
     c.args.self.now.events c.args.self.now.begun s (λ t. fresh (key ∙ t)) c.mark.new.self
-    (record { found = Took c.place.result; events = c.in_ok-mark-in-Marks.field-0 }) c.close-in-Marks.new.log.stored
+    (record { found = Took c.position.result; events = c.in_ok-mark-in-Marks.field-0 }) c.close-in-Marks.new.log.stored
     c.in_ok-mark-in-Marks.ensures.grown e.0
     (L.given_marked c.args.peg.now c.args.window.now more c.args.peg.now.keys c.mark.new.self c.args.task
-    c.place.result c.in-Marks.event
-    c.in_ok-mark-in-Marks.field-0 c.place.ensures e c.in_ok-mark-in-Marks.ensures.head
+    c.position.result c.in-Marks.event
+    c.in_ok-mark-in-Marks.field-0 c.position.ensures e c.in_ok-mark-in-Marks.ensures.head
     c.in_ok-mark-in-Marks.ensures.kept)
     (c.in_ok-close-in-Marks.ensures.closed more c.args.peg.now.keys c.mark.new.self key))
 
 pub returns-in_ok-close-in-Marks-clause-less : goal.returns-in_ok-close-in-Marks-clause-less
 returns-in_ok-close-in-Marks-clause-less c = λ more h le.
     M.less_leaf c.args.peg.now c.args.window.now c.args.task
-    (record { found = Took c.place.result; events = c.in_ok-mark-in-Marks.field-0 })
+    (record { found = Took c.position.result; events = c.in_ok-mark-in-Marks.field-0 })
     c.args.self.now.frames c.args.self.now.begun c.counted-self.result c.counted-self.ensures le c.requires.well
 
 pub returns-in_ok-push-in-Leads-clause-stands : goal.returns-in_ok-push-in-Leads-clause-stands
@@ -60,18 +60,18 @@ returns-in_ok-push-in-Leads-clause-stands c = λ more h root key fresh s.
     (sym c.counted-self.ensures)
     (L.stands_down c.args.peg.now c.args.window.now more c.args.peg.now.keys root c.args.task
     c.args.self.now.frames c.args.self.now.log.stored
-    c.args.self.now.events c.args.self.now.begun s (λ t. fresh (key ∙ t)) (Pair c.in-Leads.node c.in-Leads.place)
+    c.args.self.now.events c.args.self.now.begun s (λ t. fresh (key ∙ t)) (Eval c.in-Leads.node c.in-Leads.position)
     c.args.key key
     e)
 
 pub returns-in_ok-push-in-Leads-clause-less : goal.returns-in_ok-push-in-Leads-clause-less
 returns-in_ok-push-in-Leads-clause-less c = λ more h le.
     let e = subst (AfterStart c.args.peg.now c.args.window.now more c.args.task) c.in-Leads.is h in
-    subst (λ v. left c.args.peg.now c.args.window.now (Ask (Pair c.in-Leads.node c.in-Leads.place)) v
+    subst (λ v. left c.args.peg.now c.args.window.now (Ask (Eval c.in-Leads.node c.in-Leads.position)) v
     c.counted-self.result
     < left c.args.peg.now c.args.window.now (Ask c.args.task) c.args.self.now.frames c.args.self.now.begun)
     (sym c.in_ok-push-in-Leads.ensures)
-    (M.less_down c.args.peg.now c.args.window.now c.args.task (Pair c.in-Leads.node c.in-Leads.place) c.args.key
+    (M.less_down c.args.peg.now c.args.window.now c.args.task (Eval c.in-Leads.node c.in-Leads.position) c.args.key
     c.args.self.now.frames
     c.args.self.now.begun c.counted-self.result c.counted-self.ensures le c.requires.well e.0)
 
@@ -82,7 +82,7 @@ returns-in_ok-wait_last-in-Passes-clause-stands c = λ more h root key fresh s.
     c.counted-self.ensures)
     (L.stands_pass c.args.peg.now c.args.window.now more c.args.peg.now.keys root c.args.task
     c.args.self.now.frames c.args.self.now.log.stored
-    c.args.self.now.events c.args.self.now.begun s (λ t. fresh (key ∙ t)) (Pair c.in-Passes.node c.in-Passes.place)
+    c.args.self.now.events c.args.self.now.begun s (λ t. fresh (key ∙ t)) (Eval c.in-Passes.node c.in-Passes.position)
     c.args.key
     c.wait_last.new.frames
     key e c.in_ok-wait_last-in-Passes.ensures)
@@ -90,7 +90,7 @@ returns-in_ok-wait_last-in-Passes-clause-stands c = λ more h root key fresh s.
 pub returns-in_ok-wait_last-in-Passes-clause-less : goal.returns-in_ok-wait_last-in-Passes-clause-less
 returns-in_ok-wait_last-in-Passes-clause-less c = λ more h le.
     let e = subst (AfterStart c.args.peg.now c.args.window.now more c.args.task) c.in-Passes.is h in
-    M.less_pass c.args.peg.now c.args.window.now c.args.task (Pair c.in-Passes.node c.in-Passes.place) c.args.key 0
+    M.less_pass c.args.peg.now c.args.window.now c.args.task (Eval c.in-Passes.node c.in-Passes.position) c.args.key 0
     c.args.self.now.frames c.wait_last.new.frames c.args.self.now.begun c.counted-self.result c.counted-self.ensures le
     c.requires.well e.0 c.in_ok-wait_last-in-Passes.ensures
 
@@ -108,13 +108,13 @@ returns-in_ok-enter-in-Enters-clause-stands c = λ more h root key fresh s.
     c.args.self.now.events c.args.self.now.begun s (λ t. fresh (key ∙ t))
     (tail_of c.in-Enters.entering) c.args.key c.wait_last-in-Enters.new.frames key e.0
     c.in_ok-wait_last-in-Enters.ensures)
-    c.enter.new.frames (turn_of c.in_ok-enter-in-Enters.field-0) e.2 e.1 c.in_ok-enter-in-Enters.ensures.entered)
+    c.enter.new.frames (iteration_of c.in_ok-enter-in-Enters.field-0) e.2 e.1 c.in_ok-enter-in-Enters.ensures.entered)
 
 pub returns-in_ok-enter-in-Enters-clause-less : goal.returns-in_ok-enter-in-Enters-clause-less
 returns-in_ok-enter-in-Enters-clause-less c = λ more h le.
     let e = subst (AfterStart c.args.peg.now c.args.window.now more c.args.task) c.in-Enters.is h in
     M.less_pass_in c.args.peg.now c.args.window.now c.args.self.now.log.stored c.args.task
-    (turn_of c.in_ok-enter-in-Enters.field-0)
+    (iteration_of c.in_ok-enter-in-Enters.field-0)
     c.in-Enters.entering c.args.key 0 c.args.self.now.frames c.wait_last-in-Enters.new.frames c.enter.new.frames
     c.args.self.now.begun c.counted-self.result c.counted-self.ensures le c.requires.well e.0.0
     e.0.1 c.in_ok-wait_last-in-Enters.ensures c.in_ok-enter-in-Enters.ensures.entered

@@ -4,5 +4,6 @@ use Rattle.pegexplain.proofs.PegHintsLemmas.{first-reported}
 use Rattle.pegexplain.proofs.hints.reported.push_first_hints.Goals as goal
 
 pub returns : goal.returns
-returns c = first-reported (mention_lines_by c.args.places.now.places Literal) c.args.hints.now c.min-shown.result _ _ _
+returns c = first-reported
+    (mention_lines_by c.args.positions.now.positions Literal) c.args.hints.now c.min-shown.result _ _ _
     c.min-shown.ensures c.in_ok-push_hints.ensures c.in_ok-push_more.ensures

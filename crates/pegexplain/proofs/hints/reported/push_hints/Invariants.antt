@@ -8,4 +8,5 @@ use Rattle.pegexplain.proofs.hints.reported.push_hints.Given as goal
 
 abbrev pub invariant-loop-hint : goal.invariant-loop-hint
 invariant-loop-hint l = l.out.items ≡ l.fn.out.items
-    ++ flat_map (hint_reported (mention_lines_by l.places.places Literal)) (map hint_found (take l.hint-index l.hints))
+    ++ flat_map (hint_reported (mention_lines_by l.positions.positions Literal))
+    (map hint_found (take l.hint-index l.hints))

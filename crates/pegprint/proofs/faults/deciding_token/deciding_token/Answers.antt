@@ -13,7 +13,7 @@ loop-token-init c =
     none-taken c.args.text.now (AreLeft c.into_iter-token-iterator.result) all.0
     (rw c.into_iter-token-iterator.ensures.into_iter_gives
     (left-at_start White First is_end c.tokens-token-items.result c.tokens-token-items.ensures all.1)) all.1 _
-    c.start-place.ensures
+    c.start-position.ensures
 
 pub returns-in_default : goal.returns-in_default
 returns-in_default c =

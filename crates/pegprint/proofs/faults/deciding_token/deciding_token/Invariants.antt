@@ -4,4 +4,4 @@ use Rattle.pegprint.proofs.TakenTokensLemmas.{AreLeft, HasTaken}
 use Rattle.pegprint.proofs.faults.deciding_token.deciding_token.Given as goal
 
 abbrev pub invariant-loop-token : goal.invariant-loop-token
-invariant-loop-token l = HasTaken l.text (AreLeft l.token-iterator) l.place (map tok_of l.yielded)
+invariant-loop-token l = HasTaken l.text (AreLeft l.token-iterator) l.position (map tok_of l.yielded)

@@ -22,7 +22,8 @@ returns-in-Some-Hopeless c =
     let h = c.in-Some-Hopeless.ensures in
     let d = rw c.in-Some-Hopeless.field-0-is at h in
     MatchResult-weaker c.hopeless_lines.result c.hopeless_lines.ensures (λ why said.
-    hopeless-why c.args.text.now (tok_of c.in-Some-Hopeless.token) c.requires.within c.in-Some-Hopeless.place said.0 _
+    hopeless-why c.args.text.now
+    (tok_of c.in-Some-Hopeless.token) c.requires.within c.in-Some-Hopeless.position said.0 _
     d.0 said.1 said.2) (λ _ _. tt)
 
 pub returns-in-Some-TooDeep : goal.returns-in-Some-TooDeep

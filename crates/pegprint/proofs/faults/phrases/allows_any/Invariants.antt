@@ -4,4 +4,4 @@ use Rattle.pegprint.specs.PegStands.{allows}
 use Rattle.pegprint.proofs.faults.phrases.allows_any.Given as goal
 
 abbrev pub invariant-loop-kind : goal.invariant-loop-kind
-invariant-loop-kind l = list_any (allows l.place) (drop l.kind-index l.kinds) ≡ list_any (allows l.place) l.kinds
+invariant-loop-kind l = list_any (allows l.position) (drop l.kind-index l.kinds) ≡ list_any (allows l.position) l.kinds

@@ -9,16 +9,16 @@ use Rattle.pegprint.proofs.faults.phrases.reported_of.Goals.{then-is_reported+in
 pub loop-phrase-preserved : goal.loop-phrase-preserved
 loop-phrase-preserved c = elim c.if-is_reported.branch [
   | then-is_reported+in_ok-push w ↦
-      (let h = row-reported (allows c.args.place) phrase_of c.args.table.now c.loop-phrase.phrase-index _ _
+      (let h = row-reported (allows c.args.position) phrase_of c.args.table.now c.loop-phrase.phrase-index _ _
       c.loop-phrase-test.true (sym c.is_reported.ensures ∙ w.if-is_reported.true) c.loop-phrase.invariant in
       let items = w.in_ok-push.ensures.items in
       rw (w.reported-is, items, map-append) h)
   | else-is_reported w ↦
-      (let h = row-barred (allows c.args.place) phrase_of c.args.table.now c.loop-phrase.phrase-index _ _
+      (let h = row-barred (allows c.args.position) phrase_of c.args.table.now c.loop-phrase.phrase-index _ _
       c.loop-phrase-test.true (sym c.is_reported.ensures ∙ w.if-is_reported.false) c.loop-phrase.invariant in
       rw w.reported-is h)
 ]
 
 pub returns : goal.returns
-returns c = rest-ended (allows c.args.place) phrase_of c.args.table.now c.loop-phrase.phrase-index _
+returns c = rest-ended (allows c.args.position) phrase_of c.args.table.now c.loop-phrase.phrase-index _
     c.loop-phrase-test.false c.loop-phrase.invariant

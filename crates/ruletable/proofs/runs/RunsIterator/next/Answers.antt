@@ -1,6 +1,6 @@
 -- A call gives the first run that is left, or finds none.
 use Rattle.std.proofs.Common.{◌≡◌, ◌-◌, length, ap, arith, rules}
-use Rattle.ruletable.specs.Runs.{test_of, place_of}
+use Rattle.ruletable.specs.Runs.{test_of, position_of}
 use Rattle.ruletable.proofs.RunsLemmas.{after-none, after-step}
 use Rattle.ruletable.proofs.runs.RunsIterator.next.Goals as goal
 use Rattle.ruletable.proofs.runs.RunsIterator.next.Goals.{in-Some, in-None}
@@ -15,7 +15,7 @@ returns-in_err-first-clause-steps c =
     let none = after-none (test_of c.self.inside.set.now) c.in_ok-self.field-0 (omega arith) (c.in_err-first.ensures) in
     rw (c.from_residual-in_err-first.ensures, ← c.self.view_is, c.in_ok-self.was) (none, none)
 
-last_of : (c : goal.Joined-self) → c.match-self.last ≡ place_of c.first_from-self-inside.result - 1
+last_of : (c : goal.Joined-self) → c.match-self.last ≡ position_of c.first_from-self-inside.result - 1
 last_of c = elim c.match-self.branch [
   | in-Some w ↦ rw w.in-Some.is w.last-is
   | in-None w ↦ rw w.in-None.is w.last-is

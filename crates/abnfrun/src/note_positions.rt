@@ -1,0 +1,94 @@
+//! Explanations of notes on a grammar in ABNF.
+ghost use Rattle.std.specs.Prelude.{◌≡◌, ◌++◌, ℕ, List, Option, IfOk, OnOk, option_copied};
+ghost use Rattle.ruletable.specs.Notes.{said_of};
+ghost use Rattle.abnfread.specs.AbnfReading.{Reads};
+ghost use Rattle.abnfread.specs.Element.{Definition, Rule};
+ghost use Rattle.abnfcheck.specs.NameChains.{AreNameChains, IsNameChain};
+ghost use Rattle.abnfexplain.specs.ChainLines.{chain_reported};
+ghost use Rattle.abnfrun.specs.AbnfExplainedNotes.{AreAllRules, AreNotePositions, ExplainsAbnfNote, IsReachAfter};
+ghost use Rattle.abnfrun.specs.AbnfNoted.{all_rules};
+
+use crate::abnf_positions::AbnfPositions;
+use abnfcheck::{AllRules, NameChains, name_chains};
+use abnfexplain::{abnf_positions, explain_abnf_note, push_chain};
+use ruletable::{Memory, Note, NoteKind};
+use std::alloc::Global;
+
+/// Returns where a text says what explains notes on its grammar. It takes the text's rules, with the core rules that it
+/// leaves alone, and holds them.
+///
+/// `Memory` if an allocation fails; the rules are dropped then.
+pub(crate) fn note_positions(
+    alloc: Global,
+    text: &[u8],
+    all: AllRules,
+    start: Option<&str>,
+) -> Result<AbnfPositions, Memory>
+    requires { AreAllRules text.now all.rules all.count }
+    ensures positions { IfOk result (λ positions. AreNotePositions text.now (option_copied start.entry) positions) }
+    ensures rules { IfOk result (λ positions. positions.all ≡ all) }
+{
+    let positions = abnf_positions(alloc, text)?;
+    let chains = name_chains(alloc, &all.rules, start)?;
+    Ok(AbnfPositions {
+        positions,
+        chains,
+        all,
+    })
+}
+
+// Adds the line of the chain to a name, if one reaches it.
+fn push_reached(
+    alloc: Global,
+    out: &mut Vec<u8>,
+    chains: &NameChains,
+    name: &[u8],
+) -> Result<(), Memory>
+    ensures { OnOk result ((rules : List Rule) (given : Option (List ℕ)) → AreNameChains rules given chains.now
+        → (chain : Option (List (List ℕ))) × IsNameChain rules given name.now chain
+        × (out.new.items ≡ out.old.items ++ chain_reported chain)) }
+{
+    if let Some(ids) = chains.chain_to(alloc, name)? {
+        push_chain(out, &chains.names, &ids)?;
+    }
+    Ok(())
+}
+
+// Adds the line that follows those of a note, if one does.
+fn push_after(
+    alloc: Global,
+    out: &mut Vec<u8>,
+    chains: &NameChains,
+    note: &Note,
+) -> Result<(), Memory>
+    ensures { OnOk result ((text : List ℕ) (start : Option (List ℕ)) (definitions : List Definition)
+        → Reads text definitions → AreNameChains (all_rules definitions) start chains.now → (line : List ℕ)
+        × IsReachAfter text start note.now.kind note.now.name.items line
+        × (out.new.items ≡ out.old.items ++ line)) }
+{
+    match note.kind {
+        NoteKind::Undefined | NoteKind::Prose => {
+            push_reached(alloc, out, chains, note.name.as_slice())?;
+            Ok(())
+        }
+        _ => Ok(()),
+    }
+}
+
+/// Returns the lines that explain a note: those of positions, and by which rules the judged one reaches a name that no
+/// rule has, or a rule that holds prose.
+///
+/// `Memory` if an allocation fails.
+pub(crate) fn explain_reached(
+    alloc: Global,
+    positions: &AbnfPositions,
+    start: Option<&str>,
+    note: &Note,
+) -> Result<Vec<u8>, Memory>
+    ensures { IfOk result (λ why. (text : List ℕ) → AreNotePositions text (option_copied start.entry) positions.now
+        → ExplainsAbnfNote text (option_copied start.entry) (said_of note.now) why.items) }
+{
+    let mut why = explain_abnf_note(alloc, &positions.positions, start, note)?;
+    push_after(alloc, &mut why, &positions.chains, note)?;
+    Ok(why)
+}

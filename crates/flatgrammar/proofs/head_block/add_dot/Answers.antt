@@ -1,6 +1,0 @@
-use Rattle.flatgrammar.proofs.HeadBlockLemmas.{grows_one}
-use Rattle.flatgrammar.proofs.head_block.add_dot.Goals as goal
-
-pub returns : goal.returns
-returns c = grows_one c.args.flat.now c.args.inners.now c.args.dot _ _ c.in_ok-push.ensures.items
-    c.in_ok-add_call.ensures c.in_ok-add_pass.ensures

@@ -1,6 +1,0 @@
-use Rattle.matchfailure.specs.State.{HaveFailed}
-use Rattle.matchfailure.proofs.desk.turn.first.Given as goal
-
-abbrev pub invariant-loop-i : goal.invariant-loop-i
-invariant-loop-i l = HaveFailed l.cells l.place l.alternatives l.fn.next
-    → HaveFailed l.cells l.place l.alternatives l.i
