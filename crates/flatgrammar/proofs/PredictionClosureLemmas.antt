@@ -443,7 +443,7 @@ module _ (flat : code_flat.Tables) (targets : GiveTargets (flat_of flat) flat.ta
     where
       by : (o : Option Inlined) → inlined_at inlines t ≡ o → IsPrediction flat t
       by None is = is_prediction t is
-      by (Some i) is = absurd ((are t i is).start whole)
+      by (Some i) is = absurd ((are t i is).whole whole)
 
   -- closures of predictions are tables
   pub prediction_tables : AreTables flat
