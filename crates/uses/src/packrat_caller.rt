@@ -4,7 +4,7 @@ ghost use Rattle.std.specs.Option.{option_map};
 ghost use Rattle.matchfailure.specs.Desk as desk;
 ghost use Rattle.gramcheck.specs.Grammar.{Grammar, HasKeys, IsSoundGrammar};
 ghost use Rattle.memo.specs.Entries.{Entry, found_at};
-ghost use Rattle.memo.specs.KeyLog.{dots_of};
+ghost use Rattle.memo.specs.KeyLog.{tasks_of};
 ghost use Rattle.packrat.specs.Done as packrat;
 ghost use Rattle.packrat.specs.View.{AreImplied};
 ghost use Rattle.pegnodes.specs.KeyLists.{node_marks, tail_marks};
@@ -38,7 +38,7 @@ pub fn same_cells()
         (matched : packrat.Contents) (stepped : desk.View) → packrat.IsDone g x more g.keys matched →
         desk.IsDone g x more stepped → (cells : List Entry) →
         AreImplied (rules_of g.rules) g.start (shapes_of g.nodes) g.bodies x more
-        (node_marks g.keys) (tail_marks g.keys) (dots_of matched.stored) cells → (n p : ℕ) →
+        (node_marks g.keys) (tail_marks g.keys) (tasks_of matched.stored) cells → (n p : ℕ) →
         found_at cells n p ≡ found_at stepped.cells n p }
     ensures begun { (g : Grammar) (x : List ℕ) (more : Bool) → IsSoundGrammar g → (matched : packrat.Contents)
         (stepped : desk.View) → packrat.IsDone g x more g.keys matched → desk.IsDone g x more stepped →

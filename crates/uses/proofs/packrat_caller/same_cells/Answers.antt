@@ -4,7 +4,7 @@ use Rattle.packrat.proofs.AreImpliedLemmas.{implied_are_all}
 use Rattle.pegnodes.specs.KeyLists.{node_marks, tail_marks}
 use Rattle.pegnodes.specs.Nodes.{shapes_of}
 use Rattle.pegread.specs.PegViews.{rules_of}
-use Rattle.memo.specs.KeyLog.{dots_of}
+use Rattle.memo.specs.KeyLog.{tasks_of}
 use Rattle.pegmatch.proofs.AsksLemmas.{visited_there}
 use Rattle.packrat.proofs.SameCellsLemmas.{same_found, same_count}
 use Rattle.uses.proofs.packrat_caller.same_cells.Goals as goal
@@ -16,7 +16,7 @@ returns-clause-cells c = λ g x more sound keys matched stepped one other cells 
     let at = slice_get-get_or g.bodies g.start 0 (omega (arith, start_is_rule, count)) in
     same_found (rules_of g.rules) g.start (shapes_of g.nodes) g.bodies g.ranks x more sound cells stepped.cells
     (implied_are_all (rules_of g.rules) g.start (shapes_of g.nodes) g.bodies g.ranks x more sound _ at
-    (node_marks g.keys) (tail_marks g.keys) keys (dots_of matched.stored) cells (one.keys _ at) seen)
+    (node_marks g.keys) (tail_marks g.keys) keys (tasks_of matched.stored) cells (one.keys _ at) seen)
     other.cells n p
 
 pub returns-clause-begun : goal.returns-clause-begun
