@@ -1,6 +1,6 @@
 -- What is stated for a text in ABNF, settings and an input is one, unless an allocation fails.
 -- Serves: one_statement_of_abnf, explanations_change_no_answer
-use Rattle.std.proofs.Common.{◌≡◌, ◌≢◌, ℕ, Bool, inl, inr, List, [], refl, sym, ◌∙◌, ap, map, subst, arith, Option}
+use Rattle.std.proofs.Common.{◌≡◌, ◌≢◌, ℕ, inl, inr, List, [], refl, sym, ◌∙◌, ap, map, subst, arith, Option}
 use Rattle.ruletable.specs.Notes.{Said, said}
 use Rattle.ruletable.specs.declared.fault.ReadFault.{ReadFault}
 use Rattle.ruletable.specs.declared.fault.ReadFault.TheVariants.{TooLong}

@@ -1,6 +1,6 @@
 -- What a run of a grammar states depends on the limit, raw, whole and explain of the settings alone.
 -- Serves: peg_run
-use Rattle.std.proofs.Common.{◌≡◌, ◌≤◌, ℕ, Bool, true, false, List, refl, sym, ◌∙◌, subst, Option, ap, ap₂}
+use Rattle.std.proofs.Common.{◌≡◌, ◌≤◌, ℕ, Bool, true, false, List, sym, ◌∙◌, subst, Option, ap, ap₂}
 use Rattle.std.proofs.Math.Bridge.{le_prop}
 use Rattle.pegread.specs.Pattern.{Rule}
 use Rattle.gramcheck.specs.Grammar.{Grammar}

@@ -77,9 +77,7 @@ impl Explanations {
         self.text
             .extend_from_slice(digits.format(number).as_bytes())
             .unwrap();
-        self.text
-            .extend_from_slice(b": no\n")
-            .unwrap();
+        self.text.extend_from_slice(b": no\n").unwrap();
         self.text.extend_from_slice(NOT_EXPLAINED).unwrap();
         self.lacks = true;
     }

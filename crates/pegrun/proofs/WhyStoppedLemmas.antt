@@ -1,6 +1,6 @@
 -- What explains a stop, or why nothing does.
 -- Serves: run_peg (right), one_statement, explanations_change_no_answer
-use Rattle.std.proofs.Common.{◌≡◌, ◌≢◌, ℕ, ◌⊎◌, inl, inr, Bool, true, false, List, [], refl, sym, ◌∙◌, ap}
+use Rattle.std.proofs.Common.{◌≡◌, ◌≢◌, ℕ, ◌⊎◌, inl, inr, Bool, true, false, List, [], refl, ◌∙◌, ap}
 use Rattle.std.proofs.lemmas.List.{append-nil}
 use Rattle.pegread.specs.Pattern.{Rule}
 use Rattle.pegrun.specs.PegReply.{PlainReplies, RunStates}
@@ -85,16 +85,18 @@ module _ (rules : List Rule) (start : ℕ) (settings : PegSettings) (input : Inp
       status = ap (λ a. a.status) g.reported;
       taken = ap (λ a. a.taken) g.reported;
       err = λ unasked.
+          let before : g.before ≡ [] = g.reports in
           let why : g.why ≡ [] = not_asked_nothing settings.explain
           (StopLines rules start settings input g.replies.point g.replies.stop) g.why unasked g.explains in
-          ap (λ a. a.err) g.reported ∙ rw (g.reports, why) (append-nil g.plain.err);
+          ap (λ a. a.err) g.reported ∙ rw (before, why) (append-nil g.plain.err);
     },
   )
-  same_but_why reply (unexplained plain replies reported reports (asked, has)) ample = (
-    plain,
-    replies,
-    record { out = refl; status = refl; taken = refl; err = λ unasked. absurd (cc) },
-  )
+  same_but_why reply (unexplained plain replies reported reports lack) ample =
+      let asked = lack.0 in (
+        plain,
+        replies,
+        record { out = refl; status = refl; taken = refl; err = λ unasked. absurd (cc) },
+      )
   same_but_why reply (cut_short point out reported whole before reports replies front) ample = absurd (ample refl)
 
 -- each reply without explanations is that of something stated

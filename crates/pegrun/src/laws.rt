@@ -53,6 +53,4 @@ pub fn explanations_change_no_answer()
     ensures { (text : List ℕ) (settings : PegSettings) (asked : Bool) (input : Input) (notes others : List ℕ)
         (a b : Reply) → States text settings input notes a → States text (explained_by asked settings) input others b →
         a.status ≢ 5 → b.status ≢ 5 → SameButWhy true a b }
-{
-    one_reading();
-}
+{}
