@@ -236,10 +236,15 @@ def may_go_on(run, number):
     return has_automaton or has_notes or keeps_units or number <= len(run.words) + GROWTHS_OF_WORDS
 
 
+# The message in which a run on an input ends, and the line after one that is not explained.
+STOP = re.compile(rb"^(?:no match at byte|unit at byte|line \d+ longer than) .*\n", re.MULTILINE)
+LACKS = b"  not explained: out of memory\n"
+
+
 def explained_prefixes(reported):
-    """Returns what may stand of messages that are explained where an allocation for the rest fails: the first
-    ones, the last of them perhaps without what explains it."""
-    lines = reported.splitlines(keepends=True)
+    """Returns what may stand of messages that are explained where an allocation for the rest fails: the first ones
+    before that in which the run ends, the last of them perhaps without what explains it."""
+    lines = STOP.split(reported)[0].splitlines(keepends=True)
     messages = [at for at, line in enumerate(lines) if not line.startswith(b"  ")]
     counts = {0, *messages, *(at + 1 for at in messages), len(lines)}
     return [b"".join(lines[:count]) for count in sorted(counts)]
@@ -247,11 +252,12 @@ def explained_prefixes(reported):
 
 def not_explained(run):
     """Returns what may stand of the explanations of rejected lines where there is no memory for one of them: those
-    before it, and a line in its place."""
+    before it, and a line in its place. Of `pegi` it returns all up to the message in which the run ends, and a line."""
     lines = run.reported.splitlines(keepends=True)
+    if run.program == "pegi":
+        return [b"".join(lines[:at + 1]) + LACKS for at, line in enumerate(lines) if STOP.match(line)]
     heads = [(at, re.match(rb"line (\d+)(,| ends too early:)", line)) for at, line in enumerate(lines)]
-    return [b"%sline %s: no\n  not explained: out of memory\n" % (b"".join(lines[:at]), head[1])
-            for at, head in heads if head]
+    return [b"%sline %s: no\n" % (b"".join(lines[:at]), head[1]) + LACKS for at, head in heads if head]
 
 
 def refuse_each(tools, run, **more):
@@ -260,10 +266,10 @@ def refuse_each(tools, run, **more):
     number, good = 1, 0
     messages = explained_prefixes(run.reported) if "-x" in run.words else [b""]
     messages += [run.reported] * (run.program in ("abnfx", "abnfg"))
-    cut = not_explained(run) if run.program == "abnfi" and "-x" in run.words else []
-    stops = [it + b"out of memory\n" for it in messages + cut]
-    # the message in which a run ends stands without its explanation
-    last = b"".join(re.findall(rb"^line \d+ longer than .*\n", run.reported, re.MULTILINE))
+    cut = not_explained(run) if "-x" in run.words else []
+    stops = [it + b"out of memory\n" for it in messages + cut * (run.program == "abnfi")]
+    # after lines that are not explained the message in which a run ends stands without its explanation
+    last = b"".join(STOP.findall(run.reported)) if run.program == "abnfi" else b""
     while (ended := tools.run(run, GROWTH=number, **more)).refused:
         right = ended.out in fronts and ended.err in stops and ended.status == 5
         if is_as_stated(run, ended) and may_go_on(run, number):
@@ -461,7 +467,7 @@ BOUNDED = [
     (abnf("a line of 10,001 letters", b's = "a" s "a" / "a"', b"a\n" + b"a" * 10001 + b"\n", [YES],
           b"out of memory\n", 5, words=["-w"]), BOUND),
     (abnf("a line whose explanation needs as much again", b's = "a" s "a" / "a"', b"a\n" + b"a" * 2000 + b"b\na\n",
-          [YES, NO, YES], b"line 2: no\n  not explained: out of memory\n", 1, words=["-x"]), 25_000_000),
+          [YES, NO, YES], b"line 2: no\n" + LACKS, 1, words=["-x"]), 25_000_000),
 ]
 
 

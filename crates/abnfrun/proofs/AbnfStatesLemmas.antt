@@ -1,6 +1,6 @@
 -- What is stated for a text in ABNF, settings and an input is one, unless an allocation fails.
 -- Serves: one_statement_of_abnf, explanations_change_no_answer
-use Rattle.std.proofs.Common.{◌≡◌, ◌≢◌, ℕ, Bool, inl, inr, List, [], refl, sym, ◌∙◌, ap, map, subst, arith, Option}
+use Rattle.std.proofs.Common.{◌≡◌, ◌≢◌, ℕ, inl, inr, List, [], refl, sym, ◌∙◌, ap, map, subst, arith, Option}
 use Rattle.ruletable.specs.Notes.{Said, said}
 use Rattle.ruletable.specs.declared.fault.ReadFault.{ReadFault}
 use Rattle.ruletable.specs.declared.fault.ReadFault.TheVariants.{TooLong}
@@ -25,17 +25,17 @@ use Rattle.abnfrun.proofs.IsAnswerOnLemmas.{FurthestIsOne}
 use Rattle.abnfrun.proofs.IsAnswerToLemmas.{TextIsOne, one_answer}
 use Rattle.linejudge.specs.declared.answers.Answer.{Answer}
 use Rattle.linejudge.specs.InputLines.{Lines, LinesEnd, position_taken}
-use Rattle.linejudge.specs.LineRefusals.{SameButWhy}
 use Rattle.linejudge.proofs.LineRunLemmas.{same_but_why}
 use Rattle.linejudge.proofs.LinesReplyLemmas.{one_plain}
 use Rattle.toolrun.specs.Input.{Input}
 use Rattle.toolrun.specs.Explained.{Explained, IsLongReply}
-use Rattle.toolrun.specs.Reply.{Reply, refusal, unexplained_fault}
+use Rattle.toolrun.specs.Reply.{Reply, SameButWhy, refusal, unexplained_fault}
 use Rattle.toolrun.specs.RunSteps as steps
 use Rattle.abnfrun.specs.AbnfSettings.{AbnfSettings}
 use Rattle.toolrun.proofs.OneStatementLemmas.{Stated, one_stated, one-explained, is_noted, is_checked, is_run}
 use Rattle.toolrun.proofs.OneStatementLemmas.{is_again, is_printed}
 use Rattle.toolrun.proofs.ReportedNotesLemmas.{hinted-one, reported-one}
+use Rattle.toolrun.proofs.SameButWhyLemmas.{same_itself, same_twice}
 use Rattle.toolrun.specs.ReportedNotes.{HintedNotes, ReportedNotes, WhyNoted}
 
 -- each line has one answer
@@ -100,8 +100,7 @@ module _ (settings : AbnfSettings) (input : Input) where
     IsAlmost notes reply = (plain : Reply) × IsStated notes plain × SameButWhy settings.explain reply plain
 
     is_itself : (notes : List ℕ) (reply : Reply) → IsStated notes reply → IsAlmost notes reply
-    is_itself notes reply is =
-        (reply, is, record { out = refl; status = refl; taken = refl; err = λ unasked. refl })
+    is_itself notes reply is = (reply, is, same_itself settings.explain reply)
 
     suffixes_of_states : (notes : List ℕ) (reply : Reply) → AbnfStates text settings input notes reply
         → reply.status ≢ 5
@@ -174,16 +173,6 @@ module _ (settings : AbnfSettings) (input : Input) where
             → WhyNoted settings (ExplainsAbnfNote text) note b → a ≡ b
         one_line note = one-explained settings (ExplainsAbnfNote text (rule_given settings) note)
             (reported text (rule_given settings) note)
-
--- two replies that are one, but for what explains them
-pub same_twice : (asked : Bool) (a b p q : Reply) → SameButWhy asked a p → SameButWhy asked b q → p ≡ q
-    → SameButWhy asked a b
-same_twice asked a b p q g h is = record {
-  out = g.out ∙ ap (λ r. r.out) is ∙ sym h.out;
-  status = g.status ∙ ap (λ r. r.status) is ∙ sym h.status;
-  taken = g.taken ∙ ap (λ r. r.taken) is ∙ sym h.taken;
-  err = λ unasked. g.err unasked ∙ ap (λ r. r.err) is ∙ sym (h.err unasked);
-}
 
 -- one list of notes, and one reply but for what explains it
 pub one_statement : ExplanationsAreOne → NotesAreOne → HintsAreOne → TextIsOne → FurthestIsOne

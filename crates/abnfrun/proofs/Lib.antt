@@ -3,7 +3,7 @@ pub mod AbnfStatesLemmas
 pub mod AbnfTextHintsLemmas
 pub mod AllRulesLemmas
 pub mod AreRedefinitionsLemmas
-mod ExplainedByLemmas
+mod AbnfExplainedByLemmas
 pub mod IsAnswerOnLemmas
 pub mod IsAnswerToLemmas
 pub mod OpenAbnfLemmas

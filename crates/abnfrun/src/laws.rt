@@ -6,11 +6,10 @@ ghost use Rattle.abnfread.specs.AbnfReading.{IsFaultOf, Reads};
 ghost use Rattle.abnfread.specs.Element.{Definition, Rule};
 ghost use Rattle.abnfrun.specs.AbnfAnswers.{AbnfStates};
 ghost use Rattle.abnfrun.specs.AbnfReply.{JudgeReplies};
-ghost use Rattle.linejudge.specs.LineRefusals.{SameButWhy};
 ghost use Rattle.toolrun.specs.Input.{Input};
-ghost use Rattle.toolrun.specs.Explained.{IsLongReply};
-ghost use Rattle.toolrun.specs.Reply.{Reply};
-ghost use Rattle.abnfrun.specs.AbnfSettings.{AbnfSettings, explained_by};
+ghost use Rattle.toolrun.specs.Explained.{IsLongReply, explained_by};
+ghost use Rattle.toolrun.specs.Reply.{Reply, SameButWhy};
+ghost use Rattle.abnfrun.specs.AbnfSettings.{AbnfSettings};
 
 use abnfcheck::{furthest_is_found, one_name_chain};
 use abnfexplain::{one_explanation_of_abnf, one_note_explanation_of_abnf};

@@ -1,16 +1,14 @@
 -- What a run of a grammar states depends on the limit, raw, whole and explain of the settings alone.
 -- Serves: peg_run
-use Rattle.std.proofs.Common.{◌≡◌, ◌≤◌, ℕ, Bool, true, false, List, refl, sym, ◌∙◌, subst, Option, ap, ap₂}
+use Rattle.std.proofs.Common.{◌≡◌, ◌≤◌, ℕ, Bool, true, false, List, sym, ◌∙◌, subst, Option, ap, ap₂}
 use Rattle.std.proofs.Math.Bridge.{le_prop}
 use Rattle.pegread.specs.Pattern.{Rule}
 use Rattle.gramcheck.specs.Grammar.{Grammar}
-use Rattle.gramcheck.specs.Outcome.{Outcome}
 use Rattle.capi.specs.declared.runner.Runner.{Runner}
 use Rattle.memoryrun.specs.PlannedRun.{IsPlannedRun}
-use Rattle.pegrun.specs.PegReply.{PlainReplies, Replies, RunStates}
+use Rattle.pegrun.specs.PegReply.{Replies, RunStates}
 use Rattle.pegrun.specs.StopsExplained.{MayLack, StopLines, UnitBefore, WhyStopped, none_before, one_before}
-use Rattle.pegrun.specs.Units.{Ends, GivesAt, IsUnit, Units, broken, empty_at_end, empty_before_end, finished}
-use Rattle.pegrun.specs.Units.{no_match, no_unit, none, one_more, over_at_end, over_before_end, overlong, taken_at}
+use Rattle.pegrun.proofs.SettingsLemmas.{plain_by, unit_by, units_by}
 use Rattle.toolrun.specs.Explained.{ExplainedIf}
 use Rattle.toolrun.specs.Input.{Input, bounded}
 use Rattle.toolrun.specs.Reply.{Reply}
@@ -28,45 +26,12 @@ explained_so false Why Other f why is = is
 module _ (rules : List Rule) (start : ℕ) (a b : PegSettings) (input : Input) (limit : b.limit ≡ a.limit)
     (raw : b.options.raw ≡ a.options.raw) (whole : b.options.whole ≡ a.options.whole)
     (explain : b.explain ≡ a.explain) where
-  taken_by : (s : ℕ) → taken_at a input s ≡ taken_at b input s
-  taken_by s = rw limit refl
-
-  gives_by : (s : ℕ) (o : Outcome) → GivesAt rules start a input s o → GivesAt rules start b input s o
-  gives_by s o g = record {
-    goes = rw whole g.goes;
-    may_run = λ fault. rw limit (g.may_run fault);
-    looked = g.looked;
-    gives = g.gives;
-    within = rw limit g.within;
-  }
-
-  unit_by : (s k : ℕ) (text : List ℕ) → IsUnit rules start a input s k text → IsUnit rules start b input s k text
-  unit_by s k text u = record { events = u.events; gives = gives_by s _ u.gives; prints = rw raw u.prints }
-
-  units_by : (s : ℕ) (text : List ℕ) → Units rules start a input s text → Units rules start b input s text
-  units_by s text none = none
-  units_by s text (one_more at k before last us u lt) =
-      one_more at k before last (units_by at before us) (unit_by at k last u) lt
-
-  ends_by : (s : ℕ) (last : List ℕ) (stop : Stop) → Ends rules start a input s last stop
-      → Ends rules start b input s last stop
-  ends_by s last stop (broken fault lt) = broken fault (rw limit lt)
-  ends_by s last stop (overlong o looked goes may gives lt) =
-      rw (sym limit) (overlong o looked (rw whole goes) (λ fault. rw limit (may fault)) gives (rw limit lt))
-  ends_by s last stop (no_match gives lt) = no_match (gives_by s _ gives) lt
-  ends_by s last stop (finished w gives is) = finished (rw whole w) (gives_by s _ gives) is
-  ends_by s last stop (no_unit w gives is) = no_unit (rw whole w) (gives_by s _ gives) is
-  ends_by s last stop (empty_before_end text u lt) = empty_before_end text (unit_by s 0 text u) lt
-  ends_by s last stop (empty_at_end text u is) = empty_at_end text (unit_by s 0 text u) is
-  ends_by s last stop (over_before_end over may lt) =
-      over_before_end (rw whole over) (λ fault. rw limit (may fault)) lt
-  ends_by s last stop (over_at_end over may is) = over_at_end (rw whole over) (λ fault. rw limit (may fault)) is
-
   before_by : (s : ℕ) (before : Option ℕ) → UnitBefore rules start a input s before
       → UnitBefore rules start b input s before
   before_by s before none_before = none_before
   before_by s before (one_before at k text last us u lt) =
-      one_before at k text last (units_by at text us) (unit_by at k last u) lt
+      one_before at k text last (units_by rules start a b input limit raw whole at text us)
+      (unit_by rules start a b input limit raw whole at k last u) lt
 
   lines_by : (s : ℕ) (stop : Stop) (why : List ℕ) → StopLines rules start a input s stop why
       → StopLines rules start b input s stop why
@@ -88,25 +53,11 @@ module _ (rules : List Rule) (start : ℕ) (a b : PegSettings) (input : Input) (
   lack_by : (s : ℕ) (stop : Stop) → MayLack rules start a input s stop → MayLack rules start b input s stop
   lack_by s stop may = (explain ∙ may.0, may.1)
 
-  plain_by : (reply : Reply) → PlainReplies rules start a input reply → PlainReplies rules start b input reply
-  plain_by reply r = record {
-    point = r.point;
-    before = r.before;
-    last = r.last;
-    stop = r.stop;
-    steps = units_by r.point r.before r.steps;
-    ends = ends_by r.point r.last r.stop r.ends;
-    out = r.out;
-    err = r.err;
-    status = r.status;
-    taken = r.taken ∙ taken_by r.point;
-  }
-
   reported_by : (reply : Reply) → Replies rules start a input reply → Replies rules start b input reply
   unfolding plain_by
   reported_by reply r = record {
     plain = r.plain;
-    replies = plain_by r.plain r.replies;
+    replies = plain_by rules start a b input limit raw whole r.plain r.replies;
     before = r.before;
     reports = r.reports;
     why = r.why;
@@ -118,9 +69,11 @@ module _ (rules : List Rule) (start : ℕ) (a b : PegSettings) (input : Input) (
   unfolding plain_by
   states_by_four reply (replied_reported same r) = replied_reported same (reported_by same r)
   states_by_four reply (unexplained plain r reported reports may) =
-      unexplained plain (plain_by plain r) reported reports (lack_by r.point r.stop may)
-  states_by_four reply (cut_short point out reported whole before reports r begins) =
-      cut_short point out reported whole (units_by point out before) reports (plain_by whole r) begins
+      unexplained plain (plain_by rules start a b input limit raw whole plain r) reported reports
+      (lack_by r.point r.stop may)
+  states_by_four reply (cut_short point out reported all before reports r begins) =
+      cut_short point out reported all (units_by rules start a b input limit raw whole point out before) reports
+      (plain_by rules start a b input limit raw whole all r) begins
 
 -- so does what a run over memory gives
 pub planned_by_four : (rules : List Rule) (start : ℕ) (a b : PegSettings) → b.limit ≡ a.limit

@@ -14,7 +14,7 @@ use Rattle.feed.specs.declared.held.Flow.{Flow}
 use Rattle.toolrun.specs.Agrees.{Agrees}
 use Rattle.toolrun.specs.Explained.{ExplainedIf}
 use Rattle.toolrun.specs.Input.{Input}
-use Rattle.toolrun.specs.Reply.{Reply, cut_reply, explained_reply}
+use Rattle.toolrun.specs.Reply.{Reply, SameButWhy, cut_reply, explained_reply}
 use Rattle.toolrun.specs.RunEnd.{more_refused}
 use Rattle.toolrun.specs.RunSteps.{
   Begins,
@@ -40,7 +40,6 @@ use Rattle.linejudge.specs.InputLines.{position_taken, taken_at}
 use Rattle.linejudge.specs.LineRefusals.{CutRefusals, EndsAt, LinesReply, LinesStates, LinesTo, NeverLacks, Refusals}
 use Rattle.linejudge.specs.LineRefusals.{
   RunPoint,
-  SameButWhy,
   ReportsTo,
   ReportedUpTo,
   WhyTo,

@@ -6,6 +6,7 @@ use Rattle.toolrun.specs.Input.{Input}
 use Rattle.toolrun.specs.Reply.{Reply}
 use Rattle.toolrun.specs.RunEnd.{more_refused}
 use Rattle.toolrun.specs.RunSteps as steps
+use Rattle.toolrun.specs.Stop.{not_explained}
 use Rattle.toolrun.specs.declared.stop.Stop.{Stop}
 use Rattle.toolrun.specs.declared.stop.Stop.TheVariants.{Quiet, NoMatch, LongUnit, LongLine, Broken, NoMemory, Refused}
 use Rattle.toolrun.specs.declared.stop.Stop.TheVariants.{Unreadable}
@@ -40,14 +41,7 @@ stop_lines Unreadable = []
 
 -- an allocation failed in the explanation of the rejected line of that number
 abbrev pub unexplained_line : ℕ → List ℕ
-unexplained_line number = codes "line " ++ (decimal number ++ codes ": no\n  not explained: out of memory\n")
-
--- Two replies are the same but for what explains: without explanations they are the same.
-pub record SameButWhy (asked : Bool) (a b : Reply) : Type 0 where
-  pub out : a.out ≡ b.out
-  pub status : a.status ≡ b.status
-  pub taken : a.taken ≡ b.taken
-  pub err : asked ≡ false → a.err ≡ b.err
+unexplained_line number = codes "line " ++ (decimal number ++ (codes ": no\n" ++ not_explained))
 
 -- a position in a run, and whether an allocation failed in an explanation before it
 pub record RunPoint : Type 0 where

@@ -13,7 +13,7 @@ use crate::answers::Answer;
 use itoa::Buffer;
 use ruletable::Memory;
 use std::alloc::Global;
-use toolrun::Status;
+use toolrun::{NOT_EXPLAINED, Status};
 
 /// How many rejected lines are explained.
 pub const MAX_REPORTED: usize = 16;
@@ -77,9 +77,8 @@ impl Explanations {
         self.text
             .extend_from_slice(digits.format(number).as_bytes())
             .unwrap();
-        self.text
-            .extend_from_slice(b": no\n  not explained: out of memory\n")
-            .unwrap();
+        self.text.extend_from_slice(b": no\n").unwrap();
+        self.text.extend_from_slice(NOT_EXPLAINED).unwrap();
         self.lacks = true;
     }
 }

@@ -1,6 +1,7 @@
 pub mod AttemptLemmas
 pub mod ByteUnitLemmas
 pub mod CutLemmas
+pub mod ExplainedByLemmas
 pub mod FirstsLemmas
 pub mod FollowsLemmas
 pub mod LooksOfStartLemmas
@@ -11,6 +12,7 @@ pub mod PassedLemmas
 pub mod OneReplyLemmas
 pub mod OpenPegLemmas
 pub mod SameFrontLemmas
+pub mod SettingsLemmas
 pub mod SomeReplyLemmas
 pub mod StatesLemmas
 pub mod StepLemmas

@@ -1,5 +1,5 @@
 -- The units of an input and how a run on it ends are determined, and so is its reply.
--- Serves: one_reply
+-- Serves: one_reply, one_statement, explanations_change_no_answer
 use Rattle.std.proofs.Common.{◌≡◌, ℕ, ◌+◌, ◌<◌, ◌≤◌, true, false, List, [], ◌++◌, length, refl, sym, ◌∙◌, ap, subst}
 use Rattle.std.proofs.Common.{Option, Some, take, arith}
 use Rattle.pegread.specs.Pattern.{Rule}
@@ -429,6 +429,11 @@ module _ (rules : List Rule) (start : ℕ) (settings : PegSettings) (input : Inp
         r.reported ∙ ap (λ t. explained_reply t r.plain r.why) (r.reports ∙ sym q.reports)
         ∙ ap (λ (v : Reply). explained_reply q.before v r.why) run.replies
         ∙ ap (explained_reply q.before q.plain) why ∙ sym q.reported
+
+-- one reply without explanations
+pub one_plain : (rules : List Rule) (start : ℕ) (settings : PegSettings) (input : Input) (a b : Reply)
+    → PlainReplies rules start settings input a → PlainReplies rules start settings input b → a ≡ b
+one_plain rules start settings input a b r q = let run = one_run rules start settings input a b r q in run.replies
 
 -- one reply
 pub one_reply : NoMatchesAreOne → (rules : List Rule) (start : ℕ) (settings : PegSettings) (input : Input) (a b : Reply)

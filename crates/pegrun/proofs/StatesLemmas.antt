@@ -1,5 +1,5 @@
 -- What is stated for a grammar's text, settings and an input is one, unless an allocation fails.
--- Serves: one_statement
+-- Serves: one_statement, explanations_change_no_answer
 use Rattle.std.proofs.Common.{◌≡◌, ◌≢◌, ℕ, inl, inr, List, [], refl, sym, ◌∙◌, ap, map, subst, arith}
 use Rattle.std.proofs.Common.{true, false, Option}
 use Rattle.std.specs.Prelude.{Contains}
@@ -20,21 +20,22 @@ use Rattle.pegexplain.specs.PegHints.{ArePegHints}
 use Rattle.pegrun.specs.Answers.{States, refused, unexplained, noted, checked, runs, cut_notes, again}
 use Rattle.pegrun.specs.Answers.{cut_again, printed, no_memory}
 use Rattle.pegrun.specs.Noted.{AreNotesOn, AreAgain, start_given}
-use Rattle.pegrun.specs.PegReply.{printed_text, RunStates}
+use Rattle.pegrun.specs.PegReply.{printed_text, PlainReplies}
 use Rattle.pegrun.proofs.FirstsLemmas.{start_is_one}
-use Rattle.pegrun.proofs.OneReplyLemmas.{NoMatchesAreOne, one_reply}
+use Rattle.pegrun.proofs.OneReplyLemmas.{one_plain}
+use Rattle.pegrun.proofs.WhyStoppedLemmas.{same_but_why}
 use Rattle.toolrun.specs.Input.{Input}
 use Rattle.toolrun.specs.Explained.{Explained, IsLongReply}
-use Rattle.toolrun.specs.Reply.{Reply, refusal, unexplained_fault}
-use Rattle.toolrun.specs.RunSteps as steps
+use Rattle.toolrun.specs.Reply.{Reply, SameButWhy, refusal, unexplained_fault}
 use Rattle.pegrun.specs.PegSettings.{PegSettings}
 use Rattle.toolrun.proofs.OneStatementLemmas.{Stated, one_stated, one-explained, is_noted, is_checked, is_run}
 use Rattle.toolrun.proofs.OneStatementLemmas.{is_again, is_printed}
 use Rattle.toolrun.proofs.ReportedNotesLemmas.{hinted-one, reported-one}
+use Rattle.toolrun.proofs.SameButWhyLemmas.{same_itself, same_twice}
 use Rattle.toolrun.specs.ReportedNotes.{HintedNotes, ReportedNotes, WhyNoted}
 
 -- the notes on redefinitions are one list
-again_is_one : (definitions : List Rule) (a b : List Said) → AreAgain definitions a → AreAgain definitions b → a ≡ b
+pub again_is_one : (definitions : List Rule) (a b : List Said) → AreAgain definitions a → AreAgain definitions b → a ≡ b
 again_is_one definitions a b g h =
     let again = names_at (firsts [] definitions) (agains [] definitions) in
     let rules = those-one (λ (rule : Rule). Contains again rule.name) (firsts [] definitions) g.redefined h.redefined
@@ -56,40 +57,21 @@ abbrev pub HintsAreOne : Type 0
 HintsAreOne = (text a b : List ℕ) → ArePegHints text a → ArePegHints text b → a ≡ b
 
 module _ (settings : PegSettings) (input : Input) where
-  -- what a run of these definitions states
-  record RunOf (definitions : List Rule) (reply : Reply) : Type 0 where
-    start : ℕ
-    is_start : IsStart (start_given settings) (firsts [] definitions) start
-    states : RunStates (firsts [] definitions) start settings input reply
+  -- what a run of these definitions states without explanations
+  pub record RunOf (definitions : List Rule) (reply : Reply) : Type 0 where
+    pub start : ℕ
+    pub is_start : IsStart (start_given settings) (firsts [] definitions) start
+    pub replies : PlainReplies (firsts [] definitions) start settings input reply
 
-  one_run_from : NoMatchesAreOne → (definitions : List Rule) (s t : ℕ) (a b : Reply)
-      → IsStart (start_given settings) (firsts [] definitions) s
-      → IsStart (start_given settings) (firsts [] definitions) t →
-      RunStates (firsts [] definitions) s settings input a → RunStates (firsts [] definitions) t settings input b
-      → a.status ≢ 5 → b.status ≢ 5 → a ≡ b
-  one_run_from one_reported definitions s t a b i j (steps.replied_reported r g) (steps.replied_reported q h) m n =
-      let same : t ≡ s = start_is_one (start_given settings) definitions t s j i in
-      one_reply one_reported (firsts [] definitions) s settings input a b g (let k = h in rw same at k)
-  one_run_from one_reported definitions s t a b i j (steps.unexplained plain replies reported reports lack) h m n =
-      absurd (m refl)
-  one_run_from one_reported definitions s t a b i j (steps.cut_short point out reported reply before reports replies
-      front) h
-      m n =
-      absurd (m refl)
-  one_run_from one_reported definitions s t a b i j g (steps.unexplained plain replies reported reports lack) m n =
-      absurd (n refl)
-  one_run_from one_reported definitions s t a b i j g (steps.cut_short point out reported reply before reports replies
-      front) m
-      n =
-      absurd (n refl)
-
-  one_run : NoMatchesAreOne → (definitions : List Rule) (a b : Reply) → RunOf definitions a → RunOf definitions b
-      → a.status ≢ 5
+  pub one_run : (definitions : List Rule) (a b : Reply) → RunOf definitions a → RunOf definitions b → a.status ≢ 5
       → b.status ≢ 5 → a ≡ b
-  one_run one_reported definitions a b g h m n =
-      one_run_from one_reported definitions g.start h.start a b g.is_start h.is_start g.states h.states m n
+  one_run definitions a b g h m n =
+      let same : h.start ≡ g.start = start_is_one (start_given settings) definitions h.start g.start h.is_start
+      g.is_start in
+      one_plain (firsts [] definitions) g.start settings input a b g.replies
+      (subst (λ (s : ℕ). PlainReplies (firsts [] definitions) s settings input b) same h.replies)
 
-  notes_are_one : (definitions : List Rule) (a b : List Said) → AreNotesOn definitions (start_given settings) a
+  pub notes_are_one : (definitions : List Rule) (a b : List Said) → AreNotesOn definitions (start_given settings) a
       → AreNotesOn definitions (start_given settings) b → a ≡ b
   notes_are_one definitions =
       notes-one (firsts [] definitions) (names_at (firsts [] definitions) (agains [] definitions))
@@ -103,9 +85,16 @@ module _ (settings : PegSettings) (input : Input) where
         (HintedNotes settings (ExplainsNote text) (ArePegHints text)) (ReportedNotes settings (ExplainsNote text)) RunOf
         printed_text settings.mode
 
+    -- it is stated, but for what explains a run
+    abbrev IsAlmost : List ℕ → Reply → Type 0
+    IsAlmost notes reply = (plain : Reply) × IsStated notes plain × SameButWhy settings.explain reply plain
+
+    is_itself : (notes : List ℕ) (reply : Reply) → IsStated notes reply → IsAlmost notes reply
+    is_itself notes reply is = (reply, is, same_itself settings.explain reply)
+
     parts_of : (notes : List ℕ) (reply : Reply) → States text settings input notes reply → reply.status ≢ 5
-        → IsStated notes reply
-    parts_of notes reply (refused fault why f m reported) ample = inl (record {
+        → IsAlmost notes reply
+    parts_of notes reply (refused fault why f m reported) ample = is_itself notes reply (inl (record {
       fault = fault;
       is_fault = f;
       other = m;
@@ -113,30 +102,48 @@ module _ (settings : PegSettings) (input : Input) where
       explains = reported;
       none = refl;
       reported = refl;
-    })
+    }))
     parts_of notes reply (unexplained fault f m asked) ample = absurd (ample refl)
-    parts_of notes reply (noted ds said reported r are reports bad mode) ample =
-        inr (record { definitions = ds; reads = r; states = is_noted said reported are reports bad mode })
-    parts_of notes reply (checked ds said reported r are reports fine mode) ample =
-        inr (record { definitions = ds; reads = r; states = is_checked said reported are reports fine mode })
-    parts_of notes reply (runs ds said reported start stated r are reports fine mode is run) ample = inr (record {
+    parts_of notes reply (noted ds said reported r are reports bad mode) ample = is_itself notes reply (inr (record {
       definitions = ds;
       reads = r;
-      states = is_run said reported stated are reports fine mode (record
-          { start = start; is_start = is; states = run });
-    })
+      states = is_noted said reported are reports bad mode;
+    }))
+    parts_of notes reply (checked ds said reported r are reports fine mode) ample =
+        is_itself notes reply (inr (record {
+          definitions = ds;
+          reads = r;
+          states = is_checked said reported are reports fine mode;
+        }))
+    parts_of notes reply (runs ds said reported start stated r are reports fine mode is run) ample =
+        let plain = same_but_why (firsts [] ds) start settings input stated run ample in (
+          plain.0,
+          inr (record {
+            definitions = ds;
+            reads = r;
+            states = is_run said reported plain.0 are reports fine mode (record {
+              start = start;
+              is_start = is;
+              replies = plain.1;
+            });
+          }),
+          plain.2,
+        )
     parts_of notes reply (cut_notes ds said reported r are cut mode) ample = absurd (ample refl)
-    parts_of notes reply (again ds said reported r are reports some mode) ample =
-        inr (record { definitions = ds; reads = r; states = is_again said reported are reports some mode })
+    parts_of notes reply (again ds said reported r are reports some mode) ample = is_itself notes reply (inr (record {
+      definitions = ds;
+      reads = r;
+      states = is_again said reported are reports some mode;
+    }))
     parts_of notes reply (cut_again ds said reported r are cut mode) ample = absurd (ample refl)
     parts_of notes reply (printed ds r are mode) ample =
-        inr (record { definitions = ds; reads = r; states = is_printed are mode })
+        is_itself notes reply (inr (record { definitions = ds; reads = r; states = is_printed are mode }))
     parts_of notes reply (no_memory within) ample = absurd (ample refl)
 
-    one_of_text : NoMatchesAreOne → ExplanationsAreOne → NotesAreOne → HintsAreOne → (notes others : List ℕ)
+    one_of_text : ExplanationsAreOne → NotesAreOne → HintsAreOne → (notes others : List ℕ)
         (a b : Reply) → IsStated notes a
         → IsStated others b → a.status ≢ 5 → b.status ≢ 5 → (notes ≡ others) × (a ≡ b)
-    one_of_text one_reported one lines hints = one_stated (IsFaultOf text)
+    one_of_text one lines hints = one_stated (IsFaultOf text)
         (λ fault. Explained settings (Explains text fault))
         (Reads text)
         (λ definitions. AreNotesOn definitions (start_given settings))
@@ -147,22 +154,25 @@ module _ (settings : PegSettings) (input : Input) where
         again_is_one
         (hinted-one settings (ExplainsNote text) (ArePegHints text) one_line (hints text))
         (λ notes. reported-one one_line)
-        (λ definitions notes bad fine. absurd (cc)) (one_run one_reported)
+        (λ definitions notes bad fine. absurd (cc)) one_run
       where
         one_line : (note : Said) (a b : List ℕ) → WhyNoted settings (ExplainsNote text) note a
             → WhyNoted settings (ExplainsNote text) note b → a ≡ b
         one_line note = one-explained settings (ExplainsNote text (start_given settings) note)
             (lines text (start_given settings) note)
 
--- one list of notes and one reply
-pub statement_is_one : NoMatchesAreOne → ExplanationsAreOne → NotesAreOne → HintsAreOne
+-- one list of notes, and one reply but for what explains it
+pub statement_is_one : ExplanationsAreOne → NotesAreOne → HintsAreOne
     → (text : List ℕ) (settings : PegSettings) (input : Input)
     (notes others : List ℕ) (a b : Reply) →
     States text settings input notes a → States text settings input others b → a.status ≢ 5 → b.status ≢ 5
-    → (notes ≡ others) × (a ≡ b)
-statement_is_one reported one lines hints text settings input notes others a b g h m n =
-    one_of_text settings input text reported one lines hints notes others a b (parts_of settings input text notes a g m)
-    (parts_of settings input text others b h n) m n
+    → (notes ≡ others) × SameButWhy settings.explain a b
+statement_is_one one lines hints text settings input notes others a b g h m n =
+    let p = parts_of settings input text notes a g m in
+    let q = parts_of settings input text others b h n in
+    let same = one_of_text settings input text one lines hints notes others p.0 q.0 p.1 q.1
+    (λ e. m (p.2.status ∙ e)) (λ e. n (q.2.status ∙ e)) in
+    (same.0, same_twice settings.explain a b p.0 q.0 p.2 q.2 same.1)
 
 -- what spells definitions is not too long
 long-unread : {text : List ℕ} {definitions : List Rule} → IsFaultOf text TooLong → Reads text definitions → ⊥

@@ -26,7 +26,7 @@ Replies rules start settings input reply = steps.RepliesReported (Units rules st
     (MayLack rules start settings input) reply
 
 -- A run states its reply, or the text of the first units if an allocation fails. If one fails in explaining how the run
--- ends, the reply is not explained.
+-- ends, a line says so, but all that the run writes otherwise, and its status, are as ever.
 abbrev pub RunStates : List Rule → ℕ → PegSettings → Input → Reply → Type 0
 RunStates rules start settings input reply = steps.ReportedStates (Units rules start settings input)
     (Ends rules start settings input) (taken_at settings input) ReportsNothing (WhyStopped rules start settings input)

@@ -15,7 +15,7 @@ mod run;
 mod unit;
 
 pub use feed::{Broken, Source, SourceOf};
-pub use laws::{one_reply, one_statement};
+pub use laws::{explanations_change_no_answer, one_reply, one_statement};
 pub use open_law::runs_as_a_run;
 pub use opened::{OpenedPeg, PegRunner, open_peg};
 pub use options::{PegOptions, PegSettings};

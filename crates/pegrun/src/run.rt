@@ -42,9 +42,11 @@ use toolrun::{Status, run_tool};
 ///   reported by `write error` on `err`: right after the notes, or after all else where the flush of `out` failed.
 ///   Where `err` fails in the notes, nothing is read, and nothing is written on `out`. Writers that have not failed are
 ///   flushed at the end, `out` first; no clause sees a flush.
-/// - If an allocation fails, the text of the units before stands whole: `out of memory`, `NoMemory`. If it fails in an
-///   explanation, the line of the fault or of the stop comes before that, without its explanation; or the first notes
-///   do, the last perhaps without its own.
+/// - If an allocation fails, the text of the units before stands whole: `out of memory`, `NoMemory`. If that happens in
+///   an explanation of the grammar, the fault's line comes before it, without its explanation, or the first notes do,
+///   the last perhaps without its own.
+/// - If an allocation fails in the explanation of a stop, `  not explained: out of memory` follows its line. The output
+///   and the status are those without explanations.
 pub fn run_peg<R: Source, O: Sink, E: Sink>(
     alloc: Global,
     grammar: &[u8],

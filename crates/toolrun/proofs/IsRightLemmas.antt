@@ -59,7 +59,7 @@ stops_at_once stop r0 s0 r_was r_failed o_was = record { stopped = nothing_done 
 refused_status : (end : Ending) → stop_of end ≡ NoMemory → ended_status end ≡ status.NoMemory
 refused_status (Plain stop) is = ap status_of is
 refused_status (Explained reported stop why) is = ap status_of is
-refused_status (Unexplained reported stop) is = refl
+refused_status (Unexplained reported stop) is = ap status_of is
 
 -- what is written first is notes, or stands in the reply
 module _ (States : Input → List ℕ → Reply → Type 0) (given : List ℕ) (run : Observed) where

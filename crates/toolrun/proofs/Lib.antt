@@ -8,5 +8,6 @@ pub mod NotesTextLemmas
 pub mod OneStatementLemmas
 pub mod PlainlyLemmas
 pub mod PrintsLemmas
+pub mod SameButWhyLemmas
 pub mod StopsAsLemmas
 pub mod ReportedNotesLemmas

@@ -4,6 +4,17 @@ use Rattle.ruletable.specs.declared.fault.ReadFault.TheVariants.{TooLong}
 use Rattle.toolrun.specs.Reply.{Reply, refusal, unexplained_fault}
 use Rattle.toolrun.specs.declared.settings.Settings.{Settings}
 
+-- these settings, but for whether messages are explained
+abbrev pub explained_by : {O : Type 0} → Bool → Settings O → Settings O
+explained_by asked settings = record {
+  mode = settings.mode;
+  limit = settings.limit;
+  start = settings.start;
+  explain = asked;
+  options = settings.options;
+  in_range = settings.in_range;
+}
+
 abbrev pub ExplainedIf : Bool → (List ℕ → Type 0) → List ℕ → Type 0
 ExplainedIf true Why why = Why why
 ExplainedIf false Why why = why ≡ []

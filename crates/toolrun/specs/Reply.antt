@@ -1,5 +1,5 @@
 -- What a run of a tool states.
-use Rattle.std.specs.Prelude.{ℕ, List, [], ◌++◌, codes}
+use Rattle.std.specs.Prelude.{◌≡◌, ℕ, Bool, false, List, [], ◌++◌, codes}
 use Rattle.ruletable.specs.Faults.{fault_text}
 use Rattle.ruletable.specs.declared.fault.ReadFault.{ReadFault}
 
@@ -49,11 +49,9 @@ explained_reply reported plain why = record {
   taken = plain.taken;
 }
 
--- an allocation fails in explaining the message of a reply: it stands whole
-abbrev pub unexplained_reply : List ℕ → Reply → Reply
-unexplained_reply reported plain = record {
-  out = plain.out;
-  err = reported ++ (plain.err ++ codes "out of memory\n");
-  status = 5;
-  taken = plain.taken;
-}
+-- Two replies are the same but for what explains: without explanations they are the same.
+pub record SameButWhy (asked : Bool) (a b : Reply) : Type 0 where
+  pub out : a.out ≡ b.out
+  pub status : a.status ≡ b.status
+  pub taken : a.taken ≡ b.taken
+  pub err : asked ≡ false → a.err ≡ b.err

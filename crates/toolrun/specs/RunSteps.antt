@@ -3,10 +3,10 @@ use Rattle.std.specs.Prelude.{◌≡◌, ℕ, ◌≤◌, ◌++◌, List, [], Opt
 use Rattle.std.specs.Io.KnownBytes.{Appends}
 use Rattle.ruletable.specs.Writing.{AppendsPart, IsPrefixOf}
 use Rattle.ruletable.specs.declared.sink.WriteFault.{WriteFault}
-use Rattle.toolrun.specs.Reply.{Reply, cut_reply, explained_reply, unexplained_reply}
+use Rattle.toolrun.specs.Reply.{Reply, cut_reply, explained_reply}
 use Rattle.toolrun.specs.RunEnd.{refusals_text}
 use Rattle.toolrun.specs.Status.{code_of}
-use Rattle.toolrun.specs.Stop.{message_of, status_of}
+use Rattle.toolrun.specs.Stop.{message_of, not_explained, status_of}
 use Rattle.toolrun.specs.declared.ending.Ending.{Ending}
 use Rattle.toolrun.specs.declared.ending.Ending.TheVariants.{Plain, Explained, Unexplained}
 use Rattle.toolrun.specs.declared.stop.Stop.{Stop}
@@ -51,12 +51,12 @@ module _ {Point : Type 0} (Before : Point → List ℕ → Type 0) (Ends : Point
         pub explains : Why replies.point replies.stop why
         pub reported : reply ≡ explained_reply before plain why
 
-      -- A run states its reply so. Where an allocation fails in explaining how it ends, its message stands whole; where
-      -- one fails before, the text of the first steps does, and what is reported of them.
+      -- A run states its reply so. Where an allocation fails in explaining how it ends, a line says so, and all else is
+      -- as ever; where one fails before, the text of the first steps stands, and what is reported of them.
       pub data ReportedStates : Reply → Type 0 where
         replied_reported : (reply : Reply) → RepliesReported reply → ReportedStates reply
         unexplained : (plain : Reply) (replies : Replies plain) (reported : List ℕ) → Reports replies.point reported
-            → MayLack replies.point replies.stop → ReportedStates (unexplained_reply reported plain)
+            → MayLack replies.point replies.stop → ReportedStates (explained_reply reported plain not_explained)
         cut_short : (point : Point) (out reported : List ℕ) (reply : Reply) → Before point out → Reports point reported
             → Replies reply → IsPrefixOf out reply.out → ReportedStates (cut_reply reported out reply.taken)
 

@@ -43,3 +43,7 @@ message_of Unreadable = codes "cannot read the grammar\n"
 -- what is reported of a writer that failed
 abbrev pub write_error : List ℕ
 write_error = codes "write error\n"
+
+-- the line in place of an explanation in which an allocation failed
+abbrev pub not_explained : List ℕ
+not_explained = codes "  not explained: out of memory\n"

@@ -5,7 +5,7 @@ ghost use Rattle.toolrun.specs.RunEnd.{ended_status, ended_text, more_refused, p
 ghost use Rattle.toolrun.specs.Stop.{message_of};
 
 use crate::status::Status;
-use crate::stop::{Stop, status, write_stop};
+use crate::stop::{NOT_EXPLAINED, Stop, status, write_stop};
 use itoa::Buffer;
 use ruletable::{Sink, WriteFault, write_pieces, write_whole};
 use std::alloc::Global;
@@ -66,7 +66,7 @@ pub fn ending_status(ending: &Ending) -> Status
     match ending {
         Ending::Plain(stop) => status(*stop),
         Ending::Explained { stop, .. } => status(*stop),
-        Ending::Unexplained { .. } => Status::NoMemory,
+        Ending::Unexplained { stop, .. } => status(*stop),
     }
 }
 
@@ -128,7 +128,7 @@ fn write_reported<W: Sink>(
 }
 
 /// Writes the explanations of rejected lines, the line of a stop, and then the lines that explain it, or
-/// `out of memory` if an allocation failed in that.
+/// `  not explained: out of memory` if an allocation failed in that.
 pub fn write_ending<W: Sink>(ending: &Ending, w: &mut W) -> Result<(), WriteFault>
     requires { W.failed w.old ≡ false }
     ensures bytes { Writes (W.contents w.old) (W.contents w.new) (ended_text ending.now) result }
@@ -141,11 +141,6 @@ pub fn write_ending<W: Sink>(ending: &Ending, w: &mut W) -> Result<(), WriteFaul
             stop,
             why,
         } => write_reported(reported, *stop, why.as_slice(), w),
-        Ending::Unexplained { reported, stop } => write_reported(
-            reported,
-            *stop,
-            b"out of memory\n",
-            w,
-        ),
+        Ending::Unexplained { reported, stop } => write_reported(reported, *stop, NOT_EXPLAINED, w),
     }
 }

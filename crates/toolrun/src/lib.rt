@@ -23,5 +23,5 @@ pub use opening::{Opened, open};
 pub use plan::{First, Plan, Task, plan_of};
 pub use settings::{DEFAULT_LIMIT, MAX_LIMIT, Mode, Settings};
 pub use status::Status;
-pub use stop::Stop;
+pub use stop::{NOT_EXPLAINED, Stop};
 pub use tool::{act as act_on, run_tool};

@@ -7,6 +7,9 @@ use crate::status::Status;
 use itoa::Buffer;
 use ruletable::{ReadFault, Sink, WriteFault, write_fault, write_pieces, write_whole};
 
+/// The line in place of an explanation in which an allocation failed.
+pub const NOT_EXPLAINED: &[u8] = b"  not explained: out of memory\n";
+
 /// Why a run stopped. A position counts the bytes before it; lines count from 1.
 #[derive(Clone, Copy, PartialEq, Eq)]
 pub enum Stop {

@@ -1,4 +1,4 @@
-use Rattle.abnfrun.proofs.ExplainedByLemmas.{no_answer_changes}
+use Rattle.abnfrun.proofs.AbnfExplainedByLemmas.{no_answer_changes}
 use Rattle.abnfrun.proofs.laws.explanations_change_no_answer.Goals as goal
 
 pub returns : goal.returns

@@ -12,8 +12,7 @@ returns-clause-one_fault c = c.one_reading.ensures.one_fault
 
 pub returns-clause-whole : goal.returns-clause-whole
 returns-clause-whole c =
-    statement_is_one c.one_no_match.ensures c.one_explanation.ensures c.one_note_explanation.ensures
-    c.one_text_of_hints.ensures
+    statement_is_one c.one_explanation.ensures c.one_note_explanation.ensures c.one_text_of_hints.ensures
 
 pub returns-clause-long : goal.returns-clause-long
 returns-clause-long c = long_is_reported

@@ -8,15 +8,16 @@ use Rattle.abnfrun.specs.AbnfAnswers.{AbnfStates, refused, unexplained, noted, c
 use Rattle.abnfrun.specs.AbnfAnswers.{again, cut_again, printed, no_memory}
 use Rattle.abnfrun.specs.AbnfNoted.{AreAgain, AreNotesOn, IsRefusedFor, all_rules, judged_of, rule_given}
 use Rattle.abnfrun.specs.AbnfReply.{AnswersFor, RefusalFor, form_of, printed_rules}
-use Rattle.abnfrun.specs.AbnfSettings.{AbnfSettings, explained_by}
-use Rattle.abnfrun.proofs.AbnfStatesLemmas.{AnswersAreOne, PlainOf, notes_are_one, one_again, one_run, same_twice}
+use Rattle.abnfrun.specs.AbnfSettings.{AbnfSettings}
+use Rattle.abnfrun.proofs.AbnfStatesLemmas.{AnswersAreOne, PlainOf, notes_are_one, one_again, one_run}
 use Rattle.abnfrun.proofs.IsAnswerOnLemmas.{FurthestIsOne}
 use Rattle.abnfrun.proofs.IsAnswerToLemmas.{TextIsOne, one_answer}
-use Rattle.linejudge.specs.LineRefusals.{SameButWhy}
 use Rattle.linejudge.proofs.LineRunLemmas.{same_but_why}
+use Rattle.toolrun.specs.Explained.{explained_by}
 use Rattle.toolrun.specs.Input.{Input}
-use Rattle.toolrun.specs.Reply.{Reply, refusal}
+use Rattle.toolrun.specs.Reply.{Reply, SameButWhy, refusal}
 use Rattle.toolrun.proofs.OneStatementLemmas.{Stated, one_stated, is_noted, is_checked, is_run, is_again, is_printed}
+use Rattle.toolrun.proofs.SameButWhyLemmas.{same_itself, same_twice}
 
 module _ (settings : AbnfSettings) (input : Input) (text : List ℕ) where
   -- what is stated where nothing is explained, without the notes
@@ -33,7 +34,7 @@ module _ (settings : AbnfSettings) (input : Input) (text : List ℕ) where
   IsBarely reply = (bare : Reply) × IsBare bare × SameButWhy true reply bare
 
   is_itself : (reply : Reply) → IsBare reply → IsBarely reply
-  is_itself reply is = (reply, is, record { out = refl; status = refl; taken = refl; err = λ asked. refl })
+  is_itself reply is = (reply, is, same_itself true reply)
 
   bare_suffixes : (notes : List ℕ) (reply : Reply) → AbnfStates text settings input notes reply → reply.status ≢ 5
       → IsBarely reply

@@ -1,0 +1,62 @@
+-- What a run of a grammar states without explanations depends on the limit, raw and whole of the settings alone.
+-- Serves: explanations_change_no_answer, peg_run
+use Rattle.std.proofs.Common.{◌≡◌, ℕ, List, refl, sym, ◌∙◌}
+use Rattle.pegread.specs.Pattern.{Rule}
+use Rattle.gramcheck.specs.Outcome.{Outcome}
+use Rattle.pegrun.specs.PegReply.{PlainReplies}
+use Rattle.pegrun.specs.Units.{Ends, GivesAt, IsUnit, Units, broken, empty_at_end, empty_before_end, finished}
+use Rattle.pegrun.specs.Units.{no_match, no_unit, none, one_more, over_at_end, over_before_end, overlong, taken_at}
+use Rattle.pegrun.specs.PegSettings.{PegSettings}
+use Rattle.toolrun.specs.Input.{Input}
+use Rattle.toolrun.specs.Reply.{Reply}
+use Rattle.toolrun.specs.declared.stop.Stop.{Stop}
+
+module _ (rules : List Rule) (start : ℕ) (a b : PegSettings) (input : Input) (limit : b.limit ≡ a.limit)
+    (raw : b.options.raw ≡ a.options.raw) (whole : b.options.whole ≡ a.options.whole) where
+  taken_by : (s : ℕ) → taken_at a input s ≡ taken_at b input s
+  taken_by s = rw limit refl
+
+  gives_by : (s : ℕ) (o : Outcome) → GivesAt rules start a input s o → GivesAt rules start b input s o
+  gives_by s o g = record {
+    goes = rw whole g.goes;
+    may_run = λ fault. rw limit (g.may_run fault);
+    looked = g.looked;
+    gives = g.gives;
+    within = rw limit g.within;
+  }
+
+  pub unit_by : (s k : ℕ) (text : List ℕ) → IsUnit rules start a input s k text → IsUnit rules start b input s k text
+  unit_by s k text u = record { events = u.events; gives = gives_by s _ u.gives; prints = rw raw u.prints }
+
+  pub units_by : (s : ℕ) (text : List ℕ) → Units rules start a input s text → Units rules start b input s text
+  units_by s text none = none
+  units_by s text (one_more at k before last us u lt) =
+      one_more at k before last (units_by at before us) (unit_by at k last u) lt
+
+  ends_by : (s : ℕ) (last : List ℕ) (stop : Stop) → Ends rules start a input s last stop
+      → Ends rules start b input s last stop
+  ends_by s last stop (broken fault lt) = broken fault (rw limit lt)
+  ends_by s last stop (overlong o looked goes may gives lt) =
+      rw (sym limit) (overlong o looked (rw whole goes) (λ fault. rw limit (may fault)) gives (rw limit lt))
+  ends_by s last stop (no_match gives lt) = no_match (gives_by s _ gives) lt
+  ends_by s last stop (finished w gives is) = finished (rw whole w) (gives_by s _ gives) is
+  ends_by s last stop (no_unit w gives is) = no_unit (rw whole w) (gives_by s _ gives) is
+  ends_by s last stop (empty_before_end text u lt) = empty_before_end text (unit_by s 0 text u) lt
+  ends_by s last stop (empty_at_end text u is) = empty_at_end text (unit_by s 0 text u) is
+  ends_by s last stop (over_before_end over may lt) =
+      over_before_end (rw whole over) (λ fault. rw limit (may fault)) lt
+  ends_by s last stop (over_at_end over may is) = over_at_end (rw whole over) (λ fault. rw limit (may fault)) is
+
+  pub plain_by : (reply : Reply) → PlainReplies rules start a input reply → PlainReplies rules start b input reply
+  plain_by reply r = record {
+    point = r.point;
+    before = r.before;
+    last = r.last;
+    stop = r.stop;
+    steps = units_by r.point r.before r.steps;
+    ends = ends_by r.point r.last r.stop r.ends;
+    out = r.out;
+    err = r.err;
+    status = r.status;
+    taken = r.taken ∙ taken_by r.point;
+  }
