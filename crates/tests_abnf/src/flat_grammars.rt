@@ -33,8 +33,8 @@ fn add_number(text: &[u8], number: usize, out: &mut Text) {
     out.add_number(number as u128);
 }
 
-/// `flat GRAMMAR | NODE ..`: whether the augmented start is the last of more than four nodes; and of each of these nodes
-/// what it is, its target, and whether it is nullable.
+/// `flat GRAMMAR | NODE ..`: whether the augmented start is the last of more than four nodes; and of each node what it
+/// is, its target, and whether it is nullable.
 pub(crate) fn ends_of(alloc: Global, fields: &Fields, out: &mut Text) -> Option<()> {
     let flat = flat(alloc, fields.text(0), 7)?;
     out.add_answer(flat.nodes() > 4 && flat.start() == flat.nodes() - 1);
