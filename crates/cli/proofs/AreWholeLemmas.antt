@@ -1,6 +1,6 @@
 -- What holds of the matches of a tool's words: a limit in its range, and a grammar.
 -- Serves: Program::follows
-use Rattle.std.proofs.Common.{◌≡◌, ◌∙◌, ◌⊎◌, ◌<◌, ◌≤◌, ◌&&◌, ◌||◌, ap, subst, sym, refl, inl, inr, arith, true≢false, ℕ}
+use Rattle.std.proofs.Common.{◌≡◌, ◌∙◌, ◌<◌, ◌≤◌, ◌&&◌, ap, subst, sym, refl, arith, true≢false, ℕ}
 use Rattle.std.proofs.Common.{zero, suc, Bool, true, false, not, List, [], ◌∷◌, map, length, Option, Some, None}
 use Rattle.std.proofs.Common.{is_some}
 use Rattle.std.specs.Prelude.{codes, pos}
@@ -9,7 +9,6 @@ use Rattle.std.specs.Str.{bytes_eq}
 use Rattle.std.specs.Str.Parse.{IsNumeral, digits_value, starts_with_minus, without_leading_plus}
 use Rattle.std.proofs.lemmas.Int.{ints}
 use Rattle.std.proofs.lemmas.List.{get_or-map, length-map}
-use Rattle.std.proofs.lemmas.Slice.Eq.{bytes_eq-Decides}
 use Rattle.clap.specs.Facts.{args_of, least_values, unwrap_or_range}
 use Rattle.clap.specs.Texts.{items_of}
 use Rattle.clap.specs.Built.{IsParsedFrom, IsPlain, IsPlainArg}

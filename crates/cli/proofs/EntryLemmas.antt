@@ -1,6 +1,6 @@
 -- What a parse that succeeds found of one argument of a command that excludes nothing.
 -- Serves: Program::follows
-use Rattle.std.proofs.Common.{◌≡◌, ◌∙◌, ◌⊎◌, ◌<◌, ◌≤◌, ap, subst, sym, refl, inl, inr, arith, true≢false, ℕ, zero, suc}
+use Rattle.std.proofs.Common.{◌≡◌, ◌∙◌, ◌<◌, ◌≤◌, ap, subst, sym, refl, inl, inr, arith, true≢false, ℕ, zero, suc}
 use Rattle.std.proofs.Common.{Bool, true, false, List, [], ◌∷◌, length, Option, Some, None, is_some}
 use Rattle.std.specs.Prelude.{codes, find, option_map}
 use Rattle.std.specs.List.{All, slice_index_or}
