@@ -1,18 +1,14 @@
 //! The command line.
-ghost use Rattle.std.specs.Prelude.{◌≡◌, IfOk, codes, false, map, option_copied, string_bytes};
-ghost use Rattle.abnfd.specs.CompareWords.{AreSymbolNames, IsAbnfdApp, budget_rule, new_rule_found, operand_rule};
-ghost use Rattle.abnfd.specs.CompareWords.{plain_app, symbols_named, symbols_rule};
-ghost use Rattle.clap.specs.Words.{app_of, first_value, found_of, rule_of};
+ghost use Rattle.std.specs.Prelude.{◌≡◌, IfOk, codes, map, option_copied, string_bytes};
+ghost use Rattle.abnfd.specs.CompareWords.{IsAbnfdApp, new_rule_found, symbols_named};
+ghost use Rattle.clap.specs.Words.{app_of, first_value, found_of};
 ghost use Rattle.cli.specs.Parsing.{Parses};
 
 use crate::compared::CompareSettings;
-use clap::{Arg, ArgAction, ArgMatches, Command, Error, value_parser};
-use cli::{add_option, program_command};
+use clap::{ArgMatches, Command, Error};
+use cli::{Parameter, program_command};
 use letters::Alphabet;
 use std::alloc::{AllocError, Global};
-
-/// The names of the alphabets of lines.
-static ALPHABETS: [&str; 2] = ["bytes", "utf8"];
 
 /// The text of the help.
 const HELP: &str = "Compare the lines that a rule of one ABNF grammar derives with those of another
@@ -46,63 +42,21 @@ Exit status:
 Example:
   abnfd -s date old.abnf new.abnf";
 
-// The alphabet of lines.
-fn letters_arg<'a>(alloc: Global) -> Arg<'a>
-    ensures rule { (names : _) × AreSymbolNames names × (rule_of result ≡ symbols_rule names) }
-    ensures local { result.global ≡ false }
-{
-    Arg::new(alloc, "letters")
-        .short('u')
-        .value_name("MODE")
-        .value_parser(ALPHABETS.as_slice())
-        .default_value("bytes")
-}
-
-// The budget of a search.
-fn budget_arg<'a>(alloc: Global) -> Arg<'a>
-    ensures rule { rule_of result ≡ budget_rule }
-    ensures local { result.global ≡ false }
-{
-    Arg::new(alloc, "budget")
-        .short('b')
-        .value_name("N")
-        .action(ArgAction::Set)
-        .value_parser(value_parser!(u32).range(1..=4_294_967_295))
-        .default_value("1000000")
-}
-
-// The file of a grammar.
-fn operand<'a>(alloc: Global, id: &'a str, name: &'a str) -> Arg<'a>
-    ensures rule { rule_of result ≡ operand_rule id.entry.now }
-    ensures local { result.global ≡ false }
-{
-    Arg::new(alloc, id)
-        .value_name(name)
-        .action(ArgAction::Set)
-        .required(true)
-}
-
-// Returns the command without the option for the alphabet. `AllocError` if an allocation fails.
-fn plain_command<'a>(alloc: Global) -> Result<Command<'a>, AllocError>
-    ensures { IfOk result (λ c. app_of c ≡ plain_app) }
-{
-    let command = program_command(alloc, "abnfd", HELP)?;
-    let rule = Arg::new(alloc, "rule").short('s').value_name("RULE");
-    let command = add_option(command, rule)?;
-    let new_rule = Arg::new(alloc, "new-rule").short('t').value_name("RULE");
-    let command = add_option(command, new_rule)?;
-    let command = add_option(command, budget_arg(alloc))?;
-    let command = command.arg(operand(alloc, "old", "OLD"))?;
-    command.arg(operand(alloc, "new", "NEW"))
-}
+/// The options and operands.
+static PARAMETERS: [Parameter; 6] = [
+    Parameter::Text("rule", 's', "RULE"),
+    Parameter::Text("new-rule", 't', "RULE"),
+    Parameter::Number("budget", 'b', 4_294_967_295, "1000000"),
+    Parameter::Operand("old", "OLD", true),
+    Parameter::Operand("new", "NEW", true),
+    Parameter::Choice("letters", 'u', "MODE", &["bytes", "utf8"], "bytes"),
+];
 
 /// Returns the command `abnfd [-s RULE] [-t RULE] [-b N] [-u MODE] OLD NEW`, or an error if an allocation fails.
 pub(crate) fn abnfd_command<'a>(alloc: Global) -> Result<Command<'a>, AllocError>
     ensures { (app : _) × IsAbnfdApp app × IfOk result (λ c. app_of c ≡ app) }
 {
-    let letters = letters_arg(alloc);
-    let command = plain_command(alloc)?;
-    add_option(command, letters)
+    program_command(alloc, "abnfd", HELP, PARAMETERS.as_slice())
 }
 
 /// Parses the words, the program's name first.

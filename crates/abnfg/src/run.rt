@@ -8,10 +8,10 @@ ghost use Rattle.toolrun.specs.Right.{RunIsRight};
 ghost use Rattle.toolrun.specs.Status.{code_of};
 ghost use Rattle.toolrun.specs.Stream.{no_input, passed};
 
-use crate::command::{parse_words, settings_of};
+use crate::command::{abnfg_command, settings_of};
 use crate::grammar::list_text;
 use clap::ArgMatches;
-use cli::{Unready, end_unready, read_grammar};
+use cli::{Unready, end_unready, parse_words, read_grammar};
 use ruletable::Sink;
 use std::io::ErrorKind;
 use std::rt::Files;
@@ -69,7 +69,7 @@ pub(crate) fn abnfg_main<R: Files + AllocGlobal, O: Sink, E: Sink>(
         RunIsRight (ListAnswers (matches_of app (map string_bytes words.now))) no_input
         (passed O.contents O.failed out.old out.new) (passed E.contents E.failed err.old err.new) (code_of result)) }
 {
-    match parse_words(rt.alloc(), words) {
+    match parse_words(abnfg_command(rt.alloc()), words) {
         Ok(matches) => list_asked(rt, &matches, out, err),
         Err(error) => end_unready(rt.alloc(), &Unready::Words(error), out, err),
     }

@@ -1,23 +1,16 @@
 //! The command of the program.
-ghost use Rattle.std.specs.Prelude.{◌≡◌, codes, false};
-ghost use Rattle.abnfi.specs.AbnfiCommand.{AreAlphabets, ArePrinted, AsksAbnfi, IsAbnfiApp, ReadsAbnfi};
-ghost use Rattle.abnfi.specs.AbnfiCommand.{alphabet_named, letters_rule, print_rule, printed_named};
+ghost use Rattle.std.specs.Prelude.{◌≡◌, codes};
+ghost use Rattle.abnfi.specs.AbnfiCommand.{AsksAbnfi, IsAbnfiApp, printed_named};
 ghost use Rattle.abnfrun.specs.AbnfAnswers.{AbnfStates};
-ghost use Rattle.clap.specs.Words.{first_value, found_of, rule_of};
+ghost use Rattle.clap.specs.Words.{first_value, found_of};
 
-use abnfrun::{AbnfOptions, AbnfSettings, Alphabet, Printed, run_abnf};
-use clap::{Arg, ArgMatches, Command};
-use cli::{BufferedSink, Program, add_flag, add_long_flag, add_option, tool_command};
+use abnfrun::{AbnfOptions, AbnfSettings, Printed, run_abnf};
+use clap::{ArgMatches, Command};
+use cli::{BufferedSink, Parameter, Program, is_given, letters_of, tool_command};
 use feed::Source;
 use ruletable::Sink;
 use std::alloc::{AllocError, Global};
 use toolrun::Status;
-
-/// The names of the alphabets of a line.
-static ALPHABETS: [&str; 2] = ["bytes", "utf8"];
-
-/// The names of what is printed.
-static PRINTED: [&str; 5] = ["answers", "derived", "refused", "count", "none"];
 
 /// The text of the help.
 const HELP: &str =
@@ -62,36 +55,23 @@ Exit status:
 Example:
   abnfi date.abnf dates.txt";
 
-fn letters_arg<'a>(alloc: Global) -> Arg<'a>
-    ensures rule { (names : _) × AreAlphabets names × (rule_of result ≡ letters_rule names) }
-    ensures local { result.global ≡ false }
-{
-    Arg::new(alloc, "letters")
-        .short('u')
-        .value_name("MODE")
-        .value_parser(ALPHABETS.as_slice())
-        .default_value("bytes")
-}
-
-fn letters_of(matches: &ArgMatches<'_>) -> Alphabet
-    ensures { result ≡ alphabet_named (first_value (found_of matches.now) (codes "letters")) }
-{
-    match matches.get_str("letters") {
-        Some(name) if name == "utf8" => Alphabet::Utf8,
-        _ => Alphabet::Bytes,
-    }
-}
-
-fn print_arg<'a>(alloc: Global) -> Arg<'a>
-    ensures rule { (names : _) × ArePrinted names × (rule_of result ≡ print_rule names) }
-    ensures local { result.global ≡ false }
-{
-    Arg::new(alloc, "print")
-        .short('p')
-        .value_name("WHAT")
-        .value_parser(PRINTED.as_slice())
-        .default_value("answers")
-}
+/// The options of the program alone.
+static OWN: [Parameter; 8] = [
+    Parameter::Choice("letters", 'u', "MODE", &["bytes", "utf8"], "bytes"),
+    Parameter::Flag("viable", 'w'),
+    Parameter::Flag("null-data", 'z'),
+    Parameter::Choice(
+        "print",
+        'p',
+        "WHAT",
+        &["answers", "derived", "refused", "count", "none"],
+        "answers",
+    ),
+    Parameter::Flag("line-number", 'n'),
+    Parameter::Flag("keep-ends", 'k'),
+    Parameter::Flag("quiet", 'q'),
+    Parameter::LongFlag("line-buffered"),
+];
 
 fn printed_of(matches: &ArgMatches<'_>) -> Printed
     ensures { result ≡ printed_named (first_value (found_of matches.now) (codes "print")) }
@@ -116,34 +96,22 @@ impl Program for Abnfi {
 
     ghost asks = { AsksAbnfi };
 
-    ghost reads = { ReadsAbnfi };
-
     ghost states = { AbnfStates };
 
     fn command<'a>(alloc: Global) -> Result<Command<'a>, AllocError> {
-        let letters = letters_arg(alloc);
-        let printed = print_arg(alloc);
-        let command = tool_command(alloc, "abnfi", HELP)?;
-        let command = add_option(command, letters)?;
-        let command = add_flag(command, alloc, "viable", 'w')?;
-        let command = add_flag(command, alloc, "null-data", 'z')?;
-        let command = add_option(command, printed)?;
-        let command = add_flag(command, alloc, "line-number", 'n')?;
-        let command = add_flag(command, alloc, "keep-ends", 'k')?;
-        let command = add_flag(command, alloc, "quiet", 'q')?;
-        add_long_flag(command, alloc, "line-buffered")
+        tool_command(alloc, "abnfi", HELP, OWN.as_slice())
     }
 
     fn options(matches: &ArgMatches<'_>) -> AbnfOptions {
         AbnfOptions {
             letters: letters_of(matches),
-            viable: matches.get_flag("viable"),
-            nul: matches.get_flag("null-data"),
-            keeps: matches.get_flag("keep-ends"),
+            viable: is_given(matches, "viable"),
+            nul: is_given(matches, "null-data"),
+            keeps: is_given(matches, "keep-ends"),
             printed: printed_of(matches),
-            numbered: matches.get_flag("line-number"),
-            quiet: matches.get_flag("quiet"),
-            line_buffered: matches.get_flag("line-buffered"),
+            numbered: is_given(matches, "line-number"),
+            quiet: is_given(matches, "quiet"),
+            line_buffered: is_given(matches, "line-buffered"),
         }
     }
 

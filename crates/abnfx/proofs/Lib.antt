@@ -1,3 +1,1 @@
-mod JoinAnswersLemmas
-mod JoinWordsLemmas
 mod TextsReadLemmas

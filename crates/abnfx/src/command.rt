@@ -1,12 +1,11 @@
 //! The command line.
-ghost use Rattle.std.specs.Prelude.{◌≡◌, IfOk, false, map, string_bytes};
-ghost use Rattle.abnfx.specs.JoinWords.{AreFlagTexts, abnfx_app, form_asked, texts_rule};
-ghost use Rattle.clap.specs.Words.{app_of, found_of, rows_of, rule_of};
-ghost use Rattle.cli.specs.Parsing.{Parses};
+ghost use Rattle.std.specs.Prelude.{◌≡◌, IfOk};
+ghost use Rattle.abnfx.specs.JoinWords.{abnfx_app, form_asked};
+ghost use Rattle.clap.specs.Words.{app_of, found_of, rows_of};
 
 use abnftexts::JoinForm;
-use clap::{Arg, ArgAction, ArgMatches, Command, Error};
-use cli::{add_flag, program_command};
+use clap::{ArgMatches, Command};
+use cli::{Parameter, is_given, program_command};
 use std::alloc::{AllocError, Global};
 
 /// The text of the help.
@@ -36,49 +35,26 @@ Exit status:
 Example:
   abnfx rfc3339.txt > date.abnf";
 
-// The words that are no options.
-fn text_arg<'a>(alloc: Global) -> Arg<'a>
-    ensures rule { rule_of result ≡ texts_rule }
-    ensures local { result.global ≡ false }
-{
-    Arg::new(alloc, "text")
-        .value_name("TEXT")
-        .action(ArgAction::Append)
-        .num_args(1..)
-        .required(true)
-}
+/// The options and operands.
+static PARAMETERS: [Parameter; 3] = [
+    Parameter::Flag("canonical", 'c'),
+    Parameter::Flag("list", 'l'),
+    Parameter::Operands("text", "TEXT"),
+];
 
 /// Returns the command `abnfx [-c | -l] TEXT..`, or an error if an allocation fails.
 pub(crate) fn abnfx_command<'a>(alloc: Global) -> Result<Command<'a>, AllocError>
     ensures app { IfOk result (λ c. app_of c ≡ abnfx_app) }
 {
-    let command = program_command(alloc, "abnfx", HELP)?;
-    let command = add_flag(command, alloc, "canonical", 'c')?;
-    let command = add_flag(command, alloc, "list", 'l')?;
-    command.arg(text_arg(alloc))
-}
-
-/// Parses the words, the program's name first.
-///
-/// The error holds the help that was asked for, or what is wrong with the words, or that an allocation failed.
-pub(crate) fn parse_words<'a>(alloc: Global, words: &'a [String]) -> Result<ArgMatches<'a>, Error>
-    ensures parses { Parses abnfx_app (map string_bytes words.entry.now) result }
-    ensures flags { IfOk result (λ m. AreFlagTexts (found_of m)) }
-{
-    let command = match abnfx_command(alloc) {
-        Ok(command) => command,
-        Err(fault) => return Err(fault.into()),
-    };
-    command.try_get_matches_from(words)
+    program_command(alloc, "abnfx", HELP, PARAMETERS.as_slice())
 }
 
 /// Returns the form that the words ask for; `None` where they ask for two.
 pub(crate) fn form_of(matches: &ArgMatches<'_>) -> Option<JoinForm>
-    requires flags { AreFlagTexts (found_of matches.now) }
     ensures { result ≡ form_asked (rows_of (found_of matches.now)) }
 {
-    let is_canonical = matches.get_flag("canonical");
-    if matches.get_flag("list") {
+    let is_canonical = is_given(matches, "canonical");
+    if is_given(matches, "list") {
         return if is_canonical {
             None
         } else {

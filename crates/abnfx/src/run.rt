@@ -2,7 +2,7 @@
 ghost use Rattle.std.specs.Prelude.{◌≡◌, ◌≢◌, [], false, map, string_bytes};
 ghost use Rattle.std.specs.List.{flat_map};
 ghost use Rattle.abnfx.specs.JoinAnswers.{FilesJoined, JoinAnswers, both_forms, unread_stop, unread_text};
-ghost use Rattle.abnfx.specs.JoinWords.{AreFlagTexts, abnfx_app, paths_asked};
+ghost use Rattle.abnfx.specs.JoinWords.{abnfx_app, paths_asked};
 ghost use Rattle.clap.specs.Words.{fault_of, found_of, matches_of, rows_of};
 ghost use Rattle.cli.specs.Parsing.{WordsState};
 ghost use Rattle.toolrun.specs.Plan.{IsReportedAnd};
@@ -10,11 +10,11 @@ ghost use Rattle.toolrun.specs.Right.{RunIsRight};
 ghost use Rattle.toolrun.specs.Status.{code_of};
 ghost use Rattle.toolrun.specs.Stream.{no_input, passed};
 
-use crate::command::{form_of, parse_words};
+use crate::command::{abnfx_command, form_of};
 use crate::texts::{Unread, read_texts, sources_of};
 use abnftexts::{JoinForm, run_join};
 use clap::ArgMatches;
-use cli::{Unready, end_unready};
+use cli::{Unready, end_unready, parse_words};
 use ruletable::{Sink, write_pieces};
 use std::rt::Files;
 use toolrun::{Status, Stop, close_run, end_run};
@@ -124,7 +124,6 @@ fn join_asked<R: Files + AllocGlobal, O: Sink, E: Sink>(
     out: &mut O,
     err: &mut E,
 ) -> Status
-    requires flags { AreFlagTexts (found_of matches.now) }
     requires out_is_fresh { O.failed out.old ≡ false }
     requires err_is_fresh { E.failed err.old ≡ false }
     ensures right { RunIsRight (JoinAnswers (rows_of (found_of matches.now))) no_input
@@ -159,7 +158,7 @@ pub(crate) fn abnfx_main<R: Files + AllocGlobal, O: Sink, E: Sink>(
         RunIsRight (JoinAnswers (matches_of abnfx_app (map string_bytes words.now))) no_input
         (passed O.contents O.failed out.old out.new) (passed E.contents E.failed err.old err.new) (code_of result) }
 {
-    match parse_words(rt.alloc(), words) {
+    match parse_words(abnfx_command(rt.alloc()), words) {
         Ok(matches) => join_asked(rt, &matches, out, err),
         Err(error) => end_unready(rt.alloc(), &Unready::Words(error), out, err),
     }

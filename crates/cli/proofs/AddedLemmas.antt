@@ -1,32 +1,34 @@
--- What a command is after an argument is added.
--- Serves: add_option, tool_command; abnfx_command of abnfx
-use Rattle.std.proofs.Common.{◌≡◌, ◌∙◌, ap, false, Bool, List, [], ◌∷◌, ◌++◌, map}
-use Rattle.std.specs.Borrow.{Bor}
-use Rattle.std.proofs.lemmas.List.{map_push}
-use Rattle.clap.specs.Words.{AddsAliases, AddsArg, Rule, Text, app_of, rule_of, with_rule}
+-- What a command is after its parameters are added.
+-- Serves: program_command, tool_command
+use Rattle.std.proofs.Common.{◌≡◌, ◌∙◌, ◌+◌, ◌<◌, ◌++◌, ◌∷◌, [], ℕ, List, ap, append-nil, false, length, map}
+use Rattle.std.proofs.Common.{slice_index_or, sym, take}
+use Rattle.std.specs.Prelude.{Result, IfOk}
+use Rattle.std.proofs.lemmas.List.{append_assoc, map-append, take_more}
+use Rattle.clap.specs.Words.{AddsArg, App, Rule, Text, app_of, rule_of, with_rule}
 use Rattle.clap.specs.declared.builder.arg.Arg.{Arg}
 use Rattle.clap.specs.declared.builder.command.Command.{Command}
-use Rattle.cli.specs.Command.{long_named}
+use Rattle.cli.specs.Command.{AreModes, Names, tool_app, with_rules}
 
-pub added_rule : (old new : Command) (a : Arg) (r : Rule) → a.global ≡ false → rule_of a ≡ r → AddsArg old a new
-    → app_of new ≡ with_rule (app_of old) r
-added_rule old new a r local rule added = added.shape local ∙ ap (with_rule (app_of old)) rule
+abbrev ruled : App → List Rule → App
+ruled app rules = record app { top = record app.top { rules = rules } }
 
-abbrev alias_text : Bor Text × Bool → Text
-alias_text alias = alias.0.now
+pub rules_none : (app : App) → app ≡ with_rules app []
+rules_none app = ap (ruled app) (sym (append-nil app.top.rules))
 
--- an argument that took its id as an alias
-named_rule : (old new : Arg) (name : Bor Text) → name ≡ old.id → AddsAliases old new ((name, false) ∷ [])
-    → rule_of new ≡ long_named (rule_of old)
-named_rule old new name is added =
-    ap rule_of added.0
-    ∙ ap (λ (names : List Text). record (rule_of old) { aliases = names })
-    (ap (map alias_text) added.1 ∙ map_push alias_text old.aliases.items (name, false)
-    ∙ ap (λ (n : Bor Text). map alias_text old.aliases.items ++ n.now ∷ []) is)
+pub rules_more : {P : Type 0} (rule : P → Rule) (app : App) (ps : List P) (i : ℕ) (d : P) (old new : Command) (a : Arg)
+    → i < length ps → rule_of a ≡ rule (slice_index_or ps i d) → a.global ≡ false → AddsArg old a new
+    → app_of old ≡ with_rules app (map rule (take i ps)) → app_of new ≡ with_rules app (map rule (take (i + 1) ps))
+rules_more rule app ps i d old new a low is local added so_far =
+    let r = rule (slice_index_or ps i d) in
+    let taken : map rule (take (i + 1) ps) ≡ map rule (take i ps) ++ r ∷ [] =
+    ap (map rule) (take_more ps i d low) ∙ map-append rule (take i ps) (slice_index_or ps i d ∷ []) in
+    added.shape local ∙ ap (with_rule (app_of old)) is ∙ ap (λ (x : App). with_rule x r) so_far
+    ∙ ap (ruled app) (append_assoc app.top.rules (map rule (take i ps)) (r ∷ []))
+    ∙ ap (with_rules app) (sym taken)
 
-pub named_option : (old new : Command) (option named : Arg) (name : Bor Text) → name ≡ option.id → option.global ≡ false
-    → AddsAliases option named ((name, false) ∷ []) → AddsArg old named new
-    → app_of new ≡ with_rule (app_of old) (long_named (rule_of option))
-named_option old new option named name is local alias =
-    added_rule old new named (long_named (rule_of option)) (ap (λ (a : Arg). a.global) alias.0 ∙ local)
-    (named_rule option named name is alias)
+-- the names of the modes, from the command that both tools have
+pub tool_made : {E : Type 0} (both own : Result Command E) (modes : Names) (name : Text) (rules : List Rule)
+    → IfOk both (λ c. app_of c ≡ tool_app modes name []) → AreModes modes
+    → IfOk own (λ c. app_of c ≡ tool_app modes name rules)
+    → (names : Names) × AreModes names × IfOk own (λ c. app_of c ≡ tool_app names name rules)
+tool_made both own modes name rules made are is = (modes, are, is)

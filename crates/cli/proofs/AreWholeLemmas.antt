@@ -1,6 +1,6 @@
--- What holds of the matches of a program's words: a limit in its range, a grammar, and flags.
+-- What holds of the matches of a tool's words: a limit in its range, and a grammar.
 -- Serves: Program::follows
-use Rattle.std.proofs.Common.{◌≡◌, ◌∙◌, ◌⊎◌, ◌<◌, ◌≤◌, ◌&&◌, ◌||◌, ap, subst, sym, refl, inl, inr, arith, true≢false, ℕ}
+use Rattle.std.proofs.Common.{◌≡◌, ◌∙◌, ◌<◌, ◌≤◌, ◌&&◌, ap, subst, sym, refl, arith, true≢false, ℕ}
 use Rattle.std.proofs.Common.{zero, suc, Bool, true, false, not, List, [], ◌∷◌, map, length, Option, Some, None}
 use Rattle.std.proofs.Common.{is_some}
 use Rattle.std.specs.Prelude.{codes, pos}
@@ -9,7 +9,6 @@ use Rattle.std.specs.Str.{bytes_eq}
 use Rattle.std.specs.Str.Parse.{IsNumeral, digits_value, starts_with_minus, without_leading_plus}
 use Rattle.std.proofs.lemmas.Int.{ints}
 use Rattle.std.proofs.lemmas.List.{get_or-map, length-map}
-use Rattle.std.proofs.lemmas.Slice.Eq.{bytes_eq-Decides}
 use Rattle.clap.specs.Facts.{args_of, least_values, unwrap_or_range}
 use Rattle.clap.specs.Texts.{items_of}
 use Rattle.clap.specs.Built.{IsParsedFrom, IsPlain, IsPlainArg}
@@ -26,9 +25,9 @@ use Rattle.clap.specs.declared.parser.matches.ArgMatches.{ArgMatches}
 use Rattle.clap.proofs.CallerLemmas.{required_has_value}
 use Rattle.clap.proofs.SimpleLemmas.{is_false, is_nil, plain_fields}
 use Rattle.clap.proofs.WalkLemmas.{both}
-use Rattle.cli.proofs.EntryLemmas.{IsAlone, default_reads, no_auto, some_reads}
-use Rattle.cli.specs.Asked.{IsFlagText, IsLimitText}
-use Rattle.cli.specs.Command.{flag_rule, grammar_rule, limit_rule, long_flag_rule, long_named}
+use Rattle.cli.proofs.EntryLemmas.{IsAlone, default_reads, no_auto}
+use Rattle.cli.specs.Asked.{AreWhole, IsLimitText}
+use Rattle.cli.specs.Command.{Names, grammar_rule, limit_rule, tool_app}
 
 is_none : {X : Type 0} (o : Option X) → not (is_some o) ≡ true → o ≡ None
 is_none None e = refl
@@ -42,7 +41,7 @@ lacks_id [] id = true
 lacks_id (r ∷ rs) id = not (bytes_eq r.id id) && lacks_id rs id
 
 -- none but the one at position k has this id
-abbrev pub is_only : List Rule → ℕ → Text → Bool
+abbrev is_only : List Rule → ℕ → Text → Bool
 is_only [] k id = true
 is_only (r ∷ rs) zero id = lacks_id rs id
 is_only (r ∷ rs) (suc k) id = not (bytes_eq r.id id) && is_only rs k id
@@ -97,12 +96,12 @@ arg_bare a simple free =
 -- ---- the command
 
 -- what a command with these rules gives of itself
-pub record IsCommand (c : Command) (rs : List Rule) : Type 0 where
-  pub list : map rule_of (args_of c) ≡ rs
-  pub bare_rules : are_bare rs ≡ true
-  pub plain : IsPlain c
-  pub globals : (out-Command c).has_globals ≡ false
-  pub negates : (out-Command c).subcommand_negates_reqs ≡ false
+record IsCommand (c : Command) (rs : List Rule) : Type 0 where
+  list : map rule_of (args_of c) ≡ rs
+  bare_rules : are_bare rs ≡ true
+  plain : IsPlain c
+  globals : (out-Command c).has_globals ≡ false
+  negates : (out-Command c).subcommand_negates_reqs ≡ false
 
 rules_count : (xs : List Arg) (rs : List Rule) → map rule_of xs ≡ rs → length xs ≡ length rs
 rules_count xs rs e = sym (length-map xs rule_of) ∙ ap length e
@@ -121,7 +120,7 @@ bare_at xs rs e all k d lt =
     arg_bare (slice_index_or xs k d) (ap (λ (r : Rule). r.is_simple) is ∙ both_true.0)
     (ap (λ (r : Rule). r.is_free) is ∙ both_true.1)
 
-pub is_command : (c : Command) (app : App) → app_of c ≡ app → app.top.is_plain ≡ true
+is_command : (c : Command) (app : App) → app_of c ≡ app → app.top.is_plain ≡ true
     → app.top.subcommand_negates_reqs ≡ false → are_bare app.top.rules ≡ true → IsCommand c app.top.rules
 is_command c app e plain negates all =
     let shape : shape_of c ≡ app.top = ap (λ (a : App). a.top) e in
@@ -141,16 +140,16 @@ is_command c app e plain negates all =
     }
 
 -- the rule r stands at position k, and no other has its id
-pub record HasAt (rs : List Rule) (k : ℕ) (r : Rule) : Type 0 where
-  pub within : k < length rs
-  pub at : (d : Rule) → slice_index_or rs k d ≡ r
-  pub only : is_only rs k r.id ≡ true
+record HasAt (rs : List Rule) (k : ℕ) (r : Rule) : Type 0 where
+  within : k < length rs
+  at : (d : Rule) → slice_index_or rs k d ≡ r
+  only : is_only rs k r.id ≡ true
 
 -- an id that building adds to no command
-pub record IsOwn (id : Text) : Type 0 where
-  pub named : id ≡ [] → ⊥
-  pub help : bytes_eq id (codes "help") ≡ false
-  pub version : bytes_eq id (codes "version") ≡ false
+record IsOwn (id : Text) : Type 0 where
+  named : id ≡ [] → ⊥
+  help : bytes_eq id (codes "help") ≡ false
+  version : bytes_eq id (codes "version") ≡ false
 
 -- the argument of a rule
 record IsArgOf (c : Command) (k : ℕ) (d : Arg) (r : Rule) : Type 0 where
@@ -211,22 +210,13 @@ limit_text t passed = go (starts_with_minus t) refl
         let to : digits_value 10 (without_leading_plus t) ≤ 16777216 = omega (arith, ints) in
         rw (minus_free t minus) (numeral, from, to)
 
-bool_text : (v : Text) → (bytes_eq v (codes "true") || bytes_eq v (codes "false")) ≡ true
-    → (v ≡ codes "true") ⊎ (v ≡ codes "false")
-bool_text v e = go (bytes_eq v (codes "true")) refl e
-  where
-    go : (b : Bool) → bytes_eq v (codes "true") ≡ b → (b || bytes_eq v (codes "false")) ≡ true
-        → (v ≡ codes "true") ⊎ (v ≡ codes "false")
-    go true is h = inl ((bytes_eq-Decides v (codes "true")).0 is)
-    go false is h = inr ((bytes_eq-Decides v (codes "false")).0 h)
-
 -- ---- one argument of a program
 
-pub limit_is : (c : Command) (rs : List Rule) → IsCommand c rs → (m : ArgMatches) → IsParsedFrom c m → (d : Arg) (k : ℕ)
-    → HasAt rs k (long_named limit_rule)
+limit_is : (c : Command) (rs : List Rule) → IsCommand c rs → (m : ArgMatches) → IsParsedFrom c m → (d : Arg) (k : ℕ)
+    → HasAt rs k limit_rule
     → (text : Text) × (one_text (found_of m) (codes "limit") ≡ Some text) × IsLimitText text
 limit_is c rs is m p d k has =
-    let by = arg_of c rs is k d (long_named limit_rule) has (record { named = λ n. cc; help = refl; version = refl }) in
+    let by = arg_of c rs is k d limit_rule has (record { named = λ n. cc; help = refl; version = refl }) in
     let a = slice_index_or (args_of c) k d in
     let many = sym (ap (λ (r : Rule). length r.defaults) by.rule) ∙ length-map (items_of a.default_vals) (λ s. s.now) in
     let defaults : 0 < length (items_of a.default_vals) = subst (λ n. 0 < n) many (omega arith) in
@@ -240,30 +230,7 @@ limit_is c rs is m p d k has =
       limit_text read.0.now read.2,
     )
 
-bool_is : (c : Command) (rs : List Rule) → IsCommand c rs → (m : ArgMatches) → IsParsedFrom c m → (d : Arg) (k : ℕ)
-    → (r : Rule) → r.parser ≡ Some vp.Bool → IsOwn r.id → HasAt rs k r → IsFlagText (one_text (found_of m) r.id)
-bool_is c rs is m p d k r bool own has =
-    let by = arg_of c rs is k d r has own in
-    elim (some_reads c m p k d by.alone vp.Bool (ap (λ (r : Rule). r.parser) by.rule ∙ bool)) [
-      | inl none ↦ inl (subst (λ w. one_text (found_of m) w ≡ None) by.id none)
-      | inr got ↦ inr (elim (bool_text got.0.now got.2) [
-        | inl as_true ↦
-            inl (subst (λ w. one_text (found_of m) w ≡ Some got.0.now) by.id got.1 ∙ ap (λ t. Some t) as_true)
-        | inr as_false ↦
-            inr (subst (λ w. one_text (found_of m) w ≡ Some got.0.now) by.id got.1 ∙ ap (λ t. Some t) as_false)
-      ])
-    ]
-
-pub flag_is : (c : Command) (rs : List Rule) → IsCommand c rs → (m : ArgMatches) → IsParsedFrom c m → (d : Arg) (k : ℕ)
-    → (id : Text) (letter : ℕ) → IsOwn id → HasAt rs k (flag_rule id letter)
-    → IsFlagText (one_text (found_of m) id)
-flag_is c rs is m p d k id letter = bool_is c rs is m p d k (flag_rule id letter) refl
-
-pub long_flag_is : (c : Command) (rs : List Rule) → IsCommand c rs → (m : ArgMatches) → IsParsedFrom c m → (d : Arg)
-    (k : ℕ) → (id : Text) → IsOwn id → HasAt rs k (long_flag_rule id) → IsFlagText (one_text (found_of m) id)
-long_flag_is c rs is m p d k id = bool_is c rs is m p d k (long_flag_rule id) refl
-
-pub grammar_is : (c : Command) (rs : List Rule) → IsCommand c rs → (m : ArgMatches) → IsParsedFrom c m → (d : Arg)
+grammar_is : (c : Command) (rs : List Rule) → IsCommand c rs → (m : ArgMatches) → IsParsedFrom c m → (d : Arg)
     (k : ℕ) → HasAt rs k grammar_rule
     → is_some (first_value (found_of m) (codes "grammar")) ≡ true
 grammar_is c rs is m p d k has =
@@ -275,5 +242,18 @@ grammar_is c rs is m p d k has =
     (ap (λ (r : Rule). r.action) by.rule) by.bare.delim least by.alone.unique by.alone.named by.alone.own)
 
 -- some argument of a command that has some
-pub first_arg : (c : Command) (rs : List Rule) → IsCommand c rs → 0 < length rs → Arg
+first_arg : (c : Command) (rs : List Rule) → IsCommand c rs → 0 < length rs → Arg
 first_arg c rs is some = head_of (args_of c) (subst (λ n. 0 < n) (sym (rules_count (args_of c) rs is.list)) some)
+
+-- what holds of the matches of a tool's words
+pub tool_whole : (modes : Names) (name : Text) (own : List Rule) → are_bare own ≡ true
+    → lacks_id own (codes "limit") ≡ true → lacks_id own (codes "grammar") ≡ true
+    → (c : Command) → app_of c ≡ tool_app modes name own → (m : ArgMatches) → IsParsedFrom c m → AreWhole (found_of m)
+tool_whole modes name own bare limit grammar c e m p =
+    let app = tool_app modes name own in
+    let is = is_command c app e refl refl bare in
+    let d = first_arg c app.top.rules is (omega arith) in
+    record {
+      limit = limit_is c app.top.rules is m p d 2 (record { within = omega arith; at = λ q. refl; only = limit });
+      grammar = grammar_is c app.top.rules is m p d 5 (record { within = omega arith; at = λ q. refl; only = grammar });
+    }

@@ -1,34 +1,26 @@
 -- What the words ask for, from what is found and what the getters read of it.
--- Serves: read_words, Program::follows
-use Rattle.std.proofs.Common.{◌≡◌, ◌∙◌, ap, subst, sym, inl, inr, Bool, List, Option, Some}
+-- Serves: read_words
+use Rattle.std.proofs.Common.{◌≡◌, ◌∙◌, ap, subst, sym, List, Option, Some}
 use Rattle.std.specs.Prelude.{codes, option_map}
 use Rattle.std.specs.Borrow.{Bor}
 use Rattle.clap.specs.Words.{Row, Text, first_of, first_value, one_of, one_text, rows_of}
 use Rattle.clap.specs.declared.parser.matches.Found.{Found}
 use Rattle.clap.proofs.WalkLemmas.{first_value-rows, one_text-rows}
-use Rattle.cli.specs.Asked.{AreWhole, Ask, IsFlagOf, IsFlagText, IsLimitOf, is_flagged, mode_named}
+use Rattle.cli.specs.Asked.{AreWhole, Ask, IsLimitOf, is_flagged, mode_named}
 use Rattle.cli.specs.declared.settings.Asked.{Asked}
 
-pub first_found : (f : Found) (rows : List Row) → rows_of f ≡ rows → (id : Text) → first_value f id ≡ first_of id rows
+first_found : (f : Found) (rows : List Row) → rows_of f ≡ rows → (id : Text) → first_value f id ≡ first_of id rows
 first_found f rows e id = first_value-rows f id ∙ ap (first_of id) e
 
 one_found : (f : Found) (rows : List Row) → rows_of f ≡ rows → (id : Text) → one_text f id ≡ one_of id rows
 one_found f rows e id = one_text-rows f id ∙ ap (one_of id) e
-
-pub flag_found : (f : Found) (rows : List Row) → rows_of f ≡ rows → (id : Text) (given : Bool)
-    → IsFlagText (one_text f id) → IsFlagOf (one_text f id) given → given ≡ is_flagged (one_of id rows)
-flag_found f rows e id given text said = elim text [
-  | inl none ↦ said.0 none ∙ ap is_flagged (sym none ∙ one_found f rows e id)
-  | inr (inl on) ↦ said.1 on ∙ ap is_flagged (sym on ∙ one_found f rows e id)
-  | inr (inr off) ↦ said.2 off ∙ ap is_flagged (sym off ∙ one_found f rows e id)
-]
 
 pub words_ask : {O : Type 0} (Asks : List Row → O → Type 0) (f : Found) (rows : List Row) → rows_of f ≡ rows
     → AreWhole f → (a : Asked O) (path : Option (Bor Text))
     → a.settings.mode ≡ mode_named (first_value f (codes "mode"))
     → IsLimitOf (one_text f (codes "limit")) a.settings.limit
     → option_map (λ s. s.now) a.settings.start ≡ first_value f (codes "rule")
-    → IsFlagOf (one_text f (codes "explain")) a.settings.explain
+    → a.settings.explain ≡ is_flagged (first_of (codes "explain") (rows_of f))
     → Asks (rows_of f) a.settings.options
     → option_map (λ s. s.now) path ≡ first_value f (codes "grammar") → path ≡ Some a.path
     → option_map (λ s. s.now) a.file ≡ first_value f (codes "file") → Ask Asks rows a
@@ -39,7 +31,7 @@ words_ask Asks f rows e whole a path mode limit start explain options word is fi
       mode = mode ∙ ap mode_named (first_found f rows e (codes "mode"));
       limit = (w.0, sym (one_found f rows e (codes "limit")) ∙ w.1, w.2, number w.2.0 w.2.1 w.2.2);
       start = start ∙ first_found f rows e (codes "rule");
-      explain = flag_found f rows e (codes "explain") a.settings.explain whole.explain explain;
+      explain = explain ∙ ap (λ (r : List Row). is_flagged (first_of (codes "explain") r)) e;
       options = subst (λ r. Asks r a.settings.options) e options;
       grammar = sym (first_found f rows e (codes "grammar"))
           ∙ (sym word ∙ ap (option_map (λ (s : Bor Text). s.now)) is);

@@ -1,6 +1,6 @@
 -- What a parse that succeeds found of one argument of a command that excludes nothing.
 -- Serves: Program::follows
-use Rattle.std.proofs.Common.{◌≡◌, ◌∙◌, ◌⊎◌, ◌<◌, ◌≤◌, ap, subst, sym, refl, inl, inr, arith, true≢false, ℕ, zero, suc}
+use Rattle.std.proofs.Common.{◌≡◌, ◌∙◌, ◌<◌, ◌≤◌, ap, subst, sym, refl, inl, inr, arith, true≢false, ℕ, zero, suc}
 use Rattle.std.proofs.Common.{Bool, true, false, List, [], ◌∷◌, length, Option, Some, None, is_some}
 use Rattle.std.specs.Prelude.{codes, find, option_map}
 use Rattle.std.specs.List.{All, slice_index_or}
@@ -173,35 +173,6 @@ default_reads c m p k d alone wants set delim least q parser =
         let taken = passes_as c m p k d alone q parser x e in
         first_reads (found_of m) _ x (reading_of q) _ e taken.reading taken.values
         (is_filled c m p k d alone set delim least x e)
-
--- an argument has no text, or one that its parser takes
-pub some_reads : (c : Command) (m : ArgMatches) (p : IsParsedFrom c m) (k : ℕ) (d : Arg) → IsAlone c k d
-    → (q : ValueParser) → (slice_index_or (args_of c) k d).value_parser ≡ Some q
-    → (one_text (found_of m) (slice_index_or (args_of c) k d).id.now ≡ None)
-    ⊎ ((v : Bor (List ℕ)) × (one_text (found_of m) (slice_index_or (args_of c) k d).id.now
-    ≡ Some (read_as (reading_of q) v.now))
-    × Accepts (slice_index_or (args_of c) k d).ignore_case q v.now)
-some_reads c m p k d alone q parser = go (matched_of (found_of m) (slice_index_or (args_of c) k d).id.now) refl
-  where
-    first : (x : MatchedArg) → matched_of (found_of m) (slice_index_or (args_of c) k d).id.now ≡ Some x
-        → (vs : List (Bor (List ℕ))) → x.vals.items ≡ vs
-        → (one_text (found_of m) (slice_index_or (args_of c) k d).id.now ≡ None)
-        ⊎ ((v : Bor (List ℕ)) × (one_text (found_of m) (slice_index_or (args_of c) k d).id.now
-        ≡ Some (read_as (reading_of q) v.now))
-        × Accepts (slice_index_or (args_of c) k d).ignore_case q v.now)
-    first x e [] none = inl (rw (e, none) refl)
-    first x e (v ∷ vs) is =
-        let taken = passes_as c m p k d alone q parser x e in
-        let lt : 0 < length x.vals.items = rw is (omega arith) in
-        inr (first_reads (found_of m) _ x (reading_of q) _ e taken.reading taken.values lt)
-
-    go : (o : Option MatchedArg) → matched_of (found_of m) (slice_index_or (args_of c) k d).id.now ≡ o
-        → (one_text (found_of m) (slice_index_or (args_of c) k d).id.now ≡ None)
-        ⊎ ((v : Bor (List ℕ)) × (one_text (found_of m) (slice_index_or (args_of c) k d).id.now
-        ≡ Some (read_as (reading_of q) v.now))
-        × Accepts (slice_index_or (args_of c) k d).ignore_case q v.now)
-    go None e = inl (rw e refl)
-    go (Some x) e = first x e x.vals.items refl
 
 -- an argument of this id is not one that building adds
 pub no_auto : (id : List ℕ) → bytes_eq id (codes "help") ≡ false → bytes_eq id (codes "version") ≡ false

@@ -1,5 +1,5 @@
 -- What is stated for a program whose words are right, and for one whose words are not.
--- Serves: tool_main, end_unparsed, end_unready
+-- Serves: tool_main, end_unparsed, end_unready; abnfd_main of abnfd, abnfg_main of abnfg, abnfx_main of abnfx
 use Rattle.std.proofs.Common.{◌≡◌, ℕ, Bool, false, Option, Some, List, [], ◌∷◌, refl, inl, inr}
 use Rattle.clap.specs.Words.{HasKind, IsAmong, Kinds, Row, kind_of}
 use Rattle.clap.specs.declared.error.Error.{Error}
@@ -32,6 +32,16 @@ stop_comes States stop stated r0 r_was r_failed out err code reports =
     comes_as (IsReportedAnd [] stop) States (λ input notes reply is. rw (is.0, is.1) (stated input))
     (record { old = r0; new = r0; was = r_was; failed = r_failed }) out err code
     (reported_stops [] stop r0 r_was r_failed out err err.old code reports.0 (Appends-same err.old) reports.1)
+
+-- the end of a program with these words: where nothing is wrong with them, an allocation failed
+pub unparsed_comes : (States : Input → List ℕ → Reply → Type 0) → ((input : Input) → States input [] (stopped NoMemory))
+    → (out err : Stream) (code : ℕ) (kinds : Kinds) (error : Error) → HasKind kinds error
+    → ((stop : Stop) → IsStopOf (unready.Words error) stop →
+    ReportsOf stop out.old out.new out.failed err.old err.new err.failed code)
+    → kinds ≡ [] → RunIsRight States no_input out err code
+unparsed_comes States no_room out err code kinds error (inl memory) reports none =
+    stop_comes States NoMemory no_room (Some []) false false out err code (reports NoMemory (memory, refl))
+unparsed_comes States no_room out err code kinds error (inr other) reports none = absurd (rw none at other)
 
 module _ {O : Type 0} (Asks : List Row → O → Type 0) (States : List ℕ → Settings O → Input → List ℕ → Reply → Type 0)
     (rows : List Row)

@@ -1,11 +1,13 @@
 -- What the words of a command line ask for.
-use Rattle.std.specs.Prelude.{◌≡◌, ◌≤◌, ◌⊎◌, ℕ, option_map, Bool, true, false, List, Option, Some, None, codes}
+use Rattle.std.specs.Prelude.{◌≡◌, ◌≤◌, ℕ, option_map, Bool, true, false, List, Option, Some, None, codes}
 use Rattle.std.specs.Prelude.{if◌then◌else◌, is_some}
 use Rattle.std.specs.Str.{bytes_eq}
 use Rattle.std.specs.Str.Parse.{IsNumeral, digits_value, without_leading_plus}
 use Rattle.clap.specs.Words.{Row, Text, first_of, first_value, one_of, one_text}
 use Rattle.clap.specs.declared.parser.matches.Found.{Found}
 use Rattle.cli.specs.declared.settings.Asked.{Asked}
+use Rattle.letters.specs.declared.alphabet.Alphabet.{Alphabet}
+use Rattle.letters.specs.declared.alphabet.Alphabet.TheVariants.{Bytes, Utf8}
 use Rattle.toolrun.specs.declared.settings.Mode.{Mode}
 use Rattle.toolrun.specs.declared.settings.Mode.TheVariants.{Run, Check, Print}
 
@@ -21,25 +23,25 @@ IsLimitOf None n = n ≡ 65536
 IsLimitOf (Some text) n = IsNumeral 10 (without_leading_plus text) → 1 ≤ digits_value 10 (without_leading_plus text) →
     digits_value 10 (without_leading_plus text) ≤ 16777216 → n ≡ digits_value 10 (without_leading_plus text)
 
--- given says whether the flag was given
-abbrev pub IsFlagOf : Option (List ℕ) → Bool → Type 0
-IsFlagOf text given = (text ≡ None → given ≡ false) × (text ≡ Some (codes "true") → given ≡ true) ×
-    (text ≡ Some (codes "false") → given ≡ false)
+-- n is the number that a text gives: its decimal number, where that has 32 bits; the default where none is given
+abbrev pub IsNumberOf : ℕ → Option Text → ℕ → Type 0
+IsNumberOf default None n = n ≡ default
+IsNumberOf default (Some text) n = IsNumeral 10 (without_leading_plus text) →
+    digits_value 10 (without_leading_plus text) ≤ 4294967295 → n ≡ digits_value 10 (without_leading_plus text)
 
--- a flag has no text, or it is `true` or `false`
-abbrev pub IsFlagText : Option Text → Type 0
-IsFlagText text = (text ≡ None) ⊎ (text ≡ Some (codes "true")) ⊎ (text ≡ Some (codes "false"))
+-- the alphabet of a name; bytes where none is given
+abbrev pub alphabet_named : Option Text → Alphabet
+alphabet_named None = Bytes
+alphabet_named (Some name) = if bytes_eq name (codes "utf8") then Utf8 else Bytes
 
 -- the text is the decimal number of a limit
 abbrev pub IsLimitText : Text → Type 0
 IsLimitText text = IsNumeral 10 (without_leading_plus text) × (1 ≤ digits_value 10 (without_leading_plus text)) ×
     (digits_value 10 (without_leading_plus text) ≤ 16777216)
 
--- what holds of the matches of words in which nothing is wrong: there is a limit in its range and a grammar, and the
--- flag of explanations is `true` or `false` where it has a text
+-- what holds of the matches of words in which nothing is wrong: there is a limit in its range and a grammar
 pub record AreWhole (f : Found) : Type 0 where
   pub limit : (text : Text) × (one_text f (codes "limit") ≡ Some text) × IsLimitText text
-  pub explain : IsFlagText (one_text f (codes "explain"))
   pub grammar : is_some (first_value f (codes "grammar")) ≡ true
 
 -- the flag is given
@@ -53,7 +55,7 @@ pub record Ask {O : Type 0} (Asks : List Row → O → Type 0) (rows : List Row)
   pub limit : (text : Text) × (one_of (codes "limit") rows ≡ Some text) × IsLimitText text
       × (asked.settings.limit ≡ digits_value 10 (without_leading_plus text))
   pub start : option_map (λ s. s.now) asked.settings.start ≡ first_of (codes "rule") rows
-  pub explain : asked.settings.explain ≡ is_flagged (one_of (codes "explain") rows)
+  pub explain : asked.settings.explain ≡ is_flagged (first_of (codes "explain") rows)
   pub options : Asks rows asked.settings.options
   pub grammar : first_of (codes "grammar") rows ≡ Some asked.path.now
   pub file : option_map (λ s. s.now) asked.file ≡ first_of (codes "file") rows

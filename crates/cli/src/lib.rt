@@ -12,14 +12,16 @@ mod settings;
 mod sizes;
 mod start;
 mod tool;
+mod values;
 
-pub use command::{add_flag, add_long_flag, add_option, program_command, tool_command};
+pub use command::{Parameter, program_command, tool_command};
 pub use fault::refuse_invalid_utf8;
 pub use input::{Input, Inputless, open_source};
 pub use output::{BufferedSink, Output};
-pub use program::{Program, parse};
+pub use program::{Program, parse, parse_words};
 pub use reading::{Job, Unready, end_unready, read_grammar, read_job};
 pub use settings::{Asked, read_words, settings_of};
 pub use sizes::plain_words;
 pub use start::{end_without_memory, start_program, words_of};
 pub use tool::tool_main;
+pub use values::{is_given, letters_of, number_of};

@@ -1,8 +1,8 @@
 //! A program, and the words of its command line.
 ghost use Rattle.std.specs.Prelude.{◌≡◌, IfOk, ℕ, List, false, map, true};
+ghost use Rattle.clap.specs.Built.{IsParsedFrom};
 ghost use Rattle.clap.specs.Words.{App, Row, app_of, found_of, is_simple, is_simple_and_free, rows_of};
 ghost use Rattle.clap.specs.declared.parser.matches.ArgMatches.{ArgMatches as Matches};
-ghost use Rattle.clap.specs.declared.parser.matches.Found.{Found};
 ghost use Rattle.cli.specs.Asked.{AreWhole};
 ghost use Rattle.cli.specs.Parsing.{IsParsedBy, Parses};
 ghost use Rattle.toolrun.specs.Input.{Input};
@@ -31,10 +31,6 @@ pub trait Program {
     /// Which settings of the language alone the matches of words ask for.
     ghost asks: { List Row → Self.Options → Type 0 };
 
-    /// Which options are read of what is found. It says nothing of a text that the parser of its argument does not
-    /// take.
-    ghost reads: { Found → Self.Options → Type 0 };
-
     /// Which notes, and which reply after them, are stated for a grammar's text, settings and an input.
     ghost states: { List ℕ → AllSettings Self.Options → Input → List ℕ → Reply → Type 0 };
 
@@ -44,7 +40,7 @@ pub trait Program {
 
     /// Returns the options of the language that the words give, and the defaults elsewhere.
     fn options(matches: &ArgMatches<'_>) -> Self::Options
-        ensures { reads (found_of matches.now) result };
+        ensures { asks (rows_of (found_of matches.now)) result };
 
     /// Runs a grammar's text on what a reader gives.
     fn run<I: Source, O: BufferedSink, E: Sink>(
@@ -64,20 +60,34 @@ pub trait Program {
             (code_of result) };
 
     /// Says that the command is a simple one, and no argument has a rule on another: its matches are a function of the
-    /// words, and so is what is wrong with them. Says that words in which nothing is wrong give a limit and a grammar,
-    /// and that the options that are read of them are those that they ask for. It does nothing.
+    /// words, and so is what is wrong with them. Says that words in which nothing is wrong give a limit and a grammar.
+    /// It does nothing.
     fn follows()
         ensures simple { (app : App) → is_app app → is_simple app ≡ true }
         ensures free { (app : App) → is_app app → is_simple_and_free app ≡ true }
-        ensures whole { (m : Matches) → IsParsedBy is_app m → AreWhole (found_of m) }
-        ensures asked { (m : Matches) (options : Self.Options) → IsParsedBy is_app m → reads (found_of m) options
-            → asks (rows_of (found_of m)) options };
+        ensures whole { (m : Matches) → IsParsedBy is_app m → AreWhole (found_of m) };
 }
 
-/// Parses the words of a program's command line, its name first.
+/// Parses words by a command, the program's name first.
 ///
-/// The error holds the help that was asked for, or what is wrong with the words, or `OutOfMemory` if an allocation
-/// failed.
+/// The error holds the help that was asked for, or what is wrong with the words. It is `OutOfMemory` if an allocation
+/// fails, or failed for the command.
+pub fn parse_words<'a, S: AsStr>(
+    command: Result<Command<'a>, AllocError>,
+    words: &'a [S],
+) -> Result<ArgMatches<'a>, Error>
+    ensures parses { (app : App) → IfOk command.entry (λ c. app_of c ≡ app) → is_simple app ≡ true →
+        is_simple_and_free app ≡ true → Parses app (map S.text words.entry.now) result }
+    ensures parsed { (app : App) → IfOk command.entry (λ c. app_of c ≡ app) →
+        IfOk result (λ m. (c : _) × (app_of c ≡ app) × IsParsedFrom c m) }
+{
+    match command {
+        Ok(command) => command.try_get_matches_from(words),
+        Err(fault) => Err(fault.into()),
+    }
+}
+
+/// Parses the words of a program's command line, its name first. The error is that of `parse_words`.
 pub fn parse<'a, P: Program, S: AsStr>(
     alloc: Global,
     words: &'a [S],
@@ -86,9 +96,5 @@ pub fn parse<'a, P: Program, S: AsStr>(
     ensures parsed { IfOk result (IsParsedBy P.is_app) }
 {
     P::follows();
-    let command = match P::command(alloc) {
-        Ok(command) => command,
-        Err(fault) => return Err(fault.into()),
-    };
-    command.try_get_matches_from(words)
+    parse_words(P::command(alloc), words)
 }

@@ -1,9 +1,11 @@
 //! The settings that the words ask for.
 ghost use Rattle.std.specs.Prelude.{◌≡◌, ◌≤◌, MatchResult, [], codes, map, option_map};
-ghost use Rattle.clap.specs.Words.{App, HasKind, fault_of, first_value, found_of, matches_of, one_text};
-ghost use Rattle.cli.specs.Asked.{Ask, IsFlagOf, IsLimitOf, mode_named};
+ghost use Rattle.clap.specs.Words.{App, HasKind, fault_of, first_of, first_value, found_of, matches_of, one_text};
+ghost use Rattle.clap.specs.Words.{rows_of};
+ghost use Rattle.cli.specs.Asked.{Ask, IsLimitOf, is_flagged, mode_named};
 
 use crate::program::{Program, parse};
+use crate::values::is_given;
 use clap::{ArgMatches, Error};
 use std::alloc::Global;
 use std::convert::AsStr;
@@ -35,14 +37,14 @@ pub fn settings_of<'a, P: Program>(matches: &ArgMatches<'a>) -> Settings<'a, P::
     ensures mode { result.mode ≡ mode_named (first_value (found_of matches.now) (codes "mode")) }
     ensures limit { IsLimitOf (one_text (found_of matches.now) (codes "limit")) result.limit }
     ensures start { option_map (λ s. s.now) result.start ≡ first_value (found_of matches.now) (codes "rule") }
-    ensures explain { IsFlagOf (one_text (found_of matches.now) (codes "explain")) result.explain }
-    ensures options { P.reads (found_of matches.now) result.options }
+    ensures explain { result.explain ≡ is_flagged (first_of (codes "explain") (rows_of (found_of matches.now))) }
+    ensures options { P.asks (rows_of (found_of matches.now)) result.options }
 {
     Settings {
         mode: mode_of(matches),
         limit: limit_of(matches),
         start: matches.get_str("rule"),
-        explain: matches.get_flag("explain"),
+        explain: is_given(matches, "explain"),
         options: P::options(matches),
     }
 }

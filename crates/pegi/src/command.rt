@@ -1,9 +1,9 @@
 //! The command of the program.
-ghost use Rattle.pegi.specs.PegiCommand.{AsksPegi, IsPegiApp, ReadsPegi};
+ghost use Rattle.pegi.specs.PegiCommand.{AsksPegi, IsPegiApp};
 ghost use Rattle.pegrun.specs.Answers.{States};
 
 use clap::{ArgMatches, Command};
-use cli::{BufferedSink, Program, add_flag, tool_command};
+use cli::{BufferedSink, Parameter, Program, is_given, tool_command};
 use feed::Source;
 use pegrun::{PegOptions, PegSettings, run_peg};
 use ruletable::Sink;
@@ -45,6 +45,12 @@ Exit status:
 Example:
   pegi username.peg letter.txt";
 
+/// The options of the program alone.
+static OWN: [Parameter; 2] = [
+    Parameter::Flag("raw", 'r'),
+    Parameter::Flag("whole", '1'),
+];
+
 /// The program `pegi [-m MODE] [-l N] [-s RULE] [-r] [-1] [-x] GRAMMAR [FILE]`.
 pub(crate) struct Pegi;
 
@@ -55,20 +61,16 @@ impl Program for Pegi {
 
     ghost asks = { AsksPegi };
 
-    ghost reads = { ReadsPegi };
-
     ghost states = { States };
 
     fn command<'a>(alloc: Global) -> Result<Command<'a>, AllocError> {
-        let command = tool_command(alloc, "pegi", HELP)?;
-        let command = add_flag(command, alloc, "raw", 'r')?;
-        add_flag(command, alloc, "whole", '1')
+        tool_command(alloc, "pegi", HELP, OWN.as_slice())
     }
 
     fn options(matches: &ArgMatches<'_>) -> PegOptions {
         PegOptions {
-            raw: matches.get_flag("raw"),
-            whole: matches.get_flag("whole"),
+            raw: is_given(matches, "raw"),
+            whole: is_given(matches, "whole"),
         }
     }
 

@@ -1,6 +1,5 @@
 -- The text is read, or it cannot be read.
 use Rattle.std.proofs.Common.{[], Some, false}
-use Rattle.abnfg.proofs.ListWordsLemmas.{lines_asked}
 use Rattle.abnfg.specs.ListAnswers.{ListAnswers, TextStates, lists_text, unreadable, unroomed}
 use Rattle.clap.specs.Words.{found_of, rows_of}
 use Rattle.cli.proofs.JobStatesLemmas.{stop_comes}
@@ -14,11 +13,9 @@ pub returns-in-Ok : goal.returns-in-Ok
 returns-in-Ok g c = record {
   right =
       let settings = c.settings_of-settings.result in
-      let asked = c.settings_of-settings.ensures in
       let f = found_of c.args.matches.now in
       comes_as (TextStates c.deref.result.now settings) (ListAnswers (rows_of f))
-      (λ input notes reply is. lists_text c.deref.result.now settings
-      (lines_asked f settings asked.rule asked.letters asked.limit asked.count asked.nul) is) no_input
+      (λ input notes reply is. lists_text c.deref.result.now settings c.settings_of-settings.ensures is) no_input
       (passed g.O.Sink.contents g.O.Sink.failed c.args.out.now c.list_text.new.out)
       (passed g.E.Sink.contents g.E.Sink.failed c.args.err.now c.list_text.new.err)
       (code_of c.list_text.result) c.list_text.ensures.right;

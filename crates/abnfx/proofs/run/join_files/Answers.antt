@@ -4,10 +4,10 @@ use Rattle.toolrun.specs.Status.{code_of}
 use Rattle.toolrun.specs.Stream.{no_input, passed}
 use Rattle.toolrun.specs.declared.stop.Stop.TheVariants.{NoMemory}
 use Rattle.abnftexts.specs.JoinRun.{JoinStates}
-use Rattle.std.proofs.Common.{[], map}
+use Rattle.std.proofs.Common.{[], Some, false, map}
 use Rattle.abnfx.specs.JoinAnswers.{FilesJoined, joins, no_memory, unread, unread_stop, unread_text}
 use Rattle.abnfx.specs.TextsRead.{text_read}
-use Rattle.abnfx.proofs.JoinAnswersLemmas.{stop_comes}
+use Rattle.cli.proofs.JobStatesLemmas.{stop_comes}
 use Rattle.toolrun.proofs.IsRightLemmas.{comes_as}
 use Rattle.abnfx.proofs.run.join_files.Goals as goal
 
@@ -34,11 +34,9 @@ returns-in-Ok-sources_of g c = record {
 
 pub returns : goal.returns
 returns g c = record {
-  right = comes_as (IsReportedAnd [] NoMemory) (FilesJoined (map (λ p. p.now) c.args.paths.now) c.args.form)
-      (λ input notes reply is. rw (is.0, is.1) no_memory)
-      no_input (passed g.O.Sink.contents g.O.Sink.failed c.args.out.now c.finish.new.out)
+  right = stop_comes (FilesJoined (map (λ p. p.now) c.args.paths.now) c.args.form) NoMemory (λ input. no_memory)
+      (Some []) false false
+      (passed g.O.Sink.contents g.O.Sink.failed c.args.out.now c.finish.new.out)
       (passed g.E.Sink.contents g.E.Sink.failed c.args.err.now c.finish.new.err) (code_of c.finish.result)
-      (stop_comes NoMemory (passed g.O.Sink.contents g.O.Sink.failed c.args.out.now c.finish.new.out)
-      (passed g.E.Sink.contents g.E.Sink.failed c.args.err.now c.finish.new.err) (code_of c.finish.result)
-      (c.finish.ensures.kept, c.finish.ensures.reported));
+      (c.finish.ensures.kept, c.finish.ensures.reported);
 }

@@ -1,42 +1,22 @@
--- Each option has its rule, one after the other.
-use Rattle.std.proofs.Common.{◌≡◌, ◌∙◌, ap, ap₂, rules, false, codes}
+-- The parameters of a tool come after those of both.
+use Rattle.std.proofs.Common.{◌∙◌, ap, map, refl}
 use Rattle.std.proofs.lemmas.Result.{IfOk-weaker, err_from_is_err_and}
-use Rattle.clap.specs.Words.{App, Rule, rule_of, with_rule}
-use Rattle.cli.proofs.AddedLemmas.{added_rule}
-use Rattle.cli.specs.Command.{file_rule, flag_rule, grammar_rule, long_named, rule_rule}
+use Rattle.clap.specs.Words.{App}
+use Rattle.cli.proofs.AddedLemmas.{tool_made}
+use Rattle.cli.specs.Command.{parameter_rule, with_rules}
 use Rattle.cli.proofs.command.tool_command.Goals as goal
+
+pub returns-in_err-command : goal.returns-in_err-command
+returns-in_err-command c =
+    let fault = err_from_is_err_and c.from_residual.result c.from_residual.ensures.1 in
+    tool_made c.program_command.result c.from_residual.result _ c.args.name.now (map parameter_rule c.args.own.now)
+    (rw c.as_slice.ensures at c.program_command.ensures) refl (rw fault.1 tt)
 
 pub returns : goal.returns
 returns c =
-    let mode = c.mode_arg-mode.ensures in
-    let limit = c.limit_arg.ensures in
-    let grammar = c.grammar_arg.ensures in
-    let file = c.file_arg.ensures in
-    let is_rule : rule_of c.value_name-rule.result ≡ rule_rule = search rules in
-    let is_local : c.value_name-rule.result.global ≡ false = search rules in
-    let moded = c.in_ok-command-2.ensures mode.local
-    ∙ ap₂ (λ (app : App) (r : Rule). with_rule app (long_named r)) c.in_ok-command.ensures mode.rule.2 in
-    let limited = c.in_ok-command-3.ensures limit.local
-    ∙ ap₂ (λ (app : App) (r : Rule). with_rule app (long_named r)) moded limit.rule in
-    let ruled = c.in_ok-command-4.ensures is_local
-    ∙ ap₂ (λ (app : App) (r : Rule). with_rule app (long_named r)) limited is_rule in
-    let flagged = c.in_ok-command-5.ensures
-    ∙ ap (λ (app : App). with_rule app (flag_rule (codes "explain") 120)) ruled in
-    let whole = added_rule c.in_ok-command-5.command c.in_ok-command-6.command c.grammar_arg.result grammar_rule
-    grammar.local grammar.rule c.in_ok-command-6.ensures
-    ∙ ap (λ (app : App). with_rule app grammar_rule) flagged in (
-      mode.rule.0,
-      mode.rule.1,
-      IfOk-weaker c.arg-2.result _ _
-          (λ r added.
-          added_rule c.in_ok-command-6.command r c.file_arg.result file_rule file.local file.rule added
-          ∙ ap (λ (app : App). with_rule app file_rule) whole)
-          c.arg-2.ensures,
-    )
-
-pub returns-in_err-command-6 : goal.returns-in_err-command-6
-returns-in_err-command-6 c =
-    let mode = c.mode_arg-mode.ensures in
-    let from = c.from_residual-in_err-command-6 in
-    let fault = err_from_is_err_and from.result from.ensures.1 in
-    (mode.rule.0, mode.rule.1, rw fault.1 tt)
+    let rules = map parameter_rule c.args.own.now in
+    let both = rw c.as_slice.ensures at c.in_ok-command.ensures in
+    tool_made c.program_command.result c.add_parameters.result _ c.args.name.now rules
+    (rw c.as_slice.ensures at c.program_command.ensures) refl
+    (IfOk-weaker c.add_parameters.result _ _ (λ r is. is ∙ ap (λ (app : App). with_rules app rules) both)
+    c.add_parameters.ensures)

@@ -22,9 +22,7 @@ returns g c =
                 path = c.unwrap-path.result;
                 file = c.get_str-file.result;
               })
-              c.get_str.result settings.mode settings.limit settings.start settings.explain
-              (c.follows.ensures.asked c.in-Ok.matches c.settings_of-settings.result.options c.in-Ok.ensures.parsed
-              settings.options)
+              c.get_str.result settings.mode settings.limit settings.start settings.explain settings.options
               c.get_str.ensures c.unwrap-path.ensures c.get_str-file.ensures,
         ),
       );

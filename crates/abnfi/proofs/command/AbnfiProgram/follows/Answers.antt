@@ -1,6 +1,12 @@
--- The command is a simple one, and its words give a limit, a grammar and options.
-use Rattle.abnfi.proofs.AbnfiWordsLemmas.{is_free, is_simple_app, is_whole, options_are}
+-- The command is a simple one, and its words give a limit and a grammar.
+use Rattle.std.proofs.Common.{◌∙◌, ap, codes, refl}
+use Rattle.clap.specs.Words.{is_simple, is_simple_and_free}
+use Rattle.cli.proofs.AreWholeLemmas.{tool_whole}
 use Rattle.abnfi.proofs.command.AbnfiProgram.follows.Goals as goal
 
 pub returns : goal.returns
-returns c = record { simple = is_simple_app; free = is_free; whole = is_whole; asked = options_are }
+returns c = record {
+  simple = λ app is. ap is_simple is.6;
+  free = λ app is. ap is_simple_and_free is.6;
+  whole = λ m by. tool_whole by.1.0 (codes "abnfi") _ refl refl refl by.2 (by.3 ∙ by.1.6) m by.4;
+}

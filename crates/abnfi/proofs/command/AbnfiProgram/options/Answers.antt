@@ -1,21 +1,19 @@
 -- Each option is read as it stands.
+use Rattle.std.proofs.Common.{◌∙◌, ap, codes}
+use Rattle.abnfi.specs.AbnfiCommand.{printed_named}
+use Rattle.clap.specs.Words.{found_of}
+use Rattle.clap.proofs.WalkLemmas.{first_value-rows}
 use Rattle.abnfi.proofs.command.AbnfiProgram.options.Goals as goal
 
 pub returns : goal.returns
-returns c =
-    let viable = c.get_flag.ensures in
-    let nul = c.get_flag-2.ensures in
-    let keeps = c.get_flag-3.ensures in
-    let numbered = c.get_flag-4.ensures in
-    let quiet = c.get_flag-5.ensures in
-    let buffered = c.get_flag-6.ensures in
-    record {
-      letters = c.letters_of.ensures;
-      viable = (viable.none, viable.value, viable.other);
-      nul = (nul.none, nul.value, nul.other);
-      keeps = (keeps.none, keeps.value, keeps.other);
-      printed = c.printed_of.ensures;
-      numbered = (numbered.none, numbered.value, numbered.other);
-      quiet = (quiet.none, quiet.value, quiet.other);
-      line_buffered = (buffered.none, buffered.value, buffered.other);
-    }
+returns c = record {
+  letters = c.letters_of.ensures;
+  viable = c.is_given.ensures;
+  nul = c.is_given-2.ensures;
+  keeps = c.is_given-3.ensures;
+  printed = c.printed_of.ensures
+      ∙ ap printed_named (first_value-rows (found_of c.args.matches.now) (codes "print"));
+  numbered = c.is_given-4.ensures;
+  quiet = c.is_given-5.ensures;
+  line_buffered = c.is_given-6.ensures;
+}

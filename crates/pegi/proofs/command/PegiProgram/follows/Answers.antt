@@ -1,11 +1,12 @@
--- The command is a simple one, and its words give a limit, a grammar and flags.
-use Rattle.pegi.proofs.PegiWordsLemmas.{flags_are, is_free, is_simple_app, is_whole}
+-- The command is a simple one, and its words give a limit and a grammar.
+use Rattle.std.proofs.Common.{◌∙◌, ap, codes, refl}
+use Rattle.clap.specs.Words.{is_simple, is_simple_and_free}
+use Rattle.cli.proofs.AreWholeLemmas.{tool_whole}
 use Rattle.pegi.proofs.command.PegiProgram.follows.Goals as goal
 
 pub returns : goal.returns
 returns c = record {
-  simple = is_simple_app;
-  free = is_free;
-  whole = is_whole;
-  asked = flags_are;
+  simple = λ app is. ap is_simple is.2;
+  free = λ app is. ap is_simple_and_free is.2;
+  whole = λ m by. tool_whole by.1.0 (codes "pegi") _ refl refl refl by.2 (by.3 ∙ by.1.2) m by.4;
 }
