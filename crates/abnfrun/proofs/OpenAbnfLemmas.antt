@@ -28,7 +28,7 @@ use Rattle.linejudge.specs.InputLines.{
 }
 use Rattle.linejudge.specs.InputLines.{kept_line, kept_size, printed_last, printed_line, refused_by, status_after}
 use Rattle.linejudge.specs.InputLines.{position_taken}
-use Rattle.linejudge.specs.LineRefusals.{LinesReply, ReportsLine, count_untold, none_reported, one_reported}
+use Rattle.linejudge.specs.LineRefusals.{LinesReply, ReportsLine, count_unreported, none_reported, one_reported}
 use Rattle.linejudge.specs.declared.answers.Answer.{Answer}
 use Rattle.linejudge.specs.declared.answers.Answer.TheVariants.{Yes, No, NoAfter}
 use Rattle.linejudge.specs.declared.line.LineForm.{LineForm}
@@ -49,7 +49,7 @@ use Rattle.abnfrun.specs.AbnfSettings.{AbnfSettings}
 use Rattle.toolrun.specs.declared.stop.Stop.TheVariants.{Quiet}
 
 -- of one rejected line no more are reported
-none_more : (asked : Bool) (said : Answer) → more_refused (count_untold asked (refused_by said)) ≡ []
+none_more : (asked : Bool) (said : Answer) → more_refused (count_unreported asked (refused_by said)) ≡ []
 none_more true Yes = refl
 none_more true No = refl
 none_more true (NoAfter n) = refl

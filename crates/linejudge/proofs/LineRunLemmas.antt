@@ -43,7 +43,7 @@ use Rattle.linejudge.specs.LineRefusals.{
   ReportsTo,
   ReportedUpTo,
   WhyTo,
-  count_untold,
+  count_unreported,
   is_reported,
 }
 use Rattle.linejudge.specs.LineRefusals.{none_after, none_reported, one_lacks, one_reported, stop_lines, taken_by}
@@ -66,12 +66,12 @@ module _ (Reported : List ℕ → Answer → Type 0) (asked : Bool) (Refusal : L
       (ReportsTo Reported asked Refusal form input) (WhyTo asked input) (NeverLacks input) point last ending
 
   -- where it is not asked, no line is explained
-  untold_lines : asked ≡ false → (at : LinePosition) (reported : List ℕ)
+  unreported_lines : asked ≡ false → (at : LinePosition) (reported : List ℕ)
       → Refusals Reported asked Refusal form input at reported
       → reported ≡ []
-  untold_lines not at reported none_reported = refl
-  untold_lines not at reported (one_reported before first line n said text lines stands says reports) =
-      let nothing : first ≡ [] = untold_lines not before first lines in
+  unreported_lines not at reported none_reported = refl
+  unreported_lines not at reported (one_reported before first line n said text lines stands says reports) =
+      let nothing : first ≡ [] = unreported_lines not before first lines in
       let none : text ≡ [] = not_asked_nothing (is_reported asked before.refused said) (Refusal line (before.count + 1))
       text (rw not refl) reports in
       rw (nothing, none) refl
@@ -86,13 +86,13 @@ module _ (Reported : List ℕ → Answer → Type 0) (asked : Bool) (Refusal : L
 
   none_reported_by : asked ≡ false → (b : Bool) (at : LinePosition) (reported : List ℕ)
       → ReportedUpTo Reported asked Refusal form input b at reported → reported ≡ []
-  none_reported_by not false at reported first = untold_lines not at reported first
+  none_reported_by not false at reported first = unreported_lines not at reported first
   none_reported_by not true at reported first = absurd (nothing_lacks not at reported first)
 
-  all_untold : asked ≡ false → (point : RunPoint) (reported : List ℕ)
+  all_unreported : asked ≡ false → (point : RunPoint) (reported : List ℕ)
       → ReportsTo Reported asked Refusal form input point reported
       → reported ≡ []
-  all_untold not point reported reports =
+  all_unreported not point reported reports =
       reports.is ∙ rw (none_reported_by not point.lacks point.at reports.first reports.refusals, not) refl
 
   -- nothing explains where it is not asked
@@ -175,7 +175,7 @@ module _ (Reported : List ℕ → Answer → Type 0) (asked : Bool) (Refusal : L
     reports = record {
       first = r.reports.first;
       refusals = r.reports.refusals;
-      is = subst (λ (b : Bool). r.before ≡ r.reports.first ++ more_refused (count_untold b r.replies.point.refused))
+      is = subst (λ (b : Bool). r.before ≡ r.reports.first ++ more_refused (count_unreported b r.replies.point.refused))
           (sym (and_true asked)) r.reports.is;
     };
     why = r.why;
@@ -197,7 +197,7 @@ module _ (Reported : List ℕ → Answer → Type 0) (asked : Bool) (Refusal : L
       status = ap (λ a. a.status) g.reported;
       taken = ap (λ a. a.taken) g.reported;
       err = λ unasked.
-          let before = all_untold unasked g.replies.point g.before g.reports in
+          let before = all_unreported unasked g.replies.point g.before g.reports in
           let why : g.why ≡ [] = not_asked_nothing (asked && not g.replies.point.lacks)
           (λ t. t ≡ stop_lines g.replies.stop) g.why (rw unasked refl) g.explains in
           ap (λ a. a.err) g.reported ∙ rw (before, why) (append-nil g.plain.err);
@@ -242,7 +242,7 @@ module _ (Reported : List ℕ → Answer → Type 0) (asked : Bool) (Refusal : L
 
       -- the explanations there, where it is asked
       all_reported : asked ≡ true → (all : List ℕ)
-          → all ≡ reported.text.items ++ more_refused (count_untold (not reported.lacks) at.refused)
+          → all ≡ reported.text.items ++ more_refused (count_unreported (not reported.lacks) at.refused)
           → ReportsTo Reported asked Refusal form input here all
       all_reported is all same = record { first = reported.text.items; refusals = refusals; is = same ∙ rw is refl }
 
@@ -276,7 +276,7 @@ module _ (Reported : List ℕ → Answer → Type 0) (asked : Bool) (Refusal : L
         )
 
         ends_so : asked ≡ true → (ending : Ending) → IsReportedEnding reported.lacks
-            (reported.text.items ++ more_refused (count_untold (not reported.lacks) at.refused)) stop ending
+            (reported.text.items ++ more_refused (count_unreported (not reported.lacks) at.refused)) stop ending
             → EndsSo here last ending
         ends_so is (Plain it) reported_so = absurd reported_so
         ends_so is (Explained before it why) (all, same, lines_are) = rw same (
@@ -295,7 +295,7 @@ module _ (Reported : List ℕ → Answer → Type 0) (asked : Bool) (Refusal : L
 
         ends_by : (b : Bool) → asked ≡ b → (ending : Ending) → (asked ≡ false → ending ≡ Plain stop)
             → (asked ≡ true → IsReportedEnding reported.lacks
-            (reported.text.items ++ more_refused (count_untold (not reported.lacks) at.refused)) stop ending)
+            (reported.text.items ++ more_refused (count_unreported (not reported.lacks) at.refused)) stop ending)
             → EndsSo here last ending
         ends_by true is ending plain reported_so = ends_so is ending (reported_so is)
         ends_by false is ending plain reported_so = rw (plain is) (ends_plainly is)
@@ -304,13 +304,13 @@ module _ (Reported : List ℕ → Answer → Type 0) (asked : Bool) (Refusal : L
           → IsStep Reported asked Refusal form input at mid new reported more (Ok (Stops stop))
           → (asked ≡ false → ending ≡ Plain stop)
           → (asked ≡ true → IsReportedEnding more.lacks
-          (more.text.items ++ more_refused (count_untold (not more.lacks) at.refused)) stop ending)
+          (more.text.items ++ more_refused (count_unreported (not more.lacks) at.refused)) stop ending)
           → taken ≡ taken_at form.limit input at.position → Runs taken old new (Ok ending)
       stops_there new more taken stop ending (same, either) plain reported_so took =
           let ends : asked ≡ true → IsReportedEnding reported.lacks
-          (reported.text.items ++ more_refused (count_untold (not reported.lacks) at.refused)) stop ending =
+          (reported.text.items ++ more_refused (count_unreported (not reported.lacks) at.refused)) stop ending =
           λ is. subst (λ (t : Explanations). IsReportedEnding t.lacks
-          (t.text.items ++ more_refused (count_untold (not t.lacks) at.refused)) stop ending) same (reported_so is) in
+          (t.text.items ++ more_refused (count_unreported (not t.lacks) at.refused)) stop ending) same (reported_so is) in
           elim either [
             | inl (refused, kept) ↦ (
               here,
@@ -341,7 +341,7 @@ module _ (Reported : List ℕ → Answer → Type 0) (asked : Bool) (Refusal : L
             → Runs taken old new (Err fault)
         fails_at next b added more le further reported_there part =
             let goes = goes_further Reported form input decided at.position next (text ++ added) le further in
-            let all : List ℕ = more ++ more_refused (count_untold (asked && not b) next.refused) in (
+            let all : List ℕ = more ++ more_refused (count_unreported (asked && not b) next.refused) in (
               text ++ added,
               record {
                 reply = cut_reply all (text ++ added) goes.reply.taken;
@@ -358,7 +358,7 @@ module _ (Reported : List ℕ → Answer → Type 0) (asked : Bool) (Refusal : L
         fails_last : (last : List ℕ) (stop : Stop) → LinesEnd form input at last stop → AppendsPart mid new last
             → Runs taken old new (Err fault)
         fails_last last stop ends part =
-            let all : List ℕ = reported.text.items ++ more_refused (count_untold
+            let all : List ℕ = reported.text.items ++ more_refused (count_unreported
             (asked && not reported.lacks) at.refused) in
             let why = some_lines (asked && not reported.lacks) (stop_lines stop) in
             let plain : Reply = record {

@@ -23,7 +23,7 @@ use Rattle.linejudge.specs.InputLines.{GoesBy, finished, is_over, kept_line, rej
 use Rattle.linejudge.specs.LineRefusals.{
   LinesReply,
   Refusals,
-  count_untold,
+  count_unreported,
   is_reported,
   none_reported,
   one_reported,
@@ -322,8 +322,8 @@ module _ (Reported : List ℕ → Answer → Type 0) (one_answer : (line : List 
         q.reports.refusals (ap (λ (v : LinePosition). v.count) position) in
         let first = reported.texts in
         let before : r.before ≡ q.before = r.reports.is
-        ∙ ap (λ t. t ++ more_refused (count_untold asked r.replies.point.refused)) first
-        ∙ ap (λ (v : LinePosition). q.reports.first ++ more_refused (count_untold asked v.refused)) position
+        ∙ ap (λ t. t ++ more_refused (count_unreported asked r.replies.point.refused)) first
+        ∙ ap (λ (v : LinePosition). q.reports.first ++ more_refused (count_unreported asked v.refused)) position
         ∙ sym q.reports.is in
         let why : r.why ≡ q.why = if-explained asked (λ t. t ≡ stop_lines r.replies.stop) (λ x y h k. h ∙ sym k)
         r.why q.why r.explains

@@ -21,8 +21,8 @@ abbrev pub is_reported : Bool → ℕ → Answer → Bool
 is_reported asked refused said = asked && (not (says_yes said) && nat_lt refused 16)
 
 -- how many rejected lines are not explained, where that is asked
-abbrev pub count_untold : Bool → ℕ → ℕ
-count_untold asked refused = if asked then refused - 16 else 0
+abbrev pub count_unreported : Bool → ℕ → ℕ
+count_unreported asked refused = if asked then refused - 16 else 0
 
 -- what a line that is too long may have at most
 abbrev pub limit_line : List ℕ
@@ -103,13 +103,13 @@ module _ (Reported : List ℕ → Answer → Type 0) (asked : Bool) (Refusal : L
     pub record ReportsTo (point : RunPoint) (reported : List ℕ) : Type 0 where
       pub first : List ℕ
       pub refusals : ReportedUpTo point.lacks point.at first
-      pub is : reported ≡ first ++ more_refused (count_untold (asked && not point.lacks) point.at.refused)
+      pub is : reported ≡ first ++ more_refused (count_unreported (asked && not point.lacks) point.at.refused)
 
     -- the explanations where none is missing
     pub record Reports (at : LinePosition) (reported : List ℕ) : Type 0 where
       pub first : List ℕ
       pub refusals : Refusals at first
-      pub is : reported ≡ first ++ more_refused (count_untold asked at.refused)
+      pub is : reported ≡ first ++ more_refused (count_unreported asked at.refused)
 
     -- what explains a stop there, where that is asked
     abbrev pub WhyStopped : LinePosition → Stop → List ℕ → Type 0

@@ -19,7 +19,7 @@ ghost use Rattle.linejudge.specs.LineRefusals.{
   NeverLacks,
   ReportsTo,
   WhyTo,
-  count_untold,
+  count_unreported,
 };
 ghost use Rattle.linejudge.specs.LineRefusals.{stop_lines, taken_by};
 ghost use Rattle.linejudge.specs.LineSteps.{FitsIn, HasRoom, IsStep, IsReportedEnding, StepsAfter};
@@ -148,7 +148,7 @@ fn push_stop(stop: Stop, why: &mut Vec<u8>)
 fn reported_ending(reported: Explanations, refused: usize, stop: Stop) -> Ending
     requires room { HasRoom reported }
     ensures { IsReportedEnding reported.lacks (reported.text.items ++ more_refused
-        (count_untold (not reported.lacks) refused)) stop
+        (count_unreported (not reported.lacks) refused)) stop
         result }
 {
     let Explanations {
@@ -179,7 +179,7 @@ fn ending_at(asked: bool, reached: Reached, stop: Stop) -> Ending
     requires room { asked ≡ true → HasRoom reached.reported }
     ensures plain { asked ≡ false → result ≡ Ending.Plain stop }
     ensures reported { asked ≡ true → IsReportedEnding reached.reported.lacks (reached.reported.text.items
-        ++ more_refused (count_untold (not reached.reported.lacks) reached.at.refused)) stop result }
+        ++ more_refused (count_unreported (not reached.reported.lacks) reached.at.refused)) stop result }
 {
     if asked {
         return reported_ending(reached.reported, reached.at.refused, stop);
