@@ -310,7 +310,8 @@ module _ (Reported : List ℕ → Answer → Type 0) (asked : Bool) (Refusal : L
           let ends : asked ≡ true → IsReportedEnding reported.lacks
           (reported.text.items ++ more_refused (count_unreported (not reported.lacks) at.refused)) stop ending =
           λ is. subst (λ (t : Explanations). IsReportedEnding t.lacks
-          (t.text.items ++ more_refused (count_unreported (not t.lacks) at.refused)) stop ending) same (reported_so is) in
+          (t.text.items ++ more_refused (count_unreported (not t.lacks) at.refused)) stop ending) same
+          (reported_so is) in
           elim either [
             | inl (refused, kept) ↦ (
               here,
