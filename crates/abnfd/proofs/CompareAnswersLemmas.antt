@@ -9,7 +9,7 @@ use Rattle.clap.specs.Words.{HasKind, Kinds, Text, first_of, first_value, kind_o
 use Rattle.clap.specs.declared.error.Error.{Error}
 use Rattle.clap.specs.declared.error.kind.ErrorKind.TheVariants.{OutOfMemory}
 use Rattle.clap.specs.declared.parser.matches.Found.{Found}
-use Rattle.cli.proofs.AskLemmas.{first_found}
+use Rattle.clap.proofs.WalkLemmas.{first_value-rows}
 use Rattle.letters.specs.declared.alphabet.Alphabet.{Alphabet}
 use Rattle.ruletable.specs.Writing.{AppendsPart}
 use Rattle.ruletable.specs.declared.sink.WriteFault.{WriteFault}
@@ -70,7 +70,7 @@ pub asked_compared : (f : Found) (alphabet : Alphabet) (old_rule new_rule : Opti
     → FilesCompared alphabet old_rule new_rule input notes reply → CompareAnswers (rows_of f) input notes reply
 asked_compared f alphabet old_rule new_rule letters old new input notes reply is =
     let rows = rows_of f in
-    let first = first_found f rows refl in
+    let first = first_value-rows f in
     let e1 : alphabet ≡ symbols_asked rows = letters ∙ ap symbols_named (first (codes "letters")) in
     let e2 : old_rule ≡ old_rule_asked rows = old ∙ first (codes "rule") in
     let e3 : new_rule ≡ new_rule_asked rows = new
