@@ -54,32 +54,44 @@ fn arg_of<'a>(alloc: Global, parameter: Parameter<'a>) -> Result<Arg<'a>, AllocE
     ensures { IfOk result (λ a. (rule_of a ≡ parameter_rule parameter.entry) × (a.global ≡ false)) }
 {
     match parameter {
-        Parameter::Flag(id, letter) => Ok(option_arg(alloc, id, letter)?
-            .action(ArgAction::SetTrue)
-            .value_parser(value_parser!(bool))),
-        Parameter::LongFlag(id) => Ok(Arg::new(alloc, id)
-            .long(id)
-            .action(ArgAction::SetTrue)
-            .value_parser(value_parser!(bool))),
+        Parameter::Flag(id, letter) => Ok(
+            option_arg(alloc, id, letter)?
+                .action(ArgAction::SetTrue)
+                .value_parser(value_parser!(bool)),
+        ),
+        Parameter::LongFlag(id) => Ok(
+            Arg::new(alloc, id)
+                .long(id)
+                .action(ArgAction::SetTrue)
+                .value_parser(value_parser!(bool)),
+        ),
         Parameter::Text(id, letter, value) => Ok(option_arg(alloc, id, letter)?.value_name(value)),
-        Parameter::Choice(id, letter, value, names, default) => Ok(option_arg(alloc, id, letter)?
-            .value_name(value)
-            .value_parser(names)
-            .default_value(default)),
-        Parameter::Number(id, letter, greatest, default) => Ok(option_arg(alloc, id, letter)?
-            .value_name("N")
-            .action(ArgAction::Set)
-            .value_parser(value_parser!(u32).range(1..=(greatest as i64)))
-            .default_value(default)),
-        Parameter::Operand(id, value, is_required) => Ok(Arg::new(alloc, id)
-            .value_name(value)
-            .action(ArgAction::Set)
-            .required(is_required)),
-        Parameter::Operands(id, value) => Ok(Arg::new(alloc, id)
-            .value_name(value)
-            .action(ArgAction::Append)
-            .num_args(1..)
-            .required(true)),
+        Parameter::Choice(id, letter, value, names, default) => Ok(
+            option_arg(alloc, id, letter)?
+                .value_name(value)
+                .value_parser(names)
+                .default_value(default),
+        ),
+        Parameter::Number(id, letter, greatest, default) => Ok(
+            option_arg(alloc, id, letter)?
+                .value_name("N")
+                .action(ArgAction::Set)
+                .value_parser(value_parser!(u32).range(1..=(greatest as i64)))
+                .default_value(default),
+        ),
+        Parameter::Operand(id, value, is_required) => Ok(
+            Arg::new(alloc, id)
+                .value_name(value)
+                .action(ArgAction::Set)
+                .required(is_required),
+        ),
+        Parameter::Operands(id, value) => Ok(
+            Arg::new(alloc, id)
+                .value_name(value)
+                .action(ArgAction::Append)
+                .num_args(1..)
+                .required(true),
+        ),
     }
 }
 

@@ -46,10 +46,7 @@ Example:
   pegi username.peg letter.txt";
 
 /// The options of the program alone.
-static OWN: [Parameter; 2] = [
-    Parameter::Flag("raw", 'r'),
-    Parameter::Flag("whole", '1'),
-];
+static OWN: [Parameter; 2] = [Parameter::Flag("raw", 'r'), Parameter::Flag("whole", '1')];
 
 /// The program `pegi [-m MODE] [-l N] [-s RULE] [-r] [-1] [-x] GRAMMAR [FILE]`.
 pub(crate) struct Pegi;
