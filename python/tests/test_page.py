@@ -495,7 +495,7 @@ def test_light_and_dark(page, scheme):
     page.execute_script("document.getElementById('keep').click()")
     open_pane(page, "samples")
     open_pane(page, "compare")
-    panes = ("#lines", "#old-rule", "#old .CodeMirror", "#keep", "#compare")
+    panes = ("#lines", "#old-rule", "#old .CodeMirror", "#keep")
     for selector in ("body", "header", *editor, ".line-yes", ".line-no", "select", *panes):
         shown = colour(page, selector, "backgroundColor")
         assert shown > 200 if scheme == "light" else shown < 90, selector
