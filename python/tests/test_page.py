@@ -286,6 +286,21 @@ def test_comparison(page):
 
 
 @pytest.mark.usefixtures("programs")
+def test_comparison_of_an_example(page):
+    choose(page, "example", "ABNF: a field's value, RFC 7230 and 9110")
+    wait(page, lambda: text(page, "#compare-state") == "differ")
+    buttons = page.find_elements(By.CSS_SELECTOR, "#alone button")
+    assert [it.text for it in buttons] == ['"\\x0D\\x0A "', '"! ! !"']
+    before = page.execute_script(VALUE, "input")
+    buttons[0].click()
+    assert text(page, "#compare-state") == "the input cannot hold this line"
+    assert page.execute_script(VALUE, "input") == before
+    buttons[1].click()
+    wait(page, lambda: text(page, "#derived") == "2 of 3 derived")
+    shot(page, "example")
+
+
+@pytest.mark.usefixtures("programs")
 def test_lines_are_no_markup(page):
     put(page, "grammar", 'a = %s"<img src=x onerror=window.hacked=1>"\n')
     open_pane(page, "samples")

@@ -28,6 +28,21 @@ field      = name ":" *WSP value
 name       = 1*( ALPHA / "-" )
 value      = *( VCHAR / SP )
 `, input: "GET /index.html HTTP/1.1\nHost: example.org\nAccept: */*\n\n" },
+  "ABNF: a field's value, RFC 7230 and 9110": { kind: "abnf", rule: "", pane: "compare", old:
+`; RFC 7230, section 3.2
+field-value   = *( field-content / obs-fold )
+field-content = field-vchar [ 1*( SP / HTAB ) field-vchar ]
+field-vchar   = VCHAR / obs-text
+obs-fold      = CRLF 1*( SP / HTAB )
+obs-text      = %x80-FF
+`, grammar:
+`; RFC 9110, section 5.5
+field-value   = *field-content
+field-content = field-vchar
+                [ 1*( SP / HTAB / field-vchar ) field-vchar ]
+field-vchar   = VCHAR / obs-text
+obs-text      = %x80-FF
+`, input: "gzip, deflate\n a space before\n" },
   "PEG: a calculator's steps": { kind: "peg", rule: "", grammar:
 `Line    <- Sum '\\n' { print }
 Sum     <- Product ( '+' Product { add } / '-' Product { subtract } )*
@@ -428,6 +443,7 @@ by("add").addEventListener("click", () => {
   if (line !== undefined) add(line, sayIn("samples"));
 });
 by("lines").addEventListener("keydown", (event) => { if (event.key === "Enter") by("add").click(); });
+by("lines").addEventListener("dblclick", () => by("add").click());
 by("keep").addEventListener("click", () => { by("old-rule").value = ""; old.setValue(grammar.getValue()); });
 
 // Tabs by the arrow keys, as the practices of ARIA have it
