@@ -76,8 +76,9 @@ def become(words: List[str], grammars: List[str]) -> None:
         os.set_inheritable(file.fileno(), True)
     for it in (signal.SIGXFSZ, signal.SIGPIPE):  # which Python ignores, and so would the program
         signal.signal(it, signal.SIG_DFL)
+    operands = (f"/proc/self/fd/{it.fileno()}" for it in files)
     environment: Dict[str, str] = {}
-    os.execve(words[0], [*words, *(f"/proc/self/fd/{it.fileno()}" for it in files)], environment)
+    os.execve(words[0], [it.encode() for it in (*words, *operands)], environment)
 
 
 def main() -> None:
