@@ -33,9 +33,6 @@ QUESTION = {
     "ends": "lf",
 }
 
-# Its lines of 256 letters have many states.
-SLOW = 'a = *( "(" a ")" / "[" a "]" / "x" )\n'
-
 
 @pytest.fixture(scope="session")
 def browser():
@@ -318,17 +315,6 @@ def test_panes_of_abnf_go_with_its_language(page):
     assert not page.find_element(By.ID, "tab-samples").is_displayed()
     assert not page.find_element(By.ID, "tab-compare").is_displayed()
     assert page.find_element(By.ID, "diagrams").is_displayed()
-
-
-@pytest.mark.usefixtures("programs")
-def test_slow_samples_are_ended(page):
-    open_pane(page, "samples")
-    choose(page, "count", "1000")
-    choose(page, "length", "256")
-    put(page, "grammar", SLOW)
-    wait(page, lambda: "took too long" in text(page, "#samples-state"), 60)
-    put(page, "grammar", BITS)
-    wait(page, lambda: text(page, "#samples-state").startswith("6 lines"), 60)
 
 
 @pytest.mark.usefixtures("programs")

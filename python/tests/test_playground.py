@@ -403,10 +403,10 @@ def test_comparison():
 
 @pytest.mark.usefixtures("programs")
 def test_memory_of_the_programs_is_bounded():
-    limits = playground.Limits(memory=24 << 20)
-    grammar = 'a = *(' + " / ".join(f'{it}"x"' for it in range(2, 60)) + ") 300DIGIT\n"
-    reported = compared(limits, old=grammar, grammar="a = 1*DIGIT\n")
-    assert (reported["status"], reported["answer"]) == (5, "")
+    nested = 'a = "(" *a ")" / "[" *a "]"\n'
+    changed = {"old": nested, "grammar": nested.replace("*a", "*( a )")}
+    assert compared(playground.Limits(memory=32 << 20), **changed)["status"] == 5
+    assert compared(**changed)["answer"] == "not known"
 
 
 @pytest.mark.skipif(not shutil.which("sh"), reason="needs sh")

@@ -124,6 +124,7 @@ def test_numbers_out_of_range(stand_in):
 
 
 def test_missing_programs_are_named(tmp_path, monkeypatch):
+    monkeypatch.delenv("FANQUBER_PROGRAMS", raising=False)
     monkeypatch.setenv("PATH", str(tmp_path))
     monkeypatch.setattr(_programs, "loaded_path", lambda: "libfanquber.so.2")
     for name, call in (("abnfd", lambda: compare(OLD, NEW)), ("abnfg", lambda: Abnf(OLD).lines())):
