@@ -250,6 +250,7 @@ def test_samples_with_line_ends(page):
     assert [taken["lf", at] for at in range(4)] == ["\n", "?", "  ", "?"]
     assert [taken["crlf", at] for at in range(4)] == ["?", "?", "  ", "X\nY"]
     assert text(page, "#samples-state") == "7 lines: all of at most 64 letters"
+    assert page.execute_script("return document.getElementById('lines').selectedIndex") == 3
     wait(page, lambda: text(page, "#derived") == "1 of 1 derived")
 
 
@@ -285,12 +286,12 @@ def test_comparison(page):
 @pytest.mark.usefixtures("programs")
 def test_comparison_of_an_example(page):
     choose(page, "example", "ABNF: a field's value, RFC 7230 and 9110")
-    wait(page, lambda: text(page, "#compare-state") == "differ")
+    wait(page, lambda: text(page, "#compare-state") == "differ" and text(page, "#derived") == "1 of 2 derived")
     buttons = page.find_elements(By.CSS_SELECTOR, "#alone button")
     assert [it.text for it in buttons] == ['"\\x0D\\x0A "', '"! ! !"']
     before = page.execute_script(VALUE, "input")
     buttons[0].click()
-    assert text(page, "#compare-state") == "the input cannot hold this line"
+    wait(page, lambda: text(page, "#state") == "the input cannot hold this line")
     assert page.execute_script(VALUE, "input") == before
     buttons[1].click()
     wait(page, lambda: text(page, "#derived") == "2 of 3 derived")
@@ -457,7 +458,10 @@ def test_the_keyboard_alone_is_enough_for_the_panes(page):
         assert focused(page) == name
     press(Keys.ARROW_DOWN)
     press(Keys.ENTER)
-    wait(page, lambda: page.execute_script(VALUE, "input") == "1")
+    wait(page, lambda: text(page, "#derived") == "1 of 1 derived")
+    press(Keys.ARROW_DOWN)
+    press(Keys.ENTER)
+    wait(page, lambda: page.execute_script(VALUE, "input") == "1\n00")
     assert focused(page) == "lines"
     page.execute_script("document.getElementById('tab-samples').focus()")
     press(Keys.ARROW_RIGHT)
@@ -472,7 +476,7 @@ def test_the_keyboard_alone_is_enough_for_the_panes(page):
     press(Keys.TAB)
     assert focused(page) == "alone"
     press(Keys.ENTER)
-    wait(page, lambda: page.execute_script(VALUE, "input") == "1\n000")
+    wait(page, lambda: page.execute_script(VALUE, "input") == "1\n00\n000")
     press(Keys.TAB)
     assert focused(page) == "old"
     press("x")

@@ -346,12 +346,25 @@ by("diagrams").addEventListener("click", (event) => {
 
 // Lines that the rule derives, and the comparison of two grammars: asked for while their pane is shown
 const shownPane = () => PANES.find((id) => !by(id).hidden);
-let askedPane = 0, listed = [];
+const PANE_QUESTIONS = {
+  samples: ({ grammar, rule, letters, cut }) =>
+    ({ grammar, rule, letters, cut, count: by("count").value, length: by("length").value }),
+  compare: ({ grammar, rule, letters }) =>
+    ({ old: old.getValue(), old_rule: by("old-rule").value, grammar, rule, letters }),
+};
+let askedPane = 0, shownFor = "", listed = [];
 
-function askPane() {
-  const mine = ++askedPane, isLate = () => mine !== askedPane;
-  if (shownPane() === "samples") askLines(isLate);
-  if (shownPane() === "compare") askComparison(isLate);
+async function askPane() {
+  const pane = shownPane(), asked = PANE_QUESTIONS[pane] && PANE_QUESTIONS[pane](question());
+  const key = JSON.stringify([pane, asked]);
+  if (!asked || key === shownFor) return;  // a change of the input leaves the chosen line as it is
+  shownFor = key;
+  const mine = ++askedPane, say = sayIn(pane);
+  if (pane === "compare" && !asked.old.trim()) return showComparison({ command: "", alone: [] }, say);
+  say("..");
+  const it = await post(`/${pane}`, asked, () => mine !== askedPane, say);
+  if (it) (pane === "samples" ? showLines : showComparison)(it, say, asked);
+  else if (mine === askedPane) shownFor = "";
 }
 
 const sayIn = (pane) => (text, bad) => {
@@ -365,36 +378,21 @@ function lackOf(it) {
   return faultOf(it) || ([2, 4].includes(it.status) ? it.messages.join("; ") : "");
 }
 
-async function askLines(isLate) {
-  const { grammar: text, rule, letters, cut } = question(), say = sayIn("samples");
-  const count = by("count").value, length = by("length").value;
-  say("..");
-  const it = await post("/samples", { grammar: text, rule, letters, cut, count, length }, isLate, say);
-  if (!it) return;
+function showLines(it, say, asked) {
   listed = it.lines;
   by("lines").replaceChildren(...listed.map((line) => Object.assign(new Option(), { label: quoted(line) })));
   if (listed.length) by("lines").selectedIndex = 0;
   by("samples-command").textContent = it.command;
-  const all = listed.length < Number(count) ? `: all of at most ${length} letters` : "";
+  const all = listed.length < Number(asked.count) ? `: all of at most ${asked.length} letters` : "";
   const lack = lackOf(it), known = { 1: "the rule derives no such line", 3: "too many stacks: more lines may follow" };
   if (lack) say(listed.length ? `${lack}; these lines are right` : lack, true);
   else say(known[it.status] || `${listed.length} ${listed.length === 1 ? "line" : "lines"}${all}`);
 }
 
-async function askComparison(isLate) {
-  const { grammar: text, rule, letters } = question(), say = sayIn("compare");
-  const asked = { old: old.getValue(), old_rule: by("old-rule").value, grammar: text, rule, letters };
-  by("compare-command").textContent = "";
-  if (!asked.old.trim()) {
-    by("alone").replaceChildren();
-    return say("keep this grammar, then change it above");
-  }
-  say("..");
-  const it = await post("/compare", asked, isLate, say);
-  if (!it) return;
-  say(lackOf(it) || it.answer, Boolean(lackOf(it)));
+function showComparison(it, say) {
+  const lack = lackOf(it), which = ["the earlier", "this"];
+  say(lack || it.answer || "keep this grammar, then change it above", Boolean(lack));
   by("compare-command").textContent = it.command;
-  const which = ["the earlier", "this"];
   by("alone").replaceChildren(...it.alone.map(([said, line], at) => shownAlone(which[at], said, line)));
 }
 
@@ -404,7 +402,7 @@ function shownAlone(which, said, line) {
   row.textContent = `Only ${which} grammar derives: ${line === null ? said : ""}`;
   if (line === null) return row;
   button.type = "button"; button.textContent = said; button.title = "Put it into the input";
-  button.addEventListener("click", () => add(line, sayIn("compare")));
+  button.addEventListener("click", () => add(line));
   row.append(button);
   return row;
 }
@@ -430,7 +428,7 @@ function asInput(line) {
   return again === judged && !(whole ? /[\r\0]/ : /[\r\n]/).test(rest) ? shown : null;
 }
 
-function add(line, say) {
+function add(line) {
   const text = asInput(line), before = input.getValue();
   if (text === null) return say("the input cannot hold this line", true);
   const start = by("cut").value === "whole" ? "" : before && !before.endsWith("\n") ? before + "\n" : before;
@@ -440,7 +438,7 @@ function add(line, say) {
 
 by("add").addEventListener("click", () => {
   const line = listed[by("lines").selectedIndex];
-  if (line !== undefined) add(line, sayIn("samples"));
+  if (line !== undefined) add(line);
 });
 by("lines").addEventListener("keydown", (event) => { if (event.key === "Enter") by("add").click(); });
 by("lines").addEventListener("dblclick", () => by("add").click());
