@@ -200,6 +200,12 @@ LINES = "return [...document.getElementById('lines').options].map((it) => it.lab
 BITS = 'bits = 1*2("0" / "1")\n'
 
 
+def write(browser, grammar):
+    """Puts a grammar there, whose first rule is judged."""
+    choose(browser, "rule", "")
+    put(browser, "grammar", grammar)
+
+
 def open_pane(browser, name):
     browser.find_element(By.ID, f"tab-{name}").click()
     assert browser.find_element(By.ID, name).is_displayed()
@@ -207,7 +213,7 @@ def open_pane(browser, name):
 
 @pytest.mark.usefixtures("programs")
 def test_samples(page):
-    put(page, "grammar", BITS)
+    write(page, BITS)
     open_pane(page, "samples")
     wait(page, lambda: text(page, "#samples-state") == "6 lines: all of at most 64 letters")
     assert page.execute_script(LINES) == ['"0"', '"1"', '"00"', '"01"', '"10"', '"11"']
@@ -217,22 +223,22 @@ def test_samples(page):
     page.find_element(By.ID, "add").click()
     wait(page, lambda: text(page, "#derived") == "1 of 2 derived")
     assert page.execute_script(VALUE, "input") == "2\n00"
-    put(page, "grammar", 'b = *"x"\n')
+    write(page, 'b = *"x"\n')
     wait(page, lambda: text(page, "#samples-state") == "20 lines")
     choose(page, "count", "100")
     wait(page, lambda: text(page, "#samples-state") == "100 lines")
     assert page.execute_script(LINES)[:3] == ['""', '"X"', '"x"']
     shot(page, "samples")
-    put(page, "grammar", 'a = a "b" / "c"\n')
+    write(page, 'a = a "b" / "c"\n')
     wait(page, lambda: text(page, "#samples-state") == "too many stacks: more lines may follow")
-    put(page, "grammar", "a = b\n")
+    write(page, "a = b\n")
     wait(page, lambda: text(page, "#samples-state") == "rule 'b' used but not defined")
     assert page.execute_script(LINES) == []
 
 
 @pytest.mark.usefixtures("programs")
 def test_samples_with_line_ends(page):
-    put(page, "grammar", 'a = "x" CRLF "y" / LF / %xFF / %x00 / SP SP\n')
+    write(page, 'a = "x" CRLF "y" / LF / %xFF / %x00 / SP SP\n')
     open_pane(page, "samples")
     wait(page, lambda: page.execute_script(LINES) == ['"\\x00"', '"\\xFF"', '"  "'])
     choose(page, "cut", "whole")
@@ -256,13 +262,13 @@ def test_samples_with_line_ends(page):
 
 @pytest.mark.usefixtures("programs")
 def test_comparison(page):
-    put(page, "grammar", 'date = 4DIGIT "-" 2DIGIT\n')
+    write(page, 'date = 4DIGIT "-" 2DIGIT\n')
     put(page, "input", "")
     open_pane(page, "compare")
     wait(page, lambda: text(page, "#compare-state") == "keep this grammar, then change it above")
     page.find_element(By.ID, "keep").click()
     wait(page, lambda: text(page, "#compare-state") == "same")
-    put(page, "grammar", 'date = year "-" 1*2DIGIT\nyear = 4DIGIT\n')
+    write(page, 'date = year "-" 1*2DIGIT\nyear = 4DIGIT\n')
     wait(page, lambda: text(page, "#compare-state") == "differ")
     rows = "return [...document.querySelectorAll('#alone p')].map((it) => it.textContent)"
     wanted = ["Only the earlier grammar derives: none", 'Only this grammar derives: "0000-0"']
@@ -278,7 +284,7 @@ def test_comparison(page):
     page.find_element(By.ID, "old-rule").send_keys("none")
     wait(page, lambda: text(page, "#compare-state").startswith("old: rule 'none' used but not defined"))
     assert page.execute_script(rows) == []
-    put(page, "grammar", 'date = *2[DIGIT]\n')
+    write(page, 'date = *2[DIGIT]\n')
     page.find_element(By.ID, "old-rule").clear()
     wait(page, lambda: text(page, "#compare-state") == "not known")
 
@@ -300,7 +306,7 @@ def test_comparison_of_an_example(page):
 
 @pytest.mark.usefixtures("programs")
 def test_lines_are_no_markup(page):
-    put(page, "grammar", 'a = %s"<img src=x onerror=window.hacked=1>"\n')
+    write(page, 'a = %s"<img src=x onerror=window.hacked=1>"\n')
     open_pane(page, "samples")
     wait(page, lambda: page.execute_script(LINES) == ['"<img src=x onerror=window.hacked=1>"'])
     open_pane(page, "compare")
@@ -320,7 +326,7 @@ def test_panes_of_abnf_go_with_its_language(page):
 
 @pytest.mark.usefixtures("programs")
 def test_a_link_has_the_panes(page, server):
-    put(page, "grammar", BITS)
+    write(page, BITS)
     open_pane(page, "compare")
     put(page, "old", "bit = BIT\nbits = 1*BIT ; \u00e9\n")
     page.find_element(By.ID, "old-rule").send_keys("bits")
@@ -447,7 +453,7 @@ def test_the_keyboard_alone_is_enough(page):
 @pytest.mark.usefixtures("programs")
 def test_the_keyboard_alone_is_enough_for_the_panes(page):
     press = lambda *keys: page.switch_to.active_element.send_keys(*keys)
-    put(page, "grammar", BITS)
+    write(page, BITS)
     put(page, "input", "")
     page.execute_script("document.getElementById('tab-canonical').click()")
     page.execute_script("document.getElementById('tab-canonical').focus()")
@@ -469,7 +475,7 @@ def test_the_keyboard_alone_is_enough_for_the_panes(page):
     assert focused(page) == "keep"
     press(Keys.ENTER)
     wait(page, lambda: text(page, "#compare-state") == "same")
-    put(page, "grammar", 'bits = 1*3("0" / "1")\n')
+    write(page, 'bits = 1*3("0" / "1")\n')
     wait(page, lambda: text(page, "#compare-state") == "differ")
     press(Keys.TAB)
     assert focused(page) == "old-rule"
