@@ -406,7 +406,7 @@ def test_memory_of_the_programs_is_bounded():
     nested = 'a = "(" *a ")" / "[" *a "]"\n'
     changed = {"old": nested, "grammar": nested.replace("*a", "*( a )")}
     assert compared(playground.Limits(memory=32 << 20), **changed)["status"] == 5
-    assert compared(**changed)["answer"] == "not known"
+    assert compared(playground.Limits(processor=60, clock=100.0), **changed)["answer"] == "not known"
 
 
 @pytest.mark.skipif(not shutil.which("sh"), reason="needs sh")
