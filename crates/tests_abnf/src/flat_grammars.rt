@@ -22,7 +22,7 @@ fn add_node(flat: &Flat, n: usize, out: &mut Text) {
         Node::Iterations {
             most: None,
             operand,
-        } => add_number(b"turns of ", *operand, out),
+        } => add_number(b"iterations of ", *operand, out),
         _ => out.add(b"other"),
     }
 }
@@ -33,8 +33,8 @@ fn add_number(text: &[u8], number: usize, out: &mut Text) {
     out.add_number(number as u128);
 }
 
-/// `flat GRAMMAR | NODE ..`: whether the whole is the last of more than four nodes; and of each of these nodes what it
-/// is, its root, and whether it is nullable.
+/// `flat GRAMMAR | NODE ..`: whether the augmented start is the last of more than four nodes; and of each node what it
+/// is, its target, and whether it is nullable.
 pub(crate) fn ends_of(alloc: Global, fields: &Fields, out: &mut Text) -> Option<()> {
     let flat = flat(alloc, fields.text(0), 7)?;
     out.add_answer(flat.nodes() > 4 && flat.start() == flat.nodes() - 1);
@@ -42,8 +42,8 @@ pub(crate) fn ends_of(alloc: Global, fields: &Fields, out: &mut Text) -> Option<
         let n = fields.number(at);
         out.add(b";");
         add_node(&flat, n, out);
-        if let Some(root) = flat.root(n) {
-            add_number(b" root ", root, out);
+        if let Some(target) = flat.target(n) {
+            add_number(b" target ", target, out);
         }
         if flat.is_nullable(n) {
             out.add(b" nullable");

@@ -36,7 +36,7 @@ impl Calls for PegCalls {
             "key" => memo_keys::key_of(alloc, fields, out),
             "run_of_keys" => memo_keys::run_of_keys(alloc, fields, out),
             "farthest" => farthest::farthest_of(alloc, fields, out),
-            "told_unit" => Some(farthest::reported_unit_of(fields, out)),
+            "reported_unit" => Some(farthest::reported_unit_of(fields, out)),
             "grammar_laws" => Some(grammars::laws()),
             "sound_laws" => Some(nodes::laws()),
             "match_laws" => Some(units::laws()),
