@@ -25,8 +25,10 @@ lib:
 	@python3 -B scripts/build/prove.py fanquber_c
 	@python3 -B scripts/build/library.py
 
-# The package for Python with the shared object inside, in bin/: a file that pip installs. It needs setuptools and wheel.
+# The package for Python with the shared object, abnfd and abnfg inside, in bin/: a file that pip installs. It needs
+# setuptools and wheel.
 wheel: lib
+	@python3 -B scripts/build/prove.py abnfd abnfg
 	@python3 -B scripts/build/wheel.py
 
 # A run of each program: the one rule of the peg(1) manual that replaces `username`, and a line of letters.

@@ -1,8 +1,11 @@
 """Proved grammar tools: lines judged by grammars in ABNF, and grammars of peg(1) run on bytes.
 
 `Abnf` and `Peg` hold a grammar. `abnf` and `peg` are one whole run each, as the programs abnfi(1) and pegi(1) make it.
+`compare` and `Abnf.lines` run the programs abnfd(1) and abnfg(1), which a wheel has inside.
 """
-from ._grammars import Abnf, Peg, PegRun
+from ._grammars import Abnf, Peg, PegRun, compare
+from ._programs import ProgramFailed, ProgramMissing, TooManyStacks
+from .comparisons import Alone, Comparison
 from .findings import Finding, Note
 from .refusals import Refusal
 from .trees import Tree
@@ -24,6 +27,8 @@ from ._library import (
 
 __all__ = [
     "Abnf",
+    "Alone",
+    "Comparison",
     "DEFAULT_LIMIT",
     "FanquberError",
     "Finding",
@@ -36,11 +41,15 @@ __all__ = [
     "Overlong",
     "Peg",
     "PegRun",
+    "ProgramFailed",
+    "ProgramMissing",
     "Refusal",
     "Reply",
     "Status",
+    "TooManyStacks",
     "Tree",
     "abnf",
+    "compare",
     "peg",
     "peg_each",
 ]

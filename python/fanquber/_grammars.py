@@ -2,10 +2,12 @@
 import functools
 import os
 import threading
-from typing import Any, Callable, Dict, Iterable, List, NamedTuple, Optional, TypeVar, Union
+from typing import Any, Callable, Dict, Iterable, Iterator, List, NamedTuple, Optional, Sequence, Tuple, TypeVar, Union
 
+from . import _programs
 from ._library import (
     DEFAULT_LIMIT,
+    MAX_LIMIT,
     AbnfJudge,
     GrammarError,
     Letters,
@@ -20,6 +22,8 @@ from ._library import (
     as_bytes,
     peg,
 )
+from ._programs import ProgramFailed, TooManyStacks
+from .comparisons import Comparison, read_comparison
 from .findings import Finding, read_findings
 from .names import first_rule
 from .refusals import Refusal, read_refusal
@@ -29,6 +33,11 @@ Path = Union[str, "os.PathLike[str]"]
 Own = TypeVar("Own", bound="_PerThread")
 MANY = 10000
 """From how many lines on a whole run is faster than a call for each line."""
+DEFAULT_BUDGET = 1000000
+DEFAULT_LENGTH = 256
+DEFAULT_COUNT = 1000
+MAX_NUMBER = 4294967295
+"""The greatest count of lines, and the greatest budget."""
 
 
 def _lines(text: bytes) -> List[str]:
@@ -239,6 +248,94 @@ class Abnf(_PerThread):
     def canonical(self) -> bytes:
         """Returns the text of the grammar in its canonical form."""
         return canonical_text("abnf", self._text, self._file)
+
+    def lines(self, *, limit: int = DEFAULT_LENGTH, count: int = DEFAULT_COUNT) -> Iterator[bytes]:
+        """Returns an iterator over the first lines that the rule derives, as abnfg(1) lists them: shorter ones first,
+        each once. None is left out but those that hold a NUL byte. They have at most `limit` letters each, and are at
+        most `count`.
+
+        The program runs while the iterator is used. `ValueError` if `limit` is not from 1 to 16777216 or `count` not
+        from 1 to 4294967295, `ProgramMissing` if abnfg is not installed. The iterator raises `TooManyStacks` after the
+        last line that is found if more may follow, `OutOfMemory` if an allocation fails, and `ProgramFailed`.
+        """
+        _in_range("limit", limit, MAX_LIMIT)
+        _in_range("count", count, MAX_NUMBER)
+        words: List[Text] = [_programs.program_path("abnfg"), "--null-data", f"--limit={limit}", f"--count={count}"]
+        return self._listed(words + _options(self._letters, [("--rule", self._rule)]))
+
+    def _listed(self, words: Sequence[Text]) -> Iterator[bytes]:
+        reply = yield from _programs.parts(words, [self._text], b"\0")
+        if reply.status == Status.OVERLONG:
+            raise TooManyStacks(_lines(reply.err)[-1])
+        _raise_fault(reply, self._explained)
+
+    def compare(self, new: "Abnf", *, budget: int = DEFAULT_BUDGET) -> Comparison:
+        """Returns which lines this rule derives and that of `new` does not, and the reverse, as the function `compare`
+        does. `ValueError` if the letters of only one of them are bytes; else raises what `compare` raises."""
+        if self._letters != new._letters:
+            raise ValueError("the letters of one grammar are bytes, those of the other are not")
+        rules = [first_rule("abnf", it._text) if it._rule is None else it._rule for it in (self, new)]
+        names = [self._file or "old", new._file or "new"]
+        return _compared([self._text, new._text], rules, names, self._letters, budget)
+
+
+def _in_range(name: str, number: int, most: int) -> None:
+    if not 1 <= number <= most:
+        raise ValueError(f"{name} {number}: it is from 1 to {most}")
+
+
+def _options(letters: Letters, rules: Iterable[Tuple[str, Optional[str]]]) -> List[Text]:
+    """Returns the words of options: the letters, and the rules that have a name."""
+    words: List[Text] = ["--letters=utf8"] if letters == Letters.UTF8 else []
+    return words + [f"{option}={name}" for option, name in rules if name is not None]
+
+
+def compare(
+    old: Text,
+    new: Text,
+    *,
+    rule: Optional[str] = None,
+    new_rule: Optional[str] = None,
+    letters: Letters = Letters.BYTES,
+    budget: int = DEFAULT_BUDGET,
+) -> Comparison:
+    """Returns which lines a rule of one grammar in ABNF derives and that of another does not, and the reverse, as
+    abnfd(1) finds them.
+
+    `rule` is the rule of both, the first of each if it is None; `new_rule` is that of `new` where it has another name.
+    Lines have any length, and may hold any byte. For each of both answers the search looks at no more than `budget`
+    pairs of states, so an answer may be not known.
+
+    `GrammarError` if one of them is rejected: its notes have `old:` or `new:` before them, and the files of its
+    findings are `old` and `new`. `ValueError` if `budget` is not from 1 to 4294967295, `ProgramMissing` if abnfd is not
+    installed, `OutOfMemory` if an allocation fails; and `ProgramFailed`.
+    """
+    return _compared([as_bytes(old), as_bytes(new)], [rule, new_rule], ["old", "new"], letters, budget)
+
+
+def _compared(
+    texts: Sequence[bytes], rules: Sequence[Optional[str]], names: Sequence[str], letters: Letters, budget: int
+) -> Comparison:
+    """Returns the comparison of the texts of two grammars. A new rule that is None is that of the old grammar."""
+    _in_range("budget", budget, MAX_NUMBER)
+    named = zip(("--rule", "--new-rule"), rules)
+    words: List[Text] = [_programs.program_path("abnfd"), f"--budget={budget}", *_options(letters, named)]
+    reply = _programs.run(words, texts)
+
+    def explained() -> List[Finding]:
+        judged = [rules[0], rules[0] if rules[1] is None else rules[1]]
+        each = zip(texts, judged, names)
+        # A line may hold any byte here, so none is out of reach
+        found = (check("abnf", text, rule, letters=letters, nul=True, file=name) for text, rule, name in each)
+        return [it for part in found for it in part if it.code != "no-line"]
+
+    notes = tuple(_lines(reply.err))
+    if reply.status == Status.REFUSED:
+        raise GrammarError(list(notes), explained())
+    found = read_comparison(reply.out, notes)
+    if found is None:
+        raise ProgramFailed("abnfd writes an answer that this package does not know")
+    return found
 
 
 class PegRun(NamedTuple):

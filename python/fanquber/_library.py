@@ -121,7 +121,8 @@ def library_path() -> str:
 def loaded_path() -> str:
     """Returns the file of the shared object that this process has loaded, for a process without its environment."""
     with open("/proc/self/maps") as maps:
-        return next((it.split()[-1] for it in maps if it.rstrip().endswith(f"/{_SONAME}")), library_path())
+        loaded = (it.rstrip("\n").split(None, 5)[-1] for it in maps)
+        return next((it for it in loaded if it.endswith(f"/{_SONAME}")), library_path())
 
 
 def _loaded() -> ctypes.CDLL:

@@ -1,4 +1,5 @@
 """The playground in a browser. With SHOTS, the name of a folder, it leaves pictures there."""
+import base64
 import http.server
 import json
 import os
@@ -55,7 +56,7 @@ def page(server, browser):
         browser.get("about:blank")
         browser.get(server)
         try:
-            wait(browser, lambda: text(browser, "#count") != "", 20)
+            wait(browser, lambda: text(browser, "#derived") != "", 20)
             return browser
         except TimeoutException:
             print(text(browser, "#state"))
@@ -89,7 +90,7 @@ def shot(browser, name):
 
 
 def test_first_sight(page):
-    wait(page, lambda: text(page, "#count") == "2 of 5 derived")
+    wait(page, lambda: text(page, "#derived") == "2 of 5 derived")
     assert page.current_url.endswith("/"), "the secret leaves the address bar"
     assert len(page.find_elements(By.CSS_SELECTOR, "#input .line-yes")) == 2
     assert len(page.find_elements(By.CSS_SELECTOR, "#input .line-no")) == 3
@@ -138,7 +139,7 @@ def test_slow_grammars_are_ended(page):
     put(page, "input", "a" * 4000 + "b")
     wait(page, lambda: "too long" in text(page, "#state") or "memory" in text(page, "#state"), 25)
     put(page, "input", "aaa")
-    wait(page, lambda: text(page, "#count") == "1 of 1 derived", 25)
+    wait(page, lambda: text(page, "#derived") == "1 of 1 derived", 25)
 
 
 def test_peg(page):
@@ -151,9 +152,9 @@ def test_peg(page):
 
 def test_records(page):
     choose(page, "example", "ABNF: heads of HTTP (RFC 9112)")
-    wait(page, lambda: text(page, "#count") == "1 of 1 derived")
+    wait(page, lambda: text(page, "#derived") == "1 of 1 derived")
     put(page, "input", "GET /index.html HTTP/1.1\nHost: ex\tample\n\n")
-    wait(page, lambda: text(page, "#count") == "0 of 1 derived")
+    wait(page, lambda: text(page, "#derived") == "0 of 1 derived")
     wait(page, lambda: len(page.find_elements(By.CSS_SELECTOR, "#input .wrong")) == 1)
     shot(page, "record")
 
@@ -191,6 +192,168 @@ def test_a_link_has_all_of_it(page, server):
         page.execute_script("location.hash = arguments[0]", wrong)
     assert page.execute_script(shown, "input") == ["x\n\u20ac"]
     put(page, "input", "y")
+    wait(page, lambda: "#" not in page.current_url)
+
+
+VALUE = "return document.querySelector(`#${arguments[0]} .CodeMirror`).CodeMirror.getValue()"
+LINES = "return [...document.getElementById('lines').options].map((it) => it.label)"
+BITS = 'bits = 1*2("0" / "1")\n'
+
+
+def write(browser, grammar):
+    """Puts a grammar there, whose first rule is judged."""
+    choose(browser, "rule", "")
+    put(browser, "grammar", grammar)
+
+
+def open_pane(browser, name):
+    browser.find_element(By.ID, f"tab-{name}").click()
+    assert browser.find_element(By.ID, name).is_displayed()
+
+
+@pytest.mark.usefixtures("programs")
+def test_samples(page):
+    write(page, BITS)
+    open_pane(page, "samples")
+    wait(page, lambda: text(page, "#samples-state") == "6 lines: all of at most 64 letters")
+    assert page.execute_script(LINES) == ['"0"', '"1"', '"00"', '"01"', '"10"', '"11"']
+    assert text(page, "#samples-command") == "abnfg -c 20 -l 64 grammar.abnf"
+    put(page, "input", "2")
+    page.execute_script("document.getElementById('lines').selectedIndex = 2")
+    page.find_element(By.ID, "add").click()
+    wait(page, lambda: text(page, "#derived") == "1 of 2 derived")
+    assert page.execute_script(VALUE, "input") == "2\n00"
+    write(page, 'b = *"x"\n')
+    wait(page, lambda: text(page, "#samples-state") == "20 lines")
+    choose(page, "count", "100")
+    wait(page, lambda: text(page, "#samples-state") == "100 lines")
+    assert page.execute_script(LINES)[:3] == ['""', '"X"', '"x"']
+    shot(page, "samples")
+    write(page, 'a = a "b" / "c"\n')
+    wait(page, lambda: text(page, "#samples-state") == "too many stacks: more lines may follow")
+    write(page, "a = b\n")
+    wait(page, lambda: text(page, "#samples-state") == "rule 'b' used but not defined")
+    assert page.execute_script(LINES) == []
+
+
+@pytest.mark.usefixtures("programs")
+def test_samples_with_line_ends(page):
+    write(page, 'a = "x" CRLF "y" / LF / %xFF / %x00 / SP SP\n')
+    open_pane(page, "samples")
+    wait(page, lambda: page.execute_script(LINES) == ['"\\x00"', '"\\xFF"', '"  "'])
+    choose(page, "cut", "whole")
+    lines = ['"\\x0A"', '"\\xFF"', '"  "', *(f'"{x}\\x0D\\x0A{y}"' for x in "Xx" for y in "Yy")]
+    wait(page, lambda: page.execute_script(LINES) == lines)
+    taken = {}
+    for ends in ("lf", "crlf"):
+        choose(page, "ends", ends)
+        for at in range(4):
+            put(page, "input", "?")
+            page.execute_script("document.getElementById('lines').selectedIndex = arguments[0]", at)
+            page.find_element(By.ID, "add").click()
+            taken[ends, at] = page.execute_script(VALUE, "input")
+    # Only with its line ends can the input hold a record: one that it cannot hold leaves it as it is
+    assert [taken["lf", at] for at in range(4)] == ["\n", "?", "  ", "?"]
+    assert [taken["crlf", at] for at in range(4)] == ["?", "?", "  ", "X\nY"]
+    assert text(page, "#samples-state") == "7 lines: all of at most 64 letters"
+    assert page.execute_script("return document.getElementById('lines').selectedIndex") == 3
+    wait(page, lambda: text(page, "#derived") == "1 of 1 derived")
+
+
+@pytest.mark.usefixtures("programs")
+def test_comparison(page):
+    write(page, 'date = 4DIGIT "-" 2DIGIT\n')
+    put(page, "input", "")
+    open_pane(page, "compare")
+    wait(page, lambda: text(page, "#compare-state") == "keep this grammar, then change it above")
+    page.find_element(By.ID, "keep").click()
+    wait(page, lambda: text(page, "#compare-state") == "same")
+    write(page, 'date = year "-" 1*2DIGIT\nyear = 4DIGIT\n')
+    wait(page, lambda: text(page, "#compare-state") == "differ")
+    rows = "return [...document.querySelectorAll('#alone p')].map((it) => it.textContent)"
+    wanted = ["Only the earlier grammar derives: none", 'Only this grammar derives: "0000-0"']
+    assert page.execute_script(rows) == wanted
+    assert text(page, "#compare-command") == "abnfd old.abnf new.abnf"
+    page.find_element(By.CSS_SELECTOR, "#alone button").click()
+    wait(page, lambda: text(page, "#derived") == "1 of 1 derived")
+    assert page.execute_script(VALUE, "input") == "0000-0"
+    shot(page, "compare")
+    # A rule of another name, and one that is missing
+    put(page, "old", 'month = DIGIT\nyear = "9"\n')
+    wait(page, lambda: text(page, "#compare-state") == "differ")
+    page.find_element(By.ID, "old-rule").send_keys("none")
+    wait(page, lambda: text(page, "#compare-state").startswith("old: rule 'none' used but not defined"))
+    assert page.execute_script(rows) == []
+    write(page, 'date = *2[DIGIT]\n')
+    page.find_element(By.ID, "old-rule").clear()
+    wait(page, lambda: text(page, "#compare-state") == "not known")
+
+
+@pytest.mark.usefixtures("programs")
+def test_comparison_of_an_example(page):
+    choose(page, "example", "ABNF: a field's value, RFC 7230 and 9110")
+    wait(page, lambda: text(page, "#compare-state") == "differ" and text(page, "#derived") == "1 of 2 derived")
+    buttons = page.find_elements(By.CSS_SELECTOR, "#alone button")
+    assert [it.text for it in buttons] == ['"\\x0D\\x0A "', '"! ! !"']
+    before = page.execute_script(VALUE, "input")
+    buttons[0].click()
+    wait(page, lambda: text(page, "#state") == "the input cannot hold this line")
+    assert page.execute_script(VALUE, "input") == before
+    buttons[1].click()
+    wait(page, lambda: text(page, "#derived") == "2 of 3 derived")
+    shot(page, "example")
+
+
+@pytest.mark.usefixtures("programs")
+def test_lines_are_no_markup(page):
+    write(page, 'a = %s"<img src=x onerror=window.hacked=1>"\n')
+    open_pane(page, "samples")
+    wait(page, lambda: page.execute_script(LINES) == ['"<img src=x onerror=window.hacked=1>"'])
+    open_pane(page, "compare")
+    put(page, "old", 'a = %s"</p><script>window.hacked=1</script>"\n')
+    wait(page, lambda: "<script>" in text(page, "#alone"))
+    assert page.execute_script("return window.hacked") is None
+    assert page.find_elements(By.CSS_SELECTOR, "#samples img, #alone script, #alone img") == []
+
+
+def test_panes_of_abnf_go_with_its_language(page):
+    open_pane(page, "compare")
+    choose(page, "kind", "peg")
+    assert not page.find_element(By.ID, "tab-samples").is_displayed()
+    assert not page.find_element(By.ID, "tab-compare").is_displayed()
+    assert page.find_element(By.ID, "diagrams").is_displayed()
+
+
+@pytest.mark.usefixtures("programs")
+def test_a_link_has_the_panes(page, server):
+    write(page, BITS)
+    open_pane(page, "compare")
+    put(page, "old", "bit = BIT\nbits = 1*BIT ; \u00e9\n")
+    page.find_element(By.ID, "old-rule").send_keys("bits")
+    choose(page, "count", "1000")
+    choose(page, "length", "16")
+    wait(page, lambda: text(page, "#compare-state") == "differ")
+    page.find_element(By.ID, "link").click()
+    made = page.current_url
+    page.execute_script("sessionStorage.removeItem('question')")
+    page.get("about:blank")
+    page.get(made)
+    wait(page, lambda: text(page, "#compare-state") == "differ")
+    assert page.find_element(By.ID, "compare").is_displayed()
+    assert page.execute_script(VALUE, "old") == "bit = BIT\nbits = 1*BIT ; \u00e9\n"
+    chosen = "return [...arguments].map((id) => document.getElementById(id).value)"
+    assert page.execute_script(chosen, "old-rule", "count", "length") == ["bits", "1000", "16"]
+    assert page.current_url == made
+    # A link of the question alone is one too; a wrong choice is none
+    it = {**QUESTION, "grammar": 'b = "y"\n'}
+    link = lambda it: "#=" + base64.urlsafe_b64encode(json.dumps(it).encode()).decode().rstrip("=")
+    page.execute_script("location.hash = arguments[0]", link(it))
+    wait(page, lambda: page.execute_script(VALUE, "grammar") == it["grammar"])
+    assert page.execute_script(VALUE, "old") == ""
+    for wrong in ({"pane": "x"}, {"count": "7"}, {"old": 1}):
+        page.execute_script("location.hash = arguments[0]", link({**it, "grammar": "", **wrong}))
+    assert page.execute_script(VALUE, "grammar") == it["grammar"]
+    open_pane(page, "samples")
     wait(page, lambda: "#" not in page.current_url)
 
 
@@ -254,7 +417,7 @@ def test_another_origin_gets_nothing(server, browser, tmp_path):
 
 def focused(browser):
     """Returns what has the focus: its id, or that of the editor or the pane that holds it."""
-    holds = "it.closest('#grammar, #input, #notes, #diagrams') || {}"
+    holds = "it.closest('#grammar, #input, #notes, #diagrams, #old, #alone') || {}"
     return browser.execute_script(f"const it = document.activeElement; return it.id || ({holds}).id || ''")
 
 
@@ -276,11 +439,56 @@ def test_the_keyboard_alone_is_enough(page):
     assert focused(page) == "grammar"
     # Tabs by the arrow keys
     page.execute_script("document.getElementById('tab-diagrams').focus()")
-    for name, pane in (("tab-out", "out"), ("tab-canonical", "canonical"), ("tab-command", "command")):
+    for pane in ("out", "canonical", "samples", "compare", "command"):
         page.switch_to.active_element.send_keys(Keys.ARROW_RIGHT)
-        assert focused(page) == name
+        assert focused(page) == f"tab-{pane}"
         assert page.find_element(By.ID, pane).is_displayed()
     assert not page.find_element(By.ID, "diagrams").is_displayed()
+    # Tabs that are not there are passed over
+    choose(page, "kind", "peg")
+    page.switch_to.active_element.send_keys(Keys.ARROW_LEFT)
+    assert focused(page) == "tab-canonical"
+
+
+@pytest.mark.usefixtures("programs")
+def test_the_keyboard_alone_is_enough_for_the_panes(page):
+    press = lambda *keys: page.switch_to.active_element.send_keys(*keys)
+    write(page, BITS)
+    put(page, "input", "")
+    page.execute_script("document.getElementById('tab-canonical').click()")
+    page.execute_script("document.getElementById('tab-canonical').focus()")
+    press(Keys.ARROW_RIGHT)
+    wait(page, lambda: text(page, "#samples-state").startswith("6 lines"))
+    for name in ("count", "length", "add", "lines"):
+        press(Keys.TAB)
+        assert focused(page) == name
+    press(Keys.ARROW_DOWN)
+    press(Keys.ENTER)
+    wait(page, lambda: text(page, "#derived") == "1 of 1 derived")
+    press(Keys.ARROW_DOWN)
+    press(Keys.ENTER)
+    wait(page, lambda: page.execute_script(VALUE, "input") == "1\n00")
+    assert focused(page) == "lines"
+    page.execute_script("document.getElementById('tab-samples').focus()")
+    press(Keys.ARROW_RIGHT)
+    press(Keys.TAB)
+    assert focused(page) == "keep"
+    press(Keys.ENTER)
+    wait(page, lambda: text(page, "#compare-state") == "same")
+    write(page, 'bits = 1*3("0" / "1")\n')
+    wait(page, lambda: text(page, "#compare-state") == "differ")
+    press(Keys.TAB)
+    assert focused(page) == "old-rule"
+    press(Keys.TAB)
+    assert focused(page) == "alone"
+    press(Keys.ENTER)
+    wait(page, lambda: page.execute_script(VALUE, "input") == "1\n00\n000")
+    press(Keys.TAB)
+    assert focused(page) == "old"
+    press("=")
+    wait(page, lambda: text(page, "#compare-state").startswith("old: line 1: syntax error"))
+    press(Keys.TAB)
+    assert focused(page) != "old"  # it is the last of the page
 
 
 def colour(browser, selector, name):
@@ -295,7 +503,11 @@ def test_light_and_dark(page, scheme):
     media = {"features": [{"name": "prefers-color-scheme", "value": scheme}]}
     page.execute_cdp_cmd("Emulation.setEmulatedMedia", media)
     editor = (".CodeMirror", ".CodeMirror-gutters", ".CodeMirror-scrollbar-filler", ".CodeMirror-gutter-filler")
-    for selector in ("body", "header", *editor, ".line-yes", ".line-no", "select"):
+    page.execute_script("document.getElementById('keep').click()")
+    open_pane(page, "samples")
+    open_pane(page, "compare")
+    panes = ("#lines", "#old-rule", "#old .CodeMirror", "#keep")
+    for selector in ("body", "header", *editor, ".line-yes", ".line-no", "select", *panes):
         shown = colour(page, selector, "backgroundColor")
         assert shown > 200 if scheme == "light" else shown < 90, selector
         ink = colour(page, selector, "color")
@@ -309,8 +521,17 @@ def test_at_400_pixels(page):
     page.execute_cdp_cmd("Emulation.setDeviceMetricsOverride", size)
     wide = "return Math.max(document.documentElement.scrollWidth, document.body.scrollWidth)"
     assert page.execute_script(wide) <= 400
-    for selector in ("#kind", "#example", "#grammar", "#input", "#tab-reference", "#diagrams"):
-        box = page.find_element(By.CSS_SELECTOR, selector).rect
-        assert box["x"] >= 0 and box["x"] + box["width"] <= 400 and box["height"] > 15, selector
-    shot(page, "small")
+    seen = ("#kind", "#example", "#grammar", "#input", "#tab-reference")
+    panes = {
+        "samples": ("#count", "#length", "#add", "#lines"),
+        "compare": ("#keep", "#old-rule", "#compare-state", "#old"),
+        "diagrams": ("#diagrams",),
+    }
+    for name, parts in panes.items():
+        open_pane(page, name)
+        for selector in (*seen, *parts):
+            box = page.find_element(By.CSS_SELECTOR, selector).rect
+            assert box["x"] >= 0 and box["x"] + box["width"] <= 400 and box["height"] > 15, selector
+        assert page.execute_script(wide) <= 400
+        shot(page, f"small-{name}")
     page.execute_cdp_cmd("Emulation.clearDeviceMetricsOverride", {})

@@ -20,6 +20,8 @@ assert day.judge(["1985-04-12", "1985-4-12"]) == [True, False]
 assert day.refusal("1985").expected[0].startswith('"-"')
 assert list(day.rules) == ["day"]
 assert Peg("S <- < [a-z]+ > { (yytext) }").run("tea").out == b"(tea)\\n"
+assert next(day.lines()) == b"0000-00-00"
+assert fanquber.compare('a = 1*"x"', 'a = "x" [a]').same
 """
 
 
@@ -37,7 +39,14 @@ def makers():
     )
 
 
+def has_programs():
+    """Returns whether the programs that a wheel has inside stand beside the shared object."""
+    library = pathlib.Path(_library.library_path())
+    return all(library.with_name(it).is_file() for it in ("abnfd", "abnfg"))
+
+
 @pytest.mark.skipif(not (TOP / "scripts/build/wheel.py").is_file(), reason="needs the repository")
+@pytest.mark.skipif(not has_programs(), reason="needs abnfd and abnfg beside the shared object")
 @pytest.mark.skipif(not shutil.which("readelf"), reason="needs readelf (Debian: binutils)")
 @pytest.mark.skipif(not makers(), reason="needs python3-setuptools, python3-wheel and python3-venv")
 def test_wheel(tmp_path):

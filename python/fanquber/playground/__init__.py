@@ -1,9 +1,9 @@
 """A page on this machine that shows what a grammar means while it is typed.
 
 The server answers on 127.0.0.1 alone, and only the page that it gave out itself: each question bears a secret that
-stands in the address which is printed. A question is a grammar and an input; it names no file, and none is read or
-written for it. A process of its own answers each, within limits. HTTP is that of waitress and Flask, the editor
-CodeMirror 5, which FANQUBER_CODEMIRROR names the folder of where it is not that of Debian.
+stands in the address which is printed. A question is a grammar and an input, or two grammars; it names no file, and
+none is read or written for it. A process of its own answers each, within limits. HTTP is that of waitress and Flask,
+the editor CodeMirror 5, which FANQUBER_CODEMIRROR names the folder of where it is not that of Debian.
 """
 import hmac
 import json
@@ -18,13 +18,16 @@ import tempfile
 import threading
 import time
 import webbrowser
-from typing import Any, Dict, List, NamedTuple, Set, Tuple
+from typing import Any, Callable, Dict, FrozenSet, List, NamedTuple, Set, Tuple
 
 import flask
 import railroad  # noqa: F401, the worker draws by it
 import waitress
 
-from .._library import loaded_path
+from .._library import Status, loaded_path
+from .._programs import ProgramMissing, program_path
+from ..comparisons import read_comparison
+from ..names import first_rule
 from .worker import MEGABYTE
 
 MOST = 256 * 1024
@@ -55,8 +58,21 @@ _HEADERS = {
     "Cross-Origin-Resource-Policy": "same-origin",
     "Cache-Control": "no-store",
 }
-_CHOICES = {"kind": ("abnf", "peg"), "letters": ("bytes", "utf8"), "cut": ("lines", "whole"), "ends": ("lf", "crlf")}
-_TEXTS = {"grammar", "input", "rule", *_CHOICES}
+_CHOICES = {
+    "kind": ("abnf", "peg"),
+    "letters": ("bytes", "utf8"),
+    "cut": ("lines", "whole"),
+    "ends": ("lf", "crlf"),
+    "count": ("20", "100", "1000"),
+    "length": ("16", "64", "256"),
+}
+_NAMES = ("rule", "old_rule")
+# The texts of each question.
+_ANSWER = frozenset(("grammar", "input", "rule", "kind", "letters", "cut", "ends"))
+_SAMPLES = frozenset(("grammar", "rule", "letters", "cut", "count", "length"))
+_COMPARISON = frozenset(("old", "old_rule", "grammar", "rule", "letters"))
+# What ended a process early, by its status.
+_EARLY = {-signal.SIGXCPU: "time", -signal.SIGXFSZ: "output"}
 
 
 class Limits(NamedTuple):
@@ -72,17 +88,19 @@ class Limits(NamedTuple):
     """Bytes of the run's output that are shown."""
 
 
+class Ended(NamedTuple):
+    """What a process wrote, its status, and what ended it early: nothing, `time`, `output` or `a signal`."""
+
+    out: bytes
+    err: bytes
+    status: int
+    early: str
+
+
 def answer(asked: Dict[str, str], limits: Limits = Limits()) -> Dict[str, Any]:
     """Returns all that the page shows of a grammar and an input. `broken_by` says what ended the run early: nothing,
     `time`, `output`, `a signal` or `a fault`."""
     began = time.monotonic()
-    start = {
-        "folder": str(_HERE.parents[1]),
-        "library": loaded_path(),
-        "memory": limits.memory,
-        "seconds": limits.processor,
-        "output": limits.output,
-    }
     said: Dict[str, Any] = {
         "rules": [],
         "canonical": "",
@@ -92,47 +110,107 @@ def answer(asked: Dict[str, str], limits: Limits = Limits()) -> Dict[str, Any]:
         "out": "",
         "status": None,
     }
-    parts, broken_by = _work([start, asked], limits.clock)
-    for part in parts:
-        said.update(part)
-    said["broken_by"] = broken_by or ("output" if said.pop("cut", False) else "")
+    ended = _work([], asked, limits, 32 * MEGABYTE)
+    # The last line of a process that was ended may be cut
+    for line in ended.out.split(b"\n")[:-1]:
+        said.update(json.loads(line))
+    fault = "a fault" if ended.status else ""
+    said["broken_by"] = ended.early or fault or ("output" if said.pop("cut", False) else "")
     said["command"] = script(asked)
     said["milliseconds"] = round(1000 * (time.monotonic() - began))
     return said
 
 
-def _work(given: List[Dict[str, Any]], seconds: float) -> Tuple[List[Dict[str, Any]], str]:
-    """Returns the parts that the worker writes in that time on the clock, and what ended it early."""
-    with tempfile.TemporaryFile() as lines, tempfile.TemporaryFile() as out:
-        lines.write(b"".join(json.dumps(it).encode() + b"\n" for it in given))
-        lines.seek(0)
-        words = [sys.executable, "-I", "-B", str(_HERE / "worker.py")]
+def samples(asked: Dict[str, str], limits: Limits = Limits()) -> Dict[str, Any]:
+    """Returns the first lines that the rule derives, each with its bytes as Latin-1, and the command that lists them.
+    `broken_by` says what it does in `answer`, `missing` names the program if it is not there, and `messages` has what
+    it writes on the grammar."""
+    whole = asked["cut"] == "whole"
+    options = ["-z"] * whole + ["-c", asked["count"], "-l", asked["length"], *_letters(asked)]
+    options += ["-s=" + asked["rule"]] if asked["rule"] else []
+    said, out = _run("abnfg", options, [asked["grammar"]], limits)
+    # After the last end stands nothing, or a line that is cut
+    said["lines"] = out.decode("latin-1").split("\0" if whole else "\n")[:-1]
+    said["command"] = shlex.join(["abnfg", *options, "grammar.abnf"])
+    return said
+
+
+def comparison(asked: Dict[str, str], limits: Limits = Limits()) -> Dict[str, Any]:
+    """Returns what `samples` does, with `answer` and `alone` in place of lines: `same`, `differ`, `not known` or empty,
+    and for the earlier and the present grammar what it alone derives, as text, and as a line if one is known."""
+    rule, old_rule = asked["rule"], asked["old_rule"]
+    options = _letters(asked)
+    if old_rule:
+        options += ["-s=" + old_rule, "-t=" + (rule or first_rule("abnf", asked["grammar"].encode()))]
+    elif rule:
+        options += ["-s=" + rule]
+    said, out = _run("abnfd", options, [asked["old"], asked["grammar"]], limits)
+    found = read_comparison(out)
+    sides = (found.old_alone, found.new_alone) if found else ()
+    said["answer"] = str(found).partition("\n")[0] if found else ""
+    said["alone"] = [[str(it), it.line.decode("latin-1") if it.line is not None else None] for it in sides]
+    said["command"] = shlex.join(["abnfd", *options, "old.abnf", "new.abnf"])
+    return said
+
+
+def _letters(asked: Dict[str, str]) -> List[str]:
+    return ["-u", "utf8"] if asked["letters"] == "utf8" else []
+
+
+def _run(name: str, options: List[str], grammars: List[str], limits: Limits) -> Tuple[Dict[str, Any], bytes]:
+    """Returns what the page shows of the run of a program, and its output."""
+    began = time.monotonic()
+    said: Dict[str, Any] = {"status": None, "messages": [], "broken_by": "", "missing": "", "milliseconds": 0}
+    try:
+        path = program_path(name)
+    except ProgramMissing:
+        said["missing"] = name
+        return said, b""
+    ended = _work([path, *options], grammars, limits, limits.output)
+    if ended.early or ended.status > Status.NO_MEMORY:
+        said["broken_by"] = ended.early or "a fault"
+    else:
+        said.update(status=ended.status, messages=ended.err.decode("latin-1").split("\n")[:-1])
+    said["milliseconds"] = round(1000 * (time.monotonic() - began))
+    return said, ended.out
+
+
+def _work(words: List[str], question: Any, limits: Limits, file: int) -> Ended:
+    """Runs the worker on a question, or as the program of some words on grammars. It may write so many bytes to a
+    file."""
+    start = {
+        "folder": str(_HERE.parents[1]),
+        "library": loaded_path(),
+        "words": words,
+        "memory": limits.memory,
+        "seconds": limits.processor,
+        "output": limits.output,
+        "file": file,
+    }
+    with tempfile.TemporaryFile() as given, tempfile.TemporaryFile() as out, tempfile.TemporaryFile() as err:
+        given.write(b"".join(json.dumps(it).encode() + b"\n" for it in (start, question)))
+        given.seek(0)
+        worker = [sys.executable, "-I", "-B", str(_HERE / "worker.py")]
         environment: Dict[str, str] = {}
         process = subprocess.Popen(
-            words, stdin=lines, stdout=out, stderr=subprocess.DEVNULL, env=environment, cwd="/", start_new_session=True
+            worker, stdin=given, stdout=out, stderr=err, env=environment, cwd="/", start_new_session=True
         )
         try:
-            status = process.wait(seconds)
+            status = process.wait(limits.clock)
         except subprocess.TimeoutExpired:
             process.kill()
             process.wait()
             status = -signal.SIGXCPU
         out.seek(0)
-        # The last line of a process that was ended may be cut
-        parts = [json.loads(it) for it in out if it.endswith(b"\n")]
-    early = {0: "", -signal.SIGXCPU: "time"}.get(status, "a signal" if status < 0 else "a fault")
-    return parts, early
+        err.seek(0)
+        return Ended(out.read(), err.read(), status, _EARLY.get(status, "a signal" if status < 0 else ""))
 
 
 def script(asked: Dict[str, str]) -> str:
     """Returns a script for a shell that makes the same files and the same run by `abnfi` or `pegi`."""
     words = ["pegi" if asked["kind"] == "peg" else "abnfi", "-x"]
     if asked["kind"] == "abnf":
-        words += [
-            "-w",
-            *(["-u", "utf8"] if asked["letters"] == "utf8" else []),
-            *(["-z"] if asked["cut"] == "whole" else []),
-        ]
+        words += ["-w", *_letters(asked), *(["-z"] if asked["cut"] == "whole" else [])]
     words += ["-s=" + asked["rule"]] if asked["rule"] else []
     lines = {it for part in ("grammar", "input") for it in asked[part].split("\n")}
     end = next(it for it in ("END", *(f"END{at}" for at in range(len(lines) + 1))) if it not in lines)
@@ -151,14 +229,22 @@ def _file(name: str, text: str, change: str, end: str) -> str:
     return f"{change or 'cat'} <<'{end}'{cut} > {name}\n{text}{last}{end}\n"
 
 
-def is_question(asked: Any) -> bool:
-    """Returns whether what was sent is a question: exactly these texts, choices of these."""
+def _is_text(it: Any) -> bool:
+    """Returns whether it is a text that UTF-8 can hold: JSON may have half of a surrogate pair."""
+    try:
+        return isinstance(it, str) and it.encode() is not None
+    except UnicodeEncodeError:
+        return False
+
+
+def is_question(asked: Any, texts: FrozenSet[str] = _ANSWER) -> bool:
+    """Returns whether what was sent is a question: exactly these texts, choices of those that there are."""
     return (
         isinstance(asked, dict)
-        and set(asked) == _TEXTS
-        and all(isinstance(it, str) for it in asked.values())
-        and all(asked[it] in allowed for it, allowed in _CHOICES.items())
-        and "\0" not in asked["rule"]
+        and set(asked) == texts
+        and all(map(_is_text, asked.values()))
+        and all(asked[it] in _CHOICES[it] for it in texts & set(_CHOICES))
+        and not any("\0" in asked[it] for it in texts & set(_NAMES))
     )
 
 
@@ -208,17 +294,28 @@ def page_app(port: int, secret: str) -> flask.Flask:
         folder, kind = _FILES[name]
         return flask.send_file(folder / name, mimetype=kind)
 
-    @app.post("/answer")
-    def answered() -> flask.Response:
+    def in_turn(texts: FrozenSet[str], answers: Callable[[Dict[str, str]], Dict[str, Any]]) -> flask.Response:
         asked: Any = flask.request.get_json()
-        if not is_question(asked):
+        if not is_question(asked, texts):
             flask.abort(400)
         if not turns.acquire(timeout=WAIT):
             flask.abort(503)
         try:
-            return flask.jsonify(answer(asked))
+            return flask.jsonify(answers(asked))
         finally:
             turns.release()
+
+    @app.post("/answer")
+    def answered() -> flask.Response:
+        return in_turn(_ANSWER, answer)
+
+    @app.post("/samples")
+    def listed() -> flask.Response:
+        return in_turn(_SAMPLES, samples)
+
+    @app.post("/compare")
+    def compared() -> flask.Response:
+        return in_turn(_COMPARISON, comparison)
 
     return app
 

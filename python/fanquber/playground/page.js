@@ -28,6 +28,21 @@ field      = name ":" *WSP value
 name       = 1*( ALPHA / "-" )
 value      = *( VCHAR / SP )
 `, input: "GET /index.html HTTP/1.1\nHost: example.org\nAccept: */*\n\n" },
+  "ABNF: a field's value, RFC 7230 and 9110": { kind: "abnf", rule: "", pane: "compare", old:
+`; RFC 7230, section 3.2
+field-value   = *( field-content / obs-fold )
+field-content = field-vchar [ 1*( SP / HTAB ) field-vchar ]
+field-vchar   = VCHAR / obs-text
+obs-fold      = CRLF 1*( SP / HTAB )
+obs-text      = %x80-FF
+`, grammar:
+`; RFC 9110, section 5.5
+field-value   = *field-content
+field-content = field-vchar
+                [ 1*( SP / HTAB / field-vchar ) field-vchar ]
+field-vchar   = VCHAR / obs-text
+obs-text      = %x80-FF
+`, input: "gzip, deflate\n a space before\n" },
   "PEG: a calculator's steps": { kind: "peg", rule: "", grammar:
 `Line    <- Sum '\\n' { print }
 Sum     <- Product ( '+' Product { add } / '-' Product { subtract } )*
@@ -72,26 +87,46 @@ const grammar = CodeMirror(by("grammar"), { ...common, screenReaderLabel: "Gramm
 const input = CodeMirror(by("input"), { ...common, screenReaderLabel: "Input",
   gutters: ["CodeMirror-linenumbers", "answers"] });
 
+const old = CodeMirror(by("old"), { ...common, screenReaderLabel: "Earlier grammar", mode: "abnf" });
+
 function question() {
   const it = Object.fromEntries(OPTIONS.map((id) => [id, by(id).value]));
   return { ...it, rule: by("rule").value, grammar: grammar.getValue(), input: input.getValue() };
 }
 
-async function ask() {
-  const mine = ++asked, it = question();
+// All of the page: the question, and what the panes add
+function state() {
+  return { ...question(), old: old.getValue(), "old-rule": by("old-rule").value, count: by("count").value,
+    length: by("length").value, pane: shownPane() };
+}
+
+function remember() {
+  const it = state();
   if (location.hash && location.hash !== linkTo(it)) history.replaceState(null, "", location.pathname);
   sessionStorage.setItem("question", JSON.stringify(it));
-  by("state").textContent = "..";
+}
+
+// Asks the server, and returns its answer; or shows why there is none and returns null
+async function post(path, asked, isLate, say) {
   let reply;
   try {
-    reply = await fetch("/answer", { method: "POST", body: JSON.stringify(it),
+    reply = await fetch(path, { method: "POST", body: JSON.stringify(asked),
       headers: { "Content-Type": "application/json", "X-Fanquber-Secret": sessionStorage.getItem("secret") || "" } });
-  } catch { if (mine === asked) say("the server does not answer", true); return; }
-  if (mine !== asked) return;  // an answer to what is no longer there
+  } catch { if (!isLate()) say("the server does not answer", true); return null; }
+  if (isLate()) return null;  // an answer to what is no longer there
   const refused = { 403: "open the address that the server printed", 413: "too long", 503: "busy" };
-  if (!reply.ok) return say(refused[reply.status] || `refused: ${reply.status}`, true);
-  latest = await reply.json();
-  if (mine === asked) show(it);
+  if (!reply.ok) { say(refused[reply.status] || `refused: ${reply.status}`, true); return null; }
+  const answer = await reply.json();
+  return isLate() ? null : answer;
+}
+
+async function ask() {
+  const mine = ++asked, it = question();
+  remember();
+  askPane();
+  by("state").textContent = "..";
+  const answer = await post("/answer", it, () => mine !== asked, say);
+  if (answer) { latest = answer; show(it); }
 }
 
 // All of the page as a fragment, which no browser sends to a server
@@ -106,17 +141,26 @@ function linked(hash) {
     const bytes = atob(hash.slice(2).replaceAll("-", "+").replaceAll("_", "/"));
     it = JSON.parse(new TextDecoder().decode(Uint8Array.from(bytes, (byte) => byte.charCodeAt(0))));
   } catch { return null; }
+  if (!it) return null;
   const isText = (id) => typeof it[id] === "string";
   const isChoice = (id) => [...by(id).options].some((option) => option.value === it[id]);
-  return it && ["rule", "grammar", "input"].every(isText) && OPTIONS.every(isChoice) ? it : null;
+  const orNone = (is) => (id) => it[id] === undefined || is(id);
+  const isPane = it.pane === undefined || PANES.includes(it.pane);
+  return isPane && ["rule", "grammar", "input"].every(isText) && OPTIONS.every(isChoice)
+    && ["old", "old-rule"].every(orNone(isText)) && ["count", "length"].every(orNone(isChoice)) ? it : null;
 }
 
 function say(text, bad) { by("state").textContent = text; by("state").className = bad ? "bad" : ""; }
 
+// Why a run came to no end
+function faultOf(it) {
+  return { time: "the run took too long and was ended", output: "the output is too long",
+    "a signal": "the run was ended", "a fault": "the run failed" }[it.broken_by]
+    || (it.status === 5 ? "out of memory" : "");
+}
+
 function show(it) {
-  const broken = { time: "the run took too long and was ended", output: "the output is too long",
-    "a signal": "the run was ended", "a fault": "the run failed" }[latest.broken_by]
-    || (latest.status === 5 ? "out of memory" : "");
+  const broken = faultOf(latest);
   say(broken || `${latest.milliseconds} ms`, Boolean(broken));
   showRules(it.rule);
   showNotes();
@@ -189,11 +233,11 @@ function showAnswers(it) {
   input.operation(() => {
     clearAnswers();
     by("why").replaceChildren();
-    by("count").textContent = "";
+    by("derived").textContent = "";
     if (it.kind === "peg") return showStop(it);
     const answers = latest.out.split("\n").slice(0, -1);
     const yes = answers.filter((answer) => answer === "yes").length;
-    if (answers.length) by("count").textContent = `${yes} of ${answers.length} derived`;
+    if (answers.length) by("derived").textContent = `${yes} of ${answers.length} derived`;
     if (it.cut === "whole") return answers.length && showWhole(it, answers[0]);
     answers.forEach((answer, line) => {
       mark(line, answer === "yes");
@@ -300,8 +344,108 @@ by("diagrams").addEventListener("click", (event) => {
   box.focus();
 });
 
+// Lines that the rule derives, and the comparison of two grammars: asked for while their pane is shown
+const shownPane = () => PANES.find((id) => !by(id).hidden);
+const PANE_QUESTIONS = {
+  samples: ({ grammar, rule, letters, cut }) =>
+    ({ grammar, rule, letters, cut, count: by("count").value, length: by("length").value }),
+  compare: ({ grammar, rule, letters }) =>
+    ({ old: old.getValue(), old_rule: by("old-rule").value, grammar, rule, letters }),
+};
+let askedPane = 0, shownFor = "", listed = [];
+
+async function askPane() {
+  const pane = shownPane(), asked = PANE_QUESTIONS[pane] && PANE_QUESTIONS[pane](question());
+  const key = JSON.stringify([pane, asked]);
+  if (!asked || key === shownFor) return;  // a change of the input leaves the chosen line as it is
+  shownFor = key;
+  const mine = ++askedPane, say = sayIn(pane);
+  if (pane === "compare" && !asked.old.trim()) return showComparison({ command: "", alone: [] }, say);
+  say("..");
+  const it = await post(`/${pane}`, asked, () => mine !== askedPane, say);
+  if (it) (pane === "samples" ? showLines : showComparison)(it, say, asked);
+  else if (mine === askedPane) shownFor = "";
+}
+
+const sayIn = (pane) => (text, bad) => {
+  by(`${pane}-state`).textContent = text;
+  by(`${pane}-state`).className = bad ? "bad" : "";
+};
+
+// Why the run of a program has no answer
+function lackOf(it) {
+  if (it.missing) return `${it.missing} is not installed`;
+  return faultOf(it) || ([2, 4].includes(it.status) ? it.messages.join("; ") : "");
+}
+
+function showLines(it, say, asked) {
+  listed = it.lines;
+  by("lines").replaceChildren(...listed.map((line) => Object.assign(new Option(), { label: quoted(line) })));
+  if (listed.length) by("lines").selectedIndex = 0;
+  by("samples-command").textContent = it.command;
+  const all = listed.length < Number(asked.count) ? `: all of at most ${asked.length} letters` : "";
+  const lack = lackOf(it), known = { 1: "the rule derives no such line", 3: "too many stacks: more lines may follow" };
+  if (lack) say(listed.length ? `${lack}; these lines are right` : lack, true);
+  else say(known[it.status] || `${listed.length} ${listed.length === 1 ? "line" : "lines"}${all}`);
+}
+
+function showComparison(it, say) {
+  const lack = lackOf(it), which = ["the earlier", "this"];
+  say(lack || it.answer || "keep this grammar, then change it above", Boolean(lack));
+  by("compare-command").textContent = it.command;
+  by("alone").replaceChildren(...it.alone.map(([said, line], at) => shownAlone(which[at], said, line)));
+}
+
+// What one of two grammars alone derives; a line can go into the input
+function shownAlone(which, said, line) {
+  const row = document.createElement("p"), button = document.createElement("button");
+  row.textContent = `Only ${which} grammar derives: ${line === null ? said : ""}`;
+  if (line === null) return row;
+  button.type = "button"; button.textContent = said; button.title = "Put it into the input";
+  button.addEventListener("click", () => add(line));
+  row.append(button);
+  return row;
+}
+
+// A line, whose letters are its bytes, as abnfd(1) writes it
+function quoted(line) {
+  const escaped = (it) => "\\x" + it.charCodeAt(0).toString(16).toUpperCase().padStart(2, "0");
+  return `"${line.replace(/[^ !#-[\]-~]/g, escaped)}"`;
+}
+
+// The text of the input that is judged as this line; null if there is none
+function asInput(line) {
+  let text;
+  try {
+    const bytes = Uint8Array.from(line, (letter) => letter.charCodeAt(0));
+    text = new TextDecoder("utf-8", { fatal: true, ignoreBOM: true }).decode(bytes);
+  } catch { return null; }
+  const whole = by("cut").value === "whole", crlf = by("ends").value === "crlf";
+  const judged = crlf && !whole ? text + "\n" : text;
+  const shown = crlf ? judged.replaceAll("\r\n", "\n") : judged;
+  const again = crlf ? shown.replaceAll("\n", "\r\n") : shown;
+  const rest = crlf && !whole ? shown.slice(0, -1) : shown;
+  return again === judged && !(whole ? /[\r\0]/ : /[\r\n]/).test(rest) ? shown : null;
+}
+
+function add(line) {
+  const text = asInput(line), before = input.getValue();
+  if (text === null) return say("the input cannot hold this line", true);
+  const start = by("cut").value === "whole" ? "" : before && !before.endsWith("\n") ? before + "\n" : before;
+  input.setValue(start + text);
+  input.setCursor(input.posFromIndex(start.length));
+}
+
+by("add").addEventListener("click", () => {
+  const line = listed[by("lines").selectedIndex];
+  if (line !== undefined) add(line);
+});
+by("lines").addEventListener("keydown", (event) => { if (event.key === "Enter") by("add").click(); });
+by("lines").addEventListener("dblclick", () => by("add").click());
+by("keep").addEventListener("click", () => { by("old-rule").value = ""; old.setValue(grammar.getValue()); });
+
 // Tabs by the arrow keys, as the practices of ARIA have it
-const PANES = ["diagrams", "out", "canonical", "command", "reference"];
+const PANES = ["diagrams", "out", "canonical", "samples", "compare", "command", "reference"];
 function choose(id) {
   for (const other of PANES) {
     const tab = by("tab-" + other), is = other === id;
@@ -309,37 +453,48 @@ function choose(id) {
     tab.setAttribute("aria-selected", String(is));
     tab.tabIndex = is ? 0 : -1;
   }
+  if (id === "compare") old.refresh();
 }
 for (const [at, id] of PANES.entries()) {
-  by("tab-" + id).addEventListener("click", () => choose(id));
+  by("tab-" + id).addEventListener("click", () => { choose(id); remember(); askPane(); });
   by("tab-" + id).addEventListener("keydown", (event) => {
     const step = { ArrowRight: 1, ArrowLeft: -1 }[event.key];
     if (!step) return;
-    const next = PANES[(at + step + PANES.length) % PANES.length];
-    choose(next);
-    by("tab-" + next).focus();
+    let to = at;
+    do to = (to + step + PANES.length) % PANES.length; while (by("tab-" + PANES[to]).hidden);
+    by("tab-" + PANES[to]).click();
+    by("tab-" + PANES[to]).focus();
   });
 }
 
-let waiting = 0;
+let waiting = 0, waitingPane = 0;
 const soon = () => { clearTimeout(waiting); waiting = setTimeout(ask, 250); };
+const soonPane = () => { clearTimeout(waitingPane); waitingPane = setTimeout(() => { remember(); askPane(); }, 250); };
 grammar.on("change", soon);
 input.on("change", () => { clearAnswers(); soon(); });
 input.on("cursorActivity", showWhy);
 grammar.on("cursorActivity", showRule);
 for (const id of [...OPTIONS, "rule"]) by(id).addEventListener("change", () => { dress(); soon(); });
+for (const id of ["count", "length"]) by(id).addEventListener("change", soonPane);
+by("old-rule").addEventListener("input", soonPane);
+old.on("change", soonPane);
 
 function dress() {
   grammar.setOption("mode", by("kind").value);
   for (const kind of ["abnf", "peg"])
     document.querySelectorAll("." + kind).forEach((it) => { it.hidden = by("kind").value !== kind; });
+  if (by("tab-" + shownPane()).hidden) choose("diagrams");
 }
 
 function load(it) {
-  for (const id of OPTIONS) by(id).value = it[id] || by(id).options[0].value;
+  for (const id of [...OPTIONS, "count"]) by(id).value = it[id] || by(id).options[0].value;
+  by("length").value = it.length || "64";
   by("rule").replaceChildren(new Option("the first", ""), ...(it.rule ? [new Option(it.rule, it.rule)] : []));
   by("rule").value = it.rule || "";
+  by("old-rule").value = it["old-rule"] || "";
+  if (it.pane) choose(it.pane);
   dress();
+  old.setValue(it.old || "");
   grammar.setValue(it.grammar);
   input.setValue(it.input);
   soon();
@@ -347,7 +502,7 @@ function load(it) {
 
 for (const name of Object.keys(EXAMPLES)) by("example").append(new Option(name, name));
 by("example").addEventListener("change", () => { const it = EXAMPLES[by("example").value]; if (it) load(it); });
-by("link").addEventListener("click", () => history.replaceState(null, "", linkTo(question())));
+by("link").addEventListener("click", () => history.replaceState(null, "", linkTo(state())));
 window.addEventListener("hashchange", () => { const it = linked(location.hash); if (it) load(it); });
 const kept = sessionStorage.getItem("question");
 load(linked(location.hash) || (kept ? JSON.parse(kept) : EXAMPLES["ABNF: date and time (RFC 3339)"]));

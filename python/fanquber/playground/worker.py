@@ -1,24 +1,29 @@
 """Answers one question of the playground: a process of its own, within limits of time and memory.
 
 It reads the question from standard input as JSON and writes its answer on standard output in parts, a line of JSON
-each, so that what was found before a limit ends it stands. The first line of its input is the folder of the package
-and the path of the shared object. It bounds itself before it loads the library.
+each, so that what was found before a limit ends it stands. The first line of its input is the folder of the package,
+the path of the shared object, and the limits. It bounds itself before it loads the library. If the first line has the
+words of a command, the process becomes that program, whose last words are the files of the grammars that the question
+is.
 """
 import json
+import os
 import resource
+import signal
 import sys
-from typing import Any, Dict
+import tempfile
+from typing import Any, Dict, List
 
 MEGABYTE = 1 << 20
 MOST_RULES = 400  # that are drawn
 
 
-def bound(memory: int, seconds: int) -> None:
-    """Sets the limits of this process: its address space in bytes, and its processor time in seconds. The hard limit
-    of time is a second above, so that the kernel says why it ends the process."""
+def bound(memory: int, seconds: int, file: int) -> None:
+    """Sets the limits of this process: its address space and what it writes to a file in bytes, and its processor time
+    in seconds. The hard limit of time is a second above, so that the kernel says why it ends the process."""
     resource.setrlimit(resource.RLIMIT_AS, (memory, memory))
     resource.setrlimit(resource.RLIMIT_CPU, (seconds, seconds + 1))
-    resource.setrlimit(resource.RLIMIT_FSIZE, (32 * MEGABYTE, 32 * MEGABYTE))
+    resource.setrlimit(resource.RLIMIT_FSIZE, (file, file))
     resource.setrlimit(resource.RLIMIT_NOFILE, (16, 16))
     resource.setrlimit(resource.RLIMIT_CORE, (0, 0))
 
@@ -62,12 +67,26 @@ def answer(asked: Dict[str, str], most: int) -> None:
     write({"stops": stops, "out": out, "status": int(reply.status), "cut": len(reply.out) > most})
 
 
+def become(words: List[str], grammars: List[str]) -> None:
+    """Runs a program in place of this process, with an empty environment. The files of the grammars have no names."""
+    files = [tempfile.TemporaryFile() for _ in grammars]
+    for file, grammar in zip(files, grammars):
+        file.write(grammar.encode())
+        file.flush()
+        os.set_inheritable(file.fileno(), True)
+    for it in (signal.SIGXFSZ, signal.SIGPIPE):  # which Python ignores, and so would the program
+        signal.signal(it, signal.SIG_DFL)
+    operands = (f"/proc/self/fd/{it.fileno()}" for it in files)
+    environment: Dict[str, str] = {}
+    os.execve(words[0], [it.encode() for it in (*words, *operands)], environment)
+
+
 def main() -> None:
     start, question = json.loads(sys.stdin.buffer.readline()), json.loads(sys.stdin.buffer.readline())
-    bound(start["memory"], start["seconds"])
+    bound(start["memory"], start["seconds"], start["file"])
+    if start["words"]:
+        become(start["words"], question)
     sys.path.insert(0, start["folder"])
-    import os
-
     os.environ["FANQUBER_LIBRARY"] = start["library"]
     try:
         answer(question, start["output"])
@@ -76,4 +95,7 @@ def main() -> None:
 
 
 if __name__ == "__main__":
-    main()
+    try:
+        main()
+    except BaseException:
+        os._exit(70)  # which is the status of no program
