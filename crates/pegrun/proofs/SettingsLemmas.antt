@@ -47,7 +47,8 @@ module _ (rules : List Rule) (start : ℕ) (a b : PegSettings) (input : Input) (
       over_before_end (rw whole over) (λ fault. rw limit (may fault)) lt
   ends_by s last stop (over_at_end over may is) = over_at_end (rw whole over) (λ fault. rw limit (may fault)) is
 
-  unfoldable pub plain_by : (reply : Reply) → PlainReplies rules start a input reply → PlainReplies rules start b input reply
+  unfoldable pub plain_by : (reply : Reply) → PlainReplies rules start a input reply
+      → PlainReplies rules start b input reply
   plain_by reply r = record {
     point = r.point;
     before = r.before;
