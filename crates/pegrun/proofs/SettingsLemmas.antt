@@ -13,7 +13,7 @@ use Rattle.toolrun.specs.declared.stop.Stop.{Stop}
 
 module _ (rules : List Rule) (start : ℕ) (a b : PegSettings) (input : Input) (limit : b.limit ≡ a.limit)
     (raw : b.options.raw ≡ a.options.raw) (whole : b.options.whole ≡ a.options.whole) where
-  taken_by : (s : ℕ) → taken_at a input s ≡ taken_at b input s
+  pub taken_by : (s : ℕ) → taken_at a input s ≡ taken_at b input s
   taken_by s = rw limit refl
 
   gives_by : (s : ℕ) (o : Outcome) → GivesAt rules start a input s o → GivesAt rules start b input s o
@@ -33,7 +33,7 @@ module _ (rules : List Rule) (start : ℕ) (a b : PegSettings) (input : Input) (
   units_by s text (one_more at k before last us u lt) =
       one_more at k before last (units_by at before us) (unit_by at k last u) lt
 
-  ends_by : (s : ℕ) (last : List ℕ) (stop : Stop) → Ends rules start a input s last stop
+  pub ends_by : (s : ℕ) (last : List ℕ) (stop : Stop) → Ends rules start a input s last stop
       → Ends rules start b input s last stop
   ends_by s last stop (broken fault lt) = broken fault (rw limit lt)
   ends_by s last stop (overlong o looked goes may gives lt) =
