@@ -1,11 +1,12 @@
 -- The words of the program: its command, as a parse reads it, and what the words ask for.
 use Prim.Native.Char.{code}
-use Rattle.std.specs.Prelude.{◌≡◌, List, [], ◌∷◌, Option, Some, None, codes, map, pos, true, if◌then◌else◌}
+use Rattle.std.specs.Prelude.{◌≡◌, ◌&&◌, List, [], ◌∷◌, Bool, Option, Some, None, codes, is_some, map, pos, true}
+use Rattle.std.specs.Prelude.{if◌then◌else◌}
 use Rattle.std.specs.Str.{bytes_eq}
 use Rattle.clap.specs.Words.{App, Row, Rule, Text, first_of, new_rule, with_rule}
 use Rattle.clap.specs.declared.builder.action.ArgAction.TheVariants.{Set}
 use Rattle.clap.specs.declared.builder.value_parser.ValueParser.TheVariants as vp
-use Rattle.cli.specs.Command.{Names, long_named, program_app, rule_rule}
+use Rattle.cli.specs.Command.{Names, flag_rule, long_named, program_app, rule_rule}
 use Rattle.letters.specs.declared.alphabet.Alphabet.{Alphabet}
 use Rattle.letters.specs.declared.alphabet.Alphabet.TheVariants.{Bytes, Utf8}
 
@@ -16,6 +17,10 @@ AreSymbolNames names = map (λ s. s.now) names.now ≡ codes "bytes" ∷ codes "
 -- `-t RULE`, any text
 abbrev pub second_rule : Rule
 second_rule = record (new_rule (codes "new-rule")) { short = Some (code "t"); value_names = 1 }
+
+-- `-a`
+abbrev pub all_rule : Rule
+all_rule = flag_rule (codes "all") (code "a")
 
 -- `-u MODE`, one of the names; `bytes` where it is not given
 abbrev pub symbols_rule : Names → Rule
@@ -40,10 +45,11 @@ budget_rule = record (new_rule (codes "budget")) {
 abbrev pub operand_rule : Text → Rule
 operand_rule id = record (new_rule id) { value_names = 1; action = Some Set; required = true }
 
--- `abnfd [-s RULE] [-t RULE] [-b N] OLD NEW`
+-- `abnfd [-s RULE] [-t RULE] [-a] [-b N] OLD NEW`
 abbrev pub plain_app : App
-plain_app = with_rule (with_rule (with_rule (with_rule (with_rule (program_app (codes "abnfd")) (long_named rule_rule))
-    (long_named second_rule)) (long_named budget_rule)) (operand_rule (codes "old"))) (operand_rule (codes "new"))
+plain_app = with_rule (with_rule (with_rule (with_rule (with_rule (with_rule (program_app (codes "abnfd"))
+    (long_named rule_rule)) (long_named second_rule)) all_rule) (long_named budget_rule)) (operand_rule (codes "old")))
+    (operand_rule (codes "new"))
 
 -- and `[-u MODE]`
 abbrev pub abnfd_app : Names → App
@@ -73,3 +79,7 @@ old_rule_asked rows = first_of (codes "rule") rows
 
 abbrev pub new_rule_asked : List Row → Option Text
 new_rule_asked rows = new_rule_found (first_of (codes "new-rule") rows) (first_of (codes "rule") rows)
+
+-- all rules are asked for, and one too
+abbrev pub is_clash : Bool → Option Text → Bool
+is_clash all new_rule = all && is_some new_rule

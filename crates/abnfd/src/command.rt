@@ -2,12 +2,13 @@
 ghost use Rattle.std.specs.Prelude.{◌≡◌, IfOk, codes, false, map, option_copied, string_bytes};
 ghost use Rattle.abnfd.specs.CompareWords.{AreSymbolNames, IsAbnfdApp, budget_rule, new_rule_found, operand_rule};
 ghost use Rattle.abnfd.specs.CompareWords.{plain_app, symbols_named, symbols_rule};
-ghost use Rattle.clap.specs.Words.{app_of, first_value, found_of, rule_of};
+ghost use Rattle.clap.specs.Words.{app_of, first_value, found_of, one_text, rule_of};
+ghost use Rattle.cli.specs.Asked.{IsFlagOf};
 ghost use Rattle.cli.specs.Parsing.{Parses};
 
 use crate::compared::CompareSettings;
 use clap::{Arg, ArgAction, ArgMatches, Command, Error, value_parser};
-use cli::{add_option, program_command};
+use cli::{add_flag, add_option, program_command};
 use letters::Alphabet;
 use std::alloc::{AllocError, Global};
 
@@ -26,6 +27,7 @@ Arguments:
 Grammar:
   -s, --rule <RULE>      Compare this rule of both grammars [default: the first rule]
   -t, --new-rule <RULE>  Compare this rule of NEW [default: that of -s]
+  -a, --all              Compare all rules that both grammars define, by name
 
 Comparison:
   -u, --letters <MODE>  Take bytes or code points of UTF-8 as letters [default: bytes] [possible values: bytes, utf8]
@@ -35,7 +37,7 @@ Other options:
   -h, --help     Print this help
       --version  Print the version
 
-Exit status:
+Exit status, with -a the greatest of all rules:
   0  same: both rules derive the same lines
   1  differ: a line is derived by one of them alone
   2  a grammar or the arguments are refused
@@ -91,12 +93,13 @@ fn plain_command<'a>(alloc: Global) -> Result<Command<'a>, AllocError>
     let command = add_option(command, rule)?;
     let new_rule = Arg::new(alloc, "new-rule").short('t').value_name("RULE");
     let command = add_option(command, new_rule)?;
+    let command = add_flag(command, alloc, "all", 'a')?;
     let command = add_option(command, budget_arg(alloc))?;
     let command = command.arg(operand(alloc, "old", "OLD"))?;
     command.arg(operand(alloc, "new", "NEW"))
 }
 
-/// Returns the command `abnfd [-s RULE] [-t RULE] [-b N] [-u MODE] OLD NEW`, or an error if an allocation fails.
+/// Returns the command `abnfd [-s RULE] [-t RULE] [-a] [-b N] [-u MODE] OLD NEW`, or an error if an allocation fails.
 pub(crate) fn abnfd_command<'a>(alloc: Global) -> Result<Command<'a>, AllocError>
     ensures { (app : _) × IsAbnfdApp app × IfOk result (λ c. app_of c ≡ app) }
 {
@@ -139,12 +142,14 @@ fn new_rule_of<'a>(matches: &ArgMatches<'a>) -> Option<&'a str>
 
 /// Returns how the words ask to compare.
 pub(crate) fn settings_of<'a>(matches: &ArgMatches<'a>) -> CompareSettings<'a>
+    ensures all { IsFlagOf (one_text (found_of matches.now) (codes "all")) result.all }
     ensures old_rule { option_copied result.old_rule ≡ first_value (found_of matches.now) (codes "rule") }
     ensures new_rule { option_copied result.new_rule ≡ new_rule_found (first_value (found_of matches.now)
         (codes "new-rule")) (first_value (found_of matches.now) (codes "rule")) }
     ensures letters { result.letters ≡ symbols_named (first_value (found_of matches.now) (codes "letters")) }
 {
     CompareSettings {
+        all: matches.get_flag("all"),
         old_rule: matches.get_str("rule"),
         new_rule: new_rule_of(matches),
         letters: letters_of(matches),

@@ -1,6 +1,6 @@
 pub mod CellMap
 pub mod State
-pub mod Steps
+pub mod NextSteps
 pub mod Desk
 pub mod VisitLists
 pub mod SeenVisits

@@ -36,7 +36,7 @@ pub returns-clause-lowered : goal.returns-clause-lowered
 returns-clause-lowered c =
     let made = c.new.ensures in
     let facts = o.ok_both c.new.result _ _ made.nodes (o.ok_both c.new.result _ _ made.limit
-    (o.ok_both c.new.result _ _ made.bodies made.whole)) in
+    (o.ok_both c.new.result _ _ made.bodies made.start)) in
     MatchResult-weaker c.new.result facts (λ flat is.
     o.is_lowered (rules_of c.args.rules.now) c.args.limit c.args.grammar.now.judged _ _ _ c.index.result.now _ _ _ _ _ _
     c.in_ok-bodies.ensures (sym (length-map c.args.rules.now.rules rule_of))
