@@ -21,6 +21,7 @@ end
 
 complete -c abnfd -s s -l rule -x -a '(__abnfd_rules)' -d 'Compare this rule of both grammars [default: the first rule]'
 complete -c abnfd -s t -l new-rule -x -a '(__abnfd_rules)' -d 'Compare this rule of NEW [default: that of -s]'
+complete -c abnfd -s a -l all -d 'Compare all rules that both grammars define, by name'
 complete -c abnfd -s u -l letters -x -a 'bytes utf8' -d 'Take bytes or code points of UTF-8 as letters'
 complete -c abnfd -s b -l budget -x -d 'Search at most N pairs of states, from 1 to 4294967295'
 complete -c abnfd -s h -l help -f -d 'Print this help'

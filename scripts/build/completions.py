@@ -100,6 +100,7 @@ PROGRAMS = (
     Program("abnfd", (
         Option("s", "rule", "RULE", (), "Compare this rule of both grammars [default: the first rule]"),
         Option("t", "new-rule", "RULE", (), "Compare this rule of NEW [default: that of -s]"),
+        Option("a", "all", "", (), "Compare all rules that both grammars define, by name"),
         Option("u", "letters", "MODE", ("bytes", "utf8"), "Take bytes or code points of UTF-8 as letters"),
         Option("b", "budget", "N", (), "Search at most N pairs of states, from 1 to 4294967295"),
         HELP,

@@ -123,6 +123,9 @@ COMPARED = compared("rules that differ", b's = 1*ALPHA "\\"\n', b't = 1*2ALPHA "
 ALIKE = compared("rules that derive the same lines", b's = "a" s / "b"\n', b's = *"a" "b"\n', [b"same\n"])
 REJECTED = compared("grammars that are rejected", b"s = <any>\n", b"s : x\n", [],
                     b"old: prose in rule 's'\nnew: line 1: syntax error\n", 2)
+BY_NAME = compared("all rules by name", b's = 1*ALPHA\nt = "x"\n', b'S = *ALPHA\nu = "y"\n',
+                   [b"s: differ\n", b"< t\n", b"> u\n"],
+                   b"old: rule 't' defined but not used\nnew: rule 'u' defined but not used\n", 1, words=["-a"])
 
 LISTED = listed("lines of a rule", b'd = 1*2BIT "x"\nu = d\n', [b"0X\n", b"0x\n", b"1X\n", b"1x\n", b"00X\n"],
                 b"rule 'u' defined but not used\n", words=["-c", "5"])
@@ -162,6 +165,7 @@ GROWING = [
     COMPARED,
     ALIKE,
     REJECTED,
+    BY_NAME,
     LISTED,
     ALL_LISTED,
     NONE_LISTED,

@@ -5,8 +5,9 @@ usage: random_pairs.py [-n PAIRS] [-s SEED]
 
 A pair is a random grammar (random_abnf.py) and one like it: the same rules spelled otherwise, or with a part replaced,
 or another grammar. Each quoted line is judged by bin/abnfi and both grammars. Pairs and their order follow from the
-seed alone. Prints how many pairs were compared, and how often what was known; at the first disagreement it prints the
-pair, and then the status is 1. A program that is not built is skipped.
+seed alone. The lines of -a are compared with a run of each rule that both grammars define. Prints how many pairs were
+compared, and how often what was known; at the first disagreement it prints the pair, and then the status is 1. A
+program that is not built is skipped.
 """
 import argparse
 import collections
@@ -24,6 +25,8 @@ from short_lists import ShortLists, line_key, samples
 BIN = pathlib.Path(__file__).resolve().parents[2] / "bin"
 # The most lists that are made of the letters of a pair.
 MOST_LISTS = 600
+# The words of -a for the statuses.
+WORDS = {0: "same", 1: "differ", 2: "rejected", 3: "not known"}
 ALONE = re.compile(rb'[<>] (?:"(?P<line>(?:[ !#-\[\]-~]|\\x[0-9A-F]{2})*)"|(?P<none>none)'
                    rb"|none of at most (?P<most>\d+) letters|not known)")
 
@@ -133,6 +136,22 @@ def fault_of(old, new, is_utf8, ran, folder):
                        else "nothing" for it in known)
 
 
+def fault_of_all(old, new, options, folder):
+    """Returns what is wrong with a run with -a, if something is: a run of each rule gives the status of its line."""
+    def ran(*words):
+        words = [BIN / "abnfd", *options, *words, "old", "new"]
+        return subprocess.run(words, cwd=folder, capture_output=True, check=False)
+
+    olds, news = old.rules.spelled, new.rules.spelled
+    shared = [name for key, name in olds.items() if key in news]
+    statuses = [ran("-s", it).returncode for it in shared]
+    lines = [f"{name}: {WORDS[status]}\n" for name, status in zip(shared, statuses)]
+    lines += [f"< {name}\n" for key, name in olds.items() if key not in news]
+    lines += [f"> {name}\n" for key, name in news.items() if key not in olds]
+    wanted, run = ("".join(lines).encode(), max(statuses, default=0)), ran("-a")
+    return None if (run.stdout, run.returncode) == wanted else f"with -a {run}, not {wanted}"
+
+
 def main():
     words = argparse.ArgumentParser(description="Compares abnfd with slow answers to random pairs of grammars.")
     words.add_argument("-n", type=int, default=3000, metavar="PAIRS")
@@ -155,6 +174,8 @@ def main():
             ran = subprocess.run([BIN / "abnfd", *options, "old", "new"], cwd=folder, capture_output=True, check=False)
             fault, known = fault_of(old, new, is_utf8, ran, folder)
             counts["; ".join(known)] += 1
+            if not fault and number % 10 == 0:
+                fault = fault_of_all(old, new, options[2:] if rule else options, folder)
             if fault:
                 print(f"pair {number}: abnfd {' '.join(options)}: {fault}\n{ran}\nold: {old.text}\nnew: {new.text}")
                 return 1

@@ -1,10 +1,13 @@
 -- What is written of a report, and what the words ask for.
 -- Serves: abnfd_main (right)
-use Rattle.std.proofs.Common.{◌≡◌, ◌∙◌, ap, subst, refl, inl, inr, ℕ, Bool, List, [], Option, arith, true}
+use Rattle.std.proofs.Common.{◌≡◌, ◌∙◌, ap, ap₂, sym, subst, refl, inl, inr, ℕ, Bool, List, [], Option, arith}
+use Rattle.std.proofs.Common.{true, false}
 use Rattle.std.specs.Prelude.{Result, Ok, Err, codes}
 use Rattle.std.specs.Io.KnownBytes.{Appends}
-use Rattle.abnfd.specs.CompareAnswers.{CompareAnswers, FilesCompared, answer_reply}
-use Rattle.abnfd.specs.CompareWords.{new_rule_asked, new_rule_found, old_rule_asked, symbols_asked, symbols_named}
+use Rattle.abnfd.specs.CompareAnswers.{CompareAnswers, FilesCompared, answer_reply, clash_text, clashes}
+use Rattle.abnfd.specs.CompareAnswers.{compares_files}
+use Rattle.abnfd.specs.CompareWords.{all_asked, is_clash, new_rule_asked, new_rule_found, old_rule_asked}
+use Rattle.abnfd.specs.CompareWords.{symbols_asked, symbols_named}
 use Rattle.clap.specs.Words.{HasKind, Kinds, Text, first_of, first_value, kind_of, rows_of}
 use Rattle.clap.specs.declared.error.Error.{Error}
 use Rattle.clap.specs.declared.error.kind.ErrorKind.TheVariants.{OutOfMemory}
@@ -14,10 +17,12 @@ use Rattle.letters.specs.declared.alphabet.Alphabet.{Alphabet}
 use Rattle.ruletable.specs.Writing.{AppendsPart}
 use Rattle.ruletable.specs.declared.sink.WriteFault.{WriteFault}
 use Rattle.toolrun.specs.Input.{Input}
+use Rattle.toolrun.specs.Plan.{IsReportedAnd}
 use Rattle.toolrun.specs.Reply.{Reply}
 use Rattle.toolrun.specs.Stopped.{Performs}
 use Rattle.toolrun.specs.Stream.{no_input}
 use Rattle.toolrun.specs.declared.status.Status.{Status}
+use Rattle.toolrun.specs.declared.status.Status.TheVariants.{Refused}
 use Rattle.toolrun.specs.declared.stop.Stop.{Stop}
 use Rattle.toolrun.specs.declared.stop.Stop.TheVariants.{Quiet}
 
@@ -63,22 +68,38 @@ module _ (text : List ℕ) (status : Status) (s0 s1 : Option (List ℕ)) (was fa
   }
 
 -- what the getters read is what the rows ask for
-pub asked_compared : (f : Found) (alphabet : Alphabet) (old_rule new_rule : Option Text)
-    → alphabet ≡ symbols_named (first_value f (codes "letters")) → old_rule ≡ first_value f (codes "rule")
-    → new_rule ≡ new_rule_found (first_value f (codes "new-rule")) (first_value f (codes "rule"))
-    → (input : Input) (notes : List ℕ) (reply : Reply)
-    → FilesCompared alphabet old_rule new_rule input notes reply → CompareAnswers (rows_of f) input notes reply
-asked_compared f alphabet old_rule new_rule letters old new input notes reply is =
-    let rows = rows_of f in
-    let first = first_value-rows f in
-    let e1 : alphabet ≡ symbols_asked rows = letters ∙ ap symbols_named (first (codes "letters")) in
-    let e2 : old_rule ≡ old_rule_asked rows = old ∙ first (codes "rule") in
-    let e3 : new_rule ≡ new_rule_asked rows = new
-    ∙ (ap (λ (o : Option Text). new_rule_found o (first_value f (codes "rule"))) (first (codes "new-rule"))
-    ∙ ap (new_rule_found (first_of (codes "new-rule") rows)) (first (codes "rule"))) in
-    subst (λ (a : Alphabet). FilesCompared a (old_rule_asked rows) (new_rule_asked rows) input notes reply) e1
-    (subst (λ (o : Option Text). FilesCompared alphabet o (new_rule_asked rows) input notes reply) e2
-    (subst (λ (o : Option Text). FilesCompared alphabet old_rule o input notes reply) e3 is))
+module _ (f : Found) (all : Bool) (new_rule : Option Text) (flag : all ≡ all_asked (rows_of f))
+    (new : new_rule ≡ new_rule_found (first_value f (codes "new-rule")) (first_value f (codes "rule"))) where
+  rule_asked : new_rule ≡ new_rule_asked (rows_of f)
+  rule_asked =
+      let rows = rows_of f in
+      let first = first_value-rows f in
+      new
+      ∙ (ap (λ (o : Option Text). new_rule_found o (first_value f (codes "rule"))) (first (codes "new-rule"))
+      ∙ ap (new_rule_found (first_of (codes "new-rule") rows)) (first (codes "rule")))
+
+  clash_asked : is_clash all new_rule ≡ is_clash (all_asked (rows_of f)) (new_rule_asked (rows_of f))
+  clash_asked = ap₂ is_clash flag rule_asked
+
+  pub asked_twice : is_clash all new_rule ≡ true → (input : Input) (notes : List ℕ) (reply : Reply)
+      → IsReportedAnd clash_text (Quiet Refused) input notes reply → CompareAnswers (rows_of f) input notes reply
+  asked_twice twice input notes reply is = rw (is.0, is.1) (clashes (sym clash_asked ∙ twice))
+
+  pub asked_compared : (alphabet : Alphabet) (old_rule : Option Text)
+      → alphabet ≡ symbols_named (first_value f (codes "letters")) → old_rule ≡ first_value f (codes "rule")
+      → is_clash all new_rule ≡ false → (input : Input) (notes : List ℕ) (reply : Reply)
+      → FilesCompared all alphabet old_rule new_rule input notes reply → CompareAnswers (rows_of f) input notes reply
+  asked_compared alphabet old_rule letters old once input notes reply is =
+      let rows = rows_of f in
+      let first = first_value-rows f in
+      let e1 : alphabet ≡ symbols_asked rows = letters ∙ ap symbols_named (first (codes "letters")) in
+      let e2 : old_rule ≡ old_rule_asked rows = old ∙ first (codes "rule") in
+      compares_files (sym clash_asked ∙ once)
+      (subst (λ (b : Bool). FilesCompared b (symbols_asked rows) (old_rule_asked rows) (new_rule_asked rows) input notes
+      reply) flag
+      (subst (λ (a : Alphabet). FilesCompared all a (old_rule_asked rows) (new_rule_asked rows) input notes reply) e1
+      (subst (λ (o : Option Text). FilesCompared all alphabet o (new_rule_asked rows) input notes reply) e2
+      (subst (λ (o : Option Text). FilesCompared all alphabet old_rule o input notes reply) rule_asked is))))
 
 -- where nothing is wrong with the words, an allocation failed
 pub lacks_room : (kinds : Kinds) (error : Error) → kinds ≡ [] → HasKind kinds error → kind_of error ≡ OutOfMemory

@@ -1,3 +1,4 @@
 mod OpenedSideLemmas
 pub mod CompareAnswersLemmas
 pub mod CompareWordsLemmas
+pub mod RulesByNameLemmas

@@ -1,7 +1,7 @@
 -- What the program states where nothing is wrong with its words.
-use Rattle.std.specs.Prelude.{◌≡◌, ℕ, List, [], ◌++◌, Option, codes}
-use Rattle.abnfd.specs.CompareWords.{new_rule_asked, old_rule_asked, symbols_asked}
-use Rattle.abnfd.specs.ComparedTexts.{AreCompared}
+use Rattle.std.specs.Prelude.{◌≡◌, ℕ, Bool, true, false, List, [], ◌++◌, Option, codes}
+use Rattle.abnfd.specs.CompareWords.{all_asked, is_clash, new_rule_asked, old_rule_asked, symbols_asked}
+use Rattle.abnfd.specs.RulesByName.{IsAskedReport}
 use Rattle.abnfd.specs.declared.files.UnreadFile.{UnreadFile}
 use Rattle.abnfd.specs.declared.files.UnreadFile.TheVariants.{New, NoMemory, Old}
 use Rattle.clap.specs.Words.{Row}
@@ -12,7 +12,7 @@ use Rattle.toolrun.specs.Reply.{Reply}
 use Rattle.toolrun.specs.Status.{code_of}
 use Rattle.toolrun.specs.Stop.{message_of}
 use Rattle.toolrun.specs.declared.status.Status.{Status}
-use Rattle.toolrun.specs.declared.status.Status.TheVariants.{Fault}
+use Rattle.toolrun.specs.declared.status.Status.TheVariants.{Fault, Refused}
 use Rattle.toolrun.specs.declared.stop.Stop.{Stop}
 use Rattle.toolrun.specs.declared.stop.Stop.TheVariants as stop
 
@@ -36,17 +36,28 @@ missing_stop Old = stop.Quiet Fault
 missing_stop New = stop.Quiet Fault
 missing_stop NoMemory = stop.NoMemory
 
+-- the message where all rules are asked for, and one too
+abbrev pub clash_text : List ℕ
+clash_text = codes "error: the argument '-a' cannot be used with '-s' or '-t'\n\n"
+    ++ codes "Usage: abnfd [OPTIONS] <OLD> <NEW>\n\nFor more information, try '--help'.\n"
+
 -- What is stated for the files of two grammars: the report on their texts. No clause can say which text a file holds.
 -- Or one cannot be read, or an allocation failed.
-pub data FilesCompared (alphabet : Alphabet) (old_rule new_rule : Option (List ℕ)) (input : Input)
+pub data FilesCompared (all : Bool) (alphabet : Alphabet) (old_rule new_rule : Option (List ℕ)) (input : Input)
     : List ℕ → Reply → Type 0 where
   compares : {old new reported text : List ℕ} {status : Status}
-      → AreCompared alphabet old_rule new_rule old new reported text status
-      → FilesCompared alphabet old_rule new_rule input reported (answer_reply text status)
-  unread : (why : UnreadFile) → FilesCompared alphabet old_rule new_rule input (missing_text why)
+      → IsAskedReport alphabet old_rule new_rule old new all reported text status
+      → FilesCompared all alphabet old_rule new_rule input reported (answer_reply text status)
+  unread : (why : UnreadFile) → FilesCompared all alphabet old_rule new_rule input (missing_text why)
       (stopped (missing_stop why))
-  no_memory : FilesCompared alphabet old_rule new_rule input [] (stopped stop.NoMemory)
+  no_memory : FilesCompared all alphabet old_rule new_rule input [] (stopped stop.NoMemory)
 
--- what is stated for the matches of the words
-abbrev pub CompareAnswers : List Row → Input → List ℕ → Reply → Type 0
-CompareAnswers rows = FilesCompared (symbols_asked rows) (old_rule_asked rows) (new_rule_asked rows)
+-- What is stated for the matches of the words. They ask for all rules and for one, and nothing is read; or they do not,
+-- and the files are compared. Or an allocation failed.
+pub data CompareAnswers (rows : List Row) (input : Input) : List ℕ → Reply → Type 0 where
+  clashes : is_clash (all_asked rows) (new_rule_asked rows) ≡ true
+      → CompareAnswers rows input clash_text (stopped (stop.Quiet Refused))
+  compares_files : {notes : List ℕ} {reply : Reply} → is_clash (all_asked rows) (new_rule_asked rows) ≡ false
+      → FilesCompared (all_asked rows) (symbols_asked rows) (old_rule_asked rows) (new_rule_asked rows) input notes
+      reply → CompareAnswers rows input notes reply
+  unroomed : CompareAnswers rows input [] (stopped stop.NoMemory)

@@ -1,17 +1,20 @@
 -- The words of the program: its command, as a parse reads it, and what the words ask for.
 use Prim.Native.Char.{code}
-use Rattle.std.specs.Prelude.{◌≡◌, List, [], ◌∷◌, Option, Some, None, codes, true, if◌then◌else◌}
+use Rattle.std.specs.Prelude.{◌≡◌, ◌&&◌, List, [], ◌∷◌, Bool, Option, Some, None, codes, is_some, true}
+use Rattle.std.specs.Prelude.{if◌then◌else◌}
 use Rattle.std.specs.Str.{bytes_eq}
 use Rattle.clap.specs.Words.{App, Row, Text, first_of}
-use Rattle.cli.specs.Command.{AreAlphabets, Names, letters_rule, number_rule, operand_rule, program_app, rule_rule}
-use Rattle.cli.specs.Command.{value_rule}
+use Rattle.cli.specs.Asked.{is_flagged}
+use Rattle.cli.specs.Command.{AreAlphabets, Names, flag_rule, letters_rule, number_rule, operand_rule, program_app}
+use Rattle.cli.specs.Command.{rule_rule, value_rule}
 use Rattle.letters.specs.declared.alphabet.Alphabet.{Alphabet}
 use Rattle.letters.specs.declared.alphabet.Alphabet.TheVariants.{Bytes, Utf8}
 
--- `abnfd [-s RULE] [-t RULE] [-b N] OLD NEW [-u MODE]`
+-- `abnfd [-s RULE] [-t RULE] [-a] [-b N] OLD NEW [-u MODE]`
 abbrev pub abnfd_app : Names → App
 abnfd_app names = program_app (codes "abnfd") (rule_rule
     ∷ value_rule (codes "new-rule") (code "t")
+    ∷ flag_rule (codes "all") (code "a")
     ∷ number_rule (codes "budget") (code "b") 4294967295 (codes "1000000")
     ∷ operand_rule (codes "old") true
     ∷ operand_rule (codes "new") true
@@ -41,3 +44,11 @@ old_rule_asked rows = first_of (codes "rule") rows
 
 abbrev pub new_rule_asked : List Row → Option Text
 new_rule_asked rows = new_rule_found (first_of (codes "new-rule") rows) (first_of (codes "rule") rows)
+
+-- the words ask for all rules
+abbrev pub all_asked : List Row → Bool
+all_asked rows = is_flagged (first_of (codes "all") rows)
+
+-- all rules are asked for, and one too
+abbrev pub is_clash : Bool → Option Text → Bool
+is_clash all new_rule = all && is_some new_rule

@@ -4,3 +4,4 @@ pub mod ComparedSides
 pub mod ComparedTexts
 pub mod ComparisonText
 pub mod QuotedLines
+pub mod RulesByName

@@ -1,12 +1,12 @@
 //! The command line.
 ghost use Rattle.std.specs.Prelude.{◌≡◌, IfOk, codes, map, option_copied, string_bytes};
-ghost use Rattle.abnfd.specs.CompareWords.{IsAbnfdApp, new_rule_found, symbols_named};
-ghost use Rattle.clap.specs.Words.{app_of, first_value, found_of};
+ghost use Rattle.abnfd.specs.CompareWords.{IsAbnfdApp, all_asked, new_rule_found, symbols_named};
+ghost use Rattle.clap.specs.Words.{app_of, first_value, found_of, rows_of};
 ghost use Rattle.cli.specs.Parsing.{Parses};
 
 use crate::compared::CompareSettings;
 use clap::{ArgMatches, Command, Error};
-use cli::{Parameter, program_command};
+use cli::{Parameter, is_given, program_command};
 use letters::Alphabet;
 use std::alloc::{AllocError, Global};
 
@@ -22,6 +22,7 @@ Arguments:
 Grammar:
   -s, --rule <RULE>      Compare this rule of both grammars [default: the first rule]
   -t, --new-rule <RULE>  Compare this rule of NEW [default: that of -s]
+  -a, --all              Compare all rules that both grammars define, by name
 
 Comparison:
   -u, --letters <MODE>  Take bytes or code points of UTF-8 as letters [default: bytes] [possible values: bytes, utf8]
@@ -31,7 +32,7 @@ Other options:
   -h, --help     Print this help
       --version  Print the version
 
-Exit status:
+Exit status, with -a the greatest of all rules:
   0  same: both rules derive the same lines
   1  differ: a line is derived by one of them alone
   2  a grammar or the arguments are refused
@@ -43,16 +44,17 @@ Example:
   abnfd -s date old.abnf new.abnf";
 
 /// The options and operands.
-static PARAMETERS: [Parameter; 6] = [
+static PARAMETERS: [Parameter; 7] = [
     Parameter::Text("rule", 's', "RULE"),
     Parameter::Text("new-rule", 't', "RULE"),
+    Parameter::Flag("all", 'a'),
     Parameter::Number("budget", 'b', 4_294_967_295, "1000000"),
     Parameter::Operand("old", "OLD", true),
     Parameter::Operand("new", "NEW", true),
     Parameter::Choice("letters", 'u', "MODE", &["bytes", "utf8"], "bytes"),
 ];
 
-/// Returns the command `abnfd [-s RULE] [-t RULE] [-b N] [-u MODE] OLD NEW`, or an error if an allocation fails.
+/// Returns the command `abnfd [-s RULE] [-t RULE] [-a] [-b N] [-u MODE] OLD NEW`, or an error if an allocation fails.
 pub(crate) fn abnfd_command<'a>(alloc: Global) -> Result<Command<'a>, AllocError>
     ensures { (app : _) × IsAbnfdApp app × IfOk result (λ c. app_of c ≡ app) }
 {
@@ -93,12 +95,14 @@ fn new_rule_of<'a>(matches: &ArgMatches<'a>) -> Option<&'a str>
 
 /// Returns how the words ask to compare.
 pub(crate) fn settings_of<'a>(matches: &ArgMatches<'a>) -> CompareSettings<'a>
+    ensures all { result.all ≡ all_asked (rows_of (found_of matches.now)) }
     ensures old_rule { option_copied result.old_rule ≡ first_value (found_of matches.now) (codes "rule") }
     ensures new_rule { option_copied result.new_rule ≡ new_rule_found (first_value (found_of matches.now)
         (codes "new-rule")) (first_value (found_of matches.now) (codes "rule")) }
     ensures letters { result.letters ≡ symbols_named (first_value (found_of matches.now) (codes "letters")) }
 {
     CompareSettings {
+        all: is_given(matches, "all"),
         old_rule: matches.get_str("rule"),
         new_rule: new_rule_of(matches),
         letters: letters_of(matches),

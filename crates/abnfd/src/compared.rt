@@ -14,6 +14,8 @@ use toolrun::Status;
 /// How grammars are compared.
 #[derive(Clone, Copy)]
 pub(crate) struct CompareSettings<'a> {
+    /// Whether all rules are compared, by name.
+    pub(crate) all: bool,
     /// The compared rule of the old grammar; its first rule if there is no name.
     pub(crate) old_rule: Option<&'a str>,
     /// The compared rule of the new grammar; its first rule if there is no name.
@@ -59,8 +61,8 @@ fn compared(
     })
 }
 
-// Answers where a grammar is rejected: nothing is written.
-fn rejected(alloc: Global) -> ComparisonAnswer
+/// Answers where a grammar is rejected: nothing is written.
+pub(crate) fn rejected(alloc: Global) -> ComparisonAnswer
     ensures text { result.text.items ≡ [] }
     ensures status { result.status ≡ Status.Refused }
 {
@@ -89,8 +91,8 @@ fn answer_to(
     }
 }
 
-// Returns the messages on both grammars, the old one's first. `Memory` if an allocation fails.
-fn both_reported(alloc: Global, old: &[u8], new: &[u8]) -> Result<Vec<u8>, Memory>
+/// Returns the messages on both grammars, the old one's first. `Memory` if an allocation fails.
+pub(crate) fn both_reported(alloc: Global, old: &[u8], new: &[u8]) -> Result<Vec<u8>, Memory>
     ensures { IfOk result (λ reported. reported.items ≡ old.now ++ new.now) }
 {
     let mut reported = Vec::new(alloc);

@@ -2,6 +2,7 @@
 #![tactic(auto)]
 
 mod answer;
+mod by_name;
 mod command;
 mod compared;
 mod files;

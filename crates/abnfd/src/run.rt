@@ -1,8 +1,8 @@
 //! The run of the program.
 ghost use Rattle.std.specs.Prelude.{◌≡◌, ◌≢◌, [], false, map, option_copied, string_bytes};
-ghost use Rattle.abnfd.specs.CompareAnswers.{CompareAnswers, FilesCompared, IsWholeReport, answer_reply, missing_stop};
-ghost use Rattle.abnfd.specs.CompareAnswers.{missing_text};
-ghost use Rattle.abnfd.specs.CompareWords.{IsAbnfdApp};
+ghost use Rattle.abnfd.specs.CompareAnswers.{CompareAnswers, FilesCompared, IsWholeReport, answer_reply, clash_text};
+ghost use Rattle.abnfd.specs.CompareAnswers.{missing_stop, missing_text};
+ghost use Rattle.abnfd.specs.CompareWords.{IsAbnfdApp, is_clash as asks_twice};
 ghost use Rattle.clap.specs.Words.{fault_of, found_of, matches_of, rows_of};
 ghost use Rattle.cli.specs.Parsing.{WordsState};
 ghost use Rattle.toolrun.specs.Plan.{IsReportedAnd};
@@ -11,8 +11,9 @@ ghost use Rattle.toolrun.specs.Status.{code_of};
 ghost use Rattle.toolrun.specs.Stopped.{Performs};
 ghost use Rattle.toolrun.specs.Stream.{no_input, passed};
 
+use crate::by_name::compare_asked;
 use crate::command::{parse_words, settings_of};
-use crate::compared::{CompareSettings, ComparisonAnswer, Report, compare_texts};
+use crate::compared::{CompareSettings, ComparisonAnswer, Report};
 use crate::files::{Texts, UnreadFile, read_both};
 use clap::ArgMatches;
 use cli::{Unready, end_unready};
@@ -49,17 +50,38 @@ fn end_compared<O: Sink, E: Sink>(report: &Report, out: &mut O, err: &mut E) -> 
     end_run(stop, out, err)
 }
 
-// Reports that the file of a grammar cannot be read, and ends.
-fn end_missing<O: Sink, E: Sink>(reported: &[u8], out: &mut O, err: &mut E) -> Status
+// Reports what is wrong, and ends with that status.
+fn end_reported<O: Sink, E: Sink>(
+    reported: &[u8],
+    status: Status,
+    out: &mut O,
+    err: &mut E,
+) -> Status
     requires out_is_fresh { O.failed out.old ≡ false }
     requires err_is_fresh { E.failed err.old ≡ false }
-    ensures right { RunIsRight (IsReportedAnd reported.now (Stop.Quiet Status.Fault)) no_input
+    ensures right { RunIsRight (IsReportedAnd reported.now (Stop.Quiet status)) no_input
         (passed O.contents O.failed out.old out.new) (passed E.contents E.failed err.old err.new) (code_of result) }
 {
     if write_whole(err, reported).is_err() {
         return close_run(out, err);
     }
-    end_run(Ok(Stop::Quiet(Status::Fault)), out, err)
+    end_run(Ok(Stop::Quiet(status)), out, err)
+}
+
+// Reports that options exclude each other, and ends.
+fn end_clash<O: Sink, E: Sink>(out: &mut O, err: &mut E) -> Status
+    requires out_is_fresh { O.failed out.old ≡ false }
+    requires err_is_fresh { E.failed err.old ≡ false }
+    ensures right { RunIsRight (IsReportedAnd clash_text (Stop.Quiet Status.Refused)) no_input
+        (passed O.contents O.failed out.old out.new) (passed E.contents E.failed err.old err.new) (code_of result) }
+{
+    let reported = b"error: the argument '-a' cannot be used with '-s' or '-t'
+
+Usage: abnfd [OPTIONS] <OLD> <NEW>
+
+For more information, try '--help'.
+";
+    end_reported(reported, Status::Refused, out, err)
 }
 
 // Ends a program that could not read both texts.
@@ -70,8 +92,14 @@ fn end_unread<O: Sink, E: Sink>(why: UnreadFile, out: &mut O, err: &mut E) -> St
         (passed O.contents O.failed out.old out.new) (passed E.contents E.failed err.old err.new) (code_of result) }
 {
     match why {
-        UnreadFile::Old => end_missing(b"old: cannot read the grammar\n", out, err),
-        UnreadFile::New => end_missing(b"new: cannot read the grammar\n", out, err),
+        UnreadFile::Old => {
+            let reported = b"old: cannot read the grammar\n";
+            end_reported(reported, Status::Fault, out, err)
+        }
+        UnreadFile::New => {
+            let reported = b"new: cannot read the grammar\n";
+            end_reported(reported, Status::Fault, out, err)
+        }
         UnreadFile::NoMemory => end_run(Ok(Stop::NoMemory), out, err),
     }
 }
@@ -86,18 +114,46 @@ fn compare_read<O: Sink, E: Sink>(
 ) -> Status
     requires out_is_fresh { O.failed out.old ≡ false }
     requires err_is_fresh { E.failed err.old ≡ false }
-    ensures right { RunIsRight (FilesCompared settings.now.letters (option_copied settings.now.old_rule)
-        (option_copied settings.now.new_rule)) no_input (passed O.contents O.failed out.old out.new)
-        (passed E.contents E.failed err.old err.new) (code_of result) }
+    ensures right { RunIsRight (FilesCompared settings.now.all settings.now.letters
+        (option_copied settings.now.old_rule) (option_copied settings.now.new_rule)) no_input
+        (passed O.contents O.failed out.old out.new) (passed E.contents E.failed err.old err.new) (code_of result) }
 {
-    match compare_texts(alloc, settings, texts.old.as_slice(), texts.new.as_slice()) {
+    match compare_asked(alloc, settings, texts) {
         Ok(report) => end_compared(&report, out, err),
         Err(_) => end_run(Ok(Stop::NoMemory), out, err),
     }
 }
 
-// Compares the grammars in the files that the words name.
-fn compare_asked<R: Files + AllocGlobal, O: Sink, E: Sink>(
+// Compares the grammars in the files of these names.
+fn compare_files<R: Files + AllocGlobal, O: Sink, E: Sink>(
+    rt: &R,
+    settings: &CompareSettings<'_>,
+    old: &str,
+    new: &str,
+    out: &mut O,
+    err: &mut E,
+) -> Status
+    requires out_is_fresh { O.failed out.old ≡ false }
+    requires err_is_fresh { E.failed err.old ≡ false }
+    ensures right { RunIsRight (FilesCompared settings.now.all settings.now.letters
+        (option_copied settings.now.old_rule) (option_copied settings.now.new_rule)) no_input
+        (passed O.contents O.failed out.old out.new) (passed E.contents E.failed err.old err.new) (code_of result) }
+{
+    match read_both(rt, old, new) {
+        Ok(texts) => compare_read(rt.alloc(), settings, &texts, out, err),
+        Err(why) => end_unread(why, out, err),
+    }
+}
+
+// Returns whether all rules are asked for, and one too.
+fn is_clash(settings: &CompareSettings<'_>) -> bool
+    ensures { result ≡ asks_twice settings.now.all (option_copied settings.now.new_rule) }
+{
+    settings.all && settings.new_rule.is_some()
+}
+
+// Compares what the words ask for.
+fn run_asked<R: Files + AllocGlobal, O: Sink, E: Sink>(
     rt: &R,
     matches: &ArgMatches<'_>,
     out: &mut O,
@@ -109,25 +165,30 @@ fn compare_asked<R: Files + AllocGlobal, O: Sink, E: Sink>(
         (passed O.contents O.failed out.old out.new) (passed E.contents E.failed err.old err.new) (code_of result) }
 {
     let settings = settings_of(matches);
+    if is_clash(&settings) {
+        return end_clash(out, err);
+    }
     let old = matches.get_str("old").unwrap_or("");
     let new = matches.get_str("new").unwrap_or("");
-    match read_both(rt, old, new) {
-        Ok(texts) => compare_read(rt.alloc(), &settings, &texts, out, err),
-        Err(why) => end_unread(why, out, err),
-    }
+    compare_files(rt, &settings, old, new, out, err)
 }
 
-/// Runs the program, whose words are its own name and `[-s RULE] [-t RULE] [-b N] [-u MODE] OLD NEW`: it compares the
-/// lines that a rule of the grammar in the file OLD derives with those of a rule of the grammar in the file NEW.
+/// Runs the program, whose words are its own name and `[-s RULE] [-t RULE] [-a] [-b N] [-u MODE] OLD NEW`: it compares
+/// the lines that a rule of the grammar in the file OLD derives with those of a rule of the grammar in the file NEW.
 ///
 /// - `-h`: the help on `out`, `Done`.
 /// - Other words: what is wrong with them on `err`, `Refused`, and nothing is read.
+/// - `-a` with `-s` or `-t`: a message on `err`, `Refused`, and nothing is read.
 /// - The first file that cannot be read: `old: ` or `new: ` and `cannot read the grammar`, `Fault`.
 /// - The notes on both grammars, or their faults, stand on `err`, the old one's first, each after `old: ` or `new: `.
 ///   If one is rejected, that is all: `Refused`.
 /// - Else `same` on `out`, `Done`; or `differ`, `NoMatch`, if the first line is known that one of the rules derives
 ///   alone, or `not known`, `Overlong`, and two lines. They say what is known of the lines that the old rule alone
 ///   derives, and of those of the new one.
+/// - `-a`: the messages as without it. Then a line on `out` for each rule that both texts define, in the order of OLD:
+///   its name, and `same`, `differ`, `rejected` or `not known`, as the comparison of these rules ends. After these come
+///   the names that OLD alone defines, each after `< `, and that NEW alone defines, each after `> `. The status is the
+///   greatest of the comparisons. A text with a fault: no line, `Refused`.
 /// - If an allocation fails: `out of memory`, `NoMemory`.
 pub(crate) fn abnfd_main<R: Files + AllocGlobal, O: Sink, E: Sink>(
     rt: &R,
@@ -145,7 +206,7 @@ pub(crate) fn abnfd_main<R: Files + AllocGlobal, O: Sink, E: Sink>(
         (passed O.contents O.failed out.old out.new) (passed E.contents E.failed err.old err.new) (code_of result)) }
 {
     match parse_words(rt.alloc(), words) {
-        Ok(matches) => compare_asked(rt, &matches, out, err),
+        Ok(matches) => run_asked(rt, &matches, out, err),
         Err(error) => end_unready(rt.alloc(), &Unready::Words(error), out, err),
     }
 }

@@ -8,10 +8,10 @@ use Rattle.toolrun.specs.declared.stop.Stop.TheVariants.{NoMemory}
 use Rattle.abnfd.proofs.run.end_unread.Goals as goal
 
 pub returns-in-Old : goal.returns-in-Old
-returns-in-Old g c = record { right = rw c.in-Old.is c.end_missing.ensures.right }
+returns-in-Old g c = record { right = rw c.in-Old.is c.end_reported.ensures.right }
 
 pub returns-in-New : goal.returns-in-New
-returns-in-New g c = record { right = rw c.in-New.is c.end_missing-in-New.ensures.right }
+returns-in-New g c = record { right = rw c.in-New.is c.end_reported-in-New.ensures.right }
 
 pub returns-in-NoMemory : goal.returns-in-NoMemory
 returns-in-NoMemory g c = record {

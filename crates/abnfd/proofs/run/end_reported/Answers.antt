@@ -3,16 +3,15 @@ use Rattle.std.proofs.Common.{◌≡◌, [], sym, true, false, ap, Some}
 use Rattle.std.specs.Result.{is_err}
 use Rattle.toolrun.specs.Status.{code_of}
 use Rattle.toolrun.specs.Stream.{passed}
-use Rattle.toolrun.specs.declared.status.Status.TheVariants.{Fault}
 use Rattle.toolrun.specs.declared.stop.Stop.TheVariants.{Quiet}
 use Rattle.toolrun.proofs.IsRightLemmas.{reported_cut, reported_stops, wrote-all, wrote-part}
-use Rattle.abnfd.proofs.run.end_missing.Goals as goal
+use Rattle.abnfd.proofs.run.end_reported.Goals as goal
 
 pub returns-then-is_err : goal.returns-then-is_err
 returns-then-is_err g c = record {
   right =
       let failed : is_err c.write_whole.result ≡ true = sym c.if-is_err.ensures.value in
-      reported_cut c.args.reported.now (Quiet Fault) (Some []) false false
+      reported_cut c.args.reported.now (Quiet c.args.status) (Some []) false false
       (passed g.O.Sink.contents g.O.Sink.failed c.args.out.now c.close.new.out)
       (passed g.E.Sink.contents g.E.Sink.failed c.args.err.now c.close.new.err) _ (code_of c.close.result)
       c.close.ensures.out
@@ -24,7 +23,7 @@ pub returns : goal.returns
 returns g c = record {
   right =
       let fine : is_err c.write_whole.result ≡ false = sym c.if-is_err.ensures.value in
-      reported_stops c.args.reported.now (Quiet Fault) (Some []) false false
+      reported_stops c.args.reported.now (Quiet c.args.status) (Some []) false false
       (passed g.O.Sink.contents g.O.Sink.failed c.args.out.now c.finish.new.out)
       (passed g.E.Sink.contents g.E.Sink.failed c.args.err.now c.finish.new.err) _ (code_of c.finish.result)
       c.finish.ensures.kept

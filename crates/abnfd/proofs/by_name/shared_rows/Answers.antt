@@ -1,0 +1,32 @@
+-- The lines of the names so far, and the next one.
+use Rattle.std.proofs.Common.{◌≡◌, ◌++◌, List, [], ℕ, arith, rules, subst, sym}
+use Rattle.std.proofs.lemmas.List.{length-map, take_all}
+use Rattle.std.specs.List.{filter}
+use Rattle.abnfd.specs.RulesByName.{HasRows, is_named, named_in}
+use Rattle.abnfd.proofs.RulesByNameLemmas.{more_rows, next_passes, no_rows}
+use Rattle.ruletable.specs.Rules.{names_of}
+use Rattle.abnfd.proofs.by_name.shared_rows.Goals as goal
+
+pub loop-id-init : goal.loop-id-init
+loop-id-init c = let none : c.new-text.result.items ≡ [] = search rules in rw none (no_rows _ _ _)
+
+pub loop-id-preserved : goal.loop-id-preserved
+loop-id-preserved c =
+    let texts = c.args.texts.now in
+    let names = names_of c.args.old.now in
+    let next = c.in_ok-status.ensures in
+    rw (next.2) (subst (λ (ns : List (List ℕ)). HasRows c.args.settings.now.letters texts.old.items texts.new.items ns
+    (c.loop-id.text.items ++ next.0) c.greater-most.result)
+    (sym (next_passes (is_named c.args.new.now) names c.loop-id.id c.name.result.now c.name.ensures))
+    (more_rows _ _ _ _ _ _ _ _ _ _ c.loop-id.invariant next.1 c.greater-most.ensures))
+
+pub returns : goal.returns
+returns c =
+    let texts = c.args.texts.now in
+    let names = names_of c.args.old.now in
+    let past = c.loop-id-test.false in
+    let size = length-map c.args.old.now.rules (λ rule. rule.name) in
+    let len = c.len-id-end.ensures.len in
+    subst (λ (ns : List (List ℕ)). HasRows c.args.settings.now.letters texts.old.items texts.new.items
+    (named_in c.args.new.now ns) c.loop-id.text.items c.loop-id.most)
+    (take_all c.loop-id.id names (omega (arith, past, size, len))) c.loop-id.invariant
