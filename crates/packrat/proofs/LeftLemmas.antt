@@ -12,7 +12,7 @@ use Rattle.memo.specs.declared.key_log.Given.{Given}
 use Rattle.memo.specs.declared.task.MatchTask.{MatchTask}
 use Rattle.memo.specs.declared.task.MatchTask.TheVariants.{Eval, Tail}
 use Rattle.packrat.specs.IterationsLeft.{members_of, most_members, ask_cost, wait_cost, frames_cost, most_begun}
-use Rattle.packrat.specs.IterationsLeft.{left}
+use Rattle.packrat.specs.IterationsLeft.{left, iteration_cost}
 use Rattle.packrat.specs.Turned.{AreTurnedFrames}
 use Rattle.packrat.specs.declared.iterations.Iterations as reported
 use Rattle.packrat.specs.Onward.{HasMember, IsWell}
@@ -67,6 +67,9 @@ times_less : (c most less more : ℕ) → less ≤ more → c * (most - more) �
 times_less c most less more le =
     let under : most - more ≤ most - less = omega (arith, le) in
     grind (arith, under)
+
+sums_less : (a b c d : ℕ) → a + c < a + d → b + c < b + d
+sums_less a b c d less = omega (arith, less)
 
 module _ (g : Grammar) (x : List ℕ) where
   abbrev Most : ℕ
@@ -322,3 +325,11 @@ module _ (g : Grammar) (x : List ℕ) where
       let one = less_on a j (tail_of e) given key head fs mid begun h are in
       let two = entered_less stored e mid gs t begun well i in
       omega (arith, one, two)
+
+  -- where no evaluation begins, an iteration that lowers what is left for one window does so for each
+  pub less_anywhere : (y : List ℕ) (t u : Iteration) (fs gs : List Frame) (begun : ℕ)
+      → left g x t fs begun < left g x u gs begun → left g y t fs begun < left g y u gs begun
+  unfolding left
+  less_anywhere y t u fs gs begun less =
+      sums_less ((4 * Most + 4) * (most_begun g x - begun)) ((4 * Most + 4) * (most_begun g y - begun))
+      (iteration_cost Most t + frames_cost Most fs) (iteration_cost Most u + frames_cost Most gs) less

@@ -4,6 +4,7 @@ use Rattle.std.proofs.Common.{◌≡◌, inl, inr, ℕ, Bool, true, false, zero,
 use Rattle.std.proofs.Common.{length, get_or, Some, refl, sym, subst, ap, arith, Vec, Global}
 use Rattle.std.specs.Prelude.{slice_get, ◌==◌}
 use Rattle.std.proofs.lemmas.Bool.{eqb-true}
+use Rattle.std.proofs.lemmas.List.{length-map}
 use Rattle.std.proofs.lemmas.Option.{slice_get_past, slice_get-get_or}
 use Rattle.pegread.specs.PegViews.{rules_of}
 use Rattle.gramcheck.specs.Grammar.{Grammar, IsSoundGrammar}
@@ -12,6 +13,7 @@ use Rattle.pegmatch.specs.declared.leaves.Tried.{Tried}
 use Rattle.gramcheck.specs.Outcome as Outcomes
 use Rattle.pegnodes.specs.Nodes as node
 use Rattle.pegnodes.specs.Nodes.{Shape, Spells, shapes_of, shape_of}
+use Rattle.pegnodes.proofs.NodeSpellsLemmas.{is_there}
 use Rattle.pegnodes.specs.declared.node.Node.{Node}
 use Rattle.pegnodes.specs.declared.node.Node.TheVariants as code
 use Rattle.memo.specs.declared.found.Found.{Found}
@@ -20,9 +22,10 @@ use Rattle.pegmatch.specs.Answers.{WasEnough}
 use Rattle.gramcheck.specs.Outcome.{Event}
 use Rattle.pegmatch.specs.Visits.{NodeTakes, NodeFails}
 use Rattle.packrat.specs.TaskGives.{joined}
-use Rattle.pegmatch.specs.KeptEvents.{quiet_outcome}
+use Rattle.pegmatch.specs.KeptEvents.{SpellsSome, quiet_outcome}
 use Rattle.pegmatch.proofs.AsksLemmas.{goes_onward}
 use Rattle.gramcheck.proofs.LongerInputLemmas.{ends_by}
+use Rattle.memo.specs.KeyLog.{row_of}
 use Rattle.memo.specs.declared.task.MatchTask.{MatchTask}
 use Rattle.memo.specs.declared.task.MatchTask.TheVariants.{Eval, Tail}
 use Rattle.pegnodes.specs.NodeWays.{way_of}
@@ -35,6 +38,17 @@ use Rattle.packrat.specs.declared.onward.Start.TheVariants as start
 use Rattle.packrat.specs.Begins.{AfterNone, IsLeaf}
 use Rattle.packrat.specs.Onward.{IsWell, AfterOne, GoesOn, HasMember, AfterStart, IsLed, entering_of}
 use Rattle.packrat.specs.TaskSteps.{FirstBy, TailFirstBy, IsFirst}
+
+-- a node that spells an expression is one of the grammar's nodes
+row_spelled : (g : Grammar) (n : ℕ) → SpellsSome (rules_of g.rules) (shapes_of g.nodes) n → n < length g.nodes
+row_spelled g n s =
+    let same : length (shapes_of g.nodes) ≡ length g.nodes = length-map g.nodes shape_of in
+    subst (λ v. n < v) same (is_there (rules_of g.rules) (shapes_of g.nodes) s.1)
+
+-- the node of a task of the grammar is one of its nodes
+pub row_within : (g : Grammar) (x : List ℕ) (a : MatchTask) → IsWell g x a → row_of a < length g.nodes
+row_within g x (Eval n p) w = row_spelled g n w.0
+row_within g x (Tail n i p) w = row_spelled g n w.0
 
 module _ (g : Grammar) (x : List ℕ) (more : Bool) (some : WasEnough x more 0) (sound : IsSoundGrammar g) where
   abbrev SG : MatchTask → Found → List Event → Type 0

@@ -139,7 +139,6 @@ pub(crate) fn is_fresh(log: &KeyLog, peg: &SoundPeg, node: usize, from: usize) -
 pub(crate) fn put_operands(
     log: &mut KeyLog,
     peg: &SoundPeg,
-    window: &[u8],
     iterations: Iterations,
 ) -> Result<(), Memory>
     requires sound { IsSoundGrammar peg.now }
@@ -148,10 +147,9 @@ pub(crate) fn put_operands(
     ensures rows { OnOk result (log.new.rows ≡ length peg.now.nodes) }
     ensures tasks { OnOk result (tasks_of log.new.stored ≡ operands_on (node_marks peg.now.keys iterations.operand)
         iterations.operand iterations.from (iterations.end - iterations.from) (tasks_of log.old.stored)) }
-    ensures keeps { OnOk result ((more : Bool) (links : List Link) →
-        AreDecided peg.now window.now more peg.now.keys iterations →
-        AreGiven peg.now window.now more links log.old.stored →
-        AreGiven peg.now window.now more links log.new.stored) }
+    ensures keeps { OnOk result ((window : List ℕ) (more : Bool) (links : List Link) →
+        AreDecided peg.now window more peg.now.keys iterations →
+        AreGiven peg.now window more links log.old.stored → AreGiven peg.now window more links log.new.stored) }
 {
     if peg.is_key_node(iterations.operand) {
         if iterations.from < iterations.end {
@@ -166,7 +164,6 @@ pub(crate) fn put_operands(
 pub(crate) fn put_iterations(
     log: &mut KeyLog,
     peg: &SoundPeg,
-    window: &[u8],
     iterations: Iterations,
     given: Given,
 ) -> Result<(), Memory>
@@ -175,11 +172,10 @@ pub(crate) fn put_iterations(
     ensures rows { OnOk result (log.new.rows ≡ length peg.now.nodes) }
     ensures tasks { OnOk result (tasks_of log.new.stored ≡ iterations_closed (node_marks peg.now.keys iterations.star)
         iterations.star iterations.from (iterations.end + 1 - iterations.from) (tasks_of log.old.stored)) }
-    ensures keeps { OnOk result ((more : Bool) (links : List Link) →
+    ensures keeps { OnOk result ((window : List ℕ) (more : Bool) (links : List Link) →
         ((p : ℕ) → iterations.from ≤ p → p < iterations.from + (iterations.end + 1 - iterations.from) →
-        GivenBy peg.now window.now more links (MatchTask.Eval iterations.star p) given) →
-        AreGiven peg.now window.now more links log.old.stored →
-        AreGiven peg.now window.now more links log.new.stored) }
+        GivenBy peg.now window more links (MatchTask.Eval iterations.star p) given) →
+        AreGiven peg.now window more links log.old.stored → AreGiven peg.now window more links log.new.stored) }
 {
     if peg.is_key_node(iterations.star) {
         log.put_run(iterations.star, iterations.from, iterations.end, given)?;

@@ -1,16 +1,16 @@
 //! The machine: it evaluates by a loop over frames in place of recursion, and stores the keys alone.
-ghost use Rattle.std.specs.Prelude.{◌≡◌, ◌+◌, ◌^◌, ◌<◌, ◌≤◌, Bool, true, List, [], ◌∷◌, length};
+ghost use Rattle.std.specs.Prelude.{◌≡◌, ℕ, ◌+◌, ◌^◌, ◌<◌, ◌≤◌, Bool, true, false, List, [], ◌∷◌, length};
 ghost use Rattle.std.specs.Prelude.{slice_get, Some, IfOk, OnOk, IfSome, IfNone};
-ghost use Rattle.gramcheck.specs.Grammar.{HasKeys, IsSoundGrammar};
+ghost use Rattle.gramcheck.specs.Grammar.{Grammar, HasKeys, IsSoundGrammar};
 ghost use Rattle.pegmatch.specs.Answers.{WasEnough};
 ghost use Rattle.packrat.specs.EventLog.{IsHead, AreGrown};
 ghost use Rattle.packrat.specs.declared.events.link.Link.{Link};
-ghost use Rattle.memo.specs.KeyLog.{tasks_of};
+ghost use Rattle.memo.specs.KeyLog.{tasks_of, row_of};
 ghost use Rattle.memo.specs.Parts.{IsIn};
 ghost use Rattle.memo.specs.declared.task.MatchTask.{MatchTask};
 ghost use Rattle.pegnodes.specs.KeyLists.{Marks};
 ghost use Rattle.packrat.specs.Skipped.{AreSkipped};
-ghost use Rattle.packrat.specs.Turned.{AreFree, IsKeyed};
+ghost use Rattle.packrat.specs.Turned.{AreDecided, AreFree, IsKeyed};
 ghost use Rattle.packrat.specs.LoopIterations.{Ask, Answer, iteration_of};
 ghost use Rattle.packrat.specs.IterationsLeft.{left, most_begun, FitsBegun};
 ghost use Rattle.packrat.specs.Begins.{IsRepeated, repeated_of};
@@ -108,19 +108,12 @@ fn stored_tail(
 
 // Ends a task with this result, which it stores if the task is a key.
 #[inline(always)]
-fn close(
-    log: &mut KeyLog,
-    peg: &SoundPeg,
-    window: &[u8],
-    task: MatchTask,
-    key: bool,
-    given: Given,
-) -> Result<(), Memory>
-    requires well { IsWell peg.now window.now task }
-    requires rows { log.old.rows ≡ length peg.now.nodes }
-    ensures rows { OnOk result (log.new.rows ≡ length peg.now.nodes) }
-    ensures closed { OnOk result ((more : Bool) (marks : Marks) (links : List Link) → key ≡ key_of marks task →
-        IsClosed peg.now window.now more marks links task given log.old.stored log.new.stored) }
+fn close(log: &mut KeyLog, task: MatchTask, key: bool, given: Given) -> Result<(), Memory>
+    requires { row_of task < log.old.rows }
+    ensures rows { log.new.rows ≡ log.old.rows }
+    ensures closed { OnOk result ((peg : Grammar) (window : List ℕ) (more : Bool) (marks : Marks) (links : List Link) →
+        key ≡ key_of marks task →
+        IsClosed peg window more marks links task given log.old.stored log.new.stored) }
 {
     if key {
         log.put(task, given)?;
@@ -130,21 +123,14 @@ fn close(
 
 // Ends a task that returns its first child's result, likewise. Few of these are keys, so it stands out of line.
 #[inline(never)]
-fn close_same(
-    log: &mut KeyLog,
-    peg: &SoundPeg,
-    window: &[u8],
-    task: MatchTask,
-    key: bool,
-    given: Given,
-) -> Result<(), Memory>
-    requires well { IsWell peg.now window.now task }
-    requires rows { log.old.rows ≡ length peg.now.nodes }
-    ensures rows { OnOk result (log.new.rows ≡ length peg.now.nodes) }
-    ensures closed { OnOk result ((more : Bool) (marks : Marks) (links : List Link) → key ≡ key_of marks task →
-        IsClosed peg.now window.now more marks links task given log.old.stored log.new.stored) }
+fn close_same(log: &mut KeyLog, task: MatchTask, key: bool, given: Given) -> Result<(), Memory>
+    requires { row_of task < log.old.rows }
+    ensures rows { log.new.rows ≡ log.old.rows }
+    ensures closed { OnOk result ((peg : Grammar) (window : List ℕ) (more : Bool) (marks : Marks) (links : List Link) →
+        key ≡ key_of marks task →
+        IsClosed peg window more marks links task given log.old.stored log.new.stored) }
 {
-    close(log, peg, window, task, key, given)
+    close(log, task, key, given)
 }
 
 // Pushes a frame that awaits a task's last child, if it is a key or has events: with the head of its events.
@@ -217,35 +203,27 @@ fn joined(events: &mut EventLog, first: usize, given: Given) -> Result<Given, Me
 impl Machine {
     // Begins a task that is neither a choice nor a repetition, and goes to a child or returns a result.
     #[inline(always)]
-    fn start_task(
-        &mut self,
-        peg: &SoundPeg,
-        window: &[u8],
-        task: MatchTask,
-        key: bool,
-        start: Start,
-    ) -> Result<Next, Memory>
-        requires well { IsWell peg.now window.now task }
-        requires rows { self.old.log.rows ≡ length peg.now.nodes }
-        requires few { self.old.begun ≤ most_begun peg.now window.now }
-        requires fits { FitsBegun peg.now window.now }
-        ensures rows { OnOk result (self.new.log.rows ≡ length peg.now.nodes) }
-        ensures stands { (more : Bool) → AfterStart peg.now window.now more task start → (root : MatchTask) →
-            key ≡ key_of peg.now.keys task → (key ≡ true → IsIn task (tasks_of self.old.log.stored) → ⊥) →
-            Stands peg.now window.now more peg.now.keys root (Ask task) self.old.frames
+    fn start_task(&mut self, task: MatchTask, key: bool, start: Start) -> Result<Next, Memory>
+        requires row { row_of task < self.old.log.rows }
+        requires fits { self.old.begun + 2 ^ 33 ≤ 2 ^ 64 }
+        ensures rows { OnOk result (self.new.log.rows ≡ self.old.log.rows) }
+        ensures stands { (peg : Grammar) (window : List ℕ) (more : Bool) → AfterStart peg window more task start →
+            (root : MatchTask) → key ≡ key_of peg.keys task →
+            (key ≡ true → IsIn task (tasks_of self.old.log.stored) → ⊥) →
+            Stands peg window more peg.keys root (Ask task) self.old.frames
             self.old.log.stored self.old.events self.old.begun →
-            IfOk result (λ iteration. Stands peg.now window.now more peg.now.keys root (iteration_of iteration)
+            IfOk result (λ iteration. Stands peg window more peg.keys root (iteration_of iteration)
             self.new.frames self.new.log.stored self.new.events self.new.begun) }
-        ensures less { (more : Bool) → AfterStart peg.now window.now more task start →
-            self.new.begun ≤ most_begun peg.now window.now → IfOk result (λ iteration.
-            left peg.now window.now (iteration_of iteration) self.new.frames self.new.begun
-            < left peg.now window.now (Ask task) self.old.frames self.old.begun) }
+        ensures less { (peg : Grammar) (window : List ℕ) (more : Bool) → IsWell peg window task →
+            AfterStart peg window more task start → self.new.begun ≤ most_begun peg window →
+            IfOk result (λ iteration. left peg window (iteration_of iteration) self.new.frames self.new.begun
+            < left peg window (Ask task) self.old.frames self.old.begun) }
     {
         self.begun = counted(self.begun, task);
         match start {
             Start::Gives(found) => {
                 let given = Given { found, events: 0 };
-                close(&mut self.log, peg, window, task, key, given)?;
+                close(&mut self.log, task, key, given)?;
                 Ok(Next::Answer(given))
             }
             Start::Marks(event) => {
@@ -253,7 +231,7 @@ impl Machine {
                     found: Found::Took(task.position()),
                     events: self.events.mark(event)?,
                 };
-                close(&mut self.log, peg, window, task, key, given)?;
+                close(&mut self.log, task, key, given)?;
                 Ok(Next::Answer(given))
             }
             Start::Leads { node, position } => {
@@ -312,31 +290,29 @@ impl Machine {
     }
 
     // Goes over iterations that bytes decide, to the repetition's end or to its evaluation after them.
-    fn run_iterations(
-        &mut self,
-        peg: &SoundPeg,
-        window: &[u8],
-        more: bool,
-        iterations: Iterations,
-    ) -> Result<Next, Memory>
+    fn run_iterations(&mut self, peg: &SoundPeg, iterations: Iterations) -> Result<Next, Memory>
         requires sound { IsSoundGrammar peg.now }
         requires keyed { IsKeyed peg.now }
         requires rows { self.old.log.rows ≡ length peg.now.nodes }
-        requires free { AreFree peg.now window.now more peg.now.keys (tasks_of self.old.log.stored)
-            (MatchTask.Eval iterations.star iterations.from) iterations }
+        requires star { iterations.star < length peg.now.nodes }
+        requires operand { iterations.operand < length peg.now.nodes }
+        requires some { iterations.whole ≡ false → iterations.from < iterations.end }
         requires fits { self.old.begun + iterations.evals < 2 ^ 64 }
         ensures rows { OnOk result (self.new.log.rows ≡ length peg.now.nodes) }
-        ensures stands { (root : MatchTask) → Stands peg.now window.now more peg.now.keys root
+        ensures stands { (window : List ℕ) (more : Bool) → AreFree peg.now window more peg.now.keys
+            (tasks_of self.old.log.stored) (MatchTask.Eval iterations.star iterations.from) iterations →
+            (root : MatchTask) → Stands peg.now window more peg.now.keys root
             (Ask (MatchTask.Eval iterations.star iterations.from)) self.old.frames
             self.old.log.stored self.old.events self.old.begun →
-            IfOk result (λ iteration. Stands peg.now window.now more peg.now.keys root (iteration_of iteration)
+            IfOk result (λ iteration. Stands peg.now window more peg.now.keys root (iteration_of iteration)
             self.new.frames self.new.log.stored self.new.events self.new.begun) }
-        ensures less { self.new.begun ≤ most_begun peg.now window.now → IfOk result (λ iteration.
-            left peg.now window.now (iteration_of iteration) self.new.frames self.new.begun < left peg.now window.now
+        ensures less { (window : List ℕ) (more : Bool) → AreDecided peg.now window more peg.now.keys iterations →
+            self.new.begun ≤ most_begun peg.now window → IfOk result (λ iteration.
+            left peg.now window (iteration_of iteration) self.new.frames self.new.begun < left peg.now window
             (Ask (MatchTask.Eval iterations.star iterations.from)) self.old.frames self.old.begun) }
     {
         self.begun += iterations.evals as u64;
-        put_operands(&mut self.log, peg, window, iterations)?;
+        put_operands(&mut self.log, peg, iterations)?;
         if iterations.whole {
             let last = MatchTask::Eval {
                 node: iterations.operand,
@@ -347,12 +323,12 @@ impl Machine {
                 events: 0,
             };
             let key = peg.is_key_node(iterations.operand);
-            close(&mut self.log, peg, window, last, key, failed)?;
+            close(&mut self.log, last, key, failed)?;
             let given = Given {
                 found: Found::Took(iterations.end),
                 events: 0,
             };
-            put_iterations(&mut self.log, peg, window, iterations, given)?;
+            put_iterations(&mut self.log, peg, iterations, given)?;
             Ok(Next::Answer(given))
         } else {
             wait_turned(&mut self.frames, peg, iterations)?;
@@ -365,32 +341,21 @@ impl Machine {
 
     // Begins a choice whose first alternatives fail, and goes to the next one, or returns that the choice fails.
     #[inline(always)]
-    fn run_skips(
-        &mut self,
-        peg: &SoundPeg,
-        window: &[u8],
-        task: MatchTask,
-        key: bool,
-        skips: Skips,
-    ) -> Result<Next, Memory>
-        requires sound { IsSoundGrammar peg.now }
-        requires keyed { IsKeyed peg.now }
-        requires well { IsWell peg.now window.now task }
-        requires rows { self.old.log.rows ≡ length peg.now.nodes }
-        requires few { self.old.begun ≤ most_begun peg.now window.now }
-        requires fits { FitsBegun peg.now window.now }
-        ensures rows { OnOk result (self.new.log.rows ≡ length peg.now.nodes) }
-        ensures stands { (more : Bool) → WasEnough window.now more 0 →
-            AreSkipped peg.now window.now more peg.now.keys task skips → (root : MatchTask) →
-            key ≡ key_of peg.now.keys task → (key ≡ true → IsIn task (tasks_of self.old.log.stored) → ⊥) →
-            Stands peg.now window.now more peg.now.keys root (Ask task) self.old.frames
+    fn run_skips(&mut self, task: MatchTask, key: bool, skips: Skips) -> Result<Next, Memory>
+        requires row { row_of task < self.old.log.rows }
+        requires fits { self.old.begun + 2 ^ 33 ≤ 2 ^ 64 }
+        ensures rows { OnOk result (self.new.log.rows ≡ self.old.log.rows) }
+        ensures stands { (peg : Grammar) (window : List ℕ) (more : Bool) → IsSoundGrammar peg → IsKeyed peg →
+            WasEnough window more 0 → AreSkipped peg window more peg.keys task skips → (root : MatchTask) →
+            key ≡ key_of peg.keys task → (key ≡ true → IsIn task (tasks_of self.old.log.stored) → ⊥) →
+            Stands peg window more peg.keys root (Ask task) self.old.frames
             self.old.log.stored self.old.events self.old.begun →
-            IfOk result (λ iteration. Stands peg.now window.now more peg.now.keys root (iteration_of iteration)
+            IfOk result (λ iteration. Stands peg window more peg.keys root (iteration_of iteration)
             self.new.frames self.new.log.stored self.new.events self.new.begun) }
-        ensures less { (more : Bool) → AreSkipped peg.now window.now more peg.now.keys task skips →
-            self.new.begun ≤ most_begun peg.now window.now → IfOk result (λ iteration.
-            left peg.now window.now (iteration_of iteration) self.new.frames self.new.begun
-            < left peg.now window.now (Ask task) self.old.frames self.old.begun) }
+        ensures less { (peg : Grammar) (window : List ℕ) (more : Bool) → IsWell peg window task →
+            AreSkipped peg window more peg.keys task skips → self.new.begun ≤ most_begun peg window →
+            IfOk result (λ iteration. left peg window (iteration_of iteration) self.new.frames self.new.begun
+            < left peg window (Ask task) self.old.frames self.old.begun) }
     {
         self.begun = counted_skips(self.begun, skips.evals);
         match skips.rest {
@@ -403,7 +368,7 @@ impl Machine {
                     found: Found::Failed,
                     events: 0,
                 };
-                close(&mut self.log, peg, window, task, key, given)?;
+                close(&mut self.log, task, key, given)?;
                 Ok(Next::Answer(given))
             }
         }
@@ -439,7 +404,7 @@ impl Machine {
             < left peg.now window.now (Ask (repeated_of repeated)) self.old.frames self.old.begun) }
     {
         match self.iterations_at(peg, window, more, repeated) {
-            Some(iterations) => self.run_iterations(peg, window, more, iterations),
+            Some(iterations) => self.run_iterations(peg, iterations),
             None => {
                 let task = MatchTask::Eval {
                     node: repeated.star,
@@ -462,72 +427,52 @@ impl Machine {
 
     // Begins a node whose outcome the byte at its position decides, and returns that.
     #[inline(always)]
-    fn end_known(
-        &mut self,
-        peg: &SoundPeg,
-        window: &[u8],
-        task: MatchTask,
-        key: bool,
-        known: Known,
-    ) -> Result<Next, Memory>
-        requires sound { IsSoundGrammar peg.now }
-        requires keyed { IsKeyed peg.now }
-        requires well { IsWell peg.now window.now task }
-        requires rows { self.old.log.rows ≡ length peg.now.nodes }
-        requires few { self.old.begun ≤ most_begun peg.now window.now }
-        requires fits { FitsBegun peg.now window.now }
-        ensures rows { OnOk result (self.new.log.rows ≡ length peg.now.nodes) }
-        ensures stands { (more : Bool) → WasEnough window.now more 0 →
-            IsKnown peg.now window.now more peg.now.keys task known → (root : MatchTask) →
-            key ≡ key_of peg.now.keys task → (key ≡ true → IsIn task (tasks_of self.old.log.stored) → ⊥) →
-            Stands peg.now window.now more peg.now.keys root (Ask task) self.old.frames
+    fn end_known(&mut self, task: MatchTask, key: bool, known: Known) -> Result<Next, Memory>
+        requires row { row_of task < self.old.log.rows }
+        requires fits { self.old.begun + 2 ^ 33 ≤ 2 ^ 64 }
+        ensures rows { OnOk result (self.new.log.rows ≡ self.old.log.rows) }
+        ensures stands { (peg : Grammar) (window : List ℕ) (more : Bool) → IsSoundGrammar peg → IsKeyed peg →
+            WasEnough window more 0 → IsKnown peg window more peg.keys task known → (root : MatchTask) →
+            key ≡ key_of peg.keys task → (key ≡ true → IsIn task (tasks_of self.old.log.stored) → ⊥) →
+            Stands peg window more peg.keys root (Ask task) self.old.frames
             self.old.log.stored self.old.events self.old.begun →
-            IfOk result (λ iteration. Stands peg.now window.now more peg.now.keys root (iteration_of iteration)
+            IfOk result (λ iteration. Stands peg window more peg.keys root (iteration_of iteration)
             self.new.frames self.new.log.stored self.new.events self.new.begun) }
-        ensures less { (more : Bool) → IsKnown peg.now window.now more peg.now.keys task known →
-            self.new.begun ≤ most_begun peg.now window.now → IfOk result (λ iteration.
-            left peg.now window.now (iteration_of iteration) self.new.frames self.new.begun
-            < left peg.now window.now (Ask task) self.old.frames self.old.begun) }
+        ensures less { (peg : Grammar) (window : List ℕ) (more : Bool) → IsSoundGrammar peg → IsWell peg window task →
+            IsKnown peg window more peg.keys task known → self.new.begun ≤ most_begun peg window →
+            IfOk result (λ iteration. left peg window (iteration_of iteration) self.new.frames self.new.begun
+            < left peg window (Ask task) self.old.frames self.old.begun) }
     {
         self.begun = counted_known(self.begun, known.evals);
         let given = Given {
             found: known.found,
             events: 0,
         };
-        close(&mut self.log, peg, window, task, key, given)?;
+        close(&mut self.log, task, key, given)?;
         Ok(Next::Answer(given))
     }
 
     // Begins a repetition of one or more whose operand takes the byte: goes on with it, or to an operand that is a key.
     #[inline(always)]
-    fn begin_plus(
-        &mut self,
-        peg: &SoundPeg,
-        window: &[u8],
-        key: bool,
-        taken: Taken,
-    ) -> Result<Next, Memory>
+    fn begin_plus(&mut self, peg: &SoundPeg, key: bool, taken: Taken) -> Result<Next, Memory>
         requires sound { IsSoundGrammar peg.now }
         requires keyed { IsKeyed peg.now }
-        requires well { IsWell peg.now window.now (taken_of taken) }
-        requires operand { IsWell peg.now window.now (MatchTask.Eval taken.operand taken.position) }
-        requires before { taken.position < length window.now }
-        requires rows { self.old.log.rows ≡ length peg.now.nodes }
-        requires few { self.old.begun ≤ most_begun peg.now window.now }
-        requires fits { FitsBegun peg.now window.now }
-        ensures rows { OnOk result (self.new.log.rows ≡ length peg.now.nodes) }
-        ensures stands { (more : Bool) → WasEnough window.now more 0 →
-            IsTaken peg.now window.now more peg.now.keys taken → (root : MatchTask) →
+        requires operand { taken.operand < self.old.log.rows }
+        requires before { taken.position + 1 < 2 ^ 64 }
+        requires fits { self.old.begun + 2 ^ 33 ≤ 2 ^ 64 }
+        ensures rows { OnOk result (self.new.log.rows ≡ self.old.log.rows) }
+        ensures stands { (window : List ℕ) (more : Bool) → WasEnough window more 0 →
+            IsTaken peg.now window more peg.now.keys taken → (root : MatchTask) →
             key ≡ key_of peg.now.keys (taken_of taken) →
             (key ≡ true → IsIn (taken_of taken) (tasks_of self.old.log.stored) → ⊥) →
-            Stands peg.now window.now more peg.now.keys root (Ask (taken_of taken)) self.old.frames
+            Stands peg.now window more peg.now.keys root (Ask (taken_of taken)) self.old.frames
             self.old.log.stored self.old.events self.old.begun →
-            IfOk result (λ iteration. Stands peg.now window.now more peg.now.keys root (iteration_of iteration)
+            IfOk result (λ iteration. Stands peg.now window more peg.now.keys root (iteration_of iteration)
             self.new.frames self.new.log.stored self.new.events self.new.begun) }
-        ensures less { (more : Bool) → IsTaken peg.now window.now more peg.now.keys taken →
-            self.new.begun ≤ most_begun peg.now window.now → IfOk result (λ iteration.
-            left peg.now window.now (iteration_of iteration) self.new.frames self.new.begun
-            < left peg.now window.now (Ask (taken_of taken)) self.old.frames self.old.begun) }
+        ensures less { (window : List ℕ) (more : Bool) → IsWell peg.now window (taken_of taken) →
+            IsTaken peg.now window more peg.now.keys taken → self.new.begun ≤ most_begun peg.now window →
+            IfOk result (λ iteration. left peg.now window (iteration_of iteration) self.new.frames self.new.begun
+            < left peg.now window (Ask (taken_of taken)) self.old.frames self.old.begun) }
     {
         let task = MatchTask::Eval {
             node: taken.plus,
@@ -558,7 +503,7 @@ impl Machine {
             events: 0,
         };
         let stores = peg.is_key_node(taken.operand);
-        close(&mut self.log, peg, window, operand, stores, given)?;
+        close(&mut self.log, operand, stores, given)?;
         wait_last(&mut self.frames, task, key, 0)?;
         Ok(Next::Ask {
             node: taken.star,
@@ -599,19 +544,15 @@ impl Machine {
             Some(given) => Ok(Some(Next::Answer(given))),
             None => match begin_node(peg, window, more, node, position) {
                 Begun::Starts(start) => match start {
-                    Start::Gives(_) => Ok(Some(self.start_task(peg, window, task, key, start)?)),
-                    Start::Marks(_) => Ok(Some(self.start_task(peg, window, task, key, start)?)),
-                    Start::Leads { .. } => {
-                        Ok(Some(self.start_task(peg, window, task, key, start)?))
-                    }
-                    Start::Passes { .. } => {
-                        Ok(Some(self.start_task(peg, window, task, key, start)?))
-                    }
-                    Start::Enters(_) => Ok(Some(self.start_task(peg, window, task, key, start)?)),
+                    Start::Gives(_) => Ok(Some(self.start_task(task, key, start)?)),
+                    Start::Marks(_) => Ok(Some(self.start_task(task, key, start)?)),
+                    Start::Leads { .. } => Ok(Some(self.start_task(task, key, start)?)),
+                    Start::Passes { .. } => Ok(Some(self.start_task(task, key, start)?)),
+                    Start::Enters(_) => Ok(Some(self.start_task(task, key, start)?)),
                 },
-                Begun::Knows(known) => Ok(Some(self.end_known(peg, window, task, key, known)?)),
-                Begun::Takes(taken) => Ok(Some(self.begin_plus(peg, window, key, taken)?)),
-                Begun::Skips(skips) => Ok(Some(self.run_skips(peg, window, task, key, skips)?)),
+                Begun::Knows(known) => Ok(Some(self.end_known(task, key, known)?)),
+                Begun::Takes(taken) => Ok(Some(self.begin_plus(peg, key, taken)?)),
+                Begun::Skips(skips) => Ok(Some(self.run_skips(task, key, skips)?)),
                 Begun::Repeats(it) => Ok(Some(self.repeat(peg, window, more, key, it)?)),
                 Begun::Need => {
                     let begun = counted(self.begun, task);
@@ -627,37 +568,36 @@ impl Machine {
     fn after_first(
         &mut self,
         peg: &SoundPeg,
-        window: &[u8],
         task: MatchTask,
         key: bool,
         given: Given,
     ) -> Result<Next, Memory>
         requires sound { IsSoundGrammar peg.now }
-        requires well { IsWell peg.now window.now task }
+        requires well { (window : List ℕ) × IsWell peg.now window task }
         requires rows { self.old.log.rows ≡ length peg.now.nodes }
         ensures rows { OnOk result (self.new.log.rows ≡ length peg.now.nodes) }
-        ensures stands { (more : Bool) → WasEnough window.now more 0 → (root : MatchTask) →
-            Stands peg.now window.now more peg.now.keys root (Answer given)
+        ensures stands { (window : List ℕ) (more : Bool) → WasEnough window more 0 → (root : MatchTask) →
+            Stands peg.now window more peg.now.keys root (Answer given)
             (record { task = task; key = key; wait = Wait.First } ∷ self.old.frames)
             self.old.log.stored self.old.events self.old.begun →
-            IfOk result (λ iteration. Stands peg.now window.now more peg.now.keys root (iteration_of iteration)
+            IfOk result (λ iteration. Stands peg.now window more peg.now.keys root (iteration_of iteration)
             self.new.frames self.new.log.stored self.new.events self.new.begun) }
-        ensures less { (more : Bool) → WasEnough window.now more 0 → (root : MatchTask) →
-            Stands peg.now window.now more peg.now.keys root (Answer given)
+        ensures less { (window : List ℕ) (more : Bool) → WasEnough window more 0 → (root : MatchTask) →
+            Stands peg.now window more peg.now.keys root (Answer given)
             (record { task = task; key = key; wait = Wait.First } ∷ self.old.frames)
-            self.old.log.stored self.old.events self.old.begun → IfOk result (λ iteration.
-            left peg.now window.now (iteration_of iteration) self.new.frames self.new.begun
-            < left peg.now window.now (Answer given)
+            self.old.log.stored self.old.events self.old.begun → (bytes : List ℕ) → IfOk result (λ iteration.
+            left peg.now bytes (iteration_of iteration) self.new.frames self.new.begun
+            < left peg.now bytes (Answer given)
             (record { task = task; key = key; wait = Wait.First } ∷ self.old.frames) self.old.begun) }
     {
-        match go_on(peg, window, task, given.found) {
+        match go_on(peg, task, given.found) {
             Onward::Gives(found) => {
                 let own = Given { found, events: 0 };
-                close(&mut self.log, peg, window, task, key, own)?;
+                close(&mut self.log, task, key, own)?;
                 Ok(Next::Answer(own))
             }
             Onward::Same => {
-                close_same(&mut self.log, peg, window, task, key, given)?;
+                close_same(&mut self.log, task, key, given)?;
                 Ok(Next::Answer(given))
             }
             Onward::Passes { node, position } => {
@@ -673,40 +613,34 @@ impl Machine {
 
     // Goes on with the frame that was the last one, and whose awaited child has this result.
     #[inline(always)]
-    fn resume(
-        &mut self,
-        peg: &SoundPeg,
-        window: &[u8],
-        frame: Frame,
-        given: Given,
-    ) -> Result<Next, Memory>
+    fn resume(&mut self, peg: &SoundPeg, frame: Frame, given: Given) -> Result<Next, Memory>
         requires sound { IsSoundGrammar peg.now }
         requires keyed { IsKeyed peg.now }
-        requires well { IsWell peg.now window.now frame.task }
+        requires well { (window : List ℕ) × IsWell peg.now window frame.task }
         requires rows { self.old.log.rows ≡ length peg.now.nodes }
         requires first { IsWaitHead self.old.events frame.wait }
         requires second { IsHead self.old.events given.events }
         ensures rows { OnOk result (self.new.log.rows ≡ length peg.now.nodes) }
-        ensures stands { (more : Bool) → WasEnough window.now more 0 → (root : MatchTask) →
-            Stands peg.now window.now more peg.now.keys root (Answer given) (frame ∷ self.old.frames)
+        ensures stands { (window : List ℕ) (more : Bool) → WasEnough window more 0 → (root : MatchTask) →
+            Stands peg.now window more peg.now.keys root (Answer given) (frame ∷ self.old.frames)
             self.old.log.stored self.old.events self.old.begun →
-            IfOk result (λ iteration. Stands peg.now window.now more peg.now.keys root (iteration_of iteration)
+            IfOk result (λ iteration. Stands peg.now window more peg.now.keys root (iteration_of iteration)
             self.new.frames self.new.log.stored self.new.events self.new.begun) }
-        ensures less { (more : Bool) → WasEnough window.now more 0 → (root : MatchTask) →
-            Stands peg.now window.now more peg.now.keys root (Answer given)
-            (frame ∷ self.old.frames) self.old.log.stored self.old.events self.old.begun → IfOk result (λ iteration.
-            left peg.now window.now (iteration_of iteration) self.new.frames self.new.begun
-            < left peg.now window.now (Answer given) (frame ∷ self.old.frames) self.old.begun) }
+        ensures less { (window : List ℕ) (more : Bool) → WasEnough window more 0 → (root : MatchTask) →
+            Stands peg.now window more peg.now.keys root (Answer given)
+            (frame ∷ self.old.frames) self.old.log.stored self.old.events self.old.begun → (bytes : List ℕ) →
+            IfOk result (λ iteration. left peg.now bytes (iteration_of iteration) self.new.frames self.new.begun
+            < left peg.now bytes (Answer given) (frame ∷ self.old.frames) self.old.begun) }
     {
         match frame.wait {
-            Wait::First => self.after_first(peg, window, frame.task, frame.key, given),
+            Wait::First => self.after_first(peg, frame.task, frame.key, given),
             Wait::Turned(last) => {
                 put_turned(&mut self.log, frame.task, last, given)?;
                 Ok(Next::Answer(given))
             }
             Wait::Last(first) => {
                 let all = joined(&mut self.events, first, given)?;
-                close(&mut self.log, peg, window, frame.task, frame.key, all)?;
+                close(&mut self.log, frame.task, frame.key, all)?;
                 Ok(Next::Answer(all))
             }
         }
@@ -714,28 +648,29 @@ impl Machine {
 
     // Returns a result to the last frame, and goes on with that frame, until a child is asked for or no frame is left.
     #[inline(always)]
-    fn settle(&mut self, peg: &SoundPeg, window: &[u8], first: Given) -> Result<Next, Memory>
+    fn settle(&mut self, peg: &SoundPeg, first: Given) -> Result<Next, Memory>
         requires sound { IsSoundGrammar peg.now }
         requires keyed { IsKeyed peg.now }
         requires rows { self.old.log.rows ≡ length peg.now.nodes }
-        requires stands { (more : Bool) × (root : MatchTask) × WasEnough window.now more 0
-            × Stands peg.now window.now more peg.now.keys root (Answer first) self.old.frames
+        requires stands { (window : List ℕ) × (more : Bool) × (root : MatchTask) × WasEnough window more 0
+            × Stands peg.now window more peg.now.keys root (Answer first) self.old.frames
             self.old.log.stored self.old.events self.old.begun }
         ensures rows { OnOk result (self.new.log.rows ≡ length peg.now.nodes) }
-        ensures stands { (more : Bool) → WasEnough window.now more 0 → (root : MatchTask) →
-            Stands peg.now window.now more peg.now.keys root (Answer first) self.old.frames
+        ensures stands { (window : List ℕ) (more : Bool) → WasEnough window more 0 → (root : MatchTask) →
+            Stands peg.now window more peg.now.keys root (Answer first) self.old.frames
             self.old.log.stored self.old.events self.old.begun →
-            IfOk result (λ iteration. Stands peg.now window.now more peg.now.keys root (iteration_of iteration)
+            IfOk result (λ iteration. Stands peg.now window more peg.now.keys root (iteration_of iteration)
             self.new.frames self.new.log.stored self.new.events self.new.begun) }
-        ensures less { IfOk result (λ next. left peg.now window.now (iteration_of next) self.new.frames self.new.begun
-            ≤ left peg.now window.now (Answer first) self.old.frames self.old.begun) }
+        ensures less { (bytes : List ℕ) → IfOk result (λ next.
+            left peg.now bytes (iteration_of next) self.new.frames self.new.begun
+            ≤ left peg.now bytes (Answer first) self.old.frames self.old.begun) }
         ensures last { IfOk result (λ iteration. IsUnawaited iteration self.new.frames) }
     {
         let mut given = first;
         'frames: loop {
             match self.frames.pop() {
                 None => return Ok(Next::Answer(given)),
-                Some(frame) => match self.resume(peg, window, frame, given)? {
+                Some(frame) => match self.resume(peg, frame, given)? {
                     Next::Answer(own) => given = own,
                     Next::Ask { node, position } => return Ok(Next::Ask { node, position }),
                 },
@@ -783,7 +718,7 @@ impl Machine {
                         node = child;
                         position = there;
                     }
-                    Next::Answer(given) => match self.settle(peg, window, given)? {
+                    Next::Answer(given) => match self.settle(peg, given)? {
                         Next::Ask {
                             node: child,
                             position: there,

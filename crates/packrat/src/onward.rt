@@ -1,5 +1,5 @@
 //! How a task goes on: which result it has at once, and which children it asks for.
-ghost use Rattle.std.specs.Prelude.{◌≡◌, ◌<◌, Bool, false, List, length, slice_get, Some};
+ghost use Rattle.std.specs.Prelude.{◌≡◌, ◌<◌, ℕ, Bool, false, List, length, slice_get, Some};
 ghost use Rattle.pegread.specs.PegViews.{rules_of};
 ghost use Rattle.gramcheck.specs.Grammar.{IsSoundGrammar};
 ghost use Rattle.pegnodes.specs.ByteTables.{IsTabled};
@@ -215,13 +215,14 @@ pub(crate) fn begin_node(
 
 // Returns how a node at a position goes on whose first child has this result.
 #[inline(always)]
-fn go_on_node(peg: &SoundPeg, window: &[u8], node: usize, position: usize, found: Found) -> Onward
+fn go_on_node(peg: &SoundPeg, node: usize, position: usize, found: Found) -> Onward
     requires sound { IsSoundGrammar peg.now }
-    requires well { IsWell peg.now window.now (MatchTask.Eval node position) }
-    ensures { (more : Bool) → WasEnough window.now more 0 → (j : MatchTask) →
-        IsFirst (rules_of peg.now.rules) (shapes_of peg.now.nodes) peg.now.bodies window.now
-        (MatchTask.Eval node position) j → (events : List Event) → TaskYields peg.now window.now more j found events →
-        AfterOne peg.now window.now more (MatchTask.Eval node position) j found events result }
+    requires there { node < length peg.now.nodes }
+    ensures { (window : List ℕ) (more : Bool) → IsWell peg.now window (MatchTask.Eval node position) →
+        WasEnough window more 0 → (j : MatchTask) →
+        IsFirst (rules_of peg.now.rules) (shapes_of peg.now.nodes) peg.now.bodies window
+        (MatchTask.Eval node position) j → (events : List Event) → TaskYields peg.now window more j found events →
+        AfterOne peg.now window more (MatchTask.Eval node position) j found events result }
 {
     match peg.node(node) {
         Node::Star(_) => match found {
@@ -264,21 +265,14 @@ fn go_on_node(peg: &SoundPeg, window: &[u8], node: usize, position: usize, found
 
 // Returns how a tail at a position goes on whose member has this result.
 #[inline(always)]
-fn go_on_tail(
-    peg: &SoundPeg,
-    window: &[u8],
-    node: usize,
-    index: usize,
-    position: usize,
-    found: Found,
-) -> Onward
+fn go_on_tail(peg: &SoundPeg, node: usize, index: usize, position: usize, found: Found) -> Onward
     requires sound { IsSoundGrammar peg.now }
-    requires well { IsWell peg.now window.now (MatchTask.Tail node index position) }
-    ensures { (more : Bool) → WasEnough window.now more 0 → (j : MatchTask) →
-        IsFirst (rules_of peg.now.rules) (shapes_of peg.now.nodes) peg.now.bodies window.now
-        (MatchTask.Tail node index position) j → (events : List Event)
-        → TaskYields peg.now window.now more j found events →
-        AfterOne peg.now window.now more (MatchTask.Tail node index position) j found events result }
+    requires well { (window : List ℕ) × IsWell peg.now window (MatchTask.Tail node index position) }
+    ensures { (window : List ℕ) (more : Bool) → IsWell peg.now window (MatchTask.Tail node index position) →
+        WasEnough window more 0 → (j : MatchTask) →
+        IsFirst (rules_of peg.now.rules) (shapes_of peg.now.nodes) peg.now.bodies window
+        (MatchTask.Tail node index position) j → (events : List Event) → TaskYields peg.now window more j found events →
+        AfterOne peg.now window more (MatchTask.Tail node index position) j found events result }
 {
     match peg.node(node) {
         Node::Seq(members) => match found {
@@ -307,20 +301,20 @@ fn go_on_tail(
 
 /// Returns how a task goes on whose first child has this result.
 #[inline(always)]
-pub(crate) fn go_on(peg: &SoundPeg, window: &[u8], task: MatchTask, found: Found) -> Onward
+pub(crate) fn go_on(peg: &SoundPeg, task: MatchTask, found: Found) -> Onward
     requires sound { IsSoundGrammar peg.now }
-    requires well { IsWell peg.now window.now task }
-    ensures { (more : Bool) → WasEnough window.now more 0 → (j : MatchTask) →
-        IsFirst (rules_of peg.now.rules) (shapes_of peg.now.nodes) peg.now.bodies window.now task j →
-        (events : List Event) → TaskYields peg.now window.now more j found events →
-        AfterOne peg.now window.now more task j found events result }
+    requires well { (window : List ℕ) × IsWell peg.now window task }
+    ensures { (window : List ℕ) (more : Bool) → IsWell peg.now window task → WasEnough window more 0 →
+        (j : MatchTask) → IsFirst (rules_of peg.now.rules) (shapes_of peg.now.nodes) peg.now.bodies window task j →
+        (events : List Event) → TaskYields peg.now window more j found events →
+        AfterOne peg.now window more task j found events result }
 {
     match task {
-        MatchTask::Eval { node, position } => go_on_node(peg, window, node, position, found),
+        MatchTask::Eval { node, position } => go_on_node(peg, node, position, found),
         MatchTask::Tail {
             node,
             index,
             position,
-        } => go_on_tail(peg, window, node, index, position, found),
+        } => go_on_tail(peg, node, index, position, found),
     }
 }

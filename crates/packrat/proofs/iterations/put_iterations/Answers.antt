@@ -14,10 +14,10 @@ returns-in_ok-put_run-clause-tasks c =
     ∙ closed_run t.star t.from (t.end + 1 - t.from) c.args.given c.args.log.now.stored)
 
 pub returns-in_ok-put_run-clause-keeps : goal.returns-in_ok-put_run-clause-keeps
-returns-in_ok-put_run-clause-keeps c = λ more links each h.
+returns-in_ok-put_run-clause-keeps c = λ window more links each h.
     let t = c.args.iterations in
-    subst (AreGiven c.args.peg.now c.args.window.now more links) (sym c.in_ok-put_run.ensures.stored)
-    (run_given c.args.peg.now c.args.window.now more c.args.peg.now.keys links t.star t.from (t.end + 1 - t.from)
+    subst (AreGiven c.args.peg.now window more links) (sym c.in_ok-put_run.ensures.stored)
+    (run_given c.args.peg.now window more c.args.peg.now.keys links t.star t.from (t.end + 1 - t.from)
     c.args.given c.args.log.now.stored each h)
 
 pub returns-else-is_key_node-clause-tasks : goal.returns-else-is_key_node-clause-tasks

@@ -13,10 +13,10 @@ returns-in_ok-put_steps-clause-tasks c =
     (ap tasks_of c.in_ok-put_steps.ensures.stored ∙ taken_steps t.operand t.from (t.end - t.from) c.args.log.now.stored)
 
 pub returns-in_ok-put_steps-clause-keeps : goal.returns-in_ok-put_steps-clause-keeps
-returns-in_ok-put_steps-clause-keeps c = λ more links d h.
+returns-in_ok-put_steps-clause-keeps c = λ window more links d h.
     let t = c.args.iterations in
-    subst (AreGiven c.args.peg.now c.args.window.now more links) (sym c.in_ok-put_steps.ensures.stored)
-    (steps_given c.args.peg.now c.args.window.now more c.args.peg.now.keys c.requires.sound t.star t.operand t.from
+    subst (AreGiven c.args.peg.now window more links) (sym c.in_ok-put_steps.ensures.stored)
+    (steps_given c.args.peg.now window more c.args.peg.now.keys c.requires.sound t.star t.operand t.from
     t.end d.0 d.1 links c.args.log.now.stored h)
 
 pub returns-else-is_key_node-clause-tasks : goal.returns-else-is_key_node-clause-tasks

@@ -63,6 +63,7 @@ settle-requires-clause-stands c =
     subst (λ v. AreOn c.args.peg.now c.args.window.now c.args.more c.args.peg.now.keys (Eval c.args.root 0) v
     c.ask.new.self.frames c.ask.new.self.log.stored c.ask.new.self.events c.ask.new.self.begun) c.in-Some.is
     (c.in_ok-ask.ensures.stands (Eval c.args.root 0) c.asks.invariant.stands) in (
+      c.args.window.now,
       c.args.more,
       Eval c.args.root 0,
       c.requires.some,
@@ -102,7 +103,7 @@ asks-smaller c =
     ≤ left c.args.peg.now c.args.window.now (Answer c.in-Answer.given) c.ask.new.self.frames c.ask.new.self.begun =
     subst (λ v. left c.args.peg.now c.args.window.now v c.settle.new.self.frames c.settle.new.self.begun
     ≤ left c.args.peg.now c.args.window.now (Answer c.in-Answer.given) c.ask.new.self.frames c.ask.new.self.begun)
-    (ap iteration_of c.in-Ask-2.is) c.in_ok-child-in-Answer.ensures.less in
+    (ap iteration_of c.in-Ask-2.is) (c.in_ok-child-in-Answer.ensures.less c.args.window.now) in
     omega arith
 
 pub returns-in-Answer-2 : goal.returns-in-Answer-2
@@ -116,7 +117,7 @@ returns-in-Answer-2 c =
     subst (λ v. IsUnawaited v c.settle.new.self.frames) c.in-Answer-2.is c.in_ok-child-in-Answer.ensures.last in
     let stands = L.stands_as c.args.peg.now c.args.window.now c.args.more c.args.peg.now.keys (ap iteration_of
     c.in-Answer-2.is) empty refl refl refl
-    (c.in_ok-child-in-Answer.ensures.stands c.args.more c.requires.some (Eval c.args.root 0)
+    (c.in_ok-child-in-Answer.ensures.stands c.args.window.now c.args.more c.requires.some (Eval c.args.root 0)
     (L.stands_as c.args.peg.now c.args.window.now c.args.more c.args.peg.now.keys (ap iteration_of c.in-Answer.is) refl
     refl refl refl on)) in
     record {
