@@ -1,7 +1,7 @@
 -- The failures that are found in what is seen.
 -- Serves: explain_no_match
 use Rattle.std.proofs.Common.{◌≡◌, ℕ, zero, suc, ◌+◌, ◌^◌, ◌<◌, ◌≤◌, Bool, List, ◌++◌, drop, Option, Some, None}
-use Rattle.std.proofs.Common.{refl, sym, ap, ◌∙◌, subst, arith, add-zero}
+use Rattle.std.proofs.Common.{length, length-drop, refl, sym, ap, ◌∙◌, subst, arith, add-zero}
 use Rattle.std.specs.Option.{MatchOption}
 use Rattle.std.specs.Prelude.{IfSome}
 use Rattle.matchfailure.specs.Farthest.{IsFarthest, NoneFails}
@@ -37,6 +37,21 @@ found-fits (Some far) nodes count size unit N F position expected same less m = 
   expected = λ v listed. let within = expected far.position far.expected.items m v listed in
       (omega (arith, same, within.0), omega (arith, less, within.1));
 }
+
+-- so does its position
+pub position-fits : (found : Option Farthest) (nodes size unit : ℕ) → unit + size < 2 ^ 63
+    → ((u : ℕ) → u + size < 2 ^ 63 → IfSome found (IsFitting nodes size u))
+    → IfSome found (λ far. unit + far.position < 2 ^ 63)
+position-fits None nodes size unit less fits = tt
+position-fits (Some far) nodes size unit less fits = let there = (fits unit less).position in omega (arith, less, there)
+
+-- a unit that begins so many bytes after the front of what is seen has room
+pub room-from : (front seen rest : List ℕ) (at : TextPosition) (offset : ℕ) → at ≡ position_after front
+    → length front + length seen < 2 ^ 63 → offset ≤ length seen → rest ≡ drop offset seen
+    → at.byte + offset + length rest < 2 ^ 63
+room-from front seen rest at offset is less within same =
+    let byte = ap (λ (p : TextPosition). p.byte) is in
+    omega (arith, byte, less, within, length-drop offset seen, ap length same)
 
 module _ (rules : List Rule) (start : ℕ) (nodes : List Shape) (bodies front seen : List ℕ) (at : TextPosition)
     (is : at ≡ position_after front) where

@@ -1,10 +1,9 @@
 -- What a step makes of a desk.
 -- Serves: Desk::begin, Desk::step.
-use Rattle.std.proofs.Common.{◌≡◌, inl, inr, ℕ, ◌+◌, ◌*◌, ◌^◌, ◌<◌, ◌≤◌, Bool, true, false, Result, Ok, Err, OnOk, IfOk}
-use Rattle.std.proofs.Common.{is_err, List, [], ◌∷◌, ◌++◌, length, length-append, Option, Some, None, refl, sym, ◌∙◌}
+use Rattle.std.proofs.Common.{◌≡◌, inl, inr, ℕ, ◌+◌, ◌*◌, ◌≤◌, Bool, false, Result, Ok, Err, OnOk, IfOk}
+use Rattle.std.proofs.Common.{is_err, List, [], ◌∷◌, length, Option, Some, None, refl, sym, ◌∙◌}
 use Rattle.std.proofs.Common.{ap, subst, arith}
 use Rattle.std.specs.Prelude.{slice_get}
-use Rattle.std.proofs.Math.Nat.{mul-le-mul_left}
 use Rattle.std.proofs.lemmas.List.{length-map}
 use Rattle.pegread.specs.Pattern.{Rule}
 use Rattle.pegread.specs.PegViews.{rules_of}
@@ -17,7 +16,7 @@ use Rattle.memo.specs.declared.found.Found.{Found}
 use Rattle.memo.specs.declared.found.Found.TheVariants.{Failed, Took}
 use Rattle.pegmatch.specs.declared.matcher.Unit.{Unit as UnitAnswer}
 use Rattle.pegmatch.specs.declared.matcher.Unit.TheVariants as unit
-use Rattle.memo.specs.Entries.{Entry, found_at, AreDifferent}
+use Rattle.memo.specs.Entries.{found_at, AreDifferent}
 use Rattle.matchfailure.specs.declared.desk.frame.FailureFrame.{FailureFrame}
 use Rattle.matchfailure.specs.declared.desk.step.NextStep.TheVariants.{Ask, Answer}
 use Rattle.matchfailure.specs.Desk.{View, prefix, Fits, HasFrames, Drops, Ends, IsStep, unit_of}
@@ -29,17 +28,6 @@ use Rattle.pegmatch.proofs.NodeGivesLemmas.{gives_as}
 use Rattle.matchfailure.proofs.AreCellsLemmas.{all_at_most}
 use Rattle.matchfailure.proofs.IsStackLemmas.{top_visits, top_is_open, stack_push, stack_pop, cells_put, alone_is_start}
 use Rattle.matchfailure.proofs.IsStackLemmas.{all_visited, stack_begin, no_cells, under_way}
-
--- what is counted has room
-pub room_for_one : (a b n : ℕ) → a < 2 ^ 64 → b < 2 ^ 64 → n ≤ a * (b + 1) → n + 1 < 2 ^ 128
-room_for_one a b n lt less h =
-    let one : a * (b + 1) ≤ a * (2 ^ 64) = mul-le-mul_left a (omega arith) in
-    omega arith
-
--- no position is later than the window's end
-positions_in_window : (x : List ℕ) (b : Bool) → last_position x b + 1 ≤ length x + 1
-positions_in_window x true = omega arith
-positions_in_window x false = omega arith
 
 pub some_frame : (fs : List FailureFrame) → (fs ≡ [] → ⊥)
     → (u : FailureFrame) × (us : List FailureFrame) × (fs ≡ u ∷ us)
@@ -99,12 +87,6 @@ module _ (g : Grammar) (x : List ℕ) (more : Bool) (sound : IsSoundGrammar g) w
   fits_at_most d f = let most = all_at_most Rs g.start Ns g.bodies g.ranks x more sound d.cells d.frames f.cells
       f.different f.stack in omega (arith, f.count, most)
 
-  pub begun_in_window : (d : View) → Fits g x more d → d.begun ≤ length Ns * (length x + 1)
-  begun_in_window d f =
-      let wider = mul-le-mul_left (length Ns) (positions_in_window x more) in
-      let most = fits_at_most d f in
-      omega (arith, most, wider)
-
   -- what fits has right frames
   pub frames_of : (d : View) → Fits g x more d → HasFrames g x more d
   frames_of d f =
@@ -119,18 +101,19 @@ module _ (g : Grammar) (x : List ℕ) (more : Bool) (sound : IsSoundGrammar g) w
       → old.frames ≡ t ∷ fs →
       IsNextStep Rs g.start Ns g.bodies x more old.cells t.node t.position (Ask m q i r) → new.cells ≡ old.cells →
       new.frames ≡ prefix m q ∷ (record { node = t.node; position = t.position; next = i; end = r } ∷ fs)
-      → new.begun ≡ old.begun + 1 → IsStep g x more old new None
-  pushed_step {old} {t} {fs} {m} {q} {i} {r} f is step cells frames begun =
+      → new.begun ≡ length new.cells + length new.frames → IsStep g x more old new None
+  pushed_step {old} {new} {t} {fs} {m} {q} {i} {r} f is step cells frames count =
       let stack = stack_push Rs g.start Ns g.bodies g.ranks x more sound old.cells t fs m q i r
       (is_stacked old t fs f is)
       step in
       let lengths = ap length frames in
       let before = ap length is in (
         record {
+          sound = sound;
           stack = rw (frames, cells) stack;
           cells = rw cells f.cells;
           different = rw cells f.different;
-          count = rw cells (omega (arith, begun, f.count, lengths, before));
+          count = count;
         },
         (prefix m q, record { node = t.node; position = t.position; next = i; end = r } ∷ fs, frames),
         inl (record {
@@ -142,7 +125,7 @@ module _ (g : Grammar) (x : List ℕ) (more : Bool) (sound : IsSoundGrammar g) w
           was = is;
           is = frames;
           cells = cells;
-          begun = begun;
+          begun = omega (arith, count, f.count, lengths, before, ap length cells);
         }),
       )
 
@@ -150,28 +133,29 @@ module _ (g : Grammar) (x : List ℕ) (more : Bool) (sound : IsSoundGrammar g) w
       (is : old.frames ≡ t ∷ fs)
       (step : IsNextStep Rs g.start Ns g.bodies x more old.cells t.node t.position (Answer h))
       (put : IsPut old.cells new.cells t.node t.position h) (grown : length new.cells ≡ length old.cells + 1)
-      (different : AreDifferent new.cells) (frames : new.frames ≡ fs) (begun : new.begun ≡ old.begun) where
+      (different : AreDifferent new.cells) (frames : new.frames ≡ fs)
+      (count : new.begun ≡ length new.cells + length new.frames) where
     pub drops_top : Drops old new h
     drops_top = record {
       top = t;
       was = is ∙ ap (λ v. t ∷ v) (sym frames);
       cells = put;
       grown = grown;
-      begun = begun;
+      begun = let lengths = ap length frames in
+          let before = ap length is in omega (arith, count, f.count, lengths, before, grown);
     }
 
     pub still_fits : Fits g x more new
     still_fits =
-        let lengths = ap length frames in
-        let before = ap length is in
         let top = is_top old t fs f is in
         record {
+          sound = sound;
           stack = rw frames (stack_pop Rs g.start Ns g.bodies g.ranks x more sound old.cells new.cells t fs h
               (is_stacked old t fs f is) put);
           cells = cells_put Rs g.start Ns g.bodies g.ranks x more sound old.cells new.cells t.node t.position h f.cells
               top.visits top.low step put;
           different = different;
-          count = omega (arith, begun, f.count, lengths, before, grown);
+          count = count;
         }
 
     pub dropped_step : (u : FailureFrame) (us : List FailureFrame) → new.frames ≡ u ∷ us → IsStep g x more old new None
@@ -214,12 +198,13 @@ module _ (g : Grammar) (x : List ℕ) (more : Bool) (sound : IsSoundGrammar g) w
   ended_step old new (Took end) b e is = (e, is)
 
   pub fits_begin : (root : ℕ) (d : View) → slice_get g.bodies g.start ≡ Some root → d.cells ≡ []
-      → d.frames ≡ prefix root 0 ∷ [] → d.begun ≡ 1 → Fits g x more d
-  fits_begin root d at cells frames begun = record {
+      → d.frames ≡ prefix root 0 ∷ [] → d.begun ≡ length d.cells + length d.frames → Fits g x more d
+  fits_begin root d at cells frames count = record {
+    sound = sound;
     stack = rw (cells, frames) (stack_begin Rs g.start Ns g.bodies g.ranks x more sound root at);
     cells = rw cells (no_cells Rs g.start Ns g.bodies g.ranks x more sound);
     different = rw cells tt;
-    count = rw (cells, frames) begun;
+    count = count;
   }
 
   -- at the end there are no frames, and as many cells as were begun before

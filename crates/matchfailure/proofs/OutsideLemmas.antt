@@ -1,7 +1,7 @@
 -- The evaluations that are asked for outside of `!`, listed one after the other.
 -- Serves: farthest_failure
-use Rattle.std.proofs.Common.{◌≡◌, ◌⊎◌, inl, inr, ℕ, suc, ◌+◌, ◌*◌, ◌<◌, ◌≤◌, false, List, [], ◌∷◌, length, map, get_or}
-use Rattle.std.proofs.Common.{Some, refl, sym, ◌∙◌, ap, subst, arith}
+use Rattle.std.proofs.Common.{◌≡◌, ◌⊎◌, inl, inr, ℕ, suc, ◌+◌, ◌*◌, ◌<◌, ◌≤◌, Bool, true, false, if◌then◌else◌}
+use Rattle.std.proofs.Common.{List, [], ◌∷◌, length, map, get_or, Some, refl, sym, ◌∙◌, ap, subst, arith}
 use Rattle.std.specs.Prelude.{slice_get}
 use Rattle.std.proofs.lemmas.Bool.{cases_lt}
 use Rattle.std.proofs.lemmas.List.{length-map}
@@ -11,6 +11,9 @@ use Rattle.pegread.specs.PegViews.{rules_of}
 use Rattle.gramcheck.specs.Grammar.{Grammar, IsSoundGrammar}
 use Rattle.pegnodes.specs.Nodes as node
 use Rattle.pegnodes.specs.Nodes.{Shape, shape_of, shapes_of}
+use Rattle.memo.specs.declared.found.Found.{Found}
+use Rattle.memo.specs.Entries.{Entry, found_at}
+use Rattle.memo.proofs.FoundAtLemmas.{is_of, is_own}
 use Rattle.pegmatch.specs.Visits.{Visits, first, asked}
 use Rattle.pegmatch.proofs.AsksLemmas.{visited_there}
 use Rattle.pegmatch.proofs.CodeLemmas.{In, in_cases, Differ, code, code_same, code_below, at_most_below}
@@ -33,6 +36,20 @@ pub name_has_body : (g : Grammar) → IsSoundGrammar g → (n id : ℕ) → slic
     ≡ Some (node.Name id)
     → id < length g.bodies
 name_has_body g sound n id at = omega (arith, sound.defined n id at, sound.spelled.count)
+
+-- no cell's position is above this
+abbrev pub reach : List Entry → ℕ
+reach [] = 0
+reach (c ∷ cells) = c.position + reach cells
+
+cell_low : (cells : List Entry) (n p : ℕ) (f : Found) → found_at cells n p ≡ Some f → p ≤ reach cells
+cell_low [] n p f h = absurd (cc h)
+cell_low (c ∷ cells) n p f h = by (is_of c n p) (is_own c n p) (cell_low cells n p f) h
+  where
+    by : (v : Bool) → (v ≡ true → (c.node ≡ n) × (c.position ≡ p)) → (found_at cells n p ≡ Some f → p ≤ reach cells)
+        → (if v then Some c.found else found_at cells n p) ≡ Some f → p ≤ c.position + reach cells
+    by true own low is = let here = (own refl).1 in omega (arith, here)
+    by false own low is = let later = low is in omega (arith, later)
 
 -- evaluations that differ are no more than nodes at positions
 module _ (w : ℕ) where
@@ -108,8 +125,12 @@ module _ (g : Grammar) (x : List ℕ) where
         let there = visited_there Rs g.start Ns g.bodies g.ranks x sound v.node v.position (is_visited (s.only v h)) in
         (rw (← length-map g.nodes shape_of) there.0, there.1)
 
-    pub spread_few : (next : ℕ) (vs : List Visit) → IsSpread next vs → length vs ≤ length g.nodes * (length x + 1)
-    spread_few next vs s = few_visits (length g.nodes) (length x) vs (spread_within next vs s) s.once
+    -- each evaluation has a cell, so that they are no more than nodes at positions of cells
+    pub spread_few : (d : View) → IsDone g x false d → (next : ℕ) (vs : List Visit) → IsSpread next vs
+        → length vs ≤ length g.nodes * (reach d.cells + 1)
+    spread_few d done next vs s = few_visits (length g.nodes) (reach d.cells) vs (λ v h.
+        let cell = done.cells.whole v.node v.position (is_visited (s.only v h)) in
+        ((spread_within next vs s v h).0, cell_low d.cells v.node v.position cell.0 cell.1)) s.once
 
     pub spread_on : (d : View) → IsDone g x false d → (next : ℕ) (old new : List Visit) (v : Visit) (shape : Shape)
         → IsSpread next old → slice_get old next ≡ Some v → slice_get Ns v.node ≡ Some shape

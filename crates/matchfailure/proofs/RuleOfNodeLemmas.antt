@@ -4,6 +4,7 @@ use Rattle.std.proofs.Common.{◌≡◌, ℕ, zero, suc, ◌+◌, ◌<◌, ◌�
 use Rattle.std.proofs.Common.{length, sym, ap, arith, slice_get, map, Some}
 use Rattle.std.proofs.lemmas.Bool.{cases_lt}
 use Rattle.std.proofs.lemmas.List.{length-map}
+use Rattle.gramcheck.specs.Grammar.{Grammar, IsNumbered}
 use Rattle.pegread.specs.PegViews.{rules_of}
 use Rattle.pegread.specs.Pattern as e
 use Rattle.pegread.specs.Pattern.{Pattern, Rule}
@@ -54,6 +55,13 @@ bodies-ascend (r ∷ rules) first zero (suc j) m n less at there =
     omega (arith, some, is, later)
 bodies-ascend (r ∷ rules) first (suc i) (suc j) m n less at there =
     bodies-ascend rules (first + node_count r.body) i j m n (omega (arith, less)) at there
+
+pub body-after : (g : Grammar) → IsNumbered g → (i j m n : ℕ) → i < j → slice_get g.bodies i ≡ Some m
+    → slice_get g.bodies j ≡ Some n → m < n
+body-after g numbered i j m n less at there =
+    let same = sym numbered.bodies_are in
+    bodies-ascend (rules_of g.rules) 0 i j m n less (ap (λ (bs : List ℕ). slice_get bs i) same ∙ at)
+    (ap (λ (bs : List ℕ). slice_get bs j) same ∙ there)
 
 -- the bodies before that of rule id have smaller numbers than the node
 abbrev pub AreBefore : List ℕ → ℕ → ℕ → Type 0
@@ -108,6 +116,11 @@ pub no-name : (rules : List (table.Rule Expr)) (id : ℕ) → length rules ≤ i
 no-name [] id past = refl
 no-name (r ∷ rules) zero past = absurd (omega (arith, past))
 no-name (r ∷ rules) (suc id) past = no-name rules id (omega (arith, past))
+
+-- each rule has a body
+pub count-bodies : (rules : List Rule) (first : ℕ) → length (bodies_of_rules first rules) ≡ length rules
+count-bodies [] first = refl
+count-bodies (r ∷ rules) first = ap suc (count-bodies rules (first + node_count r.body))
 
 pub count-is : (rules : table.Rules Expr) → length (rules_of rules) ≡ length rules.rules
 count-is rules = length-map rules.rules rule_of

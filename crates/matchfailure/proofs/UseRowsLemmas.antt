@@ -2,7 +2,7 @@
 -- Serves: explain_no_match
 use Rattle.std.proofs.Common.{◌≡◌, inl, inr, ℕ, zero, suc, ◌+◌, ◌-◌, ◌≤◌, List, [], ◌∷◌, ◌++◌, length}
 use Rattle.std.proofs.Common.{take, drop, Some, refl, sym, ap, ◌∙◌, arith, Vec, Global, append_assoc, subst}
-use Rattle.std.proofs.Common.{Contains, add-one}
+use Rattle.std.proofs.Common.{Contains, add-one, get_or}
 use Rattle.std.specs.Prelude.{slice_get}
 use Rattle.std.specs.List.{flat_map}
 use Rattle.std.proofs.lemmas.Grind.{flat_map-append}
@@ -12,7 +12,7 @@ use Rattle.std.proofs.lemmas.Option.{slice_get_within, get_or_from_slice_get}
 use Rattle.fixpoint.specs.StepRows.{AreStepsWithin, rows_of, Step}
 use Rattle.fixpoint.proofs.ContainsLemmas.{none_of, only_one}
 use Rattle.gramcheck.specs.Grammar.{Grammar, IsSoundGrammar}
-use Rattle.matchfailure.specs.ReportOrder.{named_id, use_rows}
+use Rattle.matchfailure.specs.ReportOrder.{first_node, named_id, use_rows}
 use Rattle.pegnodes.specs.Nodes as node
 use Rattle.pegnodes.specs.Nodes.{Shape, shapes_of}
 
@@ -55,6 +55,30 @@ use-row-next nodes bodies id first body rows new row at is pushed so =
     ∙ ap (λ (k : ℕ). rows_of rows ++ flat_map named_id (take (k - first) (drop first nodes))
     ∷ use_rows nodes k (drop (id + 1) bodies)) (add-one body)
     ∙ ap (λ (bs : List ℕ). rows_of rows ++ use_rows nodes first bs) (sym cut) ∙ so
+
+-- the first node of the next rule's body
+pub first-next : (bodies : List ℕ) (id : ℕ) → get_or bodies id 0 + 1 ≡ first_node bodies (id + 1)
+first-next bodies id = ap (first_node bodies) (sym (add-one id))
+
+pub first-of-all : (bodies : List ℕ) (id : ℕ) → id ≡ 0 → first_node bodies id ≡ 0
+first-of-all bodies id is = ap (first_node bodies) is
+
+pub first-after : (bodies : List ℕ) (id before : ℕ) → (id ≡ 0 → ⊥) → slice_get bodies (id - 1) ≡ Some before
+    → first_node bodies id ≡ before + 1
+first-after bodies zero before some at = absurd (some refl)
+first-after bodies (suc id) before some at =
+    let same : suc id - 1 ≡ id = omega arith in
+    ap (λ n. n + 1) (get_or_from_slice_get bodies id before 0 (ap (slice_get bodies) (sym same) ∙ at))
+
+-- the names of a body, from its first node to its last one
+pub body-named : (nodes : List Shape) (bodies row : List ℕ) (id first last body : ℕ) → first_node bodies id ≡ first
+    → slice_get bodies id ≡ Some last → slice_get bodies id ≡ Some body
+    → row ≡ flat_map named_id (take (body + 1 - first) (drop first nodes))
+    → row ≡ flat_map named_id (take (last + 1 - first_node bodies id) (drop (first_node bodies id) nodes))
+body-named nodes bodies row id first last body begins at is named =
+    let same : body ≡ last = cc (at, is) in
+    subst (λ (k : ℕ). row ≡ flat_map named_id (take (last + 1 - k) (drop k nodes))) (sym begins)
+    (subst (λ (k : ℕ). row ≡ flat_map named_id (take (k + 1 - first) (drop first nodes))) same named)
 
 pub use-rows-done : (nodes : List Shape) (bodies : List ℕ) (id first : ℕ) (rows : List (Vec ℕ Global))
     → length bodies ≤ id → rows_of rows ++ use_rows nodes first (drop id bodies) ≡ use_rows nodes 0 bodies

@@ -2,7 +2,7 @@
 use Rattle.std.specs.Prelude.{◌≡◌, ◌⊎◌, ℕ, ◌+◌, ◌*◌, ◌≤◌, Bool, true, List, [], ◌∷◌, length, Option}
 use Rattle.std.specs.Prelude.{Some, None}
 use Rattle.pegread.specs.PegViews.{rules_of}
-use Rattle.gramcheck.specs.Grammar.{Grammar}
+use Rattle.gramcheck.specs.Grammar.{Grammar, IsSoundGrammar}
 use Rattle.pegnodes.specs.Nodes.{shapes_of}
 use Rattle.gramcheck.specs.Outcome.{Event, Outcome}
 use Rattle.pegmatch.specs.Answers.{StartGives, WasEnough}
@@ -22,6 +22,10 @@ pub record View : Type 0 where
   pub cells : List Entry
   pub frames : List FailureFrame
   pub begun : ℕ
+
+-- Each evaluation that was begun has a cell or a frame.
+abbrev pub view_of : List Entry → List FailureFrame → View
+view_of cells frames = record { cells = cells; frames = frames; begun = length cells + length frames }
 
 abbrev pub empty : View
 empty = record { cells = []; frames = []; begun = 0 }
@@ -56,8 +60,9 @@ pub record Drops (old new : View) (f : Found) : Type 0 where
   pub begun : new.begun ≡ old.begun
 
 module _ (g : Grammar) (x : List ℕ) (more : Bool) where
-  -- cells and frames fit the grammar and the window
+  -- cells and frames fit the grammar, which is sound, and the window
   pub record Fits (d : View) : Type 0 where
+    pub sound : IsSoundGrammar g
     pub stack : IsStack (rules_of g.rules) g.start (shapes_of g.nodes) g.bodies x more d.cells d.frames
     pub cells : AreCells (rules_of g.rules) g.start (shapes_of g.nodes) g.bodies x more d.cells
     pub different : AreDifferent d.cells

@@ -1,5 +1,5 @@
 -- The order in which the expressions that were expected are reported, each once.
-use Rattle.std.specs.Prelude.{◌≡◌, ℕ, suc, ◌-◌, List, [], ◌∷◌, ◌++◌, length, map, take, drop, codes, get_or}
+use Rattle.std.specs.Prelude.{◌≡◌, ℕ, zero, suc, ◌+◌, ◌-◌, List, [], ◌∷◌, ◌++◌, length, map, take, drop, codes, get_or}
 use Rattle.std.specs.Prelude.{slice_get, bytes_eq, Option, Some, None, if◌then◌else◌}
 use Rattle.std.specs.Cmp.Lexicographic.{slice_cmp}
 use Rattle.std.specs.List.{flat_map, list_any}
@@ -35,6 +35,11 @@ abbrev pub use_rows : List Shape → ℕ → List ℕ → List (List ℕ)
 use_rows nodes first [] = []
 use_rows nodes first (body ∷ bodies) =
     flat_map named_id (take (suc body - first) (drop first nodes)) ∷ use_rows nodes (suc body) bodies
+
+-- the first node of a rule's body, which comes after the body of the rule before
+abbrev pub first_node : List ℕ → ℕ → ℕ
+first_node bodies zero = 0
+first_node bodies (suc id) = get_or bodies id 0 + 1
 
 -- how many uses lead to a rule from the start rule at least; one that none reaches comes last
 abbrev pub uses_or : ℕ → Option ℕ → ℕ

@@ -4,7 +4,7 @@ ghost use Rattle.std.specs.Prelude.{OnOk, OnErr};
 ghost use Rattle.memo.specs.KeyLog.{tasks_of};
 ghost use Rattle.memo.specs.LogEntries.{evals_of};
 ghost use Rattle.memo.specs.Parts.{IsIn};
-ghost use Rattle.memo.specs.TaskLinks.{positions_of, bucket_of, bucket_of_cell, IsLastCell, AreLinkedCells};
+ghost use Rattle.memo.specs.TaskLinks.{positions_of, bucket_of, bucket_of_cell, AreLinkedCells};
 ghost use Rattle.memo.specs.declared.entry.Entry.{Entry};
 
 use crate::entry::{Entry, given_in};
@@ -64,16 +64,6 @@ fn bucket(count: usize, number: usize) -> usize
     number & (count - 1)
 }
 
-// Returns one more than the index of the last cell of the bucket, or 0.
-#[inline(always)]
-fn last_of(cells: &[IndexCell], heads: &[u32], count: usize, at: usize) -> usize
-    requires within { at < length heads.now }
-    requires linked { AreLinkedCells (bucket_of_cell count) cells.now heads.now }
-    ensures { IsLastCell (bucket_of_cell count) cells.now (length cells.now) at result }
-{
-    heads[at] as usize
-}
-
 // Returns what an entry says of the key of that number, sought among the cells of its bucket.
 fn walk(
     cells: &[IndexCell],
@@ -89,7 +79,7 @@ fn walk(
     ensures none { IfNone result ((i : ℕ) (e : Entry) → IsIn (record { number = number; entry = i })
         (positions_of cells.now) → slice_get entries.now i ≡ Some e → IsIn task (tasks_of (evals_of e)) → ⊥) }
 {
-    let mut at = last_of(cells, heads, heads.len(), bucket(heads.len(), number));
+    let mut at = heads[bucket(heads.len(), number)] as usize;
     while at > 0 {
         let cell = cells[at - 1];
         if cell.number == number {
@@ -124,8 +114,7 @@ fn relink(cells: &mut [IndexCell], heads: &mut [u32])
     for i in 0..cells.len() {
         let cell = cells[i];
         let at = bucket(heads.len(), cell.number);
-        let link = last_of(&cells[..i], heads, heads.len(), at);
-        cells[i].link = link as u32;
+        cells[i].link = heads[at];
         heads[at] = i as u32 + 1;
     }
 }
@@ -162,11 +151,11 @@ fn add(
 {
     let next = narrow(cells.len() + 1)?;
     let at = bucket(heads.len(), number);
-    let link = last_of(cells, heads, heads.len(), at);
+    let link = heads[at];
     cells.push(IndexCell {
         number,
         entry,
-        link: link as u32,
+        link,
     })?;
     heads[at] = next;
     Ok(())

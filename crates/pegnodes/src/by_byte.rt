@@ -182,15 +182,9 @@ fn below(grammar: &MarkedNodes<'_>, n: usize, b: u8, levels: usize) -> Option<De
 
 // Returns what a byte decides of the members of a sequence. Members after one that takes the byte do not matter.
 #[cycle(deciding)]
-fn by_members(
-    grammar: &MarkedNodes<'_>,
-    n: usize,
-    members: &[usize],
-    b: u8,
-    levels: usize,
-) -> Option<Decided>
-    requires { slice_get (shapes_of grammar.now.nodes.now) n ≡ Some (Seq members.now) }
-    ensures { IfSome result (λ d. DecidesMembers grammar.now b n members.now d) }
+fn by_members(grammar: &MarkedNodes<'_>, members: &[usize], b: u8, levels: usize) -> Option<Decided>
+    ensures { IfSome result (λ d. (n : ℕ) → slice_get (shapes_of grammar.now.nodes.now) n ≡ Some (Seq members.now)
+        → DecidesMembers grammar.now b n members.now d) }
 {
     let mut count = 0;
     for i in 0..members.len() {
@@ -218,13 +212,12 @@ fn by_members(
 #[cycle(deciding)]
 fn by_alternatives(
     grammar: &MarkedNodes<'_>,
-    n: usize,
     alternatives: &[usize],
     b: u8,
     levels: usize,
 ) -> Option<Decided>
-    requires { slice_get (shapes_of grammar.now.nodes.now) n ≡ Some (Choice alternatives.now) }
-    ensures { IfSome result (λ d. DecidesAlternatives grammar.now b n alternatives.now d) }
+    ensures { IfSome result (λ d. (n : ℕ) → slice_get (shapes_of grammar.now.nodes.now) n
+        ≡ Some (Choice alternatives.now) → DecidesAlternatives grammar.now b n alternatives.now d) }
 {
     let mut count = 0;
     for i in 0..alternatives.len() {
@@ -264,11 +257,11 @@ fn by_node(grammar: &MarkedNodes<'_>, n: usize, b: u8, levels: usize) -> Option<
         Node::Bytes(bytes) => by_bytes(bytes, b),
         Node::Name(id) => by_body(grammar, *id, b, levels),
         Node::Seq(members) => {
-            let decided = by_members(grammar, n, members, b, levels)?;
+            let decided = by_members(grammar, members, b, levels)?;
             summed(decided.verdict, 1, decided.count)
         }
         Node::Choice(alternatives) => {
-            let decided = by_alternatives(grammar, n, alternatives, b, levels)?;
+            let decided = by_alternatives(grammar, alternatives, b, levels)?;
             summed(decided.verdict, 1, decided.count)
         }
         Node::Opt(operand) => over_opt(below(grammar, *operand, b, levels)?),

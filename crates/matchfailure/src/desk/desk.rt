@@ -1,10 +1,10 @@
 //! The machine that evaluates each node at each position at most once.
-ghost use Rattle.std.specs.Prelude.{◌≡◌, ℕ, ◌+◌, ◌*◌, ◌<◌, ◌≤◌, Bool, List, [], ◌∷◌, length, true, slice_get, Some};
+ghost use Rattle.std.specs.Prelude.{◌≡◌, ℕ, ◌<◌, Bool, List, [], ◌∷◌, length, true, slice_get, Some};
 ghost use Rattle.std.specs.Prelude.{IfOk, OnOk, OnErr};
-ghost use Rattle.gramcheck.specs.Grammar.{IsSoundGrammar};
+ghost use Rattle.gramcheck.specs.Grammar.{IsNumbered, IsSoundGrammar};
 ghost use Rattle.memo.specs.Entries.{found_at};
 ghost use Rattle.matchfailure.specs.declared.desk.frame.FailureFrame.{FailureFrame};
-ghost use Rattle.matchfailure.specs.Desk.{empty, prefix as begun_at, Fits, HasFrames, IsStep, unit_of};
+ghost use Rattle.matchfailure.specs.Desk.{empty, prefix as begun_at, Fits, HasFrames, IsStep, unit_of, view_of};
 
 use crate::desk::advance::{advance, prefix};
 use crate::desk::cell_map::CellMap;
@@ -24,23 +24,22 @@ use std::marker::Model;
 /// frame or a cell: a step pushes the frame of one child, or turns the last frame into its cell. It serves the search
 /// for the farthest failure, which needs every cell.
 ///
-/// Contracts see the cells, the frames with the last one first, and how many evaluations were begun.
+/// Contracts see the cells, the frames with the last one first, and how many evaluations were begun. That is the number
+/// of both.
 #[derive(Drop)]
 pub struct Desk {
     /// The outcomes so far.
     cells: CellMap,
     /// The evaluations under way.
     frames: FailureFrames,
-    /// How many evaluations were begun.
-    begun: u128,
 }
 
 impl Model for Desk {
-    ghost use Rattle.matchfailure.specs.Desk.{View};
+    ghost use Rattle.matchfailure.specs.Desk.{View, view_of};
 
     ghost Value = { View };
 
-    ghost view = { λ d. record { cells = d.cells; frames = d.frames; begun = d.begun } };
+    ghost view = { λ d. view_of d.cells d.frames };
 }
 
 fn ended(found: Found, begun: u128) -> Unit
@@ -52,33 +51,18 @@ fn ended(found: Found, begun: u128) -> Unit
     }
 }
 
-// One evaluation more; there are no more than nodes at positions.
-fn one_more(nodes: usize, length: usize, begun: u128) -> u128
-    requires { begun ≤ nodes * (length + 1) }
-    ensures { result ≡ begun + 1 }
-{
-    begun + 1
-}
-
 fn step_on(
     peg: &SoundPeg,
     window: &[u8],
     more: bool,
     cells: &mut CellMap,
     frames: &mut FailureFrames,
-    begun: &mut u128,
 ) -> Result<Option<Unit>, Memory>
-    requires sound { IsSoundGrammar peg.now }
     requires some { more ≡ true → 0 < length window.now }
     requires frame { (top : FailureFrame) × (below : List FailureFrame) × (frames.old ≡ top ∷ below) }
-    requires fits { Fits peg.now window.now more (record {
-      cells = cells.old;
-      frames = frames.old;
-      begun = begun.old;
-    }) }
-    ensures { IfOk result (IsStep peg.now window.now more
-        (record { cells = cells.old; frames = frames.old; begun = begun.old })
-        (record { cells = cells.new; frames = frames.new; begun = begun.new })) }
+    requires fits { Fits peg.now window.now more (view_of cells.old frames.old) }
+    ensures { IfOk result (IsStep peg.now window.now more (view_of cells.old frames.old)
+        (view_of cells.new frames.new)) }
 {
     let top = frames.top();
     match next_step(peg, window, more, cells, top) {
@@ -90,14 +74,13 @@ fn step_on(
             end,
         } => {
             advance(frames, next, end, node, position)?;
-            *begun = one_more(peg.nodes(), window.len(), *begun);
             Ok(None)
         }
         NextStep::Answer(found) => {
             cells.put(top.node, top.position, found)?;
             frames.pop();
             if frames.is_empty() {
-                Ok(Some(ended(found, *begun)))
+                Ok(Some(ended(found, cells.len() as u128)))
             } else {
                 Ok(None)
             }
@@ -113,7 +96,6 @@ impl Desk {
         Desk {
             cells: CellMap::new(alloc),
             frames: FailureFrames::new(alloc),
-            begun: 0,
         }
     }
 
@@ -137,7 +119,6 @@ impl Desk {
     {
         self.cells.clear();
         self.frames.clear();
-        self.begun = 0;
     }
 
     /// Begins with the start rule's body at the front of a window.
@@ -151,6 +132,7 @@ impl Desk {
         ensures frames { OnOk result ((x : List ℕ) (more : Bool) → HasFrames peg.now x more self.new) }
         ensures empty { OnErr result (self.new ≡ empty) }
         ensures sound { IsSoundGrammar peg.now }
+        ensures numbered { IsNumbered peg.now }
     {
         self.reset();
         let root = peg.body_node(peg.start());
@@ -158,7 +140,6 @@ impl Desk {
             self.reset();
             return Err(Memory);
         }
-        self.begun = 1;
         Ok(())
     }
 
@@ -180,15 +161,7 @@ impl Desk {
         ensures frames { OnOk result (HasFrames peg.now window.now more self.new) }
         ensures empty { OnErr result (self.new ≡ empty) }
     {
-        let _start = peg.start();
-        let stepped = step_on(
-            peg,
-            window,
-            more,
-            &mut self.cells,
-            &mut self.frames,
-            &mut self.begun,
-        );
+        let stepped = step_on(peg, window, more, &mut self.cells, &mut self.frames);
         if stepped.is_err() {
             self.reset();
         }

@@ -1,6 +1,6 @@
 //! Explains why no unit goes on.
 ghost use Rattle.std.specs.Prelude.{◌≡◌, ℕ, ◌+◌, ◌^◌, ◌<◌, ◌≤◌, ◌++◌, List, length, drop, min, IfOk, IfSome, OnOk};
-ghost use Rattle.gramcheck.specs.Grammar.{IsSoundGrammar};
+ghost use Rattle.gramcheck.specs.Grammar.{IsNumbered};
 ghost use Rattle.pegnodes.specs.Nodes.{shapes_of};
 ghost use Rattle.pegread.specs.PegViews.{rules_of};
 ghost use Rattle.matchfailure.specs.FailureSearches.{evaluated_by, most_evaluated};
@@ -134,8 +134,7 @@ impl FailureSearch {
         FailureSearch { evaluated: 0 }
     }
 
-    /// Returns where a unit ends and where it fails farthest. `seen` holds what is seen of the unit, which begins after
-    /// `unit` bytes.
+    /// Returns where a unit ends and where it fails farthest. `seen` holds what is seen of the unit.
     ///
     /// # Errors
     /// `Memory` if an allocation fails.
@@ -144,15 +143,13 @@ impl FailureSearch {
         alloc: Global,
         peg: &SoundPeg,
         seen: &[u8],
-        unit: usize,
     ) -> Result<UnitSearch, Memory>
-        requires sound { IsSoundGrammar peg.now }
-        requires fits { unit + length seen.now < 2 ^ 63 }
         ensures found { IfOk result (λ search. IsFound (rules_of peg.now.rules) peg.now.start
             (shapes_of peg.now.nodes) peg.now.bodies seen.now search.farthest) }
-        ensures fitting { IfOk result (λ search. IfSome search.farthest (IsFitting (length peg.now.nodes)
-            (length seen.now) unit)) }
+        ensures fitting { IfOk result (λ search. (unit : ℕ) → unit + length seen.now < 2 ^ 63 →
+            IfSome search.farthest (IsFitting (length peg.now.nodes) (length seen.now) unit)) }
         ensures end { IfOk result (λ search. EndsSo (rules_of peg.now.rules) peg.now.start seen.now search.end) }
+        ensures numbered { IsNumbered peg.now }
         ensures once { evaluated_by self.new ≡ min (evaluated_by self.old + 1) most_evaluated }
     {
         farthest_is_within();
@@ -170,21 +167,18 @@ impl FailureSearch {
         alloc: Global,
         peg: &SoundPeg,
         seen: &[u8],
-        unit: usize,
         last: usize,
     ) -> Result<Option<Farthest>, Memory>
-        requires sound { IsSoundGrammar peg.now }
-        requires fits { unit + length seen.now < 2 ^ 63 }
         ensures found { IfOk result (IsFoundBefore (rules_of peg.now.rules) peg.now.start (shapes_of peg.now.nodes)
             peg.now.bodies seen.now last) }
-        ensures fitting { IfOk result (λ found. IfSome found (IsFitting (length peg.now.nodes) (length seen.now)
-            unit)) }
+        ensures fitting { IfOk result (λ found. (unit : ℕ) → unit + length seen.now < 2 ^ 63 →
+            IfSome found (IsFitting (length peg.now.nodes) (length seen.now) unit)) }
         ensures once { evaluated_by self.new ≤ evaluated_by self.old + 1 }
     {
         if last == 0 {
             return Ok(None);
         }
-        Ok(self.failure_in(alloc, peg, seen, unit)?.farthest)
+        Ok(self.failure_in(alloc, peg, seen)?.farthest)
     }
 
     /// Returns the lines that explain why no unit follows the last one. They report where that unit, or the one before
@@ -214,10 +208,8 @@ impl FailureSearch {
             why.items) }
         ensures twice { evaluated_by self.new ≤ evaluated_by self.old + 2 }
     {
-        // its contract says that the grammar is sound and how its nodes are numbered
-        let _ = peg.start();
-        let before = self.failure_before(alloc, peg, seen, at.byte, last)?;
-        let latest = self.failure_in(alloc, peg, &seen[last..], at.byte + last)?;
+        let before = self.failure_before(alloc, peg, seen, last)?;
+        let latest = self.failure_in(alloc, peg, &seen[last..])?;
         let stuck = is_stuck(latest.end);
         let failing = byte_of(&latest.farthest, at.byte + last);
         match reported_unit(byte_of(&before, at.byte), failing) {

@@ -1,6 +1,7 @@
 //! The lines that report where a unit fails farthest.
 ghost use Rattle.std.specs.Prelude.{◌≡◌, ℕ, ◌+◌, ◌^◌, ◌<◌, ◌≤◌, ◌++◌, List, length, OnOk, IfOk};
 ghost use Rattle.std.specs.List.{flat_map};
+ghost use Rattle.gramcheck.specs.Grammar.{IsNumbered};
 ghost use Rattle.matchfailure.specs.VisitLists.{ListsVisit};
 ghost use Rattle.matchfailure.specs.ReportOrder.{AreReported};
 ghost use Rattle.matchfailure.specs.declared.farthest.visit.Visit.{Visit};
@@ -95,6 +96,7 @@ fn push_expected_line(
     position: usize,
     visit: Visit,
 ) -> Result<(), Memory>
+    requires numbered { IsNumbered peg.now }
     requires node { visit.node < length peg.now.nodes }
     requires begin { unit + visit.position < 2 ^ 63 }
     ensures { OnOk result (out.new.items ≡ out.old.items
@@ -119,7 +121,8 @@ fn push_each(
     position: usize,
     reported: &[Visit],
 ) -> Result<(), Memory>
-    requires { AreFitting (length peg.now.nodes) unit reported.now }
+    requires numbered { IsNumbered peg.now }
+    requires fitting { AreFitting (length peg.now.nodes) unit reported.now }
     ensures { OnOk result (out.new.items ≡ out.old.items ++ flat_map (expected_line (rules_of peg.now.rules)
         (shapes_of peg.now.nodes) peg.now.bodies unit position) reported.now) }
 {
@@ -150,7 +153,8 @@ fn push_expected(
     position: usize,
     reported: &[Visit],
 ) -> Result<(), Memory>
-    requires { AreFitting (length peg.now.nodes) unit reported.now }
+    requires numbered { IsNumbered peg.now }
+    requires fitting { AreFitting (length peg.now.nodes) unit reported.now }
     ensures { OnOk result (out.new.items ≡ out.old.items ++ expected_lines (rules_of peg.now.rules)
         (shapes_of peg.now.nodes) peg.now.bodies unit position reported.now) }
 {

@@ -1,5 +1,6 @@
 //! Writes a grammar's nodes in explanations.
 ghost use Rattle.std.specs.Prelude.{◌≡◌, ◌<◌, Some, length, slice_get, IfOk};
+ghost use Rattle.gramcheck.specs.Grammar.{IsNumbered};
 ghost use Rattle.pegnodes.specs.Nodes.{shape_of, shapes_of};
 ghost use Rattle.pegread.specs.PegViews.{rules_of};
 ghost use Rattle.matchfailure.specs.NodeTexts.{leaf_text, name_of_rule, rule_of_node};
@@ -40,10 +41,9 @@ pub(crate) fn leaf_at(alloc: Global, peg: &SoundPeg, n: usize) -> Result<Vec<u8>
 
 /// Returns the id of the rule in whose body the node of that number stands, by halves: the bodies' numbers ascend.
 pub(crate) fn rule_of(peg: &SoundPeg, n: usize) -> usize
+    requires { IsNumbered peg.now }
     ensures { result ≡ rule_of_node peg.now.bodies n }
 {
-    // its contract says that the grammar is sound
-    let _ = peg.start();
     let mut low = 0;
     let mut high = peg.rules().len();
     'halves: while low < high {
@@ -59,6 +59,7 @@ pub(crate) fn rule_of(peg: &SoundPeg, n: usize) -> usize
 
 /// Returns the name of the rule in whose body the node of that number stands.
 pub(crate) fn rule_name(peg: &SoundPeg, n: usize) -> &[u8]
+    requires { IsNumbered peg.now }
     ensures { result.now ≡ name_of_rule (rules_of peg.now.rules) (rule_of_node peg.now.bodies n) }
 {
     let id = rule_of(peg, n);

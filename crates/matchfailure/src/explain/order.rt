@@ -1,6 +1,7 @@
 //! The order of expressions in explanations, each once.
 ghost use Rattle.std.specs.Prelude.{◌≡◌, ℕ, ◌+◌, ◌^◌, ◌<◌, List, Some, None, length, map, get_or, slice_get, IfOk};
 ghost use Rattle.std.specs.Prelude.{[]};
+ghost use Rattle.gramcheck.specs.Grammar.{IsNumbered};
 ghost use Rattle.matchfailure.specs.VisitLists.{ListsVisit};
 ghost use Rattle.matchfailure.specs.FittingFailures.{AreFitting};
 ghost use Rattle.matchfailure.specs.ReportOrder.{AreReported, each_once as once_each, entry_text as text_of_entry};
@@ -54,7 +55,8 @@ fn keys_of(
     far: &[Option<usize>],
     expected: &[Visit],
 ) -> Result<Vec<Key>, Memory>
-    requires { (v : Visit) → ListsVisit expected.now v → v.node < length peg.now.nodes }
+    requires numbered { IsNumbered peg.now }
+    requires nodes { (v : Visit) → ListsVisit expected.now v → v.node < length peg.now.nodes }
     ensures { IfOk result (λ keys. keys.items
         ≡ map (key_of far.now (shapes_of peg.now.nodes) peg.now.bodies) expected.now) }
 {
@@ -75,6 +77,7 @@ fn entry_text(
     position: usize,
     visit: Visit,
 ) -> Result<Vec<u8>, Memory>
+    requires numbered { IsNumbered peg.now }
     requires node { visit.node < length peg.now.nodes }
     requires begin { unit + visit.position < 2 ^ 63 }
     ensures { IfOk result (λ text. text.items ≡ text_of_entry (rules_of peg.now.rules) peg.now.start
@@ -95,7 +98,8 @@ fn each_once(
     position: usize,
     keys: &[Key],
 ) -> Result<Vec<Visit>, Memory>
-    requires { AreFitting (length peg.now.nodes) unit (map visit_of keys.now) }
+    requires numbered { IsNumbered peg.now }
+    requires fitting { AreFitting (length peg.now.nodes) unit (map visit_of keys.now) }
     ensures reported { IfOk result (λ reported. reported.items ≡ once_each
         (text_of_entry (rules_of peg.now.rules) peg.now.start
         (shapes_of peg.now.nodes) peg.now.bodies unit position) [] (map visit_of keys.now)) }
@@ -133,6 +137,7 @@ pub(crate) fn in_report_order(
         (shapes_of peg.now.nodes)
         peg.now.bodies unit farthest.now.position farthest.now.expected.items reported.items) }
     ensures fitting { IfOk result (λ reported. AreFitting (length peg.now.nodes) unit reported.items) }
+    ensures numbered { IsNumbered peg.now }
 {
     let far = distances(alloc, peg)?;
     let mut keys = keys_of(alloc, peg, &far, &farthest.expected)?;

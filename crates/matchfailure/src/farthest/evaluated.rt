@@ -1,5 +1,6 @@
 //! The plain machine, run to its end.
 ghost use Rattle.std.specs.Prelude.{◌≡◌, ℕ, false, IfOk, OnOk};
+ghost use Rattle.gramcheck.specs.Grammar.{IsNumbered, IsSoundGrammar};
 ghost use Rattle.pegread.specs.PegViews.{rules_of};
 ghost use Rattle.matchfailure.specs.Desk.{IsDone};
 ghost use Rattle.matchfailure.specs.UnitEnds.{EndsSo, end_of_unit};
@@ -31,6 +32,8 @@ pub(crate) fn evaluate(
 ) -> Result<Option<usize>, Memory>
     ensures done { OnOk result (IsDone peg.now window.now false desk.new) }
     ensures end { IfOk result (EndsSo (rules_of peg.now.rules) peg.now.start window.now) }
+    ensures sound { IsSoundGrammar peg.now }
+    ensures numbered { IsNumbered peg.now }
 {
     desk.begin(peg)?;
     'steps: loop {

@@ -1,6 +1,7 @@
 //! The farthest failure of a unit.
 ghost use Rattle.std.specs.Prelude.{false, IfOk};
 ghost use Rattle.std.specs.Option.{MatchOption};
+ghost use Rattle.gramcheck.specs.Grammar.{IsNumbered, IsSoundGrammar};
 ghost use Rattle.pegread.specs.PegViews.{rules_of};
 ghost use Rattle.pegnodes.specs.Nodes.{shapes_of};
 ghost use Rattle.matchfailure.specs.Desk.{IsDone};
@@ -49,7 +50,7 @@ fn failure_by(
         far.position far.expected.items)) }
 {
     let mut seen = VisitList::new(alloc);
-    add_outside(peg, window, desk, &mut seen)?;
+    add_outside(peg, desk, &mut seen)?;
     let visits = seen.as_slice();
     let Some(position) = greatest_stop(peg, window, visits) else {
         return Ok(None);
@@ -63,7 +64,7 @@ fn failure_by(
 /// comparison outside of `!` fails, with all leaves that were expected there. The window is taken as the whole rest of
 /// the input, whether the start rule succeeds on it or not.
 ///
-/// It evaluates each node at each position once.
+/// It evaluates each node at each position once. The clauses `sound` and `numbered` repeat those of `SoundPeg::start`.
 ///
 /// # Errors
 /// `Memory` if an allocation fails.
@@ -73,6 +74,8 @@ pub fn farthest_failure(alloc: Global, peg: &SoundPeg, window: &[u8]) -> Result<
         (λ far. IsFarthest (rules_of peg.now.rules) (shapes_of peg.now.nodes) peg.now.bodies window.now peg.now.start
         far.position far.expected.items)) }
     ensures end { IfOk result (λ search. EndsSo (rules_of peg.now.rules) peg.now.start window.now search.end) }
+    ensures sound { IsSoundGrammar peg.now }
+    ensures numbered { IsNumbered peg.now }
 {
     let mut desk = Desk::new(alloc);
     let end = evaluate(&mut desk, peg, window)?;

@@ -1,5 +1,5 @@
 //! The evaluations that are asked for outside of `!`.
-ghost use Rattle.std.specs.Prelude.{◌≡◌, ◌↔◌, ℕ, false, [], length, OnOk};
+ghost use Rattle.std.specs.Prelude.{◌≡◌, ◌↔◌, ℕ, List, false, [], length, OnOk};
 ghost use Rattle.pegread.specs.PegViews.{rules_of};
 ghost use Rattle.pegnodes.specs.Nodes.{shapes_of};
 ghost use Rattle.matchfailure.specs.Desk.{IsDone};
@@ -13,22 +13,19 @@ use gramcheck::SoundPeg;
 use ruletable::Memory;
 
 /// Adds the evaluations that the start rule's outcome asks for outside of `!` to an empty list. The machine has
-/// evaluated the start rule on the window, which is the whole rest.
+/// evaluated the start rule on a window that is the whole rest.
 ///
 /// # Errors
 /// `Memory` if an allocation fails.
-pub(crate) fn add_outside(
-    peg: &SoundPeg,
-    window: &[u8],
-    desk: &Desk,
-    seen: &mut VisitList,
-) -> Result<(), Memory>
-    requires done { IsDone peg.now window.now false desk.now }
+pub(crate) fn add_outside(peg: &SoundPeg, desk: &Desk, seen: &mut VisitList) -> Result<(), Memory>
+    requires done { (window : List ℕ) × IsDone peg.now window false desk.now }
     requires empty { seen.old ≡ [] }
-    ensures listed { OnOk result ((v : Visit) → ListsVisit seen.new v ↔ Outside (rules_of peg.now.rules)
-        (shapes_of peg.now.nodes) peg.now.bodies window.now peg.now.start v.node v.position) }
+    ensures listed { OnOk result ((window : List ℕ) → IsDone peg.now window false desk.now → (v : Visit)
+        → ListsVisit seen.new v ↔ Outside (rules_of peg.now.rules) (shapes_of peg.now.nodes) peg.now.bodies window
+        peg.now.start v.node v.position) }
     ensures once { OnOk result (AreOnce seen.new) }
-    ensures within { OnOk result (AreWithin (length peg.now.nodes) (length window.now) seen.new) }
+    ensures within { OnOk result ((window : List ℕ) → IsDone peg.now window false desk.now
+        → AreWithin (length peg.now.nodes) (length window) seen.new) }
 {
     seen.add(peg.body_node(peg.start()), 0)?;
     let mut next = 0;

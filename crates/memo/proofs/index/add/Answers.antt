@@ -1,4 +1,5 @@
 use Rattle.std.proofs.Common.{arith}
+use Rattle.std.proofs.lemmas.Option.{slice_get-get_or}
 use Rattle.memo.proofs.TaskLinksLemmas.{linked_added}
 use Rattle.memo.proofs.index.add.Goals as goal
 
@@ -9,4 +10,5 @@ returns-clause-linked c =
     let fits = c.args.cells.now.ok.0 in
     rw c.in_ok-push.ensures.items
     (linked_added c.args.cells.now.items c.args.heads.now _ c.bucket-at.result c.in_ok-next.next c.requires.linked
-    (rw c.deref.ensures.value at c.last_of-link.ensures) c.bucket-at.ensures.value (omega arith))
+    (c.requires.linked.heads _ _ (slice_get-get_or c.args.heads.now c.bucket-at.result 0 c.bucket-at.ensures.within))
+    c.bucket-at.ensures.value (omega arith))

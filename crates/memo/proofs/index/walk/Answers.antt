@@ -1,4 +1,5 @@
-use Rattle.std.proofs.Common.{arith, ap, ◌∙◌, length, slice_get}
+use Rattle.std.proofs.Common.{arith, ap, sym, ◌∙◌, length, slice_get}
+use Rattle.std.proofs.lemmas.Option.{slice_get-get_or}
 use Rattle.memo.specs.TaskLinks.{bucket_of}
 use Rattle.memo.proofs.TaskLinksLemmas.{sought_start, cell_of_position}
 use Rattle.memo.proofs.index.walk.Goals as goal
@@ -6,7 +7,8 @@ use Rattle.memo.proofs.index.walk.Goals as goal
 pub loop-at-init : goal.loop-at-init
 loop-at-init c =
     sought_start _ _ _ _ _ (λ d s. ap (bucket_of (length c.args.heads.now)) s.0)
-    (rw c.bucket.ensures.value at c.last_of-at.ensures)
+    (c.requires.linked.heads _ _ (ap (slice_get c.args.heads.now) (sym c.bucket.ensures.value)
+    ∙ slice_get-get_or c.args.heads.now c.bucket.result 0 c.bucket.ensures.within))
 
 pub returns-clause-none : goal.returns-clause-none
 returns-clause-none c i e p at h =

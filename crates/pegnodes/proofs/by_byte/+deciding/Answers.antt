@@ -1,8 +1,8 @@
 -- What is decided of a node, from what is decided of those below.
-use Rattle.std.proofs.Common.{◌∙◌, sym, subst}
+use Rattle.std.proofs.Common.{◌∙◌, ap, sym, subst, Some}
 use Rattle.pegnodes.specs.ByByte.{below, by_any}
 use Rattle.pegnodes.specs.Decides.{DecidesShape}
-use Rattle.pegnodes.specs.Nodes.{Bytes, Seq, Choice}
+use Rattle.pegnodes.specs.Nodes.{Bytes, Seq, Choice, shape_of}
 use Rattle.pegnodes.proofs.DecidesLemmas.{some_as, at_node, name_decides, seq_decides, choice_decides, members_done}
 use Rattle.pegnodes.proofs.DecidesLemmas.{members_more, members_failed, members_took, alternatives_done}
 use Rattle.pegnodes.proofs.DecidesLemmas.{alternatives_more, alternatives_succeeded, takes_succeeds, stays_succeeds}
@@ -13,55 +13,55 @@ below-returns t c = some_as _ _ c.by_node.result (λ d h. below (sym c.mark_or.e
     c.by_node.ensures
 
 pub by_alternatives-returns-in-Takes : goal.by_alternatives-returns-in-Takes
-by_alternatives-returns-in-Takes t c =
-    alternatives_succeeded c.args.grammar.now c.args.b c.args.n c.args.alternatives.now c.loop-i.i c.loop-i.count
-    c.loop-i.invariant c.loop-i-test.true c.requires
+by_alternatives-returns-in-Takes t c n at =
+    alternatives_succeeded c.args.grammar.now c.args.b n c.args.alternatives.now c.loop-i.i c.loop-i.count
+    (c.loop-i.invariant n at) c.loop-i-test.true at
     c.in_ok-alternative.alternative c.in_ok-sum.sum c.in_ok-alternative.ensures c.in_ok-sum.ensures
     (takes_succeeds _ c.in-Takes.is)
 
 pub by_alternatives-returns-in-Stays : goal.by_alternatives-returns-in-Stays
-by_alternatives-returns-in-Stays t c =
-    alternatives_succeeded c.args.grammar.now c.args.b c.args.n c.args.alternatives.now c.loop-i.i c.loop-i.count
-    c.loop-i.invariant c.loop-i-test.true c.requires
+by_alternatives-returns-in-Stays t c n at =
+    alternatives_succeeded c.args.grammar.now c.args.b n c.args.alternatives.now c.loop-i.i c.loop-i.count
+    (c.loop-i.invariant n at) c.loop-i-test.true at
     c.in_ok-alternative.alternative c.in_ok-sum.sum c.in_ok-alternative.ensures c.in_ok-sum.ensures
     (stays_succeeds _ c.in-Stays.is)
 
 pub by_alternatives-loop-i-preserved : goal.by_alternatives-loop-i-preserved
-by_alternatives-loop-i-preserved t c =
-    alternatives_more c.args.grammar.now c.args.b c.args.n c.args.alternatives.now c.loop-i.i c.loop-i.count
-    c.loop-i.invariant c.loop-i-test.true c.requires
+by_alternatives-loop-i-preserved t c n at =
+    alternatives_more c.args.grammar.now c.args.b n c.args.alternatives.now c.loop-i.i c.loop-i.count
+    (c.loop-i.invariant n at) c.loop-i-test.true at
     c.in_ok-alternative.alternative c.in_ok-sum.sum c.in_ok-alternative.ensures c.in_ok-sum.ensures c.in-Fails.is
 
 pub by_alternatives-returns : goal.by_alternatives-returns
-by_alternatives-returns t c =
-    alternatives_done c.args.grammar.now c.args.b c.args.n c.args.alternatives.now c.loop-i.i c.loop-i.count
-    c.loop-i.invariant c.loop-i-test.false
+by_alternatives-returns t c n at =
+    alternatives_done c.args.grammar.now c.args.b n c.args.alternatives.now c.loop-i.i c.loop-i.count
+    (c.loop-i.invariant n at) c.loop-i-test.false
 
 pub by_members-returns-in-Fails : goal.by_members-returns-in-Fails
-by_members-returns-in-Fails t c =
-    members_failed c.args.grammar.now c.args.b c.args.n c.args.members.now c.loop-i.i c.loop-i.count
-    c.loop-i.invariant c.loop-i-test.true c.requires
+by_members-returns-in-Fails t c n at =
+    members_failed c.args.grammar.now c.args.b n c.args.members.now c.loop-i.i c.loop-i.count
+    (c.loop-i.invariant n at) c.loop-i-test.true at
     (sym c.is_key_of_members.ensures ∙ c.if-is_key_of_members.false) c.in_ok-member.member
     c.in_ok-sum.sum c.in_ok-member.ensures c.in_ok-sum.ensures c.in-Fails.is
 
 pub by_members-returns-in-Takes : goal.by_members-returns-in-Takes
-by_members-returns-in-Takes t c =
-    members_took c.args.grammar.now c.args.b c.args.n c.args.members.now c.loop-i.i c.loop-i.count
-    c.loop-i.invariant c.loop-i-test.true c.requires
+by_members-returns-in-Takes t c n at =
+    members_took c.args.grammar.now c.args.b n c.args.members.now c.loop-i.i c.loop-i.count
+    (c.loop-i.invariant n at) c.loop-i-test.true at
     (sym c.is_key_of_members.ensures ∙ c.if-is_key_of_members.false) c.in_ok-member.member
     c.in_ok-sum.sum c.in_ok-member.ensures c.in_ok-sum.ensures c.in-Takes.is c.if-i-members.false
 
 pub by_members-loop-i-preserved : goal.by_members-loop-i-preserved
-by_members-loop-i-preserved t c =
-    members_more c.args.grammar.now c.args.b c.args.n c.args.members.now c.loop-i.i c.loop-i.count
-    c.loop-i.invariant c.loop-i-test.true c.requires
+by_members-loop-i-preserved t c n at =
+    members_more c.args.grammar.now c.args.b n c.args.members.now c.loop-i.i c.loop-i.count
+    (c.loop-i.invariant n at) c.loop-i-test.true at
     (sym c.is_key_of_members.ensures ∙ c.if-is_key_of_members.false) c.in_ok-member.member
     c.in_ok-sum.sum c.in_ok-member.ensures c.in_ok-sum.ensures c.in-Stays.is
 
 pub by_members-returns : goal.by_members-returns
-by_members-returns t c =
-    members_done c.args.grammar.now c.args.b c.args.n c.args.members.now c.loop-i.i c.loop-i.count
-    c.loop-i.invariant c.loop-i-test.false
+by_members-returns t c n at =
+    members_done c.args.grammar.now c.args.b n c.args.members.now c.loop-i.i c.loop-i.count
+    (c.loop-i.invariant n at) c.loop-i-test.false
 
 pub by_body-returns : goal.by_body-returns
 by_body-returns t c = some_as _ _ c.summed.result (λ d h n.
@@ -93,14 +93,16 @@ by_node-returns-in_ok-decided-in-Seq t c = some_as _ _ c.summed.result (λ d h.
     at_node c.args.grammar.now c.args.b c.args.n _ _ d c.in_ok-set.ensures c.in-Seq.is
     (subst (λ v. DecidesShape c.args.grammar.now c.args.b c.args.n (Seq v) d) c.deref-in-Seq.ensures.value
     (seq_decides c.args.grammar.now c.args.b c.args.n _ c.in_ok-decided-in-Seq.decided d
-    c.in_ok-decided-in-Seq.ensures h))) c.summed.ensures
+    (c.in_ok-decided-in-Seq.ensures c.args.n (c.in_ok-set.ensures ∙ ap (λ w. Some (shape_of w)) c.in-Seq.is
+    ∙ ap (λ v. Some (Seq v)) (sym c.deref-in-Seq.ensures.value))) h))) c.summed.ensures
 
 pub by_node-returns-in_ok-decided-in-Choice : goal.by_node-returns-in_ok-decided-in-Choice
 by_node-returns-in_ok-decided-in-Choice t c = some_as _ _ c.summed-in-Choice.result (λ d h.
     at_node c.args.grammar.now c.args.b c.args.n _ _ d c.in_ok-set.ensures c.in-Choice.is
     (subst (λ v. DecidesShape c.args.grammar.now c.args.b c.args.n (Choice v) d) c.deref-in-Choice.ensures.value
     (choice_decides c.args.grammar.now c.args.b c.args.n _ c.in_ok-decided-in-Choice.decided d
-    c.in_ok-decided-in-Choice.ensures h))) c.summed-in-Choice.ensures
+    (c.in_ok-decided-in-Choice.ensures c.args.n (c.in_ok-set.ensures ∙ ap (λ w. Some (shape_of w)) c.in-Choice.is
+    ∙ ap (λ v. Some (Choice v)) (sym c.deref-in-Choice.ensures.value))) h))) c.summed-in-Choice.ensures
 
 pub by_node-returns-in_ok-below-in-Opt : goal.by_node-returns-in_ok-below-in-Opt
 by_node-returns-in_ok-below-in-Opt t c = some_as _ _ c.over_opt.result (λ d h.

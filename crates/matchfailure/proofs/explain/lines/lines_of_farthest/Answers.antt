@@ -3,7 +3,7 @@ use Rattle.matchfailure.specs.FittingFailures.{AreFitting}
 use Rattle.matchfailure.specs.declared.farthest.visit.Visit.{Visit}
 use Rattle.matchfailure.proofs.explain.lines.lines_of_farthest.Goals as goal
 
-pub push_expected-requires : goal.push_expected-requires
-push_expected-requires c =
+pub push_expected-requires-clause-fitting : goal.push_expected-requires-clause-fitting
+push_expected-requires-clause-fitting c =
     subst (λ (vs : List Visit). AreFitting (length c.args.peg.now.nodes) c.args.unit vs) (sym c.deref.ensures.value)
     c.in_ok-reported.ensures.fitting

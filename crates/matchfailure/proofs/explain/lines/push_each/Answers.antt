@@ -9,13 +9,13 @@ pub push_expected_line-requires-clause-node : goal.push_expected_line-requires-c
 push_expected_line-requires-clause-node c =
     let there = slice_get-get_or c.args.reported.now c.loop-visit.visit-index (record { node = 0; position = 0 })
     c.loop-visit-test.true in
-    (c.requires _ (c.loop-visit.visit-index, there)).0
+    (c.requires.fitting _ (c.loop-visit.visit-index, there)).0
 
 pub push_expected_line-requires-clause-begin : goal.push_expected_line-requires-clause-begin
 push_expected_line-requires-clause-begin c =
     let there = slice_get-get_or c.args.reported.now c.loop-visit.visit-index (record { node = 0; position = 0 })
     c.loop-visit-test.true in
-    (c.requires _ (c.loop-visit.visit-index, there)).1
+    (c.requires.fitting _ (c.loop-visit.visit-index, there)).1
 
 pub loop-visit-preserved : goal.loop-visit-preserved
 loop-visit-preserved c =

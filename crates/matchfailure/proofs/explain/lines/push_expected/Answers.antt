@@ -4,8 +4,8 @@ use Rattle.matchfailure.specs.NoMatchLines.{expected_line}
 use Rattle.matchfailure.proofs.ExpectedLinesLemmas.{expected-join, first-fit}
 use Rattle.matchfailure.proofs.explain.lines.push_expected.Goals as goal
 
-pub push_each-requires : goal.push_each-requires
-push_each-requires c = first-fit _ c.args.unit c.args.reported.now c.min-shown.result c.requires
+pub push_each-requires-clause-fitting : goal.push_each-requires-clause-fitting
+push_each-requires-clause-fitting c = first-fit _ c.args.unit c.args.reported.now c.min-shown.result c.requires.fitting
 
 pub returns : goal.returns
 returns c =

@@ -4,25 +4,27 @@ use Rattle.std.proofs.lemmas.Option.{slice_get_within}
 use Rattle.pegread.specs.PegViews.{rules_of}
 use Rattle.ruletable.specs.Rules as table
 use Rattle.pegread.specs.declared.expr.Expr.{Expr}
-use Rattle.matchfailure.proofs.RuleOfNodeLemmas.{rule-is, before-half, from-half, count-is, AreBefore, AreFrom}
+use Rattle.matchfailure.proofs.RuleOfNodeLemmas.{rule-is, before-half, from-half, count-bodies, count-is, AreBefore}
+use Rattle.matchfailure.proofs.RuleOfNodeLemmas.{AreFrom}
 use Rattle.matchfailure.proofs.explain.node_texts.rule_of.Goals as goal
 
 pub halves-init : goal.halves-init
 halves-init c =
     let count = c.len-high.ensures.len in
     let same = ap (λ (r : table.Rules Expr). length r.rules) c.rules.ensures in
-    let bodies = count-is c.args.peg.now.rules in
+    let listed = count-is c.args.peg.now.rules in
+    let bodies = ap length c.requires.bodies_are ∙ count-bodies (rules_of c.args.peg.now.rules) 0 in
     record {
       order = omega arith;
-      within = omega (arith, count, same, bodies, c.start.ensures.sound.spelled.count);
+      within = omega (arith, count, same, listed, bodies);
       before = λ j m low at. absurd (omega (arith, low));
       from = λ j m le at. let low = slice_get_within c.args.peg.now.bodies j m at in
-          absurd (omega (arith, le, low, count, same, bodies, c.start.ensures.sound.spelled.count));
+          absurd (omega (arith, le, low, count, same, listed, bodies));
     }
 
 pub halves-preserved-then-body_node-n : goal.halves-preserved-then-body_node-n
 halves-preserved-then-body_node-n c =
-    let e = c.start.ensures.numbered.bodies_are in
+    let e = c.requires.bodies_are in
     let at = ap (λ (bs : List ℕ). slice_get bs (c.halves.low + (c.halves.high - c.halves.low) / 2)) (sym e)
     ∙ c.body_node.ensures in
     let less = c.halves-test.true in
@@ -36,7 +38,7 @@ halves-preserved-then-body_node-n c =
 
 pub halves-preserved : goal.halves-preserved
 halves-preserved c =
-    let e = c.start.ensures.numbered.bodies_are in
+    let e = c.requires.bodies_are in
     let at = ap (λ (bs : List ℕ). slice_get bs (c.halves.low + (c.halves.high - c.halves.low) / 2)) (sym e)
     ∙ c.body_node.ensures in
     let less = c.halves-test.true in

@@ -8,14 +8,14 @@ use Rattle.matchfailure.proofs.explain.order.each_once.Goals as goal
 use Rattle.matchfailure.proofs.explain.order.each_once.Goals.{in-Added+in_ok-push-in-Added, in-Duplicate}
 
 pub entry_text-requires-clause-node : goal.entry_text-requires-clause-node
-entry_text-requires-clause-node c = (c.requires _ (
+entry_text-requires-clause-node c = (c.requires.fitting _ (
   c.loop-key.key-index,
   key-at c.args.keys.now c.loop-key.key-index
       c.loop-key-test.true,
 )).0
 
 pub entry_text-requires-clause-begin : goal.entry_text-requires-clause-begin
-entry_text-requires-clause-begin c = (c.requires _ (
+entry_text-requires-clause-begin c = (c.requires.fitting _ (
   c.loop-key.key-index,
   key-at c.args.keys.now c.loop-key.key-index
       c.loop-key-test.true,
@@ -40,7 +40,7 @@ loop-key-preserved c =
             fit = rw (w.reported-is, w.in_ok-push-in-Added.ensures.items)
                 (fits-more (length c.args.peg.now.nodes) c.args.unit
                 c.loop-key.reported.items _ c.loop-key.invariant.fit
-                (c.requires _ (
+                (c.requires.fitting _ (
                   c.loop-key.key-index,
                   key-at c.args.keys.now c.loop-key.key-index
                       c.loop-key-test.true,

@@ -10,12 +10,12 @@ use Rattle.matchfailure.specs.declared.farthest.visit.Visit.{Visit}
 use Rattle.matchfailure.proofs.EachOnceLemmas.{keys-fit}
 use Rattle.matchfailure.proofs.explain.order.in_report_order.Goals as goal
 
-pub keys_of-requires : goal.keys_of-requires
-keys_of-requires c v h =
+pub keys_of-requires-clause-nodes : goal.keys_of-requires-clause-nodes
+keys_of-requires-clause-nodes c v h =
     (c.requires v (subst (λ (vs : List Visit). ListsVisit vs v) c.deref-2.ensures.value h)).0
 
-pub each_once-requires : goal.each_once-requires
-each_once-requires c =
+pub each_once-requires-clause-fitting : goal.each_once-requires-clause-fitting
+each_once-requires-clause-fitting c =
     let keys = c.in_ok-keys.ensures ∙ ap (λ (far : List (Option ℕ)). map (key_of far (shapes_of c.args.peg.now.nodes)
     c.args.peg.now.bodies) c.deref-2.result.now) c.deref.ensures.value
     ∙ ap (map (key_of c.in_ok-far.far.items (shapes_of c.args.peg.now.nodes) c.args.peg.now.bodies))
@@ -36,7 +36,7 @@ returns-clause-reported c =
     c.deref-2.ensures.value in
     IfOk-weaker c.each_once.result _ _ (λ reported is. record {
       far = c.in_ok-far.far.items;
-      distances = c.in_ok-far.ensures;
+      distances = c.in_ok-far.ensures.far;
       keys = c.sort_unstable.new.self.items;
       same = subst (λ (ks : List (List ℕ)). IsPermutation ks c.sort_unstable.new.self.items) keys
           c.sort_unstable.ensures.permutation;

@@ -7,7 +7,7 @@ use Rattle.matchfailure.proofs.EachOnceLemmas.{keys-more}
 use Rattle.matchfailure.proofs.explain.order.keys_of.Goals as goal
 
 pub node-requires : goal.node-requires
-node-requires c = c.requires _ (
+node-requires c = c.requires.nodes _ (
   c.loop-visit.visit-index,
   slice_get-get_or c.args.expected.now c.loop-visit.visit-index
       (record { node = 0; position = 0 }) c.loop-visit-test.true,

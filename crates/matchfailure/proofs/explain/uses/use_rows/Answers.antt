@@ -1,25 +1,31 @@
-use Rattle.std.proofs.Common.{arith}
-use Rattle.std.proofs.lemmas.List.{length-map}
-use Rattle.pegnodes.specs.Nodes.{shape_of, shapes_of}
-use Rattle.pegnodes.proofs.NodeSpellsLemmas.{is_there}
-use Rattle.pegread.specs.PegViews.{rules_of}
-use Rattle.matchfailure.proofs.UseRowsLemmas.{use-row-next}
+use Rattle.std.proofs.Common.{◌≡◌, ℕ, ◌+◌, ◌<◌, ◌++◌, ap, arith, drop, get_or, length, subst}
+use Rattle.std.proofs.lemmas.Option.{slice_get-get_or}
+use Rattle.fixpoint.specs.StepRows.{rows_of}
+use Rattle.pegnodes.specs.Nodes.{shapes_of}
+use Rattle.pegread.specs.declared.expr.Expr.{Expr}
+use Rattle.ruletable.specs.Rules as table
+use Rattle.matchfailure.specs.ReportOrder.{first_node, use_rows}
+use Rattle.matchfailure.proofs.RuleOfNodeLemmas.{count-is}
+use Rattle.matchfailure.proofs.UseRowsLemmas.{first-next, use-row-next}
 use Rattle.matchfailure.proofs.explain.uses.use_rows.Goals as goal
-
-pub overflow_add-end : goal.overflow_add-end
-overflow_add-end c =
-    let there = is_there (rules_of c.args.peg.now.rules) (shapes_of c.args.peg.now.nodes)
-    (c.requires.spelled.spelled c.loop-id.id c.body_node-end.result c.body_node-end.ensures).2 in
-    omega (arith, there, length-map c.args.peg.now.nodes shape_of, c.nodes.ensures.count)
-
-pub names_between-requires : goal.names_between-requires
-names_between-requires c =
-    let there = is_there (rules_of c.args.peg.now.rules) (shapes_of c.args.peg.now.nodes)
-    (c.requires.spelled.spelled c.loop-id.id c.body_node-end.result c.body_node-end.ensures).2 in
-    omega (arith, there, length-map c.args.peg.now.nodes shape_of)
 
 pub loop-id-preserved : goal.loop-id-preserved
 loop-id-preserved c =
-    use-row-next (shapes_of c.args.peg.now.nodes) c.args.peg.now.bodies c.loop-id.id c.loop-id.first
-    c.body_node-end.result c.loop-id.rows.items c.push.new.self.items c.in_ok-names_between.field-0
-    c.body_node-end.ensures c.in_ok-names_between.ensures c.in_ok-push.ensures.items c.loop-id.invariant
+    let nodes = shapes_of c.args.peg.now.nodes in
+    let bodies = c.args.peg.now.bodies in
+    let id = c.loop-id.id in
+    let same = ap (λ (r : table.Rules Expr). length r.rules) c.rules.ensures in
+    let low : id < length bodies = omega (
+      arith,
+      c.loop-id-test.true,
+      c.len-id-end.ensures.len,
+      same,
+      count-is c.args.peg.now.rules,
+      c.requires.sound.spelled.count,
+    ) in
+    let at = slice_get-get_or bodies id 0 low in
+    subst (λ (first : ℕ). rows_of c.push.new.self.items ++ use_rows nodes first (drop (id + 1) bodies)
+    ≡ use_rows nodes 0 bodies) (first-next bodies id)
+    (use-row-next nodes bodies id (first_node bodies id) (get_or bodies id 0) c.loop-id.rows.items
+    c.push.new.self.items c.in_ok-names_of.field-0 at (c.in_ok-names_of.ensures _ at) c.in_ok-push.ensures.items
+    c.loop-id.invariant)
