@@ -1,11 +1,13 @@
 //! Rules that derive nothing.
-ghost use Rattle.std.specs.Prelude.{◌≡◌, ◌↔◌, ◌++◌, flat_map, map, length, take, IsTrue, IfOk, OnOk};
+ghost use Rattle.std.specs.Prelude.{◌≡◌, ◌↔◌, ◌++◌, List, flat_map, map, length, take, IsTrue, IfOk, OnOk};
 ghost use Rattle.abnfread.specs.AbnfViews.{rules_of};
+ghost use Rattle.abnfread.specs.Element.{Rule};
 ghost use Rattle.abnfcheck.specs.AbnfGrammar.{IsSound};
 ghost use Rattle.abnfcheck.specs.AbnfNotes.{Those};
 ghost use Rattle.abnfcheck.specs.RuleMarks.{AreProductive};
 ghost use Rattle.abnfhints.specs.AbnfHints.{DerivesNothing, barren_reported, reported_first};
 ghost use Rattle.letters.specs.Letters.{has};
+ghost use Rattle.letters.specs.declared.alphabet.Alphabet.{Alphabet};
 ghost use Rattle.diagnostics.specs.DefinitionHeads.{defined_at};
 ghost use Rattle.diagnostics.specs.NoteLines.{defined_line};
 ghost use Rattle.rulenames.specs.IdMarks.{AreMarks};
@@ -18,11 +20,10 @@ use ruletable::{Memory, NameCase, Note, NoteKind};
 use std::alloc::Global;
 
 // Returns whether the rule of that id derives nothing.
-fn is_barren(hinted: &Hinted<'_>, marks: &Marks, id: usize) -> bool
-    requires sound { AreMarks (IsSound (rules_of hinted.now.rules.now)) (length (rules_of hinted.now.rules.now))
-        marks.now.sound.items }
-    requires productive { AreProductive hinted.now.letters (rules_of hinted.now.rules.now) marks.now.productive.items }
-    ensures { IsTrue result ↔ DerivesNothing (has hinted.now.letters) (rules_of hinted.now.rules.now) id }
+fn is_barren(marks: &Marks, id: usize) -> bool
+    ensures { (letters : Alphabet) (rules : List Rule) → AreMarks (IsSound rules) (length rules) marks.now.sound.items
+        → AreProductive letters rules marks.now.productive.items
+        → IsTrue result ↔ DerivesNothing (has letters) rules id }
 {
     is_marked(&marks.sound, id) && !is_marked(&marks.productive, id)
 }
@@ -43,7 +44,7 @@ pub(crate) fn barren_names<'a>(
 {
     let mut names = Vec::new(alloc);
     for id in 0..hinted.rules.len().min(hinted.count) {
-        if is_barren(hinted, marks, id) {
+        if is_barren(marks, id) {
             names.push(hinted.rules.name(id))?;
         }
     }

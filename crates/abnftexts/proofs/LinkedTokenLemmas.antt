@@ -1,14 +1,13 @@
 -- The tokens of texts one after another are those of each text.
 -- Serves: joined_reading, linked_reading
 use Rattle.std.proofs.Common.{◌≡◌, ℕ, ◌+◌, ◌≤◌, ◌<◌, ◌==◌, ◌&&◌, not, Bool, true, false, Option, Some, List, [], ◌∷◌}
-use Rattle.std.proofs.Common.{◌++◌, length, take, map, refl, sym, ap, ◌∙◌, arith, append_assoc, length-append}
+use Rattle.std.proofs.Common.{◌++◌, length, take, map, refl, sym, ap, ◌∙◌, arith, length-append}
 use Rattle.std.proofs.Math.Seq.{take-append-add}
 use Rattle.std.proofs.lemmas.Bool.Decides.{nat_tests}
-use Rattle.std.proofs.lemmas.List.{take-append-le}
 use Rattle.ruletable.specs.declared.span.Span.{Span}
 use Rattle.lexer.specs.SliceEnds.{Longest, found, bad, at_end}
 use Rattle.lexer.specs.TokenLists as lexing
-use Rattle.lexer.specs.TokenLists.{Tok, tok, Next, last_one, one_more}
+use Rattle.lexer.specs.TokenLists.{Tok, tok, last_one, one_more}
 use Rattle.lexer.specs.Viability.{say_none, say_more}
 use Rattle.abnfread.specs.declared.kind.AbnfKind.{AbnfKind}
 use Rattle.abnfread.specs.AbnfKinds.{ends_list}

@@ -5,6 +5,7 @@ ghost use Rattle.abnfprint.specs.CanonicalAbnf.{grammar_text};
 ghost use Rattle.abnftexts.specs.JoinRun.{IsWrittenAs, JoinStates, TriedReply, grammar_form, joined_status};
 ghost use Rattle.abnftexts.specs.JoinedViews.{grammar_joined};
 ghost use Rattle.abnftexts.specs.RulesGathered.{named_text};
+ghost use Rattle.abnftexts.specs.declared.run.JoinForm.{JoinForm as join_form};
 ghost use Rattle.toolrun.specs.Right.{RunIsRight};
 ghost use Rattle.toolrun.specs.Status.{code_of};
 ghost use Rattle.toolrun.specs.Stop.{unread};
@@ -42,15 +43,10 @@ fn status_of(joined: &JoinedTexts) -> Status
 }
 
 // Writes a text that such a run states.
-fn write_text<O: Sink>(
-    joined: &JoinedTexts,
-    form: JoinForm,
-    text: &[u8],
-    out: &mut O,
-) -> Result<Stop, WriteFault>
-    requires text { IsWrittenAs (grammar_joined joined.now) form text.now }
-    requires fresh { O.failed out.old ≡ false }
-    ensures { Performs (λ input reply. TriedReply form (grammar_joined joined.now) reply) no_input
+fn write_text<O: Sink>(joined: &JoinedTexts, text: &[u8], out: &mut O) -> Result<Stop, WriteFault>
+    requires { O.failed out.old ≡ false }
+    ensures { (form : join_form) → IsWrittenAs (grammar_joined joined.now) form text.now
+        → Performs (λ input reply. TriedReply form (grammar_joined joined.now) reply) no_input
         (passed O.contents O.failed out.old out.new) result }
 {
     match write_whole(out, text) {
@@ -87,17 +83,6 @@ fn stop_at(fault: ReadFault) -> Stop
     }
 }
 
-// The form of a grammar that is canonical, or not.
-fn form_of(is_canonical: bool) -> JoinForm
-    ensures { result ≡ grammar_form is_canonical }
-{
-    if is_canonical {
-        JoinForm::Canonical
-    } else {
-        JoinForm::Plain
-    }
-}
-
 // Writes a grammar, if it reads.
 fn write_grammar<O: Sink>(
     alloc: Global,
@@ -115,7 +100,7 @@ fn write_grammar<O: Sink>(
             if is_canonical {
                 write_canonical(joined, &abnf, out)
             } else {
-                write_text(joined, JoinForm::Plain, &joined.grammar, out)
+                write_text(joined, &joined.grammar, out)
             }
         }
         Err(fault) => Ok(stop_at(fault)),
@@ -134,7 +119,7 @@ fn write_rules<O: Sink>(
         no_input (passed O.contents O.failed out.old out.new) result }
 {
     if joined.grammar.is_empty() {
-        return write_text(joined, form_of(is_canonical), &joined.grammar, out);
+        return write_text(joined, &joined.grammar, out);
     }
     write_grammar(alloc, joined, is_canonical, out)
 }
@@ -151,7 +136,7 @@ fn write_joined<O: Sink>(
         (passed O.contents O.failed out.old out.new) result }
 {
     match form {
-        JoinForm::Listed => write_text(joined, JoinForm::Listed, &joined.listed, out),
+        JoinForm::Listed => write_text(joined, &joined.listed, out),
         JoinForm::Plain => write_rules(alloc, joined, false, out),
         JoinForm::Canonical => write_rules(alloc, joined, true, out),
     }

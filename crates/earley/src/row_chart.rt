@@ -161,11 +161,10 @@ fn row_sets<L: Letter>(alloc: Global, table: &DotTable, line: &[L]) -> Result<Ve
     ensures built { IfOk result (λ sets. IsBuilt table.now.flat.value (map L.number line.now)
         (row_views table.now.dots.items sets.items)) }
 {
-    let positions = table.dots.len();
-    let mut filled = no_sets(alloc, positions)?;
+    let mut filled = no_sets(alloc, table.dots.len())?;
     while filled.sets.len() <= line.len() {
         let kept = next_set(alloc, table, line, &filled)?;
-        keep_set(positions, kept, &mut filled)?;
+        keep_set(kept, &mut filled)?;
     }
     let FilledSets {
         sets,

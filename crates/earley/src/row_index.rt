@@ -139,18 +139,15 @@ fn index_rows(
     Ok(())
 }
 
-/// Appends a filled set to `filled`, and indexes each of its rows. The number `positions` of dotted rules is for the
-/// contract alone. `Memory` if an allocation fails.
-pub(crate) fn keep_set(
-    positions: usize,
-    kept: KeptRows,
-    filled: &mut FilledSets,
-) -> Result<(), Memory>
-    requires indexed { AreIndexed positions filled.old }
-    requires count { length kept.rows.items ≤ positions }
+/// Appends a filled set to `filled`, and indexes each of its rows. `Memory` if an allocation fails.
+pub(crate) fn keep_set(kept: KeptRows, filled: &mut FilledSets) -> Result<(), Memory>
     requires number { length filled.old.sets.items < 2 ^ 63 }
+    requires own { length kept.rows.items ≤ length filled.old.own.items }
+    requires rest { length kept.rows.items ≤ length filled.old.rest.items }
+    requires union { length kept.rows.items ≤ length filled.old.union.items }
     ensures sets { IfOk result (λ done. filled.new.sets.items ≡ filled.old.sets.items ++ kept ∷ []) }
-    ensures indexed { IfOk result (λ done. AreIndexed positions filled.new) }
+    ensures indexed { IfOk result (λ done. (positions : ℕ) → AreIndexed positions filled.old
+        → AreIndexed positions filled.new) }
 {
     let number = filled.sets.len();
     index_rows(

@@ -40,20 +40,19 @@ pub(crate) fn predict_target(
     Ok(())
 }
 
-/// Predicts the target that a dotted rule calls, for its row, which is not empty.
+/// Predicts the target that a dotted rule calls: adds the numbers of a row to the dotted rules where it starts.
 fn predict_row(
     table: &DotTable,
     position: usize,
-    row: &BitRow,
     here: &BitRow,
     set: &mut RowSet,
 ) -> Result<(), Memory>
     requires table { IsDotTable table.now }
     requires count { length set.old.all ≡ length table.now.dots.items }
     requires position { position < length table.now.dots.items }
-    requires some { (k : ℕ) × Contains row.now k }
-    ensures { IfOk result (λ done. (j : ℕ) → ((k : ℕ) → Contains here.now k ↔ (k ≡ j)) → Gains table.now.dots.items
-        (IsFor table.now.dots.items position row.now (IsPredicted table.now.flat.value j)) set.old set.new) }
+    ensures { IfOk result (λ done. (row : List ℕ) (some j : ℕ) → Contains row some
+        → ((k : ℕ) → Contains here.now k ↔ (k ≡ j)) → Gains table.now.dots.items
+        (IsFor table.now.dots.items position row (IsPredicted table.now.flat.value j)) set.old set.new) }
 {
     match table.steps[position].called {
         Some(called) => {
@@ -189,18 +188,17 @@ fn is_single(row: &BitRow) -> bool
 // the greatest number comes first: in a dense line it mostly has what all of them have, and then the others add
 // nothing.
 fn complete_rest(
-    positions: usize,
     filled: &FilledSets,
     call: Call,
     row: &BitRow,
     set: &mut RowSet,
 ) -> Result<(), Memory>
-    requires indexed { AreIndexed positions filled.now }
     requires after { call.after < length set.old.all }
     requires own { (dots : List code_dot) (a : code_item.Item) → IsAfterOwn dots call filled.now.own.items row.now a
         → IsRowItem dots set.old.all a }
-    ensures { IfOk result (λ done. (dots : List code_dot) → Gains dots (IsAfterIn dots call filled.now.sets.items
-        row.now (length filled.now.sets.items)) set.old set.new) }
+    ensures { IfOk result (λ done. (positions : ℕ) → AreIndexed positions filled.now → (dots : List code_dot)
+        → Gains dots (IsAfterIn dots call filled.now.sets.items row.now (length filled.now.sets.items)) set.old
+        set.new) }
 {
     let Some(rest) = filled.rest.get(call.from) else {
         return Ok(());
@@ -219,19 +217,18 @@ fn complete_rest(
 
 // Advances over a call the set of each number of a row.
 fn complete_call(
-    positions: usize,
     filled: &FilledSets,
     call: Call,
     row: &BitRow,
     set: &mut RowSet,
 ) -> Result<(), Memory>
-    requires indexed { AreIndexed positions filled.now }
-    requires after { call.after < length set.old.all }
-    ensures { IfOk result (λ done. (dots : List code_dot) → Gains dots (IsAfterIn dots call filled.now.sets.items
-        row.now (length filled.now.sets.items)) set.old set.new) }
+    requires { call.after < length set.old.all }
+    ensures { IfOk result (λ done. (positions : ℕ) → AreIndexed positions filled.now → (dots : List code_dot)
+        → Gains dots (IsAfterIn dots call filled.now.sets.items row.now (length filled.now.sets.items)) set.old
+        set.new) }
 {
     complete_own(&filled.own, call, row, set)?;
-    complete_rest(positions, filled, call, row, set)?;
+    complete_rest(filled, call, row, set)?;
     Ok(())
 }
 
@@ -254,7 +251,7 @@ fn complete_all(
         return Ok(());
     };
     for call in &positions.calls {
-        complete_call(table.dots.len(), filled, *call, row, set)?;
+        complete_call(filled, *call, row, set)?;
     }
     Ok(())
 }
@@ -301,7 +298,7 @@ pub(crate) fn work_row(
     ensures { IfOk result (λ done. Gains table.now.dots.items (IsFor table.now.dots.items position row.now
         (IsWork table.now.flat.value (row_views table.now.dots.items filled.now.sets.items))) set.old set.new) }
 {
-    predict_row(table, position, row, here, set)?;
+    predict_row(table, position, here, set)?;
     advance_row(table, position, row, set)?;
     complete_row(table, filled, position, row, set)?;
     Ok(())

@@ -143,7 +143,7 @@ fn push(
     Ok(())
 }
 
-// Adds an item unless it is there.
+// Adds an item unless it is there, where all are linked.
 #[inline(always)]
 fn insert(
     list: &mut Vec<Item>,
@@ -271,27 +271,6 @@ fn add_linear(list: &mut Vec<Item>, item: Item) -> Result<(), Memory>
     Ok(())
 }
 
-// Adds an item unless it is there, where all are linked.
-#[inline(always)]
-fn add_linked(
-    list: &mut Vec<Item>,
-    links: &mut Vec<usize>,
-    buckets: &mut [usize],
-    base: usize,
-    room: usize,
-    item: Item,
-) -> Result<(), Memory>
-    requires fits { base + length list.old.items + 1 < 2 ^ 64 }
-    requires room { base + room < 2 ^ 64 }
-    requires linked { AreLinked (the_item_bucket (length buckets.old)) list.old.items links.old.items buckets.old base }
-    ensures buckets { AreBuckets list.new.items links.new.items buckets.new base room }
-    ensures added { IfOk result (λ done. Adds (λ a. a ≡ item) list.old.items list.new.items) }
-    ensures one { IfOk result (λ done. IsOneMore item list.old.items list.new.items) }
-    ensures short { length list.new.items ≤ length list.old.items + 1 }
-{
-    insert(list, links, buckets, base, item)
-}
-
 // Adds an item unless it is there.
 #[inline(always)]
 fn put(
@@ -314,7 +293,7 @@ fn put(
         }
         link(list, links, buckets, base, room)?;
     }
-    add_linked(list, links, buckets, *base, *room, item)
+    insert(list, links, buckets, *base, item)
 }
 
 // Returns true for some of the items that a list has. It takes one look.

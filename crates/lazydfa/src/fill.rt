@@ -1,6 +1,7 @@
 //! Cells that are filled.
 ghost use Rattle.std.specs.Prelude.{◌≡◌, ◌≤◌, ◌<◌, ◌+◌, ◌*◌, ℕ, List, [], IfOk, IfSome, length, slice_get, Some};
 ghost use Rattle.std.specs.Prelude.{Contains};
+ghost use Rattle.flatgrammar.specs.declared.tables.Tables.{Tables as the_tables};
 ghost use Rattle.lazydfa.specs.Conts.{AreKept, AreOlder};
 ghost use Rattle.lazydfa.specs.Cached.{IsCache, IsCell, Grows};
 
@@ -21,16 +22,10 @@ pub(crate) fn dot(state: usize, classes: usize, class: usize) -> Option<usize>
 }
 
 /// Returns the cell of a state and a class.
-pub(crate) fn look(
-    tables: &Tables,
-    samples: &[u32],
-    cache: &Cache,
-    state: usize,
-    class: usize,
-) -> Cell
-    requires cached { IsCache tables.now samples.now cache.now }
-    ensures { (d : ℕ) → slice_get samples.now class ≡ Some d → IsCell tables.now d cache.now.conts.items.items
-        cache.now.states.items state result }
+pub(crate) fn look(samples: &[u32], cache: &Cache, state: usize, class: usize) -> Cell
+    ensures { (tables : the_tables) → IsCache tables samples.now cache.now → (d : ℕ)
+        → slice_get samples.now class ≡ Some d → IsCell tables d cache.now.conts.items.items cache.now.states.items
+        state result }
 {
     if class >= samples.len() {
         return Cell::Over;
@@ -45,18 +40,10 @@ pub(crate) fn look(
 }
 
 /// Keeps the cell of a state and a class, if it has a dotted rule.
-fn write(
-    tables: &Tables,
-    samples: &[u32],
-    cache: &mut Cache,
-    state: usize,
-    class: usize,
-    cell: Cell,
-)
-    requires cached { IsCache tables.now samples.now cache.old }
-    requires is { (d : ℕ) → slice_get samples.now class ≡ Some d → IsCell tables.now d cache.old.conts.items.items
-        cache.old.states.items state cell }
-    ensures cached { IsCache tables.now samples.now cache.new }
+fn write(samples: &[u32], cache: &mut Cache, state: usize, class: usize, cell: Cell)
+    ensures cached { (tables : the_tables) → IsCache tables samples.now cache.old → ((d : ℕ)
+        → slice_get samples.now class ≡ Some d → IsCell tables d cache.old.conts.items.items cache.old.states.items
+        state cell) → IsCache tables samples.now cache.new }
     ensures conts { cache.new.conts ≡ cache.old.conts }
     ensures states { cache.new.states ≡ cache.old.states }
 {
@@ -155,7 +142,7 @@ pub(crate) fn fill(
         return Ok(Cell::Over);
     }
     let cell = lead(alloc, tables, samples, cache, state, class)?;
-    write(tables, samples, cache, state, class, cell);
+    write(samples, cache, state, class, cell);
     charge(cache, state, cell);
     Ok(cell)
 }

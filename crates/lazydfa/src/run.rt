@@ -116,7 +116,7 @@ fn cell_of(
     ensures is { IfOk result (λ cell. (d : ℕ) → slice_get samples.now class ≡ Some d → IsCell tables.now d
         cache.new.conts.items.items cache.new.states.items state cell) }
 {
-    let cell = look(tables, samples, cache, state, class);
+    let cell = look(samples, cache, state, class);
     match cell {
         Cell::Unknown => fill(alloc, tables, samples, cache, state, class),
         Cell::Over | Cell::Dead | Cell::To(_) | Cell::Push(_, _) => Ok(cell),

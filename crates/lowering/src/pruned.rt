@@ -143,14 +143,13 @@ fn is_marked(marks: &[bool], id: usize) -> bool
 // Returns the productive part of a name: itself, if its rule is marked.
 fn prune_name(
     alloc: Global,
-    alphabet: Alphabet,
     rules: &RuleTable<Elem>,
     marks: &[bool],
     name: &[u8],
 ) -> Result<Option<Elem>, Memory>
-    requires folds { rules.now.names ≡ NameCase.Fold }
-    requires marks { AreProductive alphabet (rules_of rules.now) marks.now }
-    ensures { IfOk result (λ left. IsLeft (has alphabet) (rules_of rules.now) (e.Name name.now) (some_element left)) }
+    requires { rules.now.names ≡ NameCase.Fold }
+    ensures { IfOk result (λ left. (alphabet : Alphabet) → AreProductive alphabet (rules_of rules.now) marks.now
+        → IsLeft (has alphabet) (rules_of rules.now) (e.Name name.now) (some_element left)) }
 {
     let found = rules.find(name)?;
     if is_marked(marks, found.unwrap_or(rules.len())) {
@@ -192,7 +191,7 @@ fn prune(
             let operand = prune(alloc, alphabet, rules, marks, operand)?;
             prune_option(alloc, operand)
         }
-        Elem::Name(name) => prune_name(alloc, alphabet, rules, marks, name),
+        Elem::Name(name) => prune_name(alloc, rules, marks, name),
         Elem::Prose(_) => Ok(None),
     }
 }

@@ -17,13 +17,15 @@ loop-id-preserved c =
     let few : c.loop-id.id < length c.args.hinted.now.rules.now.rules = (let lt = c.loop-id-test.true in
     let is = c.min-id-end.ensures in let l = c.len.ensures.len in omega (arith, lt, is, l)) in
     let P = DerivesNothing (has c.args.hinted.now.letters) (rules_of c.args.hinted.now.rules.now) in
+    let barren = c.is_barren.ensures c.args.hinted.now.letters (rules_of c.args.hinted.now.rules.now) c.requires.sound
+    c.requires.productive in
     elim c.if-is_barren.branch [
       | then-is_barren+in_ok-push w ↦ rw (w.names-is, w.in_ok-push.ensures.items, map-append)
           (next_named P c.args.hinted.now.rules.now c.loop-id.id few _ _ w.name.ensures c.loop-id.invariant
-          (c.is_barren.ensures.0 w.if-is_barren.true))
+          (barren.0 w.if-is_barren.true))
       | else-is_barren w ↦ rw w.names-is
           (next_passed P c.args.hinted.now.rules.now c.loop-id.id few _ c.loop-id.invariant
-          (λ p. let yes = c.is_barren.ensures.1 p in let off = w.if-is_barren.false in absurd (cc (yes, off))))
+          (λ p. let yes = barren.1 p in let off = w.if-is_barren.false in absurd (cc (yes, off))))
     ]
 
 pub returns : goal.returns

@@ -1,6 +1,7 @@
 use Rattle.abnfread.specs.AbnfViews.{rules_of}
 use Rattle.abnftexts.specs.JoinRun.{grammar_form}
 use Rattle.abnftexts.specs.JoinedViews.{grammar_joined}
+use Rattle.abnftexts.specs.declared.run.JoinForm.TheVariants.{Plain}
 use Rattle.abnftexts.proofs.JoinRunLemmas.{canonical-written, fault-stops, grammar-no_list, plain-written}
 use Rattle.abnftexts.proofs.run.write_grammar.Goals as goal
 
@@ -10,11 +11,12 @@ write_canonical-requires-clause-text g c =
     canonical-written (grammar_joined c.args.joined.now) c.deref.result.now found.0 (rules_of c.in-Ok.abnf.rules)
     c.requires.some c.deref.ensures.value found.1 found.2.kept
 
-pub write_text-requires-clause-text : goal.write_text-requires-clause-text
-write_text-requires-clause-text g c =
+pub returns-in-Ok : goal.returns-in-Ok
+returns-in-Ok g c =
     let found = c.in-Ok.ensures.found in
-    plain-written (grammar_joined c.args.joined.now) c.deref.result.now c.deref-else-is_canonical.result.now found.0
-    c.requires.some c.deref.ensures.value found.1 c.deref-else-is_canonical.ensures.value
+    rw c.if-is_canonical.false (c.write_text.ensures Plain
+    (plain-written (grammar_joined c.args.joined.now) c.deref.result.now c.deref-else-is_canonical.result.now found.0
+    c.requires.some c.deref.ensures.value found.1 c.deref-else-is_canonical.ensures.value))
 
 pub returns : goal.returns
 returns g c = fault-stops (grammar_form c.args.is_canonical) (grammar_joined c.args.joined.now) c.deref.result.now

@@ -1,7 +1,6 @@
-use Rattle.std.proofs.Common.{◌+◌, ◌≤◌, ◌∷◌, [], length, map, length-append, subst, sym, ◌∙◌, arith}
+use Rattle.std.proofs.Common.{◌+◌, ◌≤◌, ◌∷◌, [], length, map, length-append, subst, sym, arith}
 use Rattle.earleyitems.specs.Charts.{IsBuilt}
 use Rattle.earley.specs.RowCharts.{row_views, AreSizedRows}
-use Rattle.earley.specs.RowIndexes.{AreIndexed}
 use Rattle.earley.proofs.RowWorklistLemmas.{views_more, sized_more}
 use Rattle.earley.proofs.row_chart.row_sets.Goals as goal
 
@@ -12,8 +11,7 @@ loop-alloc-preserved g c =
     let kept = c.in_ok-kept.kept in
     let more = c.in_ok-keep_set.ensures.sets in
     record {
-      indexed = subst (λ n. AreIndexed n c.keep_set.new.filled) (c.len-positions.ensures ∙ c.args.table.now.dots.ok.0)
-          c.in_ok-keep_set.ensures.indexed;
+      indexed = c.in_ok-keep_set.ensures.indexed (length dots) c.loop-alloc.invariant.indexed;
       within = subst (λ v. length v ≤ length c.args.line.now + 1) (sym more)
           (let long = length-append old (kept ∷ []) in
           let test = c.loop-alloc-test.true in let n = c.len.ensures in let ok = c.loop-alloc.filled.sets.ok.0 in

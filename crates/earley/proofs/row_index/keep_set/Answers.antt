@@ -6,7 +6,7 @@ use Rattle.earley.proofs.RowIndexesLemmas.{indexed_more}
 use Rattle.earley.proofs.row_index.keep_set.Goals as goal
 
 pub returns-clause-indexed : goal.returns-clause-indexed
-returns-clause-indexed c =
+returns-clause-indexed c positions indexed =
     let old = c.args.filled.now in
     let rows = c.args.kept.rows.items in
     let own_same = c.in_ok-index_rows.ensures.own ∙ c.deref_mut.ensures.len in
@@ -29,12 +29,12 @@ returns-clause-indexed c =
     c.deref_mut-2.ensures.value three in
     let five = subst (λ r. AreIndexedBelow (length old.sets.items) (length rows) rows old.own.items old.rest.items r
     c.index_rows.new.own c.index_rows.new.rest c.index_rows.new.union) c.deref_mut-3.ensures.value four in
-    indexed_more c.args.positions c.args.kept old (record {
+    indexed_more positions c.args.kept old (record {
       sets = c.push.new.self;
       own = with_items old.own c.index_rows.new.own;
       rest = with_items old.rest c.index_rows.new.rest;
       union = with_items old.union c.index_rows.new.union;
-    }) c.requires.indexed (ap (λ v. length v) own_is ∙ (own_same ∙ old.own.ok.0))
+    }) indexed (ap (λ v. length v) own_is ∙ (own_same ∙ old.own.ok.0))
     (ap (λ v. length v) rest_is ∙ (rest_same ∙ old.rest.ok.0))
     (ap (λ v. length v) union_is ∙ (union_same ∙ old.union.ok.0)) c.in_ok-push.ensures.items
     (subst (λ r. AreIndexedBelow (length old.sets.items) (length rows) rows old.own.items old.rest.items

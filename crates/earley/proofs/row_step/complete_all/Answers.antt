@@ -15,15 +15,16 @@ loop-call-init c = record {
 
 pub loop-call-preserved : goal.loop-call-preserved
 loop-call-preserved c =
-    let now = c.in_ok-complete_call.ensures c.args.table.now.dots.items in record {
+    let now = c.in_ok-complete_call.ensures (length c.args.table.now.dots.items) c.requires.indexed
+    c.args.table.now.dots.items in record {
       count = now.count ∙ c.loop-call.invariant.count;
       gains = some_next c.args.table.now.dots.items c.deref-call-items.result.now c.args.filled.now.sets.items
           c.args.row.now (length c.args.filled.now.sets.items) c.args.set.now c.loop-call.call-index _ c.loop-call.set
           c.complete_call.new.set c.loop-call-test.true c.loop-call.invariant.gains now;
     }
 
-pub complete_call-requires-clause-after : goal.complete_call-requires-clause-after
-complete_call-requires-clause-after c =
+pub complete_call-requires : goal.complete_call-requires
+complete_call-requires c =
     let look = rw c.deref.ensures.value at c.in-Some.ensures.lookup in
     let is = found_at c.args.table.now.targets.items c.args.target c.in-Some.positions.now look.0 look.1 in
     let lt = call_below c.args.table.now.flat.value c.args.table.now.dots.items c.args.table.now.steps.items

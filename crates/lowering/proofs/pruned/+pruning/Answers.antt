@@ -39,7 +39,9 @@ prune-returns-in_ok-operand-in-Opt t c = rw (c.in-Opt.is, element-Opt)
     (rw c.deref-in-Opt.ensures at c.in_ok-operand-in-Opt.ensures)) c.prune_option.ensures)
 
 pub prune-returns-in-Name : goal.prune-returns-in-Name
-prune-returns-in-Name t c = rw (c.in-Name.is, element-Name) (rw c.deref-in-Name.ensures.value at c.prune_name.ensures)
+prune-returns-in-Name t c = rw (c.in-Name.is, element-Name)
+    (IfOk-weaker c.prune_name.result _ _ (λ left all. all c.args.alphabet c.requires.marks)
+    (rw c.deref-in-Name.ensures.value at c.prune_name.ensures))
 
 pub prune-returns-in-Prose : goal.prune-returns-in-Prose
 prune-returns-in-Prose t c = rw (c.in-Prose.is, element-Prose)
