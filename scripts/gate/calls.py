@@ -15,8 +15,8 @@ if there is one, and where `PASSED` has one in vain. With -l it lists them all, 
 - binds and returns: it has `let x = e?; Ok(x)`;
 - discards: it has `let _ = x.f();`.
 
-It also finds parameters that the code never reads, which serve contracts alone, and holds them to `UNREAD` in the same
-way. The name of a parameter that a trait asks for in vain begins with `_`, and does not count.
+It also finds parameters that the code never reads, which serve contracts alone, and ends with status 1 if there is one.
+The name of a parameter that a trait asks for in vain begins with `_`, and does not count.
 """
 import collections
 import dataclasses
@@ -46,28 +46,8 @@ PASSED = {
     "packrat: close_same: only forwards",
     # It reads a private field.
     "matchfailure: Desk.found: only forwards",
-    # The contract of `start` says that the grammar is sound, and how its nodes are numbered.
-    "matchfailure: Desk.step: discards", "matchfailure: FailureSearch.explain_no_match: discards",
-    "matchfailure: rule_of: discards", "matchfailure: use_rows: discards",
+    # The contract of `into_reader` says what was taken from the reader.
     "pegrun: run_units: discards",
-}
-# The parameters that only a contract reads, each with what the contract says by it.
-UNREAD = {
-    # how many evaluations have begun is bounded by the numbers of nodes and of bytes
-    "matchfailure: one_more.length", "matchfailure: one_more.nodes",
-    # what the result says of the node that has these members or alternatives
-    "pegnodes: by_alternatives.n", "pegnodes: by_members.n",
-    # of which cells and in which of how many buckets the result is the last one
-    "memo: last_of.cells", "memo: last_of.count",
-    # what is evaluated, and on which bytes
-    "matchfailure: FailureSearch.failure_in.unit", "matchfailure: add_outside.window",
-    "packrat: Machine.run_iterations.more", "packrat: close.peg", "packrat: close.window", "packrat: go_on_node.window",
-    "packrat: go_on_tail.window", "packrat: put_operands.window", "packrat: put_iterations.window",
-    # of which tables, sets or rows the lists are
-    "earley: complete_rest.positions", "earley: keep_set.positions", "earley: predict_row.row",
-    "earleyitems: add_linked.room", "lazydfa: look.tables", "lazydfa: write.tables",
-    # of which grammar, form or letters the result is true
-    "abnfhints: is_barren.hinted", "abnftexts: write_text.form", "lowering: prune_name.alphabet",
 }
 HEAD = re.compile(r"^( *)(?:pub(?:\(crate\))? )?(?:const )?fn (\w+)", re.M)
 OWNER = re.compile(r"^(impl|pub trait|trait)(?:<.*?>)? (?:(?:\w+::)*(\w+)(?:<.*>)? for )?&?(?:'\w+ )?(?:mut )?(\w+)")
@@ -256,8 +236,7 @@ def main(*words):
         print(*found, *(f"{it}: only a contract reads it" for it in vain), sep="\n")
         return 0
     wrong = [it for it in found if it not in PASSED] + [f"{it}, not so: PASSED has it" for it in PASSED - {*found}]
-    wrong += [f"{it}: only a contract reads it" for it in vain if it not in UNREAD]
-    wrong += [f"{it}, not so: UNREAD has it" for it in UNREAD - {*vain}]
+    wrong += [f"{it}: only a contract reads it" for it in vain]
     for it in sorted(wrong):
         print(f"calls.py: {it}")
     for tool, (crate, loop, most) in LOOPS.items():

@@ -51,6 +51,12 @@ OLD_WORDS = set(
     "told tell tells telling behind spot spots deed deeds hop hops beginning beginnings place places turn turns".split()
     + "unfold unfolds home homes".split()
 )
+# Words of the old dialect that no name of these crates has, and that others have for something else.
+OLD_IN = {
+    "earley earleyitems flatgrammar": "head heads block blocks inner root roots",
+    "lazydfa letterclasses rulelines": "part parts front fronts",
+    "matchfailure memo packrat pegnodes": "pair pairs",
+}
 OLD_NAMES = {"eqb_tells", "handle_tells", "told", "appended_in_turn", "in_turn"}
 NAME = re.compile(r"[A-Za-z_]\w*")
 WORD = re.compile(r"[A-Z]?[a-z]+|[A-Z]+(?![a-z])")
@@ -241,10 +247,12 @@ def of_twin_types(top, files):
 def of_old_words(top, files):
     """Yields the names that have a word of the old dialect, each with the first file that has it."""
     found = {}
+    old_in = {crate: set(words.split()) for crates, words in OLD_IN.items() for crate in crates.split()}
     for path in files:
         if path.suffix in {".rt", ".antt"}:
+            old = OLD_WORDS | old_in.get(path.parts[1], set())
             for name in NAME.findall(NO_CODE.sub("", (top / path).read_text())):
-                if OLD_WORDS.intersection(it.lower() for it in WORD.findall(name)) and name not in OLD_NAMES:
+                if old.intersection(it.lower() for it in WORD.findall(name)) and name not in OLD_NAMES:
                     found.setdefault(name, path)
     yield from (f"{path}: {name}" for name, path in sorted(found.items()))
 

@@ -1,16 +1,14 @@
 -- What is written of a report, and what the words ask for.
 -- Serves: abnfd_main (right)
-use Rattle.std.proofs.Common.{◌≡◌, ◌∙◌, ap, ap₂, sym, subst, refl, inl, inr, ℕ, Bool, List, [], Option, arith}
+use Rattle.std.proofs.Common.{◌≡◌, ◌∙◌, ap, ap₂, sym, subst, refl, ℕ, Bool, List, [], Option, arith}
 use Rattle.std.proofs.Common.{true, false}
 use Rattle.std.specs.Prelude.{Result, Ok, Err, codes}
 use Rattle.std.specs.Io.KnownBytes.{Appends}
 use Rattle.abnfd.specs.CompareAnswers.{CompareAnswers, FilesCompared, answer_reply, clash_text, clashes}
 use Rattle.abnfd.specs.CompareAnswers.{compares_files}
 use Rattle.abnfd.specs.CompareWords.{all_asked, is_clash, new_rule_asked, new_rule_found, old_rule_asked}
-use Rattle.abnfd.specs.CompareWords.{symbols_asked, symbols_named}
-use Rattle.clap.specs.Words.{HasKind, Kinds, Text, first_of, first_value, kind_of, rows_of}
-use Rattle.clap.specs.declared.error.Error.{Error}
-use Rattle.clap.specs.declared.error.kind.ErrorKind.TheVariants.{OutOfMemory}
+use Rattle.abnfd.specs.CompareWords.{symbols_asked}
+use Rattle.clap.specs.Words.{Text, first_of, first_value, rows_of}
 use Rattle.clap.specs.declared.parser.matches.Found.{Found}
 use Rattle.clap.proofs.WalkLemmas.{first_value-rows}
 use Rattle.letters.specs.declared.alphabet.Alphabet.{Alphabet}
@@ -86,22 +84,17 @@ module _ (f : Found) (all : Bool) (new_rule : Option Text) (flag : all ≡ all_a
   asked_twice twice input notes reply is = rw (is.0, is.1) (clashes (sym clash_asked ∙ twice))
 
   pub asked_compared : (alphabet : Alphabet) (old_rule : Option Text)
-      → alphabet ≡ symbols_named (first_value f (codes "letters")) → old_rule ≡ first_value f (codes "rule")
+      → alphabet ≡ symbols_asked (rows_of f) → old_rule ≡ first_value f (codes "rule")
       → is_clash all new_rule ≡ false → (input : Input) (notes : List ℕ) (reply : Reply)
       → FilesCompared all alphabet old_rule new_rule input notes reply → CompareAnswers (rows_of f) input notes reply
   asked_compared alphabet old_rule letters old once input notes reply is =
       let rows = rows_of f in
       let first = first_value-rows f in
-      let e1 : alphabet ≡ symbols_asked rows = letters ∙ ap symbols_named (first (codes "letters")) in
       let e2 : old_rule ≡ old_rule_asked rows = old ∙ first (codes "rule") in
       compares_files (sym clash_asked ∙ once)
       (subst (λ (b : Bool). FilesCompared b (symbols_asked rows) (old_rule_asked rows) (new_rule_asked rows) input notes
       reply) flag
-      (subst (λ (a : Alphabet). FilesCompared all a (old_rule_asked rows) (new_rule_asked rows) input notes reply) e1
+      (subst (λ (a : Alphabet). FilesCompared all a (old_rule_asked rows) (new_rule_asked rows) input notes reply)
+      letters
       (subst (λ (o : Option Text). FilesCompared all alphabet o (new_rule_asked rows) input notes reply) e2
       (subst (λ (o : Option Text). FilesCompared all alphabet old_rule o input notes reply) rule_asked is))))
-
--- where nothing is wrong with the words, an allocation failed
-pub lacks_room : (kinds : Kinds) (error : Error) → kinds ≡ [] → HasKind kinds error → kind_of error ≡ OutOfMemory
-lacks_room kinds error none (inl memory) = memory
-lacks_room kinds error none (inr among) = absurd (rw none at among)

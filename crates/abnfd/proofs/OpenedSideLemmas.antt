@@ -1,7 +1,7 @@
 -- A grammar that was opened is a side with its notes.
 -- Serves: abnfd_main
-use Rattle.std.proofs.Common.{◌≡◌, ℕ, List, sym, ap, ◌∙◌}
-use Rattle.std.specs.Prelude.{Some, None, Option, MatchOption}
+use Rattle.std.proofs.Common.{ℕ, List, ap, ◌∙◌}
+use Rattle.std.specs.Prelude.{Some, None, Option}
 use Rattle.abnfcheck.specs.AbnfGrammar.{Grammar}
 use Rattle.abnfd.specs.ComparedSides.{IsMadeOf, IsSideOf, has_notes, side_notes}
 use Rattle.abnfread.specs.AbnfViews.{rules_of}

@@ -1,6 +1,6 @@
 -- The lines and names of one rule more.
 -- Serves: abnfd_main
-use Rattle.std.proofs.Common.{◌≡◌, ◌∙◌, ap, ap₂, refl, sym, ℕ, ◌+◌, Bool, true, false, List, [], ◌∷◌, ◌++◌, map}
+use Rattle.std.proofs.Common.{◌≡◌, ◌∙◌, ap, ap₂, refl, sym, ℕ, ◌+◌, Bool, List, [], ◌∷◌, ◌++◌, map}
 use Rattle.std.proofs.Common.{arith, take, add-one, append-nil, append_assoc}
 use Rattle.std.proofs.Math.Seq.{take-suc}
 use Rattle.std.proofs.lemmas.Grind.{flat_map-append}
@@ -10,7 +10,7 @@ use Rattle.std.proofs.lemmas.Option.{get_or_from_slice_get, slice_get_within}
 use Rattle.std.specs.Prelude.{Some, codes, max, slice_get}
 use Rattle.std.specs.List.{filter}
 use Rattle.std.specs.Str.Lossy.{utf8_lossy}
-use Rattle.abnfd.specs.RulesByName.{EndsAs, HasRows, RuleRow, greatest_code, names_text, row_text, rows_text}
+use Rattle.abnfd.specs.RulesByName.{EndsAs, HasRows, RuleRow, greatest_code, names_text, row_text}
 use Rattle.letters.specs.declared.alphabet.Alphabet.{Alphabet}
 use Rattle.toolrun.specs.Status.{code_of}
 use Rattle.toolrun.specs.declared.status.Status.{Status}

@@ -1,14 +1,11 @@
 -- The words of the program: its command, as a parse reads it, and what the words ask for.
 use Prim.Native.Char.{code}
 use Rattle.std.specs.Prelude.{◌≡◌, ◌&&◌, List, [], ◌∷◌, Bool, Option, Some, None, codes, is_some, true}
-use Rattle.std.specs.Prelude.{if◌then◌else◌}
-use Rattle.std.specs.Str.{bytes_eq}
 use Rattle.clap.specs.Words.{App, Row, Text, first_of}
-use Rattle.cli.specs.Asked.{is_flagged}
+use Rattle.cli.specs.Asked.{alphabet_named, is_flagged}
 use Rattle.cli.specs.Command.{AreAlphabets, Names, flag_rule, letters_rule, number_rule, operand_rule, program_app}
 use Rattle.cli.specs.Command.{rule_rule, value_rule}
 use Rattle.letters.specs.declared.alphabet.Alphabet.{Alphabet}
-use Rattle.letters.specs.declared.alphabet.Alphabet.TheVariants.{Bytes, Utf8}
 
 -- `abnfd [-s RULE] [-t RULE] [-a] [-b N] OLD NEW [-u MODE]`
 abbrev pub abnfd_app : Names → App
@@ -24,11 +21,6 @@ abnfd_app names = program_app (codes "abnfd") (rule_rule
 abbrev pub IsAbnfdApp : App → Type 0
 IsAbnfdApp app = (names : Names) × AreAlphabets names × (app ≡ abnfd_app names)
 
--- the alphabet of a name; bytes where none is given
-abbrev pub symbols_named : Option Text → Alphabet
-symbols_named None = Bytes
-symbols_named (Some name) = if bytes_eq name (codes "utf8") then Utf8 else Bytes
-
 -- the name of the new grammar's rule, or else that of the old one's
 abbrev pub new_rule_found : Option Text → Option Text → Option Text
 new_rule_found None old = old
@@ -36,7 +28,7 @@ new_rule_found (Some name) old = Some name
 
 -- the alphabet of lines that the words ask for
 abbrev pub symbols_asked : List Row → Alphabet
-symbols_asked rows = symbols_named (first_of (codes "letters") rows)
+symbols_asked rows = alphabet_named (first_of (codes "letters") rows)
 
 -- the name of the compared rule of each grammar, where the words give one
 abbrev pub old_rule_asked : List Row → Option Text

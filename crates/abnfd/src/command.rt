@@ -1,13 +1,11 @@
 //! The command line.
-ghost use Rattle.std.specs.Prelude.{◌≡◌, IfOk, codes, map, option_copied, string_bytes};
-ghost use Rattle.abnfd.specs.CompareWords.{IsAbnfdApp, all_asked, new_rule_found, symbols_named};
+ghost use Rattle.std.specs.Prelude.{◌≡◌, IfOk, codes, option_copied};
+ghost use Rattle.abnfd.specs.CompareWords.{IsAbnfdApp, all_asked, new_rule_found, symbols_asked};
 ghost use Rattle.clap.specs.Words.{app_of, first_value, found_of, rows_of};
-ghost use Rattle.cli.specs.Parsing.{Parses};
 
 use crate::compared::CompareSettings;
-use clap::{ArgMatches, Command, Error};
-use cli::{Parameter, is_given, program_command};
-use letters::Alphabet;
+use clap::{ArgMatches, Command};
+use cli::{Parameter, is_given, letters_of, program_command};
 use std::alloc::{AllocError, Global};
 
 /// The text of the help.
@@ -61,28 +59,6 @@ pub(crate) fn abnfd_command<'a>(alloc: Global) -> Result<Command<'a>, AllocError
     program_command(alloc, "abnfd", HELP, PARAMETERS.as_slice())
 }
 
-/// Parses the words, the program's name first.
-///
-/// The error holds the help that was asked for, or what is wrong with the words, or that an allocation failed.
-pub(crate) fn parse_words<'a>(alloc: Global, words: &'a [String]) -> Result<ArgMatches<'a>, Error>
-    ensures { (app : _) × IsAbnfdApp app × Parses app (map string_bytes words.entry.now) result }
-{
-    let command = match abnfd_command(alloc) {
-        Ok(command) => command,
-        Err(fault) => return Err(fault.into()),
-    };
-    command.try_get_matches_from(words)
-}
-
-fn letters_of(matches: &ArgMatches<'_>) -> Alphabet
-    ensures { result ≡ symbols_named (first_value (found_of matches.now) (codes "letters")) }
-{
-    match matches.get_str("letters") {
-        Some(name) if name == "utf8" => Alphabet::Utf8,
-        _ => Alphabet::Bytes,
-    }
-}
-
 fn new_rule_of<'a>(matches: &ArgMatches<'a>) -> Option<&'a str>
     ensures { option_copied result ≡ new_rule_found (first_value (found_of matches.now) (codes "new-rule"))
         (first_value (found_of matches.now) (codes "rule")) }
@@ -99,7 +75,7 @@ pub(crate) fn settings_of<'a>(matches: &ArgMatches<'a>) -> CompareSettings<'a>
     ensures old_rule { option_copied result.old_rule ≡ first_value (found_of matches.now) (codes "rule") }
     ensures new_rule { option_copied result.new_rule ≡ new_rule_found (first_value (found_of matches.now)
         (codes "new-rule")) (first_value (found_of matches.now) (codes "rule")) }
-    ensures letters { result.letters ≡ symbols_named (first_value (found_of matches.now) (codes "letters")) }
+    ensures letters { result.letters ≡ symbols_asked (rows_of (found_of matches.now)) }
 {
     CompareSettings {
         all: is_given(matches, "all"),

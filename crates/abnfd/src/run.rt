@@ -12,11 +12,11 @@ ghost use Rattle.toolrun.specs.Stopped.{Performs};
 ghost use Rattle.toolrun.specs.Stream.{no_input, passed};
 
 use crate::by_name::compare_asked;
-use crate::command::{parse_words, settings_of};
+use crate::command::{abnfd_command, settings_of};
 use crate::compared::{CompareSettings, ComparisonAnswer, Report};
 use crate::files::{Texts, UnreadFile, read_both};
 use clap::ArgMatches;
-use cli::{Unready, end_unready};
+use cli::{Unready, end_unready, parse_words};
 use ruletable::{Sink, WriteFault, write_whole};
 use std::alloc::Global;
 use std::rt::Files;
@@ -205,7 +205,7 @@ pub(crate) fn abnfd_main<R: Files + AllocGlobal, O: Sink, E: Sink>(
         RunIsRight (CompareAnswers (matches_of app (map string_bytes words.now))) no_input
         (passed O.contents O.failed out.old out.new) (passed E.contents E.failed err.old err.new) (code_of result)) }
 {
-    match parse_words(rt.alloc(), words) {
+    match parse_words(abnfd_command(rt.alloc()), words) {
         Ok(matches) => run_asked(rt, &matches, out, err),
         Err(error) => end_unready(rt.alloc(), &Unready::Words(error), out, err),
     }

@@ -1,12 +1,15 @@
 //! Explanations of notes.
-ghost use Rattle.std.specs.Prelude.{◌≡◌, ℕ, List, Option, IfOk, option_copied};
+ghost use Rattle.std.specs.Prelude.{◌≡◌, ℕ, List, Option, IfErr, IfOk, option_copied};
 ghost use Rattle.ruletable.specs.Notes.{Said, said_of};
+ghost use Rattle.abnfread.specs.AbnfReading.{IsFaultOf, Reads};
+ghost use Rattle.abnfread.specs.AbnfTable.{IsCoreTable, IsTableOf};
+ghost use Rattle.abnfread.specs.Element.{Definition};
 ghost use Rattle.abnfexplain.specs.AbnfNoteLines.{AreAbnfPositions, ExplainsNote, sign_of as the_sign};
 
-use abnfread::AbnfKind;
-use diagnostics::{Positions, Sign, Signs, explain_note, positions_of};
+use abnfread::{Abnf, AbnfKind, KeptAbnf, read_kept_abnf};
+use diagnostics::{Positions, Sign, Signs, explain_note, positions_by, positions_of};
 use lexer::one_list;
-use ruletable::{LineRule, Memory, NameCase, Note};
+use ruletable::{LineRule, Memory, NameCase, Note, ReadFault};
 use std::alloc::Global;
 
 /// The roles of the tokens of ABNF in the definitions of a grammar.
@@ -36,6 +39,33 @@ pub fn abnf_positions(alloc: Global, text: &[u8]) -> Result<Positions, Memory>
     ensures { IfOk result (λ positions. AreAbnfPositions text.now positions) }
 {
     positions_of::<AbnfKind, AbnfSigns>(alloc, text, LineRule::Lf, NameCase::Fold)
+}
+
+/// A grammar that was read, and where its text defines rules and mentions them.
+#[derive(Drop)]
+pub struct AbnfText {
+    /// The grammar.
+    pub abnf: Abnf,
+    /// Where its text defines rules and mentions them.
+    pub positions: Positions,
+}
+
+/// Reads a grammar's text, and returns where it defines rules and mentions them. It cuts the text into tokens once.
+///
+/// # Errors
+/// Those of `read_abnf`.
+pub fn read_abnf_text(alloc: Global, text: &[u8]) -> Result<AbnfText, ReadFault>
+    ensures found { IfOk result (λ r. (definitions : List Definition) × Reads text.now definitions
+        × IsTableOf definitions r.abnf.rules r.abnf.redefined.items r.abnf.extended.items) }
+    ensures core { IfOk result (λ r. IsCoreTable r.abnf.core) }
+    ensures positions { IfOk result (λ r. AreAbnfPositions text.now r.positions) }
+    ensures fault { IfErr result (λ f. IsFaultOf text.now f) }
+{
+    let KeptAbnf { abnf, tokens } = read_kept_abnf(alloc, text)?;
+    match positions_by::<AbnfKind, AbnfSigns>(alloc, text, &tokens, LineRule::Lf, NameCase::Fold) {
+        Ok(positions) => Ok(AbnfText { abnf, positions }),
+        Err(Memory) => Err(ReadFault::Memory),
+    }
 }
 
 /// Returns the lines that explain a note on a grammar. A name may be given for the start rule.

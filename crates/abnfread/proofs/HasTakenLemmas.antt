@@ -1,7 +1,7 @@
 -- The invariant of the reader's loop, and the fault where it stops.
 -- Serves: read_abnf
 use Rattle.std.proofs.Common.{◌≡◌, ℕ, ◌<◌, ◌≤◌, ◌==◌, not, Bool, true, false, Option, Some, None, List, [], ◌∷◌, ◌++◌}
-use Rattle.std.proofs.Common.{length, take, drop, slice_get, refl, sym, ap, ◌∙◌, subst, append_assoc, append-nil}
+use Rattle.std.proofs.Common.{length, map, take, drop, slice_get, refl, sym, ap, ◌∙◌, subst, append_assoc, append-nil}
 use Rattle.std.proofs.Common.{length-append, arith, Result, Ok, Err}
 use Rattle.std.proofs.Math.Seq.{get_or-append_seam}
 use Rattle.std.proofs.lemmas.List.{take-append-drop}
@@ -10,6 +10,7 @@ use Rattle.ruletable.specs.Lines.{line_at}
 use Rattle.ruletable.specs.declared.lines.LineRule.TheVariants.{Lf}
 use Rattle.ruletable.specs.declared.span.Span.{Span}
 use Rattle.lexer.specs.TokenLists as lexed
+use Rattle.lexer.specs.declared.token_iter.Token.{Token}
 use Rattle.lexer.specs.TokenLists.{Tok, tok, start_of, last_one, one_more}
 use Rattle.lexer.specs.Viability.{say_none, say_more}
 use Rattle.lexer.specs.declared.limits.TheConstants.{MAX_GRAMMAR, MAX_OPEN}
@@ -17,6 +18,7 @@ use Rattle.lexer.proofs.ViabilityLemmas as lemmas
 use Rattle.lexer.proofs.ViabilityLemmas.{Split, run_of, run-append, run-snoc, say-snoc, say-split}
 use Rattle.abnfread.specs.declared.kind.AbnfKind.{AbnfKind}
 use Rattle.abnfread.specs.declared.kind.AbnfKind.TheVariants.{End}
+use Rattle.abnfread.specs.declared.marks.MarkedToken.{MarkedToken}
 use Rattle.abnfread.specs.declared.number.NumberFault.{NumberFault}
 use Rattle.abnfread.specs.declared.reader.Reader.{Reader}
 use Rattle.abnfread.specs.declared.reader.ReaderStop.{ReaderStop}
@@ -34,7 +36,8 @@ use Rattle.abnfread.specs.AbnfSpelling.{Grammar}
 use Rattle.abnfread.specs.AbnfWords as words
 use Rattle.abnfread.specs.AbnfWords.{Said, Word, word}
 use Rattle.abnfread.specs.Element.{Definition}
-use Rattle.abnfread.specs.MarkedTokens.{Marked, marked, tok_of, is_first, marks, margin, AreTokens, AreMarked}
+use Rattle.abnfread.specs.MarkedTokens.{Marked, marked, marked_of, tok_of, is_first, marks, margin, AreTokens}
+use Rattle.abnfread.specs.MarkedTokens.{AreMarked}
 use Rattle.abnfread.proofs.AbnfSpellingLemmas.{runs-grammar}
 use Rattle.abnfread.proofs.AbnfViabilityLemmas.{runs-begins, stops-begins}
 use Rattle.abnfread.proofs.NumberStepLemmas.{number-like, there-some, there-none}
@@ -287,6 +290,27 @@ module _ {text : List ℕ} {left : List Marked → Type 0} {c : Config} {ms : Li
     shallow = h.shallow;
     small = h.small;
   }
+
+-- the token without its marks
+abbrev pub plain_of : MarkedToken → Token AbnfKind
+plain_of t = t.token
+
+marks-tokens : (text : List ℕ) (m : Option ℕ) (n : ℕ) (ts : List (Tok AbnfKind)) → map tok_of (marks text m n ts) ≡ ts
+marks-tokens text m n [] = refl
+marks-tokens text m n (t ∷ ts) = ap (λ (ys : List (Tok AbnfKind)). t ∷ ys) (marks-tokens text m (lexed.end_of t) ts)
+
+plain-tokens : (ts : List MarkedToken) → map tok_of (map marked_of ts) ≡ map lexed.tok_of (map plain_of ts)
+plain-tokens [] = refl
+plain-tokens (t ∷ ts) = ap (λ (ys : List (Tok AbnfKind)). lexed.tok_of t.token ∷ ys) (plain-tokens ts)
+
+-- where no token is left, those so far are the text's
+pub all-kept : {text : List ℕ} {left : List Marked → Type 0} {c : Config} (ts : List MarkedToken)
+    → HasTaken text left c (map marked_of ts) → left [] → AreTokens text (map lexed.tok_of (map plain_of ts))
+all-kept {text = text} ts h none =
+    let all = every-marked h none in
+    let same = sym (marks-tokens text (margin text all.tokens) 0 all.tokens)
+    ∙ (ap (λ (ms : List Marked). map tok_of ms) (sym all.same) ∙ plain-tokens ts) in
+    rw (sym same) all.are_tokens
 
 -- what the reader does with the one thing that a token says
 pub taken-said : {A : Type 0} (c : Config) (k : AbnfKind) (z : List ℕ) (p : Span) (g f : Bool) (w : CodeSaid) (s : Said)

@@ -23,5 +23,5 @@ pub use kind::AbnfKind;
 pub use marked::abnf_tokens;
 pub use marks::{AbnfTokenIter, MarkedToken};
 pub use number::{MAX_REPEAT, MAX_VALUE};
-pub use read::{one_reading, one_tree, read_abnf, read_definitions};
+pub use read::{KeptAbnf, one_reading, one_tree, read_abnf, read_definitions, read_kept_abnf};
 pub use table::{Abnf, begun_body};

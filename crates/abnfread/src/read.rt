@@ -1,5 +1,6 @@
 //! Reads a grammar's text.
-ghost use Rattle.std.specs.Prelude.{◌≡◌, ◌≢◌, ℕ, ◌<◌, List, length, Err, IfOk, IfErr, MatchResult};
+ghost use Rattle.std.specs.Prelude.{◌≡◌, ◌≢◌, ℕ, ◌<◌, ◌++◌, [], ◌∷◌, true, List, length, map, Err, IfOk, IfErr};
+ghost use Rattle.std.specs.Prelude.{MatchResult};
 ghost use Rattle.abnfread.specs.AbnfReader.{config_of, IsSaid, Takes};
 ghost use Rattle.abnfread.specs.AbnfReading.{Reads, IsFaultOf};
 ghost use Rattle.abnfread.specs.AbnfSays.{SayAll, SaysKind};
@@ -11,7 +12,7 @@ ghost use Rattle.abnfread.specs.AbnfWords.{Said, Word};
 ghost use Rattle.abnfread.specs.Element.{Definition as Read};
 ghost use Rattle.abnfread.specs.MarkedTokens.{AreTokens, Marked, marked_of};
 ghost use Rattle.lexer.specs.GrammarLimits.{max_grammar};
-ghost use Rattle.lexer.specs.TokenLists.{Next, Tok, tok};
+ghost use Rattle.lexer.specs.TokenLists.{Next, Tok, tok, tok_of};
 ghost use Rattle.ruletable.specs.Lines.{line_at};
 ghost use Rattle.ruletable.specs.declared.span.Span.{Span};
 
@@ -23,7 +24,7 @@ use crate::number::NumberFault;
 use crate::reader::{Reader, ReaderStop};
 use crate::table::{Abnf, table_of};
 use crate::words::said_in;
-use lexer::{MAX_GRAMMAR, MAX_OPEN, have_tokens};
+use lexer::{MAX_GRAMMAR, MAX_OPEN, Token, have_tokens};
 use ruletable::{LineRule, Memory, ReadFault, line_of};
 use std::alloc::Global;
 
@@ -36,12 +37,29 @@ pub fn read_definitions(alloc: Global, text: &[u8]) -> Result<Vec<Definition<'_>
     ensures found { IfOk result (λ ds. Reads text.now (definitions_from ds.items)) }
     ensures fault { IfErr result (λ f. IsFaultOf text.now f) }
 {
+    let mut kept = Vec::new(alloc);
+    definitions_keeping(alloc, text, false, &mut kept)
+}
+
+// Reads the definitions of a text, and adds its tokens to the list if they are to be kept.
+fn definitions_keeping<'a>(
+    alloc: Global,
+    text: &'a [u8],
+    keeps: bool,
+    kept: &mut Vec<Token<'a, AbnfKind>>,
+) -> Result<Vec<Definition<'a>>, ReadFault>
+    requires empty { kept.old.items ≡ [] }
+    ensures found { IfOk result (λ ds. Reads text.now (definitions_from ds.items)) }
+    ensures kept { IfOk result (λ _. keeps ≡ true → AreTokens text.now (map tok_of kept.new.items)) }
+    ensures fault { IfErr result (λ f. IsFaultOf text.now f) }
+{
     if text.len() > MAX_GRAMMAR {
         return Err(ReadFault::TooLong);
     }
     let mut reader = Reader::new(alloc);
     for token in abnf_tokens(text) {
         let at = token.token.span.start;
+        keep(keeps, token.token, kept)?;
         match take_token(alloc, &mut reader, token) {
             Ok(()) => {
                 if reader.open_brackets() > MAX_OPEN {
@@ -66,6 +84,24 @@ pub fn read_definitions(alloc: Global, text: &[u8]) -> Result<Vec<Definition<'_>
     match reader.into_definitions() {
         Some(definitions) => Ok(definitions),
         None => unreachable!(),
+    }
+}
+
+// Adds a token to the list if it is to be kept.
+fn keep<'a>(
+    keeps: bool,
+    token: Token<'a, AbnfKind>,
+    kept: &mut Vec<Token<'a, AbnfKind>>,
+) -> Result<(), ReadFault>
+    ensures added { IfOk result (λ _. keeps ≡ true → kept.new.items ≡ kept.old.items ++ token.entry ∷ []) }
+    ensures fault { IfErr result (λ f. f ≡ ReadFault.Memory) }
+{
+    if !keeps {
+        return Ok(());
+    }
+    match kept.push(token) {
+        Ok(()) => Ok(()),
+        Err(_) => Err(ReadFault::Memory),
     }
 }
 
@@ -128,6 +164,34 @@ pub fn read_abnf(alloc: Global, text: &[u8]) -> Result<Abnf, ReadFault>
     let definitions = read_definitions(alloc, text)?;
     match table_of(alloc, definitions) {
         Ok(abnf) => Ok(abnf),
+        Err(Memory) => Err(ReadFault::Memory),
+    }
+}
+
+/// A grammar as it was read, with the tokens of its text.
+#[derive(Drop)]
+pub struct KeptAbnf<'a> {
+    /// The grammar.
+    pub abnf: Abnf,
+    /// The tokens, in order.
+    pub tokens: Vec<Token<'a, AbnfKind>>,
+}
+
+/// Reads a grammar as `read_abnf` does, and keeps the tokens of its text, which is cut into them once.
+///
+/// # Errors
+/// Those of `read_abnf`.
+pub fn read_kept_abnf(alloc: Global, text: &[u8]) -> Result<KeptAbnf<'_>, ReadFault>
+    ensures found { IfOk result (λ kept. (definitions : List Read) × Reads text.now definitions
+        × IsTableOf definitions kept.abnf.rules kept.abnf.redefined.items kept.abnf.extended.items) }
+    ensures core { IfOk result (λ kept. IsCoreTable kept.abnf.core) }
+    ensures tokens { IfOk result (λ kept. AreTokens text.now (map tok_of kept.tokens.items)) }
+    ensures fault { IfErr result (λ f. IsFaultOf text.now f) }
+{
+    let mut tokens = Vec::new(alloc);
+    let definitions = definitions_keeping(alloc, text, true, &mut tokens)?;
+    match table_of(alloc, definitions) {
+        Ok(abnf) => Ok(KeptAbnf { abnf, tokens }),
         Err(Memory) => Err(ReadFault::Memory),
     }
 }

@@ -2,6 +2,7 @@
 ghost use Rattle.std.specs.Prelude.{IfOk, Some, map};
 ghost use Rattle.ruletable.specs.Notes.{said_of};
 ghost use Rattle.abnfexplain.specs.AbnfExplained.{Explains};
+ghost use Rattle.abnfexplain.specs.AbnfNoteLines.{AreAbnfPositions};
 ghost use Rattle.abnfread.specs.AbnfReading.{IsFaultOf};
 ghost use Rattle.abnfread.specs.AbnfViews.{rules_of};
 ghost use Rattle.abnfprint.specs.CanonicalAbnf.{grammar_text};
@@ -19,15 +20,16 @@ use crate::line_judge::{LineJudge, Work, explainer_of, line_form, lines_have_ans
 use crate::note_positions::{explain_reached, note_positions};
 use crate::options::{AbnfOptions, AbnfSettings};
 use abnfcheck::{AllRules, JudgedAbnf, SoundAbnf, judge_abnf};
-use abnfexplain::explain_abnf_fault;
+use abnfexplain::{AbnfText, explain_abnf_fault, read_abnf_text};
 use abnfprint::print_abnf;
 use abnfread::{Abnf, read_abnf};
+use diagnostics::Positions;
 use feed::Source;
 use linejudge::run_lines;
 use rulenames::{marks_at, note_marked};
 use ruletable::{Memory, Note, NoteKind, ReadFault, Sink, WriteFault};
 use std::alloc::Global;
-use toolrun::{Checked, Ending, Language, Stop};
+use toolrun::{Checked, Ending, Language, ReadText, Stop};
 
 /// Returns the notes on the rules that a grammar defines again, alone, by the order of the rules.
 fn redefined_in(alloc: Global, abnf: &Abnf) -> Result<Vec<Note>, Memory>
@@ -54,6 +56,8 @@ impl Language for AbnfLanguage {
 
     type Sound = SoundAbnf;
 
+    type TextPositions = Positions;
+
     type Positions = AbnfPositions;
 
     ghost states = { AbnfStates };
@@ -61,6 +65,8 @@ impl Language for AbnfLanguage {
     ghost has_fault = { IsFaultOf };
 
     ghost explains = { Explains };
+
+    ghost are_text_positions = { AreAbnfPositions };
 
     ghost are_positions = { AreNotePositions };
 
@@ -86,8 +92,23 @@ impl Language for AbnfLanguage {
 
     ghost runs = { λ abnf. JudgeReply (rules_of abnf.rules) abnf.judged };
 
-    fn read(alloc: Global, text: &[u8]) -> Result<Abnf, ReadFault> {
-        read_abnf(alloc, text)
+    fn read(
+        alloc: Global,
+        text: &[u8],
+        explain: bool,
+    ) -> Result<ReadText<Abnf, Positions>, ReadFault> {
+        if !explain {
+            let grammar = read_abnf(alloc, text)?;
+            return Ok(ReadText {
+                grammar,
+                positions: None,
+            });
+        }
+        let AbnfText { abnf, positions } = read_abnf_text(alloc, text)?;
+        Ok(ReadText {
+            grammar: abnf,
+            positions: Some(positions),
+        })
     }
 
     fn explain_fault(alloc: Global, text: &[u8], fault: ReadFault) -> Result<Vec<u8>, Memory> {
@@ -96,11 +117,11 @@ impl Language for AbnfLanguage {
 
     fn positions(
         alloc: Global,
-        text: &[u8],
+        found: Positions,
         rules: AllRules,
         start: Option<&str>,
     ) -> Result<AbnfPositions, Memory> {
-        note_positions(alloc, text, rules, start)
+        note_positions(alloc, found, rules, start)
     }
 
     fn into_rules(positions: AbnfPositions) -> AllRules {

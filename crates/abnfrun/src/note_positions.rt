@@ -4,31 +4,33 @@ ghost use Rattle.ruletable.specs.Notes.{said_of};
 ghost use Rattle.abnfread.specs.AbnfReading.{Reads};
 ghost use Rattle.abnfread.specs.Element.{Definition, Rule};
 ghost use Rattle.abnfcheck.specs.NameChains.{AreNameChains, IsNameChain};
+ghost use Rattle.abnfexplain.specs.AbnfNoteLines.{AreAbnfPositions};
 ghost use Rattle.abnfexplain.specs.ChainLines.{chain_reported};
 ghost use Rattle.abnfrun.specs.AbnfExplainedNotes.{AreAllRules, AreNotePositions, ExplainsAbnfNote, IsReachAfter};
 ghost use Rattle.abnfrun.specs.AbnfNoted.{all_rules};
 
 use crate::abnf_positions::AbnfPositions;
 use abnfcheck::{AllRules, NameChains, name_chains};
-use abnfexplain::{abnf_positions, explain_abnf_note, push_chain};
+use abnfexplain::{explain_abnf_note, push_chain};
+use diagnostics::Positions;
 use ruletable::{Memory, Note, NoteKind};
 use std::alloc::Global;
 
-/// Returns where a text says what explains notes on its grammar. It takes the text's rules, with the core rules that it
-/// leaves alone, and holds them.
+/// Returns where a text says what explains notes on its grammar, by where it defines rules and mentions them. It takes
+/// the text's rules, with the core rules that it leaves alone, and holds them.
 ///
 /// `Memory` if an allocation fails; the rules are dropped then.
 pub(crate) fn note_positions(
     alloc: Global,
-    text: &[u8],
+    positions: Positions,
     all: AllRules,
     start: Option<&str>,
 ) -> Result<AbnfPositions, Memory>
-    requires { AreAllRules text.now all.rules all.count }
-    ensures positions { IfOk result (λ positions. AreNotePositions text.now (option_copied start.entry) positions) }
-    ensures rules { IfOk result (λ positions. positions.all ≡ all) }
+    requires { (text : List ℕ) × AreAbnfPositions text positions × AreAllRules text all.rules all.count }
+    ensures positions { IfOk result (λ found. (text : List ℕ) → AreAbnfPositions text positions
+        → AreAllRules text all.rules all.count → AreNotePositions text (option_copied start.entry) found) }
+    ensures rules { IfOk result (λ found. found.all ≡ all) }
 {
-    let positions = abnf_positions(alloc, text)?;
     let chains = name_chains(alloc, &all.rules, start)?;
     Ok(AbnfPositions {
         positions,

@@ -14,7 +14,7 @@ mod prose;
 mod sign;
 mod uses;
 
-pub use explained::{explain_note, positions_of};
+pub use explained::{explain_note, positions_by, positions_of};
 pub use heads::Head;
 pub use laws::first_mention;
 pub use lines::push_more;

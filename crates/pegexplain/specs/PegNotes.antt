@@ -6,6 +6,7 @@ use Rattle.diagnostics.specs.MentionLines.{lines_mentioned}
 use Rattle.diagnostics.specs.NoteLines.{defined_line}
 use Rattle.diagnostics.specs.ReportedTrees.{TreeRule}
 use Rattle.diagnostics.specs.declared.noteplaces.mentions.MentionKind.TheVariants.{Repeat, Use}
+use Rattle.diagnostics.specs.declared.noteplaces.positions.Positions.{Positions}
 use Rattle.diagnostics.specs.declared.noteplaces.sign.Sign.{Sign}
 use Rattle.diagnostics.specs.declared.noteplaces.sign.Sign.TheVariants.{Name, Defines, Repeats, Other}
 use Rattle.diagnostics.specs.declared.noteplaces.sign.Sign.TheVariants as signs
@@ -96,6 +97,10 @@ pub record ExplainsNote (text : List ℕ) (start : Option (List ℕ)) (note : Sa
   pub after : IsFollowingLine text note.kind note.name line
   pub is : why ≡ lines ++ line
 
+-- where a text defines rules and mentions them
+abbrev pub AreTextPositions : List ℕ → Positions → Type 0
+AreTextPositions = ArePositions White First is_end sign_of Any Exact
+
 -- the code's rules are those of a text
 pub record IsPegRead (text : List ℕ) (rules : table.Rules Expr) : Type 0 where
   pub definitions : List Rule
@@ -106,7 +111,7 @@ pub record IsPegRead (text : List ℕ) (rules : table.Rules Expr) : Type 0 where
 -- The code's positions are those of a text, with its rules, marks of those that may take nothing and of those that are
 -- left-recursive, and where the first eight of these end.
 pub record ArePegPositions (text : List ℕ) (found : PegPositions) : Type 0 where
-  pub positions : ArePositions White First is_end sign_of Any Exact text found.positions
+  pub positions : AreTextPositions text found.positions
   pub rules : IsPegRead text found.rules
   pub marks : AreMarks (λ rule. Nullable (rules_of found.rules) rule.body) (rules_of found.rules) found.nulls.items
   pub recursive : AreMarks (IsLeftRecursive (rules_of found.rules)) (rules_of found.rules) found.recursive.items

@@ -19,5 +19,5 @@ pub use left_lines::{MAX_STEPS, push_steps};
 pub use left_notes::MAX_WAYS;
 pub use left_uses::left_rows;
 pub use notes::{explain_peg_note, one_note_explanation};
-pub use positions::{PegPositions, PegSigns, peg_positions};
+pub use positions::{PegPositions, PegSigns, PegText, peg_positions, read_peg_text};
 pub use ways::left_way;

@@ -1,12 +1,15 @@
 //! Where a grammar's text says what explains notes.
-ghost use Rattle.std.specs.Prelude.{◌≡◌, IfOk};
-ghost use Rattle.pegexplain.specs.PegNotes.{ArePegPositions, IsPegRead, sign_of as the_sign};
+ghost use Rattle.std.specs.Prelude.{◌≡◌, ℕ, List, IfErr, IfOk};
+ghost use Rattle.pegexplain.specs.PegNotes.{ArePegPositions, AreTextPositions, IsPegRead, sign_of as the_sign};
+ghost use Rattle.pegread.specs.Definitions.{IsTableOf};
+ghost use Rattle.pegread.specs.Pattern.{Rule};
+ghost use Rattle.pegread.specs.Reading.{IsFaultOf, Reads};
 
 use crate::left_notes::ways_end;
-use diagnostics::{Positions, Sign, Signs, positions_of};
+use diagnostics::{Positions, Sign, Signs, positions_by};
 use gramcheck::{left_recursive_rules, nullable_rules};
-use pegread::{Expr, Kind};
-use ruletable::{LineRule, Memory, NameCase, RuleTable};
+use pegread::{Expr, KeptPeg, Kind, Peg, read_kept_peg};
+use ruletable::{LineRule, Memory, NameCase, ReadFault, RuleTable};
 use std::alloc::Global;
 
 /// The roles of the tokens of peg(1) in the definitions of a grammar.
@@ -26,6 +29,32 @@ impl Signs<Kind> for PegSigns {
     }
 }
 
+/// A grammar that was read, and where its text defines rules and mentions them.
+#[derive(Drop)]
+pub struct PegText {
+    /// The grammar.
+    pub peg: Peg,
+    /// Where its text defines rules and mentions them.
+    pub positions: Positions,
+}
+
+/// Reads a grammar's text, and returns where it defines rules and mentions them. It cuts the text into tokens once.
+///
+/// # Errors
+/// Those of `read_peg`.
+pub fn read_peg_text(alloc: Global, text: &[u8]) -> Result<PegText, ReadFault>
+    ensures found { IfOk result (λ r. (definitions : List Rule) × Reads text.now definitions
+        × IsTableOf definitions r.peg.rules r.peg.redefined.items) }
+    ensures positions { IfOk result (λ r. AreTextPositions text.now r.positions) }
+    ensures fault { IfErr result (λ f. IsFaultOf text.now f) }
+{
+    let KeptPeg { peg, tokens } = read_kept_peg(alloc, text)?;
+    match positions_by::<Kind, PegSigns>(alloc, text, &tokens, LineRule::Any, NameCase::Exact) {
+        Ok(positions) => Ok(PegText { peg, positions }),
+        Err(Memory) => Err(ReadFault::Memory),
+    }
+}
+
 /// Where a text defines and uses its rules, and what the rules are.
 #[derive(Drop)]
 pub struct PegPositions {
@@ -41,21 +70,21 @@ pub struct PegPositions {
     pub ways: usize,
 }
 
-/// Returns where a grammar's text says what explains notes on it. It takes the rules that the text was read as, and
-/// holds them.
+/// Returns where a grammar's text says what explains notes on it, by where it defines rules and mentions them. It takes
+/// the rules that the text was read as, and holds them.
 ///
 /// # Errors
 /// `Memory` if an allocation fails; the rules are dropped then.
 pub fn peg_positions(
     alloc: Global,
-    text: &[u8],
+    positions: Positions,
     rules: RuleTable<Expr>,
 ) -> Result<PegPositions, Memory>
-    requires { IsPegRead text.now rules }
-    ensures positions { IfOk result (λ positions. ArePegPositions text.now positions) }
-    ensures rules { IfOk result (λ positions. positions.rules ≡ rules) }
+    requires { (text : List ℕ) × AreTextPositions text positions × IsPegRead text rules }
+    ensures positions { IfOk result (λ found. (text : List ℕ) → AreTextPositions text positions → IsPegRead text rules
+        → ArePegPositions text found) }
+    ensures rules { IfOk result (λ found. found.rules ≡ rules) }
 {
-    let positions = positions_of::<Kind, PegSigns>(alloc, text, LineRule::Any, NameCase::Exact)?;
     let nulls = nullable_rules(alloc, &rules)?;
     let recursive = left_recursive_rules(alloc, &rules)?;
     let ways = ways_end(&recursive);

@@ -1,6 +1,7 @@
 -- A text has one list of definitions or one fault, unless an allocation fails.
 -- Serves: is_read_back, one_reading, read_peg
 use Rattle.std.proofs.Common.{◌≡◌, ◌≢◌, ℕ, ◌⊎◌, inl, inr, take, Some, List, refl, sym, ◌∙◌, ap, arith, slice_get}
+use Rattle.std.proofs.Common.{Result, Ok, Err, IfOk, IfErr, MatchResult}
 use Rattle.lexer.proofs.ViabilityLemmas as viability
 use Rattle.lexer.specs.declared.limits.TheConstants.{MAX_OPEN}
 use Rattle.ruletable.specs.Lines.{line_at}
@@ -144,3 +145,12 @@ no-fault text rules (faults.Depth line) r f = absurd (read-decides_none text rul
 no-fault text rules faults.TooLong r f = absurd (let w = r.within in omega arith)
 no-fault text rules faults.Memory r f = refl
 no-fault text rules (faults.NumberTooLarge line) r f = absurd f
+
+-- where a text spells definitions, what was read is of these, or an allocation failed
+pub read-only : {T : Type 0} (text : List ℕ) (Is : List Rule → T → Type 0) (definitions : List Rule)
+    → Reads text definitions → (r : Result T ReadFault) → IfOk r (λ t. (ds : List Rule) × Reads text ds × Is ds t)
+    → IfErr r (IsFaultOf text) → MatchResult r (Is definitions) (λ f. f ≡ faults.Memory)
+read-only text Is definitions reads (Ok t) found fault =
+    let same = one-reading text definitions found.0 reads found.1 in
+    rw same found.2
+read-only text Is definitions reads (Err f) found fault = no-fault text definitions f reads fault

@@ -20,7 +20,7 @@ pub use expr::{Expr, Peg};
 pub use kind::Kind;
 pub use lexer::{MAX_GRAMMAR, MAX_OPEN};
 pub use literal::literal_bytes;
-pub use read::{one_reading, one_tree, read_peg};
+pub use read::{KeptPeg, one_reading, one_tree, read_kept_peg, read_peg};
 pub use spelling_laws::{
     spells_one_char, spells_one_class, spells_one_literal, spells_some_char, spells_some_class,
     spells_some_literal,

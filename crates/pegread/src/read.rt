@@ -1,6 +1,6 @@
 //! Reads a grammar's text.
-ghost use Rattle.std.specs.Prelude.{◌≡◌, ◌≢◌, ℕ, ◌<◌, ◌≤◌, ◌++◌, ◌∷◌, Bool, List, length, slice_get, take as first};
-ghost use Rattle.std.specs.Prelude.{Some, Err, IfOk, IfErr, MatchResult};
+ghost use Rattle.std.specs.Prelude.{◌≡◌, ◌≢◌, ℕ, ◌<◌, ◌≤◌, ◌++◌, [], ◌∷◌, true, List, length, map};
+ghost use Rattle.std.specs.Prelude.{Err, IfOk, IfErr, MatchResult};
 ghost use Rattle.ruletable.specs.declared.span.Span.{Span};
 ghost use Rattle.pegread.specs.Definitions.{IsTableOf};
 ghost use Rattle.pegread.specs.Machine as machine;
@@ -12,7 +12,7 @@ ghost use Rattle.pegread.specs.Steps.{config_of, rules_from, Takes};
 ghost use Rattle.pegread.specs.Predicates.{hopeless_fault};
 ghost use Rattle.lexer.specs.GrammarLimits.{max_grammar};
 ghost use Rattle.lexer.specs.TokenLists.{tok, tok_of, kind_of};
-ghost use Rattle.pegread.specs.Tokens.{Tok, Next};
+ghost use Rattle.pegread.specs.Tokens.{AreTokens, Tok, Next};
 ghost use Rattle.pegread.specs.Words.{Word, Says, SayAll};
 
 use crate::expr::Peg;
@@ -43,36 +43,77 @@ pub fn read_peg(alloc: Global, text: &[u8]) -> Result<Peg, ReadFault>
         → MatchResult result (λ peg. IsTableOf definitions peg.rules peg.redefined.items) (λ f. f ≡ ReadFault.Memory) }
     ensures fault { IfErr result (λ f. IsFaultOf text.now f) }
 {
+    let mut kept = Vec::new(alloc);
+    read_keeping(alloc, text, false, &mut kept)
+}
+
+/// A grammar as it was read, with the tokens of its text.
+#[derive(Drop)]
+pub struct KeptPeg<'a> {
+    /// The grammar.
+    pub peg: Peg,
+    /// The tokens, in order.
+    pub tokens: Vec<Token<'a, Kind>>,
+}
+
+/// Reads a grammar as `read_peg` does, and keeps the tokens of its text, which is cut into them once.
+///
+/// # Errors
+/// Those of `read_peg`.
+pub fn read_kept_peg(alloc: Global, text: &[u8]) -> Result<KeptPeg<'_>, ReadFault>
+    ensures found { IfOk result (λ kept. (definitions : List Rule) × Reads text.now definitions
+        × IsTableOf definitions kept.peg.rules kept.peg.redefined.items) }
+    ensures tokens { IfOk result (λ kept. AreTokens (length text.now) text.now (map tok_of kept.tokens.items)) }
+    ensures fault { IfErr result (λ f. IsFaultOf text.now f) }
+{
+    let mut tokens = Vec::new(alloc);
+    let peg = read_keeping(alloc, text, true, &mut tokens)?;
+    Ok(KeptPeg { peg, tokens })
+}
+
+// Reads a grammar, and adds the tokens of its text to the list if they are to be kept.
+fn read_keeping<'a>(
+    alloc: Global,
+    text: &'a [u8],
+    keeps: bool,
+    kept: &mut Vec<Token<'a, Kind>>,
+) -> Result<Peg, ReadFault>
+    requires empty { kept.old.items ≡ [] }
+    ensures long { max_grammar < length text.now → result ≡ Err ReadFault.TooLong }
+    ensures found { IfOk result (λ peg. (definitions : List Rule) × Reads text.now definitions
+        × IsTableOf definitions peg.rules peg.redefined.items) }
+    ensures kept { IfOk result (λ _. keeps ≡ true → AreTokens (length text.now) text.now (map tok_of kept.new.items)) }
+    ensures fault { IfErr result (λ f. IsFaultOf text.now f) }
+{
     if text.len() > MAX_GRAMMAR {
         return Err(ReadFault::TooLong);
     }
-    let definitions = read_definitions(alloc, text)?;
+    let mut reader = Reader::new(alloc);
+    take_tokens(alloc, text, &mut reader, keeps, kept)?;
+    let Some(definitions) = reader.into_definitions() else {
+        unreachable!();
+    };
     match peg_of(alloc, definitions) {
         Ok(peg) => Ok(peg),
         Err(Memory) => Err(ReadFault::Memory),
     }
 }
 
-// Reads the definitions of a text that is not too long.
-fn read_definitions(alloc: Global, text: &[u8]) -> Result<Vec<Definition<'_>>, ReadFault>
-    requires { length text.now ≤ max_grammar }
-    ensures found { IfOk result (λ ds. Reads text.now (rules_from ds.items)) }
-    ensures fault { IfErr result (λ f. IsFaultOf text.now f) }
-{
-    let mut reader = Reader::new(alloc);
-    take_tokens(alloc, text, &mut reader)?;
-    match reader.into_definitions() {
-        Some(definitions) => Ok(definitions),
-        None => unreachable!(),
-    }
-}
-
-// Takes the tokens of a text that is not too long. Only a fault goes over them again.
-fn take_tokens<'a>(alloc: Global, text: &'a [u8], reader: &mut Reader<'a>) -> Result<(), ReadFault>
+// Takes the tokens of a text that is not too long, and adds them to the list if they are to be kept. Only a fault goes
+// over them again.
+fn take_tokens<'a>(
+    alloc: Global,
+    text: &'a [u8],
+    reader: &mut Reader<'a>,
+    keeps: bool,
+    kept: &mut Vec<Token<'a, Kind>>,
+) -> Result<(), ReadFault>
     requires within { length text.now ≤ max_grammar }
     requires fresh { config_of reader.old ≡ machine.start }
+    requires empty { kept.old.items ≡ [] }
     ensures found { IfOk result (λ _. (rules : List Rule) × Reads text.now rules
         × (config_of reader.new ≡ machine.done rules)) }
+    ensures kept { IfOk result (λ _. keeps ≡ true → AreTokens (length text.now) text.now (map tok_of kept.new.items)) }
     ensures fault { IfErr result (λ f. IsFaultOf text.now f) }
 {
     are_marked();
@@ -80,6 +121,7 @@ fn take_tokens<'a>(alloc: Global, text: &'a [u8], reader: &mut Reader<'a>) -> Re
     for token in tokens::<Kind>(text) {
         let at = token.span.start;
         let kind = token.kind;
+        keep(keeps, token, kept)?;
         match take_token(alloc, reader, token) {
             Ok(()) => {
                 if reader.open_brackets() > MAX_OPEN {
@@ -98,6 +140,24 @@ fn take_tokens<'a>(alloc: Global, text: &'a [u8], reader: &mut Reader<'a>) -> Re
         }
     }
     Ok(())
+}
+
+// Adds a token to the list if it is to be kept.
+fn keep<'a>(
+    keeps: bool,
+    token: Token<'a, Kind>,
+    kept: &mut Vec<Token<'a, Kind>>,
+) -> Result<(), ReadFault>
+    ensures added { IfOk result (λ _. keeps ≡ true → kept.new.items ≡ kept.old.items ++ token.entry ∷ []) }
+    ensures fault { IfErr result (λ f. f ≡ ReadFault.Memory) }
+{
+    if !keeps {
+        return Ok(());
+    }
+    match kept.push(token) {
+        Ok(()) => Ok(()),
+        Err(_) => Err(ReadFault::Memory),
+    }
 }
 
 // Returns the fault of a token that no grammar goes on with, by its kind and by the kind of the token before it.

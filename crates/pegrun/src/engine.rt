@@ -19,6 +19,7 @@ use crate::attempt::CountedMatcher;
 use crate::options::PegSettings;
 use crate::passed::{Passed, pass_known};
 use crate::past::{Past, ending_at};
+use crate::ready::ReadyPeg;
 use crate::unit::{UnitStep, next_unit};
 use feed::{Feed, Source};
 use gramcheck::SoundPeg;
@@ -109,7 +110,7 @@ fn cut<M: Matcher, R: Source, O: Sink>(
 pub fn run_units<M: Matcher, R: Source, O: Sink>(
     alloc: Global,
     counted: &mut Counted<M>,
-    peg: &SoundPeg,
+    peg: &ReadyPeg,
     settings: &PegSettings<'_>,
     reader: &mut R,
     out: &mut O,
@@ -127,14 +128,13 @@ pub fn run_units<M: Matcher, R: Source, O: Sink>(
     ensures unasked { settings.now.explain ≡ false → evaluated_by counted.new.search
         ≡ evaluated_by counted.old.search }
 {
-    // its contract says that the grammar is sound
-    let _ = peg.start();
+    let grammar = &peg.grammar;
     let ring = match Feed::<R>::room(alloc, settings.limit) {
         Ok(ring) => ring,
         Err(_) => return Ok(Ending::Plain(Stop::NoMemory)),
     };
     let mut feed = Feed::new(ring, reader);
-    let ending = cut(alloc, counted, peg, settings, &mut feed, out);
+    let ending = cut(alloc, counted, grammar, settings, &mut feed, out);
     let _reader = feed.into_reader();
     ending
 }

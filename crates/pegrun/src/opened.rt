@@ -14,8 +14,8 @@ ghost use Rattle.toolrun.specs.ReportedNotes.{HintedNotes};
 use crate::engine::{Counted, run_units};
 use crate::options::PegSettings;
 use crate::peg_language::PegLanguage;
+use crate::ready::ReadyPeg;
 use feed::Source;
-use gramcheck::SoundPeg;
 use packrat::Packrat;
 use ruletable::{Memory, Note, ReadFault, Sink, WriteFault};
 use std::alloc::Global;
@@ -27,7 +27,7 @@ use toolrun::{Ending, Language, Opened, open};
 #[derive(Drop)]
 pub struct PegRunner {
     /// The grammar.
-    grammar: SoundPeg,
+    grammar: ReadyPeg,
     /// The matcher, and the search for farthest failures.
     counted: Counted<Packrat>,
 }

@@ -1,7 +1,7 @@
 //! The language of peg(1), whose grammars are run on units of an input.
 ghost use Rattle.gramcheck.specs.Grammar.{IsRankedFor};
 ghost use Rattle.pegprint.specs.PegExplained.{Explains};
-ghost use Rattle.pegexplain.specs.PegNotes.{ArePegPositions, ExplainsNote, IsPegRead};
+ghost use Rattle.pegexplain.specs.PegNotes.{ArePegPositions, AreTextPositions, ExplainsNote, IsPegRead};
 ghost use Rattle.pegexplain.specs.PegHints.{ArePegHints};
 ghost use Rattle.pegprint.specs.Canon.{grammar_text};
 ghost use Rattle.pegread.specs.PegViews.{rules_of};
@@ -12,15 +12,19 @@ ghost use Rattle.pegrun.specs.PegReply.{RunStates};
 
 use crate::engine::{Counted, run_units};
 use crate::options::{PegOptions, PegSettings};
+use crate::ready::ReadyPeg;
+use diagnostics::Positions;
 use feed::Source;
-use gramcheck::{RankedNodes, SoundPeg, judge_peg, redefinitions};
+use gramcheck::{RankedNodes, judge_peg, redefinitions};
 use packrat::Packrat;
-use pegexplain::{PegPositions, explain_peg_note, peg_hints, peg_positions};
+use pegexplain::{
+    PegPositions, PegText, explain_peg_note, peg_hints, peg_positions, read_peg_text,
+};
 use pegprint::{explain_fault, print_peg};
 use pegread::{Expr, Peg, read_peg};
 use ruletable::{Memory, Note, ReadFault, RuleTable, Sink, WriteFault};
 use std::alloc::Global;
-use toolrun::{Checked, Ending, Language};
+use toolrun::{Checked, Ending, Language, ReadText};
 
 /// The language of peg(1).
 pub struct PegLanguage;
@@ -34,7 +38,9 @@ impl Language for PegLanguage {
 
     type Judged = RankedNodes;
 
-    type Sound = SoundPeg;
+    type Sound = ReadyPeg;
+
+    type TextPositions = Positions;
 
     type Positions = PegPositions;
 
@@ -43,6 +49,8 @@ impl Language for PegLanguage {
     ghost has_fault = { IsFaultOf };
 
     ghost explains = { Explains };
+
+    ghost are_text_positions = { AreTextPositions };
 
     ghost are_positions = { λ text start. ArePegPositions text };
 
@@ -68,8 +76,23 @@ impl Language for PegLanguage {
 
     ghost runs = { λ peg. RunStates (rules_of peg.rules) peg.start };
 
-    fn read(alloc: Global, text: &[u8]) -> Result<Peg, ReadFault> {
-        read_peg(alloc, text)
+    fn read(
+        alloc: Global,
+        text: &[u8],
+        explain: bool,
+    ) -> Result<ReadText<Peg, Positions>, ReadFault> {
+        if !explain {
+            let grammar = read_peg(alloc, text)?;
+            return Ok(ReadText {
+                grammar,
+                positions: None,
+            });
+        }
+        let PegText { peg, positions } = read_peg_text(alloc, text)?;
+        Ok(ReadText {
+            grammar: peg,
+            positions: Some(positions),
+        })
     }
 
     fn explain_fault(alloc: Global, text: &[u8], fault: ReadFault) -> Result<Vec<u8>, Memory> {
@@ -78,11 +101,11 @@ impl Language for PegLanguage {
 
     fn positions(
         alloc: Global,
-        text: &[u8],
+        found: Positions,
         rules: RuleTable<Expr>,
         _start: Option<&str>,
     ) -> Result<PegPositions, Memory> {
-        peg_positions(alloc, text, rules)
+        peg_positions(alloc, found, rules)
     }
 
     fn into_rules(positions: PegPositions) -> RuleTable<Expr> {
@@ -123,8 +146,9 @@ impl Language for PegLanguage {
         alloc: Global,
         rules: RuleTable<Expr>,
         judged: RankedNodes,
-    ) -> Result<SoundPeg, Memory> {
-        judged.ready(alloc, rules)
+    ) -> Result<ReadyPeg, Memory> {
+        let grammar = judged.ready(alloc, rules)?;
+        Ok(ReadyPeg { grammar })
     }
 
     fn redefinitions(alloc: Global, grammar: &Peg) -> Result<Vec<Note>, Memory> {
@@ -137,7 +161,7 @@ impl Language for PegLanguage {
 
     fn run<R: Source, O: Sink>(
         alloc: Global,
-        grammar: &SoundPeg,
+        grammar: &ReadyPeg,
         settings: &PegSettings<'_>,
         reader: &mut R,
         out: &mut O,

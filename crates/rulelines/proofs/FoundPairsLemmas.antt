@@ -18,8 +18,8 @@ use Rattle.rulelines.specs.FoundPairs.{LeadsToFound, next, start}
 use Rattle.rulelines.specs.StatePairs.{AcceptsRule, AreSamples, HasSample}
 use Rattle.rulelines.proofs.ComesFirstLemmas.{before_extends, first_append, first_length, first_trans, last_before}
 use Rattle.rulelines.proofs.ComesFirstLemmas.{last_first, nothing_before, nothing_first, prefix_first}
-use Rattle.rulelines.proofs.StatePairsLemmas.{accepted_derived, ArePairFronts, derived_accepted, element_at}
-use Rattle.rulelines.proofs.StatePairsLemmas.{next_fronts, start_fronts, symbol_at}
+use Rattle.rulelines.proofs.StatePairsLemmas.{accepted_derived, ArePairClosures, derived_accepted, element_at}
+use Rattle.rulelines.proofs.StatePairsLemmas.{next_closures, start_closures, symbol_at}
 
 take_suc : (x : List ℕ) (j c : ℕ) → slice_get x j ≡ Some c → take (suc j) x ≡ take j x ++ c ∷ []
 take_suc [] j c is = cc is
@@ -117,24 +117,24 @@ module _ (has : ℕ → Bool) (old : Flat) (old_last : Dot → Bool) (new : Flat
   word_symbols (next {i = i} {e = e} {w = w} is earlier h) =
       symbols_then has w e.symbol (word_symbols h) (found_so.parents i e (omega (arith, earlier)) is).symbol
 
-  -- the symbols of a pair lead to its fronts
-  pub word_fronts : {i : ℕ} {w : List ℕ} → IsWordOf found i w → (e : FoundPair) → slice_get found i ≡ Some e
-      → (rest : List ℕ) → ArePairFronts old old_last new new_last (w ++ rest) (length w) e.pair
-  word_fronts start e is rest =
+  -- the symbols of a pair lead to its closures
+  pub word_closures : {i : ℕ} {w : List ℕ} → IsWordOf found i w → (e : FoundPair) → slice_get found i ≡ Some e
+      → (rest : List ℕ) → ArePairClosures old old_last new new_last (w ++ rest) (length w) e.pair
+  word_closures start e is rest =
       let one : found_so.first ≡ e = cc (is, found_so.is_first) in
-      subst (λ v. ArePairFronts old old_last new new_last rest 0 v.pair) one
-      (start_fronts old old_last new new_last rest found_so.first.pair found_so.starts)
-  word_fronts (next {i = i} {e = f} {w = w} at earlier h) e is rest =
+      subst (λ v. ArePairClosures old old_last new new_last rest 0 v.pair) one
+      (start_closures old old_last new new_last rest found_so.first.pair found_so.starts)
+  word_closures (next {i = i} {e = f} {w = w} at earlier h) e is rest =
       let one : f ≡ e = cc (is, at) in
       let p = found_so.parents i f (omega (arith, earlier)) at in
-      let g = next_fronts old old_last new new_last (w ++ f.symbol ∷ rest) (length w) f.symbol f.symbol
+      let g = next_closures old old_last new new_last (w ++ f.symbol ∷ rest) (length w) f.symbol f.symbol
       (at_seam w f.symbol rest) (λ q r set rd. (λ k. k, λ k. k)) (λ q r set rd. (λ k. k, λ k. k)) p.parent.pair
-      f.pair p.leads (word_fronts h p.parent p.is (f.symbol ∷ rest)) in
-      subst (λ v. ArePairFronts old old_last new new_last ((w ++ f.symbol ∷ []) ++ rest) (length (w ++ f.symbol ∷ []))
+      f.pair p.leads (word_closures h p.parent p.is (f.symbol ∷ rest)) in
+      subst (λ v. ArePairClosures old old_last new new_last ((w ++ f.symbol ∷ []) ++ rest) (length (w ++ f.symbol ∷ []))
       v.pair) one
-      (subst (λ v. ArePairFronts old old_last new new_last v (length (w ++ f.symbol ∷ [])) f.pair)
+      (subst (λ v. ArePairClosures old old_last new new_last v (length (w ++ f.symbol ∷ [])) f.pair)
       (sym (append_assoc w (f.symbol ∷ []) rest))
-      (subst (λ v. ArePairFronts old old_last new new_last (w ++ f.symbol ∷ rest) v f.pair)
+      (subst (λ v. ArePairClosures old old_last new new_last (w ++ f.symbol ∷ rest) v f.pair)
       (sym (length-append w (f.symbol ∷ []))) g))
     where
       at_seam : (w : List ℕ) (c : ℕ) (rest : List ℕ) → slice_get (w ++ c ∷ rest) (length w) ≡ Some c
@@ -163,14 +163,14 @@ module _ (has : ℕ → Bool) (old : Flat) (old_last : Dot → Bool) (new : Flat
   module _ (samples : List ℕ) (each : AreSamples old new has samples) (n : ℕ)
       (searched : AreSearched old old_last new new_last found IsOldDead samples n) (agree : EndWithNew found n)
       (x : List ℕ) (symbols : AreLetters has x) where
-    -- a pair holds the fronts after j symbols, and its symbols come no later than those
+    -- a pair holds the closures after j symbols, and its symbols come no later than those
     record AtFound (j : ℕ) : Type 0 where
       pub index : ℕ
       pub entry : FoundPair
       pub is : slice_get found index ≡ Some entry
       pub word : List ℕ
       pub word_is : IsWordOf found index word
-      pub fronts : ArePairFronts old old_last new new_last x j entry.pair
+      pub closures : ArePairClosures old old_last new new_last x j entry.pair
       pub order : ComesFirst word (take j x)
 
     -- the symbols of a pair that was not searched come no later than the line
@@ -190,7 +190,7 @@ module _ (has : ℕ → Bool) (old : Flat) (old_last : Dot → Bool) (new : Flat
       is = found_so.is_first;
       word = [];
       word_is = start;
-      fronts = start_fronts old old_last new new_last x found_so.first.pair found_so.starts;
+      closures = start_closures old old_last new new_last x found_so.first.pair found_so.starts;
       order = inl refl;
     }
 
@@ -216,8 +216,8 @@ module _ (has : ℕ → Bool) (old : Flat) (old_last : Dot → Bool) (new : Flat
           is = l.is;
           word = g.0;
           word_is = g.1;
-          fronts = next_fronts old old_last new new_last x j c s.sample is s.old_alike s.new_alike here.entry.pair
-              l.next.pair l.leads here.fronts;
+          closures = next_closures old old_last new new_last x j c s.sample is s.old_alike s.new_alike here.entry.pair
+              l.next.pair l.leads here.closures;
           order = subst (λ v. ComesFirst g.0 v) (sym (take_next x j c is))
               (first_trans g.0 (here.word ++ c ∷ []) (take j x ++ c ∷ [])
               (first_trans g.0 (here.word ++ s.sample ∷ []) (here.word ++ c ∷ [])
@@ -232,7 +232,7 @@ module _ (has : ℕ → Bool) (old : Flat) (old_last : Dot → Bool) (new : Flat
       some_left j c is lt here none =
           let tops = here.entry.pair.old in
           let plain = nothing_below old old_last x j
-          (Contains tops) here.entry.pair.old_ended here.fronts.old_closure in
+          (Contains tops) here.entry.pair.old_ended here.closures.old_closure in
           let g = (taken_by_tops old old_last x j c c is (λ q r set rd. (λ h. h, λ h. h)) (Contains tops) [] plain).0
           (reached_before old old_last x accepted.reached (j + 1) (omega (arith, lt))) in
           none_read old old_last tops c g.0 none g.1
@@ -268,8 +268,8 @@ module _ (has : ℕ → Bool) (old : Flat) (old_last : Dot → Bool) (new : Flat
       alone_past not_new = by (at_each (length x) (omega arith))
         where
           at_end : (here : AtFound (length x)) → (here.index < n) ⊎ (n ≤ here.index) → IsNotAfter
-          at_end here (inl less) = absurd (not_new (here.fronts.new_closure.accepts.1 (
-            agree here.index here.entry less here.is (here.fronts.old_closure.accepts.0 accepted).0,
+          at_end here (inl less) = absurd (not_new (here.closures.new_closure.accepts.1 (
+            agree here.index here.entry less here.is (here.closures.old_closure.accepts.0 accepted).0,
             inl refl,
           )))
           at_end here (inr le) = stop_there (length x) here le
@@ -311,18 +311,18 @@ module _ (has : ℕ → Bool) (old_rules new_rules : List Rule) (old_rule new_ru
     symbols_are : AreLetters has w
     symbols_are = word_symbols has old old_last new new_last found found_so word_is
 
-    fronts_there : ArePairFronts old old_last new new_last w (length w) e.pair
-    fronts_there = subst (λ v. ArePairFronts old old_last new new_last v (length w) e.pair) (append-nil w)
-        (word_fronts has old old_last new new_last found found_so word_is e is [])
+    closures_there : ArePairClosures old old_last new new_last w (length w) e.pair
+    closures_there = subst (λ v. ArePairClosures old old_last new new_last v (length w) e.pair) (append-nil w)
+        (word_closures has old old_last new new_last found found_so word_is e is [])
 
     of_old : Alone w
     of_old = record {
       symbols = symbols_are;
       derives = accepted_derived has old_rules old_rule old old_last most old_reports w within_most symbols_are
-          (fronts_there.old_closure.accepts.1 (ended, inl refl));
+          (closures_there.old_closure.accepts.1 (ended, inl refl));
       not_new = λ d. cc (
         runs,
-        (fronts_there.new_closure.accepts.0
+        (closures_there.new_closure.accepts.0
             (derived_accepted has new_rules new_rule new new_last most new_reports w within_most symbols_are d)).0,
       );
     }

@@ -30,18 +30,18 @@ closure_on flat last x j c d is alike tops next ended now closure is_next =
     (nothing_below flat last x j (Contains tops) ended closure) (Contains next) now is_next
 
 module _ (old : Flat) (old_last : Dot → Bool) (new : Flat) (new_last : Dot → Bool) (x : List ℕ) where
-  -- a pair holds the fronts of both after j symbols
-  pub record ArePairFronts (j : ℕ) (pair : StatePair) : Type 0 where
+  -- a pair holds the closures of both after j symbols
+  pub record ArePairClosures (j : ℕ) (pair : StatePair) : Type 0 where
     pub old_closure : IsStackClosure old old_last x j (Contains pair.old) pair.old_ended []
     pub new_closure : IsStackClosure new new_last x j (Contains pair.new) pair.new_ended []
 
-  pub start_fronts : (p : StatePair) → IsStartPair old old_last new new_last p → ArePairFronts 0 p
-  start_fronts p starts = record { old_closure = starts.old_starts x; new_closure = starts.new_starts x }
+  pub start_closures : (p : StatePair) → IsStartPair old old_last new new_last p → ArePairClosures 0 p
+  start_closures p starts = record { old_closure = starts.old_starts x; new_closure = starts.new_starts x }
 
   -- a symbol leads on where a sample does that is in the same sets
-  pub next_fronts : (j c d : ℕ) → slice_get x j ≡ Some c → AreAlike old c d → AreAlike new c d → (p q : StatePair)
-      → PairLeads old old_last new new_last d p q → ArePairFronts j p → ArePairFronts (j + 1) q
-  next_fronts j c d is old_alike new_alike p q l here = record {
+  pub next_closures : (j c d : ℕ) → slice_get x j ≡ Some c → AreAlike old c d → AreAlike new c d → (p q : StatePair)
+      → PairLeads old old_last new new_last d p q → ArePairClosures j p → ArePairClosures (j + 1) q
+  next_closures j c d is old_alike new_alike p q l here = record {
     old_closure = closure_on old old_last x j c d is old_alike p.old q.old p.old_ended q.old_ended here.old_closure
         l.old_next;
     new_closure = closure_on new new_last x j c d is new_alike p.new q.new p.new_ended q.new_ended here.new_closure
@@ -57,7 +57,7 @@ module _ (has : ℕ → Bool) (old : Flat) (old_last : Dot → Bool) (new : Flat
   record AtPair (j : ℕ) : Type 0 where
     pub pair : StatePair
     pub among : Contains pairs pair
-    pub fronts : ArePairFronts old old_last new new_last x j pair
+    pub closures : ArePairClosures old old_last new new_last x j pair
 
   at_next : (j c : ℕ) → slice_get x j ≡ Some c → AtPair j → AtPair (j + 1)
   at_next j c is here =
@@ -66,15 +66,15 @@ module _ (has : ℕ → Bool) (old : Flat) (old_last : Dot → Bool) (new : Flat
       record {
         pair = on.next;
         among = on.is;
-        fronts = next_fronts old old_last new new_last x j c s.sample is s.old_alike s.new_alike here.pair on.next
-            on.leads here.fronts;
+        closures = next_closures old old_last new new_last x j c s.sample is s.old_alike s.new_alike here.pair on.next
+            on.leads here.closures;
       }
 
   at_each : (j : ℕ) → j ≤ length x → AtPair j
   at_each zero le = record {
     pair = first;
     among = is_one;
-    fronts = start_fronts old old_last new new_last x first starts;
+    closures = start_closures old old_last new new_last x first starts;
   }
   at_each (suc j) le =
       let g = element_at x j (omega (arith, le)) in
@@ -84,8 +84,8 @@ module _ (has : ℕ → Bool) (old : Flat) (old_last : Dot → Bool) (new : Flat
   pub accepted_too : Accepts old old_last x (length x) → Accepts new new_last x (length x)
   accepted_too a =
       let here = at_each (length x) (omega arith) in
-      here.fronts.new_closure.accepts.1
-      (closed.ends here.pair here.among (here.fronts.old_closure.accepts.0 a).0, inl refl)
+      here.closures.new_closure.accepts.1
+      (closed.ends here.pair here.among (here.closures.old_closure.accepts.0 a).0, inl refl)
 
 -- what the rule derives, stacks accept
 module _ (has : ℕ → Bool) (rules : List Rule) (id : ℕ) (flat : Flat) (last : Dot → Bool) (most : ℕ)

@@ -1,4 +1,5 @@
 pub mod Agrees
+pub mod AskedPositions
 pub mod Delivery
 pub mod Explained
 pub mod Finish

@@ -1,5 +1,6 @@
 //! A grammar language, and what its tool does.
 ghost use Rattle.std.specs.Prelude.{◌≡◌, ℕ, List, Option, Some, IfOk, IfErr, IfSome, false, map, option_copied};
+ghost use Rattle.toolrun.specs.AskedPositions.{AreAsked};
 ghost use Rattle.ruletable.specs.Notes.{Said, said_of};
 ghost use Rattle.ruletable.specs.Writing.{Flags, Writes};
 ghost use Rattle.ruletable.specs.declared.fault.ReadFault.{ReadFault as Fault};
@@ -15,6 +16,15 @@ use crate::settings::Settings;
 use feed::Source;
 use ruletable::{Memory, Note, ReadFault, Sink, WriteFault};
 use std::alloc::Global;
+
+/// A grammar that was read.
+#[derive(Drop)]
+pub struct ReadText<G, P> {
+    /// The grammar.
+    pub grammar: G,
+    /// Where its text defines rules and mentions them, if that was asked for.
+    pub positions: Option<P>,
+}
 
 /// The result of the checks of a grammar.
 #[derive(Drop)]
@@ -44,6 +54,9 @@ pub trait Language {
     /// A grammar that is ready to run.
     type Sound: Drop;
 
+    /// Where a text defines rules and mentions them.
+    type TextPositions: Drop;
+
     /// The rules of a grammar, and where its text says what explains notes on it.
     type Positions: Drop;
 
@@ -55,6 +68,9 @@ pub trait Language {
 
     /// Which lines explain a fault of a text, after its message.
     ghost explains: { List ℕ → Fault → List ℕ → Type 0 };
+
+    /// Which positions of definitions and mentions a text has.
+    ghost are_text_positions: { List ℕ → Self.TextPositions → Type 0 };
 
     /// Which positions a text has, where a name may be given for the start rule.
     ghost are_positions: { List ℕ → Option (List ℕ) → Self.Positions → Type 0 };
@@ -93,9 +109,15 @@ pub trait Language {
     /// Which reply a run of a grammar states for settings and an input.
     ghost runs: { Self.Sound → AllSettings Self.Options → Input → Reply → Type 0 };
 
-    /// Reads a grammar's text.
-    fn read(alloc: Global, text: &[u8]) -> Result<Self::Grammar, ReadFault>
-        ensures read { IfOk result (λ grammar. is_read text.now grammar) }
+    /// Reads a grammar's text. If explanations are asked for, it returns where the text defines rules and mentions
+    /// them.
+    fn read(
+        alloc: Global,
+        text: &[u8],
+        explain: bool,
+    ) -> Result<ReadText<Self::Grammar, Self::TextPositions>, ReadFault>
+        ensures read { IfOk result (λ r. is_read text.now r.grammar) }
+        ensures positions { IfOk result (λ r. AreAsked are_text_positions explain text.now r.positions) }
         ensures fault { IfErr result (λ fault. has_fault text.now fault) };
 
     /// Returns the lines that explain a fault of a grammar's text. `Memory` if an allocation fails.
@@ -103,16 +125,17 @@ pub trait Language {
         requires { has_fault text.now fault }
         ensures { IfOk result (λ why. explains text.now fault why.items) };
 
-    /// Returns where a text says what explains notes. It takes the text's rules, and holds them. `Memory` if an
-    /// allocation fails; the rules are dropped then.
+    /// Returns where a text says what explains notes, by where it defines rules and mentions them. It takes the text's
+    /// rules, and holds them. `Memory` if an allocation fails; the rules are dropped then.
     fn positions(
         alloc: Global,
-        text: &[u8],
+        found: Self::TextPositions,
         rules: Self::Rules,
         start: Option<&str>,
     ) -> Result<Self::Positions, Memory>
-        requires { are_rules text.now rules }
-        ensures positions { IfOk result (λ positions. are_positions text.now (option_copied start.entry) positions) }
+        requires { (text : List ℕ) × are_text_positions text found × are_rules text rules }
+        ensures positions { IfOk result (λ positions. (text : List ℕ) → are_text_positions text found
+            → are_rules text rules → are_positions text (option_copied start.entry) positions) }
         ensures rules { IfOk result (λ positions. held positions ≡ rules) };
 
     /// Returns the rules that positions hold.

@@ -18,7 +18,7 @@ mod tool;
 pub use ending::{Ending, ReportedRefusals, plain_ending};
 pub use finish::{close as close_run, conclude as conclude_run, finish as end_run};
 pub use first::write_first;
-pub use language::{Checked, Language};
+pub use language::{Checked, Language, ReadText};
 pub use opening::{Opened, open};
 pub use plan::{First, Plan, Task, plan_of};
 pub use settings::{DEFAULT_LIMIT, MAX_LIMIT, Mode, Settings};

@@ -1,32 +1,43 @@
 //! Opens a grammar: reads its text, checks it, and makes the messages on it.
-ghost use Rattle.std.specs.Prelude.{◌≡◌, IfErr, IfOk, IfSome, map, option_copied};
+ghost use Rattle.std.specs.Prelude.{◌≡◌, ℕ, List, IfErr, IfOk, IfSome, map, option_copied};
 ghost use Rattle.ruletable.specs.Notes.{said_of};
+ghost use Rattle.toolrun.specs.AskedPositions.{AreAsked};
 ghost use Rattle.toolrun.specs.ReportedNotes.{HintedNotes};
 
-use crate::language::{Checked, Language};
+use crate::language::{Checked, Language, ReadText};
 use crate::notes::text_of;
 use crate::reported::{HintText, reported_hints};
 use crate::settings::Settings;
 use ruletable::{Memory, Note, ReadFault};
 use std::alloc::Global;
 
-/// Reads a grammar's text, and checks it from the start rule of that name, or from the first rule. Fails by the text's
-/// fault, or if an allocation fails.
+/// A grammar that was read and checked.
+#[derive(Drop)]
+pub(crate) struct CheckedText<R, J, P> {
+    /// The result of the checks.
+    pub(crate) checked: Checked<R, J>,
+    /// Where its text defines rules and mentions them, if explanations are asked for.
+    pub(crate) positions: Option<P>,
+}
+
+/// Reads a grammar's text, and checks it from the start rule that settings name, or from the first rule. Fails by the
+/// text's fault, or if an allocation fails.
 pub(crate) fn read_checked<L: Language>(
     alloc: Global,
     text: &[u8],
-    start: Option<&str>,
-) -> Result<Checked<L::Rules, L::Judged>, ReadFault>
-    ensures checked { IfOk result (λ c. L.is_checked text.now (option_copied start.entry) (map said_of c.notes.items)
-        c.rules c.judged) }
-    ensures rules { IfOk result (λ c. L.are_rules text.now c.rules) }
-    ensures belongs { IfOk result (λ c. IfSome c.judged (L.belongs c.rules)) }
+    settings: &Settings<'_, L::Options>,
+) -> Result<CheckedText<L::Rules, L::Judged, L::TextPositions>, ReadFault>
+    ensures checked { IfOk result (λ c. L.is_checked text.now (option_copied settings.now.start)
+        (map said_of c.checked.notes.items) c.checked.rules c.checked.judged) }
+    ensures rules { IfOk result (λ c. L.are_rules text.now c.checked.rules) }
+    ensures belongs { IfOk result (λ c. IfSome c.checked.judged (L.belongs c.checked.rules)) }
+    ensures positions { IfOk result (λ c. AreAsked L.are_text_positions settings.now.explain text.now c.positions) }
     ensures fault { IfErr result (λ f. L.has_fault text.now f) }
 {
     L::follows();
-    let grammar = L::read(alloc, text)?;
-    match L::check(alloc, grammar, start) {
-        Ok(checked) => Ok(checked),
+    let ReadText { grammar, positions } = L::read(alloc, text, settings.explain)?;
+    match L::check(alloc, grammar, settings.start) {
+        Ok(checked) => Ok(CheckedText { checked, positions }),
         Err(Memory) => Err(ReadFault::Memory),
     }
 }
@@ -48,21 +59,24 @@ pub struct Opened<R, J> {
 /// the text's rules, and returns them. `Memory` if an allocation fails.
 fn diagnostics_of<L: Language>(
     alloc: Global,
-    text: &[u8],
+    found: Option<L::TextPositions>,
     settings: &Settings<'_, L::Options>,
     rules: L::Rules,
     notes: &[Note],
 ) -> Result<(Vec<u8>, L::Rules), Memory>
-    requires { L.are_rules text.now rules }
-    ensures diagnostics { IfOk result (λ r. HintedNotes settings.now (L.explains_note text.now)
-        (L.are_hints text.now settings.now) (map said_of notes.now) r.0.items) }
+    requires { (text : List ℕ) × AreAsked L.are_text_positions settings.now.explain text found
+        × L.are_rules text rules }
+    ensures diagnostics { IfOk result (λ r. (text : List ℕ)
+        → AreAsked L.are_text_positions settings.now.explain text found → L.are_rules text rules
+        → HintedNotes settings.now (L.explains_note text) (L.are_hints text settings.now) (map said_of notes.now)
+        r.0.items) }
     ensures rules { IfOk result (λ r. r.1 ≡ rules) }
 {
-    if !settings.explain {
+    let Some(found) = found else {
         let text = text_of(alloc, notes)?;
         return Ok((text, rules));
-    }
-    match reported_hints::<L>(alloc, text, settings, rules, notes) {
+    };
+    match reported_hints::<L>(alloc, found, settings, rules, notes) {
         HintText::Whole(text, rules) => Ok((text, rules)),
         HintText::Part(_) => Err(Memory),
     }
@@ -83,12 +97,13 @@ pub fn open<L: Language>(
     ensures fault { IfErr result (λ f. L.has_fault text.now f) }
 {
     L::follows();
+    let CheckedText { checked, positions } = read_checked::<L>(alloc, text, settings)?;
     let Checked {
         notes,
         rules,
         judged,
-    } = read_checked::<L>(alloc, text, settings.start)?;
-    match diagnostics_of::<L>(alloc, text, settings, rules, notes.as_slice()) {
+    } = checked;
+    match diagnostics_of::<L>(alloc, positions, settings, rules, notes.as_slice()) {
         Ok((diagnostics, rules)) => Ok(Opened {
             notes,
             diagnostics,

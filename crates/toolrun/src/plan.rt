@@ -2,6 +2,7 @@
 ghost use Rattle.std.specs.Prelude.{◌≡◌, ◌≢◌, ℕ, List, Option, Some, [], Err, IfOk, IfErr, IfSome, map, true};
 ghost use Rattle.std.specs.Prelude.{option_copied};
 ghost use Rattle.ruletable.specs.Notes.{Said, said_of};
+ghost use Rattle.toolrun.specs.AskedPositions.{AreAsked};
 ghost use Rattle.toolrun.specs.Plan.{IsPlanned, first_text};
 ghost use Rattle.toolrun.specs.Stop.{unread};
 ghost use Rattle.toolrun.specs.Tasks.{IsTask, task_does};
@@ -11,8 +12,8 @@ ghost use Rattle.toolrun.specs.declared.status.Status.TheVariants.{Refused};
 ghost use Rattle.toolrun.specs.declared.stop.Stop.TheVariants.{Quiet};
 ghost use Rattle.toolrun.specs.declared.settings.Settings.{Settings as AllSettings};
 
-use crate::language::{Checked, Language};
-use crate::opening::read_checked;
+use crate::language::{Checked, Language, ReadText};
+use crate::opening::{CheckedText, read_checked};
 use crate::reported::{HintText, NoteText, reported_hints, reported_notes};
 use crate::settings::{Mode, Settings};
 use crate::status::Status;
@@ -52,23 +53,34 @@ pub struct Plan<G, S> {
 
 /// A grammar that is only to be printed.
 #[derive(Drop)]
-struct Printable<G> {
+struct Printable<G, P> {
     /// The grammar.
     grammar: G,
+    /// Where its text defines rules and mentions them, if explanations are asked for.
+    positions: Option<P>,
     /// The notes on the rules that it defines again.
     again: Vec<Note>,
 }
 
 /// Reads a grammar's text to print it.
-fn read_again<L: Language>(alloc: Global, text: &[u8]) -> Result<Printable<L::Grammar>, ReadFault>
+fn read_again<L: Language>(
+    alloc: Global,
+    text: &[u8],
+    explain: bool,
+) -> Result<Printable<L::Grammar, L::TextPositions>, ReadFault>
     ensures printable { IfOk result (λ p. L.is_printable text.now p.grammar (map said_of p.again.items)) }
+    ensures positions { IfOk result (λ p. AreAsked L.are_text_positions explain text.now p.positions) }
     ensures read { IfOk result (λ p. L.is_read text.now p.grammar) }
     ensures fault { IfErr result (λ f. L.has_fault text.now f) }
 {
     L::follows();
-    let grammar = L::read(alloc, text)?;
+    let ReadText { grammar, positions } = L::read(alloc, text, explain)?;
     match L::redefinitions(alloc, &grammar) {
-        Ok(again) => Ok(Printable { grammar, again }),
+        Ok(again) => Ok(Printable {
+            grammar,
+            positions,
+            again,
+        }),
         Err(Memory) => Err(ReadFault::Memory),
     }
 }
@@ -160,23 +172,25 @@ fn plan_fault<L: Language>(
 /// settings ask for that, and the run stops. Where an allocation fails in explaining them, it writes the notes before.
 fn plan_again<L: Language>(
     alloc: Global,
-    text: &[u8],
+    found: Option<L::TextPositions>,
     settings: &Settings<'_, L::Options>,
     grammar: L::Grammar,
     notes: Vec<Note>,
 ) -> Plan<L::Grammar, L::Sound>
-    requires { L.is_read text.now grammar }
-    ensures { AreReportedBefore settings.now (L.explains_note text.now) (map said_of notes.items)
+    requires { (text : List ℕ) × AreAsked L.are_text_positions settings.now.explain text found
+        × L.is_read text grammar }
+    ensures { (text : List ℕ) → AreAsked L.are_text_positions settings.now.explain text found → L.is_read text grammar
+        → AreReportedBefore settings.now (L.explains_note text) (map said_of notes.items)
         (first_text result.first) (Err (Quiet Refused)) result.task }
 {
     let task = Err(Stop::Quiet(Status::Refused));
-    if !settings.explain {
+    let Some(found) = found else {
         return Plan {
             first: First::Notes(notes),
             task,
         };
-    }
-    match reported_notes::<L>(alloc, text, settings.start, grammar, notes.as_slice()) {
+    };
+    match reported_notes::<L>(alloc, found, settings.start, grammar, notes.as_slice()) {
         NoteText::Whole(reported) => Plan {
             first: First::Reported(reported),
             task,
@@ -217,28 +231,30 @@ fn plan_task<L: Language>(
 /// stops after the notes before.
 fn plan_opened<L: Language>(
     alloc: Global,
-    text: &[u8],
     settings: &Settings<'_, L::Options>,
-    checked: Checked<L::Rules, L::Judged>,
+    opened: CheckedText<L::Rules, L::Judged, L::TextPositions>,
 ) -> Plan<L::Grammar, L::Sound>
     requires mode { settings.now.mode ≢ Print }
-    requires rules { L.are_rules text.now checked.rules }
-    requires belongs { IfSome checked.judged (L.belongs checked.rules) }
-    requires checked { L.is_checked text.now (option_copied settings.now.start) (map said_of checked.notes.items)
-        checked.rules checked.judged }
-    ensures { IsPlanned (L.states text.now settings.now) (first_text result.first)
+    requires belongs { IfSome opened.checked.judged (L.belongs opened.checked.rules) }
+    requires found { (text : List ℕ) × AreAsked L.are_text_positions settings.now.explain text opened.positions
+        × L.are_rules text opened.checked.rules }
+    ensures { (text : List ℕ) → AreAsked L.are_text_positions settings.now.explain text opened.positions
+        → L.are_rules text opened.checked.rules → L.is_checked text (option_copied settings.now.start)
+        (map said_of opened.checked.notes.items) opened.checked.rules opened.checked.judged
+        → IsPlanned (L.states text settings.now) (first_text result.first)
         (λ t. task_does L.canonical L.runs t settings.now) result.task }
 {
     L::follows();
+    let CheckedText { checked, positions } = opened;
     let Checked {
         notes,
         rules,
         judged,
     } = checked;
-    if !settings.explain {
+    let Some(found) = positions else {
         return plan_task::<L>(alloc, settings, First::Notes(notes), rules, judged);
-    }
-    match reported_hints::<L>(alloc, text, settings, rules, notes.as_slice()) {
+    };
+    match reported_hints::<L>(alloc, found, settings, rules, notes.as_slice()) {
         HintText::Whole(reported, rules) => {
             plan_task::<L>(alloc, settings, First::Reported(reported), rules, judged)
         }
@@ -259,8 +275,8 @@ fn plan_checked<L: Language>(
     ensures { IsPlanned (L.states text.now settings.now) (first_text result.first)
         (λ t. task_does L.canonical L.runs t settings.now) result.task }
 {
-    match read_checked::<L>(alloc, text, settings.start) {
-        Ok(checked) => plan_opened::<L>(alloc, text, settings, checked),
+    match read_checked::<L>(alloc, text, settings) {
+        Ok(opened) => plan_opened::<L>(alloc, settings, opened),
         Err(fault) => plan_fault::<L>(alloc, text, settings, fault),
     }
 }
@@ -276,15 +292,21 @@ fn plan_print<L: Language>(
         (λ t. task_does L.canonical L.runs t settings.now) result.task }
 {
     L::follows();
-    match read_again::<L>(alloc, text) {
-        Ok(Printable { grammar, again }) => {
+    match read_again::<L>(alloc, text, settings.explain) {
+        Ok(
+            Printable {
+                grammar,
+                positions,
+                again,
+            },
+        ) => {
             if again.is_empty() {
                 return Plan {
                     first: First::Notes(again),
                     task: Ok(Task::Prints(grammar)),
                 };
             }
-            plan_again::<L>(alloc, text, settings, grammar, again)
+            plan_again::<L>(alloc, positions, settings, grammar, again)
         }
         Err(fault) => plan_fault::<L>(alloc, text, settings, fault),
     }

@@ -81,22 +81,23 @@ fn reported_by<L: Language>(
     NoteText::Whole(reported)
 }
 
-/// Returns the notes on the grammar of a text, each with the lines that explain it. Where an allocation fails, the
-/// first of them, the last perhaps without.
+/// Returns the notes on the grammar of a text, each with the lines that explain it, by where the text defines rules and
+/// mentions them. Where an allocation fails, the first of them, the last perhaps without.
 pub(crate) fn reported_notes<L: Language>(
     alloc: Global,
-    text: &[u8],
+    found: L::TextPositions,
     start: Option<&str>,
     grammar: L::Grammar,
     notes: &[Note],
 ) -> NoteText
-    requires { L.is_read text.now grammar }
-    ensures { IsReportedOf (L.explains_note text.now (option_copied start.entry)) (map said_of notes.now) result }
+    requires { (text : List ℕ) × L.are_text_positions text found × L.is_read text grammar }
+    ensures { (text : List ℕ) → L.are_text_positions text found → L.is_read text grammar
+        → IsReportedOf (L.explains_note text (option_copied start.entry)) (map said_of notes.now) result }
 {
     let Ok(checked) = L::check(alloc, grammar, start) else {
         return NoteText::Part(Vec::new(alloc));
     };
-    match L::positions(alloc, text, checked.rules, start) {
+    match L::positions(alloc, found, checked.rules, start) {
         Ok(positions) => reported_by::<L>(alloc, &positions, start, notes),
         Err(Memory) => NoteText::Part(Vec::new(alloc)),
     }
@@ -118,20 +119,22 @@ fn push_hints<L: Language>(
     Ok(())
 }
 
-/// Returns the notes on the grammar of a text, each with the lines that explain it, and then its hints. It takes the
-/// text's rules, and returns them. Where an allocation fails, the first notes, the last perhaps without its lines.
+/// Returns the notes on the grammar of a text, each with the lines that explain it, and then its hints, by where the
+/// text defines rules and mentions them. It takes the text's rules, and returns them. Where an allocation fails, the
+/// first notes, the last perhaps without its lines.
 pub(crate) fn reported_hints<L: Language>(
     alloc: Global,
-    text: &[u8],
+    found: L::TextPositions,
     settings: &Settings<'_, L::Options>,
     rules: L::Rules,
     notes: &[Note],
 ) -> HintText<L::Rules>
-    requires { L.are_rules text.now rules }
-    ensures { IsHintedOf (L.explains_note text.now (option_copied settings.now.start))
-        (L.are_hints text.now settings.now) (map said_of notes.now) rules result }
+    requires { (text : List ℕ) × L.are_text_positions text found × L.are_rules text rules }
+    ensures { (text : List ℕ) → L.are_text_positions text found → L.are_rules text rules
+        → IsHintedOf (L.explains_note text (option_copied settings.now.start)) (L.are_hints text settings.now)
+        (map said_of notes.now) rules result }
 {
-    let Ok(positions) = L::positions(alloc, text, rules, settings.start) else {
+    let Ok(positions) = L::positions(alloc, found, rules, settings.start) else {
         return HintText::Part(Vec::new(alloc));
     };
     match reported_by::<L>(alloc, &positions, settings.start, notes) {

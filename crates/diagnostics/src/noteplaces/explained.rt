@@ -17,9 +17,11 @@ use lexer::{Kind, Token, one_list};
 use ruletable::{LineRule, Memory, NameCase, Note, NoteKind};
 use std::alloc::Global;
 
-// Returns where a text with these tokens defines its rules, and what their bodies mention. `Memory` if an allocation
-// fails.
-fn positions_by<K: Kind, S: Signs<K>>(
+/// Returns where a text with these tokens defines its rules, and what their bodies mention.
+///
+/// # Errors
+/// `Memory` if an allocation fails.
+pub fn positions_by<K: Kind, S: Signs<K>>(
     alloc: Global,
     text: &[u8],
     tokens: &[Token<'_, K>],

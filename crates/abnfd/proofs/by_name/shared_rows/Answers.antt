@@ -1,7 +1,6 @@
 -- The lines of the names so far, and the next one.
 use Rattle.std.proofs.Common.{◌≡◌, ◌++◌, List, [], ℕ, arith, rules, subst, sym}
 use Rattle.std.proofs.lemmas.List.{length-map, take_all}
-use Rattle.std.specs.List.{filter}
 use Rattle.abnfd.specs.RulesByName.{HasRows, is_named, named_in}
 use Rattle.abnfd.proofs.RulesByNameLemmas.{more_rows, next_passes, no_rows}
 use Rattle.ruletable.specs.Rules.{names_of}

@@ -19,4 +19,4 @@ returns-else-is_empty g c =
     plan_again c.follows.ensures c.args.text.now c.args.settings.now c.in-Ok.field-0.grammar
     (map said_of c.in-Ok.field-0.again.items) _ _ c.requires
     (some_said c.in-Ok.field-0.again.items (grind (arith, nat_tests, c.in-Ok.field-0.again.ok, c.if-is_empty.ensures)))
-    c.in-Ok.ensures.printable c.plan_again.ensures
+    c.in-Ok.ensures.printable (c.plan_again.ensures c.args.text.now c.in-Ok.ensures.positions c.in-Ok.ensures.read)
