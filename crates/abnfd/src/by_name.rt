@@ -199,23 +199,6 @@ fn faulty(alloc: Global, fault: ReadFault) -> Result<ComparisonAnswer, Memory>
     }
 }
 
-// Answers for the rules of an old text and a new text. `Memory` if an allocation fails.
-fn answer_with(
-    alloc: Global,
-    settings: &CompareSettings<'_>,
-    texts: &Texts,
-    old: &RuleTable<Elem>,
-) -> Result<ComparisonAnswer, Memory>
-    requires { HasRules texts.now.old.items old.now }
-    ensures { IfOk result (λ a. IsAnswerByName settings.now.letters texts.now.old.items texts.now.new.items a.text.items
-        a.status) }
-{
-    match read_abnf(alloc, texts.new.as_slice()) {
-        Ok(new) => answer_to_rules(alloc, settings, texts, old, &new.rules),
-        Err(fault) => faulty(alloc, fault),
-    }
-}
-
 // Answers for two texts. `Memory` if an allocation fails.
 fn answer_by_name(
     alloc: Global,
@@ -225,10 +208,15 @@ fn answer_by_name(
     ensures { IfOk result (λ a. IsAnswerByName settings.now.letters texts.now.old.items texts.now.new.items a.text.items
         a.status) }
 {
-    match read_abnf(alloc, texts.old.as_slice()) {
-        Ok(old) => answer_with(alloc, settings, texts, &old.rules),
-        Err(fault) => faulty(alloc, fault),
-    }
+    let old = match read_abnf(alloc, texts.old.as_slice()) {
+        Ok(old) => old,
+        Err(fault) => return faulty(alloc, fault),
+    };
+    let new = match read_abnf(alloc, texts.new.as_slice()) {
+        Ok(new) => new,
+        Err(fault) => return faulty(alloc, fault),
+    };
+    answer_to_rules(alloc, settings, texts, &old.rules, &new.rules)
 }
 
 // Compares the rules of two texts by name: reports the messages on both, and how each comparison ends. `Memory` if an
