@@ -1,5 +1,5 @@
 //! Reads a grammar's text.
-ghost use Rattle.std.specs.Prelude.{◌≡◌, ◌≢◌, ℕ, ◌<◌, ◌++◌, [], ◌∷◌, true, List, length, map, Err, IfOk, IfErr};
+ghost use Rattle.std.specs.Prelude.{◌≡◌, ◌≢◌, ℕ, ◌<◌, [], true, List, length, map, Err, IfOk, IfErr};
 ghost use Rattle.std.specs.Prelude.{MatchResult};
 ghost use Rattle.abnfread.specs.AbnfReader.{config_of, IsSaid, Takes};
 ghost use Rattle.abnfread.specs.AbnfReading.{Reads, IsFaultOf};
@@ -24,7 +24,7 @@ use crate::number::NumberFault;
 use crate::reader::{Reader, ReaderStop};
 use crate::table::{Abnf, table_of};
 use crate::words::said_in;
-use lexer::{MAX_GRAMMAR, MAX_OPEN, Token, have_tokens};
+use lexer::{MAX_GRAMMAR, MAX_OPEN, Token, have_tokens, keep};
 use ruletable::{LineRule, Memory, ReadFault, line_of};
 use std::alloc::Global;
 
@@ -84,24 +84,6 @@ fn definitions_keeping<'a>(
     match reader.into_definitions() {
         Some(definitions) => Ok(definitions),
         None => unreachable!(),
-    }
-}
-
-// Adds a token to the list if it is to be kept.
-fn keep<'a>(
-    keeps: bool,
-    token: Token<'a, AbnfKind>,
-    kept: &mut Vec<Token<'a, AbnfKind>>,
-) -> Result<(), ReadFault>
-    ensures added { IfOk result (λ _. keeps ≡ true → kept.new.items ≡ kept.old.items ++ token.entry ∷ []) }
-    ensures fault { IfErr result (λ f. f ≡ ReadFault.Memory) }
-{
-    if !keeps {
-        return Ok(());
-    }
-    match kept.push(token) {
-        Ok(()) => Ok(()),
-        Err(_) => Err(ReadFault::Memory),
     }
 }
 

@@ -1,8 +1,9 @@
 //! Cuts a text into tokens that lend slices of it.
-ghost use Rattle.std.specs.Prelude.{◌+◌, ◌^◌, ◌<◌, length};
+ghost use Rattle.std.specs.Prelude.{◌≡◌, ◌+◌, ◌^◌, ◌<◌, ◌++◌, ◌∷◌, [], true, length, IfOk, IfErr};
+ghost use Rattle.lexer.specs.TokenLists.{IsAtStart};
 
 use crate::kind::Kind;
-use ruletable::Span;
+use ruletable::{ReadFault, Span};
 use std::marker::PhantomData;
 
 /// A token, with its slice of the text.
@@ -14,6 +15,27 @@ pub struct Token<'a, K> {
     pub slice: &'a [u8],
     /// The span of these bytes in the text.
     pub span: Span,
+}
+
+/// Adds a token to the list if it is to be kept.
+///
+/// # Errors
+/// `Memory` if an allocation fails.
+pub fn keep<'a, K>(
+    keeps: bool,
+    token: Token<'a, K>,
+    kept: &mut Vec<Token<'a, K>>,
+) -> Result<(), ReadFault>
+    ensures added { IfOk result (λ _. keeps ≡ true → kept.new.items ≡ kept.old.items ++ token.entry ∷ []) }
+    ensures fault { IfErr result (λ f. f ≡ ReadFault.Memory) }
+{
+    if !keeps {
+        return Ok(());
+    }
+    match kept.push(token) {
+        Ok(()) => Ok(()),
+        Err(_) => Err(ReadFault::Memory),
+    }
 }
 
 /// An iterator over the tokens of a text. The last one is the end. It takes a token when it is asked for one, so a text
@@ -31,18 +53,15 @@ pub struct TokenIter<'a, K> {
     ghost fits: { start + length rest.now < 2 ^ 64 },
 }
 
-impl<'a, K: Kind> TokenIter<'a, K> {
-    ghost use Rattle.lexer.specs.TokenLists.{IsAtStart};
-
-    pub(crate) fn new(text: &'a [u8]) -> Self
-        ensures { IsAtStart result text.now }
-    {
-        TokenIter {
-            rest: text,
-            start: 0,
-            ended: false,
-            kinds: PhantomData,
-        }
+/// Returns the tokens of a text. It takes no memory, and what the tokens lend is the text's.
+pub fn tokens<K: Kind>(text: &[u8]) -> TokenIter<'_, K>
+    ensures { IsAtStart result text.now }
+{
+    TokenIter {
+        rest: text,
+        start: 0,
+        ended: false,
+        kinds: PhantomData,
     }
 }
 

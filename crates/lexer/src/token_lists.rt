@@ -1,17 +1,10 @@
 //! The tokens of a whole text.
 ghost use Rattle.std.specs.Prelude.{◌≡◌, ℕ, List, length, All};
 ghost use Rattle.lexer.specs.Pieces.{AreInOrder, IsLongest, LiesIn, MakeUp};
-ghost use Rattle.lexer.specs.TokenLists.{AreTokens, IsAtStart, Tok};
+ghost use Rattle.lexer.specs.TokenLists.{AreTokens, Tok};
 
 use crate::kind::Kind;
-use crate::token_iter::TokenIter;
-
-/// Returns the tokens of a text. It takes no memory, and what the tokens lend is the text's.
-pub fn tokens<K: Kind>(text: &[u8]) -> TokenIter<'_, K>
-    ensures { IsAtStart result text.now }
-{
-    TokenIter::new(text)
-}
+use crate::token_iter::tokens;
 
 /// Says that a text has at most one list of tokens.
 pub fn one_list<K: Kind>()

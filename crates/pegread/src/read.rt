@@ -1,5 +1,5 @@
 //! Reads a grammar's text.
-ghost use Rattle.std.specs.Prelude.{◌≡◌, ◌≢◌, ℕ, ◌<◌, ◌≤◌, ◌++◌, [], ◌∷◌, true, List, length, map};
+ghost use Rattle.std.specs.Prelude.{◌≡◌, ◌≢◌, ℕ, ◌<◌, ◌≤◌, [], true, List, length, map};
 ghost use Rattle.std.specs.Prelude.{Err, IfOk, IfErr, MatchResult};
 ghost use Rattle.ruletable.specs.declared.span.Span.{Span};
 ghost use Rattle.pegread.specs.Definitions.{IsTableOf};
@@ -20,7 +20,7 @@ use crate::kind::Kind;
 use crate::reader::{Definition, Reader, ReaderStop};
 use crate::token_lists::are_marked;
 use crate::words::word_in;
-use lexer::{MAX_GRAMMAR, MAX_OPEN, Token, have_tokens, tokens};
+use lexer::{MAX_GRAMMAR, MAX_OPEN, Token, have_tokens, keep, tokens};
 use ruletable::{Defined, LineRule, Memory, NameCase, ReadFault, RuleTable, line_of};
 use std::alloc::Global;
 
@@ -140,24 +140,6 @@ fn take_tokens<'a>(
         }
     }
     Ok(())
-}
-
-// Adds a token to the list if it is to be kept.
-fn keep<'a>(
-    keeps: bool,
-    token: Token<'a, Kind>,
-    kept: &mut Vec<Token<'a, Kind>>,
-) -> Result<(), ReadFault>
-    ensures added { IfOk result (λ _. keeps ≡ true → kept.new.items ≡ kept.old.items ++ token.entry ∷ []) }
-    ensures fault { IfErr result (λ f. f ≡ ReadFault.Memory) }
-{
-    if !keeps {
-        return Ok(());
-    }
-    match kept.push(token) {
-        Ok(()) => Ok(()),
-        Err(_) => Err(ReadFault::Memory),
-    }
 }
 
 // Returns the fault of a token that no grammar goes on with, by its kind and by the kind of the token before it.
