@@ -91,7 +91,7 @@ def early_crates(named, needed):
     sizes, direct, tops = chains(needed), uses(TOP), set()
     for crate in named:
         main = max(direct[crate], key=sizes.get)
-        most = max(sizes[it] for it in direct[main])
+        most = max((sizes[it] for it in direct[main]), default=0)
         tops |= {it for it in direct[main] if sizes[it] > 0.7 * most}
     return tops | {it for crate in tops for it in below(TOP, crate)}
 

@@ -36,8 +36,6 @@ LOOPS = {"abnfi": ("lazydfa", "run", 12), "pegi": ("packrat", "evaluate", 12)}
 PASSED = {
     # The contract of `len` says that a window has at most `capacity` bytes.
     "feed: Feed.find: discards", "linejudge: answer_lines: discards", "linejudge: next_line: discards",
-    # It is the public way to an iterator that only the library makes.
-    "lexer: tokens: only forwards",
     # Nothing is left to do if the error output fails.
     "toolrun: flush_err: discards",
     # Its contract speaks of a grammar's text, of which the function below knows nothing.

@@ -1,6 +1,5 @@
 //! Lines in quotes, all in ASCII.
 ghost use Rattle.std.specs.Prelude.{◌≡◌, ◌<◌, ◌++◌, OnOk};
-ghost use Rattle.std.specs.List.{flat_map};
 ghost use Rattle.abnfd.specs.QuotedLines.{quoted_byte, quoted_bytes, quoted_line, quoted_symbols, symbol_bytes};
 ghost use Rattle.diagnostics.specs.ShownBytes.{hex_digit as the_digit};
 ghost use Rattle.letters.specs.declared.alphabet.Alphabet.TheVariants.{Utf8};

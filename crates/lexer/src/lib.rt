@@ -10,5 +10,5 @@ mod token_lists;
 pub use byte_slices::{after_byte, inside};
 pub use kind::Kind;
 pub use limits::{MAX_GRAMMAR, MAX_OPEN};
-pub use token_iter::{Token, TokenIter, keep, tokens};
-pub use token_lists::{have_tokens, one_list, tokens_make_up};
+pub use token_iter::{Token, TokenIter};
+pub use token_lists::{have_tokens, keep, one_list, tokens, tokens_make_up};

@@ -1,10 +1,45 @@
 //! The tokens of a whole text.
-ghost use Rattle.std.specs.Prelude.{◌≡◌, ℕ, List, length, All};
+ghost use Rattle.std.specs.Prelude.{◌≡◌, ◌++◌, ◌∷◌, [], ℕ, List, length, All, true, IfOk, IfErr};
 ghost use Rattle.lexer.specs.Pieces.{AreInOrder, IsLongest, LiesIn, MakeUp};
-ghost use Rattle.lexer.specs.TokenLists.{AreTokens, Tok};
+ghost use Rattle.lexer.specs.TokenLists.{AreTokens, IsAtStart, Tok};
 
 use crate::kind::Kind;
-use crate::token_iter::tokens;
+use crate::token_iter::{Token, TokenIter};
+use ruletable::ReadFault;
+use std::marker::PhantomData;
+
+/// Returns the tokens of a text. It takes no memory, and what the tokens lend is the text's.
+pub fn tokens<K: Kind>(text: &[u8]) -> TokenIter<'_, K>
+    ensures { IsAtStart result text.now }
+{
+    TokenIter {
+        rest: text,
+        start: 0,
+        ended: false,
+        kinds: PhantomData,
+    }
+}
+
+/// Adds a token to the list if it is to be kept.
+///
+/// # Errors
+/// `Memory` if an allocation fails.
+pub fn keep<'a, K: Kind>(
+    keeps: bool,
+    token: Token<'a, K>,
+    kept: &mut Vec<Token<'a, K>>,
+) -> Result<(), ReadFault>
+    ensures added { IfOk result (λ _. keeps ≡ true → kept.new.items ≡ kept.old.items ++ token.entry ∷ []) }
+    ensures fault { IfErr result (λ f. f ≡ ReadFault.Memory) }
+{
+    if !keeps {
+        return Ok(());
+    }
+    match kept.push(token) {
+        Ok(()) => Ok(()),
+        Err(_) => Err(ReadFault::Memory),
+    }
+}
 
 /// Says that a text has at most one list of tokens.
 pub fn one_list<K: Kind>()

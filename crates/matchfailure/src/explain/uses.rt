@@ -23,23 +23,22 @@ fn push_named(row: &mut Vec<usize>, node: &Node) -> Result<(), Memory>
     Ok(())
 }
 
-// Returns the ids that the nodes from one to another name, the last one included.
+// Returns the ids that the nodes from one to before another name.
 fn names_between(
     alloc: Global,
     peg: &SoundPeg,
     first: usize,
-    last: usize,
+    end: usize,
 ) -> Result<Vec<usize>, Memory>
-    requires order { first ≤ last }
-    requires within { last < length peg.now.nodes }
+    requires order { first ≤ end }
+    requires within { end ≤ length peg.now.nodes }
     ensures { IfOk result (λ row. row.items
-        ≡ flat_map named_id (take (last + 1 - first) (drop first (shapes_of peg.now.nodes)))) }
+        ≡ flat_map named_id (take (end - first) (drop first (shapes_of peg.now.nodes)))) }
 {
     let mut row = Vec::new(alloc);
-    for n in first..last {
+    for n in first..end {
         push_named(&mut row, peg.node(n))?;
     }
-    push_named(&mut row, peg.node(last))?;
     Ok(row)
 }
 
@@ -52,12 +51,12 @@ fn names_of(alloc: Global, peg: &SoundPeg, id: usize) -> Result<Vec<usize>, Memo
         (take (last + 1 - first_node peg.now.bodies id) (drop (first_node peg.now.bodies id)
         (shapes_of peg.now.nodes)))) }
 {
-    let last = peg.body_node(id);
+    let end = peg.body_node(id) + 1;
     if id == 0 {
-        return names_between(alloc, peg, 0, last);
+        return names_between(alloc, peg, 0, end);
     }
     let first = peg.body_node(id - 1) + 1;
-    names_between(alloc, peg, first, last)
+    names_between(alloc, peg, first, end)
 }
 
 // Returns of each rule the ids of those that its body names.
