@@ -1,15 +1,16 @@
--- The runs on several files: what is told, and how one run is joined to those before.
+-- The runs on several files: what is reported, and how one run follows those before.
 -- Serves: lines_named, own_of, report_named, report_no_memory, run_inputs, run_grammars, check_and_run, run_several
 use native.Mathlib.Numerals.{unary_clauses}
 use Rattle.std.proofs.Common.{◌≡◌, ◌∙◌, ap, subst, sym, refl, true≢false, inl, inr, ℕ, Bool, true, false}
-use Rattle.std.proofs.Common.{List, [], ◌∷◌, ◌++◌, append_assoc, append-nil, ◌≤◌, ◌⊎◌, Option, None, Some, map, take, drop, length, ◌+◌, ◌<◌, arith}
+use Rattle.std.proofs.Common.{List, [], ◌∷◌, ◌++◌, append_assoc, append-nil, ◌≤◌, ◌⊎◌, Option, None, Some, map, take}
+use Rattle.std.proofs.Common.{drop, length, ◌+◌, ◌<◌, arith}
 use Rattle.std.specs.Prelude.{Result, Ok, Err, ◌==◌, codes, max, option_map, unwrap_or}
 use Rattle.std.proofs.lemmas.List.{map-append, take-append-drop, take_all}
 use Rattle.std.specs.Borrow.{Bor}
 use Rattle.clap.specs.Words.{Row, Text, first_of}
 use Rattle.cli.specs.Asked.{Ask, files_in, mode_named}
-use Rattle.cli.specs.FileRuns.{AllRun, AreFew, AreFewAsked, HasRunFiles, HasRunSeveral, HaveRun}
-use Rattle.cli.specs.FileRuns.{IsGrammarRun, IsTold, joined, lines_named, more, name_before, none}
+use Rattle.cli.specs.FileRuns.{AllRun, AreFew, AreFewAsked, HasRunFiles, HasRunSeveral, RunsInOrder}
+use Rattle.cli.specs.FileRuns.{IsGrammarRun, IsReportedText, both_calls, lines_named, more, name_before, none}
 use Rattle.cli.specs.declared.settings.Asked.{Asked}
 use Rattle.ruletable.specs.Writing.{Flags, Writes}
 use Rattle.ruletable.specs.declared.sink.WriteFault.{WriteFault}
@@ -21,12 +22,12 @@ use Rattle.toolrun.specs.declared.settings.Mode.{Mode}
 use Rattle.toolrun.specs.declared.settings.Mode.TheVariants.{Check, Print, Run}
 use Rattle.toolrun.specs.declared.settings.Settings.{Settings}
 
--- ---- what is told
+-- ---- what is reported
 
-pub is_told : {A : Type 0} (text : List ℕ) (err : Stream) (r : Result A WriteFault) → err.was ≡ false
-    → Writes err.old err.new text r → Flags err.was err.failed r → IsTold text err
-is_told text err (Ok x) fresh writes flag = (text, writes, (IsPrefixOf-same text, λ ok. refl))
-is_told text err (Err fault) fresh writes flag =
+pub is_reported_text : {A : Type 0} (text : List ℕ) (err : Stream) (r : Result A WriteFault) → err.was ≡ false
+    → Writes err.old err.new text r → Flags err.was err.failed r → IsReportedText text err
+is_reported_text text err (Ok x) fresh writes flag = (text, writes, (IsPrefixOf-same text, λ ok. refl))
+is_reported_text text err (Err fault) fresh writes flag =
     (writes.0, writes.2, (writes.1.0, λ ok. absurd (true≢false (sym flag ∙ ok))))
 
 -- ---- the lines of a text
@@ -81,20 +82,23 @@ module _ (Runs : Text → Stream → Stream → ℕ → Type 0) (front : List Te
 
   -- these have run so far
   abbrev HaveFirst : Stream → Stream → ℕ → Type 0
-  HaveFirst out err code = HaveRun Runs (front ++ map now_of (take i names)) out err code
+  HaveFirst out err code = RunsInOrder Runs (front ++ map now_of (take i names)) out err code
 
   -- the run on the next name
   pub have_more : (name : Bor Text) (out out_next err err_next : Stream) (code next most : ℕ)
       → HaveFirst out err code → Runs name.now out_next err_next next → out.new ≡ out_next.old
       → err.new ≡ err_next.old → take (i + 1) names ≡ take i names ++ name ∷ [] → most ≡ max code next
-      → HaveRun Runs (front ++ map now_of (take (i + 1) names)) (joined out out_next) (joined err err_next) most
+      → RunsInOrder Runs (front ++ map now_of (take (i + 1) names)) (both_calls out out_next) (both_calls err err_next)
+      most
   have_more name out out_next err err_next code next most have run out_same err_same taken is =
-      subst (λ ns. HaveRun Runs ns (joined out out_next) (joined err err_next) most)
+      subst (λ ns. RunsInOrder Runs ns (both_calls out out_next) (both_calls err err_next) most)
       (append_assoc front (map now_of (take i names)) (name.now ∷ [])
-      ∙ ap (λ (ns : List Text). front ++ ns) (sym (ap (map now_of) taken ∙ map-append now_of (take i names) (name ∷ []))))
-      (subst (λ n. HaveRun Runs ((front ++ map now_of (take i names)) ++ name.now ∷ []) (joined out out_next)
-      (joined err err_next) n) (sym is)
-      (more (front ++ map now_of (take i names)) name.now out out_next err err_next code next have run out_same err_same))
+      ∙ ap (λ (ns : List Text). front ++ ns)
+      (sym (ap (map now_of) taken ∙ map-append now_of (take i names) (name ∷ []))))
+      (subst (λ n. RunsInOrder Runs ((front ++ map now_of (take i names)) ++ name.now ∷ []) (both_calls out out_next)
+      (both_calls err err_next) n) (sym is)
+      (more (front ++ map now_of (take i names)) name.now out out_next err err_next code next have run out_same
+      err_same))
 
   -- the rest is left out
   pub some_run : (out err : Stream) (code : ℕ) → HaveFirst out err code
@@ -122,9 +126,9 @@ module _ (Runs : Text → Stream → Stream → ℕ → Type 0) (front : List Te
 
 -- the first run of all
 pub first_run : (Runs : Text → Stream → Stream → ℕ → Type 0) (name : Text) (out err : Stream) (code : ℕ)
-    → Runs name out err code → HaveRun Runs (name ∷ []) out err code
+    → Runs name out err code → RunsInOrder Runs (name ∷ []) out err code
 first_run Runs name out err code run =
-    let h : HaveRun Runs (name ∷ []) out err (max 0 code) =
+    let h : RunsInOrder Runs (name ∷ []) out err (max 0 code) =
     more [] name (record { old = out.old; new = out.old; was = out.was; failed = out.was }) out
     (record { old = err.old; new = err.old; was = err.was; failed = err.was }) err 0 code (none _ _ refl refl) run refl
     refl in

@@ -34,19 +34,19 @@ abbrev pub own_messages : List ℕ → List ℕ → List ℕ
 own_messages first all = if bytes_eq (take (length first) all) first then drop (length first) all else all
 
 -- the text was written, or a prefix of it where the writer failed
-abbrev pub IsTold : List ℕ → Stream → Type 0
-IsTold text err = (part : List ℕ) × Appends err.old err.new part × IsReported err.failed part text
+abbrev pub IsReportedText : List ℕ → Stream → Type 0
+IsReportedText text err = (part : List ℕ) × Appends err.old err.new part × IsReported err.failed part text
 
 -- These messages were written with the name before their lines, after a run of that status; or an allocation failed.
 abbrev pub IsNamedReport : Text → List ℕ → ℕ → Stream → ℕ → Type 0
 IsNamedReport name messages status err code =
-    (IsTold (lines_named name true messages) err × (code ≡ greatest_met status false err.failed))
-    ⊎ (IsTold (message_of NoMemory) err × (code ≡ 5))
+    (IsReportedText (lines_named name true messages) err × (code ≡ greatest_met status false err.failed))
+    ⊎ (IsReportedText (message_of NoMemory) err × (code ≡ 5))
 
 -- an allocation failed before all else
 abbrev pub HasNoMemory : Stream → Stream → ℕ → Type 0
 HasNoMemory out err code =
-    (out.new ≡ out.old) × (out.failed ≡ out.was) × IsTold (message_of NoMemory) err × (code ≡ 5)
+    (out.new ≡ out.old) × (out.failed ≡ out.was) × IsReportedText (message_of NoMemory) err × (code ≡ 5)
 
 -- A run whose messages were held, and written after it, but for the first ones.
 pub record IsHeldRun (States : Input → List ℕ → Reply → Type 0) (first : List ℕ) (name : Text) (messages : List ℕ)
@@ -77,20 +77,20 @@ IsGrammarRun States name out err code =
     (grammar messages : List ℕ) × HasRunGrammar States name grammar messages out err code
 
 -- two calls, one after the other
-abbrev pub joined : Stream → Stream → Stream
-joined one two = record { old = one.old; new = two.new; was = one.was; failed = two.failed }
+abbrev pub both_calls : Stream → Stream → Stream
+both_calls one two = record { old = one.old; new = two.new; was = one.was; failed = two.failed }
 
 -- The runs on these names, in order, each as Runs says. The status is the greatest one.
-pub data HaveRun (Runs : Text → Stream → Stream → ℕ → Type 0) : List Text → Stream → Stream → ℕ → Type 0 where
-  none : (out err : Stream) → out.new ≡ out.old → err.new ≡ err.old → HaveRun Runs [] out err 0
+pub data RunsInOrder (Runs : Text → Stream → Stream → ℕ → Type 0) : List Text → Stream → Stream → ℕ → Type 0 where
+  none : (out err : Stream) → out.new ≡ out.old → err.new ≡ err.old → RunsInOrder Runs [] out err 0
   more : (names : List Text) (name : Text) (out out_next err err_next : Stream) (code next : ℕ)
-      → HaveRun Runs names out err code → Runs name out_next err_next next
+      → RunsInOrder Runs names out err code → Runs name out_next err_next next
       → out.new ≡ out_next.old → err.new ≡ err_next.old
-      → HaveRun Runs (names ++ name ∷ []) (joined out out_next) (joined err err_next) (max code next)
+      → RunsInOrder Runs (names ++ name ∷ []) (both_calls out out_next) (both_calls err err_next) (max code next)
 
 -- All of them have run; or the rest is left out, since a writer failed, or a status is 4 or 5.
 abbrev pub AllRun : (Text → Stream → Stream → ℕ → Type 0) → List Text → Stream → Stream → ℕ → Type 0
-AllRun Runs names out err code = (ran rest : List Text) × (names ≡ ran ++ rest) × HaveRun Runs ran out err code
+AllRun Runs names out err code = (ran rest : List Text) × (names ≡ ran ++ rest) × RunsInOrder Runs ran out err code
     × ((rest ≡ []) ⊎ ((4 ≤ code) ⊎ ((out.failed ≡ true) ⊎ (err.failed ≡ true))))
 
 -- these are the settings, but for the mode
@@ -111,7 +111,7 @@ pub data HasRunOnInputs {O : Type 0} (States : List ℕ → Settings O → Input
       → IsInMode Run settings judges
       → AllRun (IsInputRun (States grammar judges) first) names out_next err_next code
       → out.new ≡ out_next.old → err.new ≡ err_next.old
-      → HasRunOnInputs States settings path names (joined out out_next) (joined err err_next) code
+      → HasRunOnInputs States settings path names (both_calls out out_next) (both_calls err err_next) code
 
 -- What is done where the words name several files: inputs of a run, or else grammars.
 abbrev pub HasRunFiles : {O : Type 0} → (List ℕ → Settings O → Input → List ℕ → Reply → Type 0) → Mode → Settings O

@@ -1,6 +1,7 @@
 //! Runs whose messages are held, and then written with a name before their lines.
 ghost use Rattle.std.specs.Prelude.{◌≡◌, ◌++◌, IfOk, OnOk, Some, [], false, not, true};
-ghost use Rattle.cli.specs.FileRuns.{IsNamedReport, IsTold, lines_named as the_lines, name_before, own_messages};
+ghost use Rattle.cli.specs.FileRuns.{IsNamedReport, IsReportedText, lines_named as the_lines, name_before};
+ghost use Rattle.cli.specs.FileRuns.{own_messages};
 ghost use Rattle.toolrun.specs.Right.{RunIsRight};
 ghost use Rattle.toolrun.specs.Status.{code_of};
 ghost use Rattle.toolrun.specs.Stop.{message_of};
@@ -86,7 +87,7 @@ fn own_of<'a>(first: &[u8], messages: &'a [u8]) -> &'a [u8]
 /// Reports that an allocation failed.
 pub(crate) fn report_no_memory<E: Sink>(err: &mut E) -> Status
     requires err_is_fresh { E.failed err.old ≡ false }
-    ensures told { IsTold (message_of NoMemory) (passed E.contents E.failed err.old err.new) }
+    ensures reported { IsReportedText (message_of NoMemory) (passed E.contents E.failed err.old err.new) }
     ensures status { code_of result ≡ 5 }
 {
     match write_whole(err, b"out of memory\n") {

@@ -11,7 +11,8 @@ returns-then-code-gt0 g c =
     rejected _ c.run_grammar-text.result.text.items c.run_grammar-text.result.messages.items
     (passed g.O.Sink.contents g.O.Sink.failed c.args.out.now c.run_grammar-text.new.out)
     (passed g.E.Sink.contents g.E.Sink.failed c.args.err.now c.run_grammar-text.new.err)
-    (code_of c.run_grammar-text.result.status) (refl, refl, refl, refl, refl) c.run_grammar-text.ensures (inl (rw c.code.ensures at c.if-code-gt0.true))
+    (code_of c.run_grammar-text.result.status) (refl, refl, refl, refl, refl) c.run_grammar-text.ensures
+    (inl (rw c.code.ensures at c.if-code-gt0.true))
 
 pub returns-then-is_over : goal.returns-then-is_over
 returns-then-is_over g c =

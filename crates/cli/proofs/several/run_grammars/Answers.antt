@@ -8,17 +8,20 @@ use Rattle.cli.proofs.FileRunsLemmas.{all_run, first_run, have_more, some_run}
 use Rattle.cli.proofs.several.run_grammars.Goals as goal
 
 pub loop-name-init : goal.loop-name-init
-loop-name-init g c = first_run (IsGrammarRun (λ text. g.P.Program.states text c.args.settings.now)) c.args.first.now _ _ _
+loop-name-init g c =
+    first_run (IsGrammarRun (λ text. g.P.Program.states text c.args.settings.now)) c.args.first.now _ _ _
     (c.run_grammar-most.result.text.items, c.run_grammar-most.result.messages.items, c.run_grammar-most.ensures)
 
 pub returns-then-is_over : goal.returns-then-is_over
 returns-then-is_over g c =
-    some_run (IsGrammarRun (λ text. g.P.Program.states text c.args.settings.now)) (c.args.first.now ∷ []) c.args.names.now c.loop-name.name-index _ _ (code_of c.loop-name.most)
+    some_run (IsGrammarRun (λ text. g.P.Program.states text c.args.settings.now))
+    (c.args.first.now ∷ []) c.args.names.now c.loop-name.name-index _ _ (code_of c.loop-name.most)
     c.loop-name.invariant (c.is_over.ensures.over c.if-is_over.true)
 
 pub loop-name-preserved : goal.loop-name-preserved
 loop-name-preserved g c =
-    have_more (IsGrammarRun (λ text. g.P.Program.states text c.args.settings.now)) (c.args.first.now ∷ []) c.args.names.now c.loop-name.name-index _
+    have_more (IsGrammarRun (λ text. g.P.Program.states text c.args.settings.now))
+    (c.args.first.now ∷ []) c.args.names.now c.loop-name.name-index _
     (passed g.O.Sink.contents g.O.Sink.failed c.args.out.now c.loop-name.out)
     (passed g.O.Sink.contents g.O.Sink.failed c.loop-name.out c.run_grammar-run.new.out)
     (passed g.E.Sink.contents g.E.Sink.failed c.args.err.now c.loop-name.err)
@@ -30,5 +33,6 @@ loop-name-preserved g c =
 
 pub returns : goal.returns
 returns g c =
-    all_run (IsGrammarRun (λ text. g.P.Program.states text c.args.settings.now)) (c.args.first.now ∷ []) c.args.names.now c.loop-name.name-index _ _ (code_of c.loop-name.most)
+    all_run (IsGrammarRun (λ text. g.P.Program.states text c.args.settings.now))
+    (c.args.first.now ∷ []) c.args.names.now c.loop-name.name-index _ _ (code_of c.loop-name.most)
     c.loop-name.invariant (omega (arith, c.loop-name-test.false))

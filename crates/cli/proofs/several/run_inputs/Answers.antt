@@ -12,12 +12,16 @@ loop-name-init g c = none _ _ refl refl
 
 pub returns-then-is_over : goal.returns-then-is_over
 returns-then-is_over g c =
-    some_run (IsInputRun (g.P.Program.states c.args.job.now.text.items c.args.job.now.settings) c.args.job.now.messages.items) [] c.args.names.now c.loop-name.name-index _ _ (code_of c.loop-name.most)
+    some_run (IsInputRun (g.P.Program.states c.args.job.now.text.items c.args.job.now.settings)
+    c.args.job.now.messages.items)
+    [] c.args.names.now c.loop-name.name-index _ _ (code_of c.loop-name.most)
     c.loop-name.invariant (c.is_over.ensures.over c.if-is_over.true)
 
 pub loop-name-preserved : goal.loop-name-preserved
 loop-name-preserved g c =
-    have_more (IsInputRun (g.P.Program.states c.args.job.now.text.items c.args.job.now.settings) c.args.job.now.messages.items) [] c.args.names.now c.loop-name.name-index _
+    have_more (IsInputRun (g.P.Program.states c.args.job.now.text.items c.args.job.now.settings)
+    c.args.job.now.messages.items)
+    [] c.args.names.now c.loop-name.name-index _
     (passed g.O.Sink.contents g.O.Sink.failed c.args.out.now c.loop-name.out)
     (passed g.O.Sink.contents g.O.Sink.failed c.loop-name.out c.run_input-status.new.out)
     (passed g.E.Sink.contents g.E.Sink.failed c.args.err.now c.loop-name.err)
@@ -28,5 +32,7 @@ loop-name-preserved g c =
 
 pub returns : goal.returns
 returns g c =
-    all_run (IsInputRun (g.P.Program.states c.args.job.now.text.items c.args.job.now.settings) c.args.job.now.messages.items) [] c.args.names.now c.loop-name.name-index _ _ (code_of c.loop-name.most)
+    all_run (IsInputRun (g.P.Program.states c.args.job.now.text.items c.args.job.now.settings)
+    c.args.job.now.messages.items)
+    [] c.args.names.now c.loop-name.name-index _ _ (code_of c.loop-name.most)
     c.loop-name.invariant (omega (arith, c.loop-name-test.false))
