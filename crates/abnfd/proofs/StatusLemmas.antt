@@ -5,7 +5,7 @@ use Rattle.std.specs.Prelude.{Some, slice_get}
 use Rattle.abnfcheck.proofs.AbnfNotesLemmas.{sound_unless_refused}
 use Rattle.abnfcheck.specs.AbnfGrammar.{IsSound, IsSoundGrammar}
 use Rattle.abnfd.proofs.UnchangedRulesLemmas.{unchanged_known}
-use Rattle.abnfd.specs.ComparedTexts.{AreKnown}
+use Rattle.abnfd.specs.ComparedTexts.{AreLinesKnown}
 use Rattle.abnfd.specs.ComparisonText.{verdict_between, verdict_status}
 use Rattle.abnfd.specs.RulesByName.{AreBothChecked, AreChecked, EndsAs, has_found, is_rejected}
 use Rattle.abnfd.specs.declared.by_name.BothRules.{BothRules}
@@ -55,7 +55,7 @@ module _ (alphabet : Alphabet) (old new : List ℕ) (both : BothRules) (are : Ar
 
     module _ (on : IsMarked both.old.sound.items id) (new_on : IsMarked both.new.sound.items new_id) where
       pub ends_found : (found : Comparison) (status : Status)
-          → AreKnown alphabet (rules_of both.old.rules) id (rules_of both.new.rules) new_id found
+          → AreLinesKnown alphabet (rules_of both.old.rules) id (rules_of both.new.rules) new_id found
           → status ≡ verdict_status (verdict_between found.old_alone found.new_alone)
           → EndsAs alphabet old new name status
       ends_found found status known same =

@@ -12,7 +12,7 @@ use Rattle.letters.specs.declared.alphabet.Alphabet.{Alphabet}
 use Rattle.rulelines.specs.declared.alone.Alone.TheVariants.{Never}
 use Rattle.rulelines.specs.declared.comparison.Comparison.{Comparison}
 use Rattle.ruletable.specs.Rules as table
-use Rattle.abnfd.specs.ComparedTexts.{AreKnown}
+use Rattle.abnfd.specs.ComparedTexts.{AreLinesKnown}
 use Rattle.abnfd.specs.UnchangedRules.{AreAlike, AreBodiesAlike, ArePaired, ArePairs, IsAlike, Partners}
 use Rattle.abnfd.specs.UnchangedRules as a
 use Rattle.abnfread.specs.AbnfViews.{element_of, elements_of, rule_of}
@@ -44,50 +44,50 @@ module _ (has : ℕ → Bool) (old new : List Rule) (P : List ℕ → List ℕ �
     (bodies_alike : (n m : List ℕ) (e : Element) → P n m → body_of old n ≡ Some e
     → (f : Element) × (body_of new m ≡ Some f) × IsAlike P e f) where
   mutual
-    carries : {e f : Element} {w : List ℕ} → Derives has old e w → IsAlike P e f → Derives has new f w
-    carries (d.text s) a.text_alike = d.text s
-    carries (d.values l) a.values_alike = d.values l
-    carries (d.range l h is) a.range_alike = d.range l h is
-    carries (d.concat all) (a.concat_alike are) = d.concat (carries_all all are)
-    carries (d.alt some) (a.alt_alike are) = d.alt (carries_some some are)
-    carries (d.rep l m times) (a.rep_alike is) = d.rep l m (carries_times times is)
-    carries d.opt_empty (a.opt_alike is) = d.opt_empty
-    carries (d.opt one) (a.opt_alike is) = d.opt (carries one is)
-    carries (d.name {n = n} {e = e} is one) (a.name_alike {m = m} paired) =
+    carries_over : {e f : Element} {w : List ℕ} → Derives has old e w → IsAlike P e f → Derives has new f w
+    carries_over (d.text s) a.text_alike = d.text s
+    carries_over (d.values l) a.values_alike = d.values l
+    carries_over (d.range l h is) a.range_alike = d.range l h is
+    carries_over (d.concat all) (a.concat_alike are) = d.concat (carries_all all are)
+    carries_over (d.alt some) (a.alt_alike are) = d.alt (carries_some some are)
+    carries_over (d.rep l m times) (a.rep_alike is) = d.rep l m (carries_times times is)
+    carries_over d.opt_empty (a.opt_alike is) = d.opt_empty
+    carries_over (d.opt one) (a.opt_alike is) = d.opt (carries_over one is)
+    carries_over (d.name {n = n} {e = e} is one) (a.name_alike {m = m} paired) =
         let other = bodies_alike n m e paired is in
-        d.name other.1 (carries one other.2)
+        d.name other.1 (carries_over one other.2)
 
     carries_all : {es fs : Elements} {w : List ℕ} → DerivesAll has old es w → AreAlike P es fs
         → DerivesAll has new fs w
     carries_all d.all_done a.none_alike = d.all_done
-    carries_all (d.then one rest) (a.more_alike is are) = d.then (carries one is) (carries_all rest are)
+    carries_all (d.then one rest) (a.more_alike is are) = d.then (carries_over one is) (carries_all rest are)
 
     carries_some : {es fs : Elements} {w : List ℕ} → DerivesSome has old es w → AreAlike P es fs
         → DerivesSome has new fs w
-    carries_some (d.this one) (a.more_alike is are) = d.this (carries one is)
+    carries_some (d.this one) (a.more_alike is are) = d.this (carries_over one is)
     carries_some (d.later some) (a.more_alike is are) = d.later (carries_some some are)
 
     carries_times : {e f : Element} {k : ℕ} {w : List ℕ} → DerivesTimes has old e k w → IsAlike P e f
         → DerivesTimes has new f k w
     carries_times d.no_more is = d.no_more
-    carries_times (d.one_more one rest) is = d.one_more (carries one is) (carries_times rest is)
+    carries_times (d.one_more one rest) is = d.one_more (carries_over one is) (carries_times rest is)
 
 -- what is alike is so the other way round
 module _ (P Q : List ℕ → List ℕ → Type 0) (swaps : (n m : List ℕ) → P n m → Q m n) where
   mutual
-    turned : {e f : Element} → IsAlike P e f → IsAlike Q f e
-    turned a.text_alike = a.text_alike
-    turned a.values_alike = a.values_alike
-    turned a.range_alike = a.range_alike
-    turned (a.concat_alike are) = a.concat_alike (all_turned are)
-    turned (a.alt_alike are) = a.alt_alike (all_turned are)
-    turned (a.rep_alike is) = a.rep_alike (turned is)
-    turned (a.opt_alike is) = a.opt_alike (turned is)
-    turned (a.name_alike {n = n} {m = m} paired) = a.name_alike (swaps n m paired)
+    one_turned : {e f : Element} → IsAlike P e f → IsAlike Q f e
+    one_turned a.text_alike = a.text_alike
+    one_turned a.values_alike = a.values_alike
+    one_turned a.range_alike = a.range_alike
+    one_turned (a.concat_alike are) = a.concat_alike (all_turned are)
+    one_turned (a.alt_alike are) = a.alt_alike (all_turned are)
+    one_turned (a.rep_alike is) = a.rep_alike (one_turned is)
+    one_turned (a.opt_alike is) = a.opt_alike (one_turned is)
+    one_turned (a.name_alike {n = n} {m = m} paired) = a.name_alike (swaps n m paired)
 
     all_turned : {es fs : Elements} → AreAlike P es fs → AreAlike Q fs es
     all_turned a.none_alike = a.none_alike
-    all_turned (a.more_alike is are) = a.more_alike (turned is) (all_turned are)
+    all_turned (a.more_alike is are) = a.more_alike (one_turned is) (all_turned are)
 
 module _ (has : ℕ → Bool) (old new : List Rule) (partners : Partners) (are : ArePairs old new partners) where
   -- the same pairs, the new name first
@@ -108,7 +108,7 @@ module _ (has : ℕ → Bool) (old new : List Rule) (partners : Partners) (are :
       let same : at.other_body ≡ f = cc (at.other_is, is, body_at_id new m) in (
         at.body,
         body_at_id old n ∙ at.is,
-        rw same at (turned (ArePaired old new partners) Turned (λ n m p. p) at.alike),
+        rw same at (one_turned (ArePaired old new partners) Turned (λ n m p. p) at.alike),
       )
 
   pub new_derives : (id other : ℕ) (w : List ℕ) → slice_get partners id ≡ Some (Some other)
@@ -119,7 +119,7 @@ module _ (has : ℕ → Bool) (old new : List Rule) (partners : Partners) (are :
       record {
         body = at.other_body;
         is = at.other_is;
-        derives = carries has old new (ArePaired old new partners) alike_at (rw same at derives.derives) at.alike;
+        derives = carries_over has old new (ArePaired old new partners) alike_at (rw same at derives.derives) at.alike;
       }
 
   pub old_derives : (id other : ℕ) (w : List ℕ) → slice_get partners id ≡ Some (Some other)
@@ -130,14 +130,14 @@ module _ (has : ℕ → Bool) (old new : List Rule) (partners : Partners) (are :
       record {
         body = at.body;
         is = at.is;
-        derives = carries has new old Turned alike_back (rw same at derives.derives)
-            (turned (ArePaired old new partners) Turned (λ n m p. p) at.alike);
+        derives = carries_over has new old Turned alike_back (rw same at derives.derives)
+            (one_turned (ArePaired old new partners) Turned (λ n m p. p) at.alike);
       }
 
 -- no line is derived by one of them alone
 pub unchanged_known : (alphabet : Alphabet) (old new : List Rule) (partners : Partners) → ArePairs old new partners
     → (id other : ℕ) (found : Comparison) → slice_get partners id ≡ Some (Some other) → found.old_alone ≡ Never
-    → found.new_alone ≡ Never → AreKnown alphabet old id new other found
+    → found.new_alone ≡ Never → AreLinesKnown alphabet old id new other found
 unchanged_known alphabet old new partners are id other found paired first second = record {
   old_alone = rw first (λ w alone. alone.not_new
       (new_derives (symbols alphabet) old new partners are id other w paired alone.derives));

@@ -14,14 +14,14 @@ use Rattle.toolrun.specs.declared.status.Status.{Status}
 use Rattle.toolrun.specs.declared.status.Status.TheVariants.{Refused}
 
 -- what is found is known of the lines that each of two rules alone derives
-pub record AreKnown (alphabet : Alphabet) (old : List Rule) (old_rule : ℕ) (new : List Rule) (new_rule : ℕ)
+pub record AreLinesKnown (alphabet : Alphabet) (old : List Rule) (old_rule : ℕ) (new : List Rule) (new_rule : ℕ)
     (found : Comparison) : Type 0 where
   pub old_alone : IsKnownOf (IsOfOldAlone (has alphabet) old old_rule new new_rule) found.old_alone
   pub new_alone : IsKnownOf (IsOfOldAlone (has alphabet) new new_rule old old_rule) found.new_alone
 
 -- what is found is known of the lines that the compared rule of each grammar alone derives
 abbrev pub IsComparison : Alphabet → Grammar → Grammar → Comparison → Type 0
-IsComparison alphabet old new found = AreKnown alphabet (rules_of old.rules) old.judged (rules_of new.rules) new.judged
+IsComparison alphabet old new found = AreLinesKnown alphabet (rules_of old.rules) old.judged (rules_of new.rules) new.judged
     found
 
 -- What is written on the output for two grammars, and the status: what is found of both, or nothing where one of them

@@ -5,7 +5,7 @@ use Rattle.std.specs.List.{filter, flat_map, list_any}
 use Rattle.abnfcheck.specs.AbnfGrammar.{Grammar, IsSound}
 use Rattle.abnfcheck.specs.AbnfUses.{rule_names}
 use Rattle.abnfd.specs.ComparedSides.{IsSideOf}
-use Rattle.abnfd.specs.ComparedTexts.{AreCompared, AreKnown}
+use Rattle.abnfd.specs.ComparedTexts.{AreCompared, AreLinesKnown}
 use Rattle.abnfd.specs.ComparisonText.{verdict_between, verdict_status}
 use Rattle.abnfd.specs.UnchangedRules.{ArePairs}
 use Rattle.abnfd.specs.declared.by_name.BothRules.{BothRules}
@@ -118,7 +118,7 @@ module _ (alphabet : Alphabet) (old new : List ℕ) where
     has_found : {old_definitions new_definitions : List Definition} (found : Comparison) → Reads old old_definitions
         → Reads new new_definitions → (IsRefusedFor old_definitions (Some rule) → ⊥)
         → (IsRefusedFor new_definitions (Some rule) → ⊥)
-        → AreKnown alphabet (all_rules old_definitions) (judged_of old_definitions (Some rule))
+        → AreLinesKnown alphabet (all_rules old_definitions) (judged_of old_definitions (Some rule))
         (all_rules new_definitions) (judged_of new_definitions (Some rule)) found
         → EndsAs rule (verdict_status (verdict_between found.old_alone found.new_alone))
     is_rejected : {old_definitions new_definitions : List Definition} → Reads old old_definitions

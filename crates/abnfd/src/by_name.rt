@@ -3,7 +3,7 @@ ghost use Rattle.std.specs.Prelude.{◌≡◌, ◌↔◌, ℕ, ◌<◌, Bool, Li
 ghost use Rattle.std.specs.Prelude.{Contains, None, max, option_copied, slice_index_or};
 ghost use Rattle.abnfcheck.specs.AbnfGrammar.{IsSoundGrammar};
 ghost use Rattle.abnfd.specs.ComparedSides.{IsReadText};
-ghost use Rattle.abnfd.specs.ComparedTexts.{AreKnown};
+ghost use Rattle.abnfd.specs.ComparedTexts.{AreLinesKnown};
 ghost use Rattle.abnfd.specs.ComparisonText.{verdict_between, verdict_status};
 ghost use Rattle.abnfd.specs.RulesByName.{AreAccepted, AreBothChecked, AreChecked, AreComparedByName, EndsAs};
 ghost use Rattle.abnfd.specs.RulesByName.{HasChecked, HasRows, IsAnswerByName, IsAskedReport, IsTextRules};
@@ -166,7 +166,7 @@ fn searched_status(
 ) -> Result<Status, Memory>
     requires old { IsSoundGrammar (record { rules = both.now.old.rules; judged = id }) }
     requires new { IsSoundGrammar (record { rules = both.now.new.rules; judged = new_id }) }
-    ensures { IfOk result (λ status. (found : Comparison) × AreKnown settings.now.letters (rules_of both.now.old.rules)
+    ensures { IfOk result (λ status. (found : Comparison) × AreLinesKnown settings.now.letters (rules_of both.now.old.rules)
         id (rules_of both.now.new.rules) new_id found
         × (status ≡ verdict_status (verdict_between found.old_alone found.new_alone))) }
 {
