@@ -21,7 +21,8 @@ pub record AreLinesKnown (alphabet : Alphabet) (old : List Rule) (old_rule : ℕ
 
 -- what is found is known of the lines that the compared rule of each grammar alone derives
 abbrev pub IsComparison : Alphabet → Grammar → Grammar → Comparison → Type 0
-IsComparison alphabet old new found = AreLinesKnown alphabet (rules_of old.rules) old.judged (rules_of new.rules) new.judged
+IsComparison alphabet old new found = AreLinesKnown alphabet (rules_of old.rules) old.judged (rules_of new.rules)
+    new.judged
     found
 
 -- What is written on the output for two grammars, and the status: what is found of both, or nothing where one of them

@@ -166,7 +166,8 @@ fn searched_status(
 ) -> Result<Status, Memory>
     requires old { IsSoundGrammar (record { rules = both.now.old.rules; judged = id }) }
     requires new { IsSoundGrammar (record { rules = both.now.new.rules; judged = new_id }) }
-    ensures { IfOk result (λ status. (found : Comparison) × AreLinesKnown settings.now.letters (rules_of both.now.old.rules)
+    ensures { IfOk result (λ status. (found : Comparison)
+        × AreLinesKnown settings.now.letters (rules_of both.now.old.rules)
         id (rules_of both.now.new.rules) new_id found
         × (status ≡ verdict_status (verdict_between found.old_alone found.new_alone))) }
 {
