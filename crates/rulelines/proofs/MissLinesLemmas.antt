@@ -1,0 +1,169 @@
+-- Lines that a rule does not derive, by its first prefixes.
+-- Serves: next, abnfg_main
+use Rattle.std.proofs.Common.{◌≡◌, ◌⊎◌, inl, inr, ℕ, zero, suc, ◌+◌, ◌<◌, ◌≤◌, List, [], ◌∷◌, ◌++◌, length, refl, sym}
+use Rattle.std.proofs.Common.{◌∙◌, ap, subst, arith, append_assoc, append-nil, length-append, take, Vec, Global, get_or}
+use Rattle.std.proofs.lemmas.Grind.{flat_map-append}
+use Rattle.std.proofs.lemmas.List.Elements.{All-append, All-cons, All-head, All-nil, All-tail}
+use Rattle.std.proofs.lemmas.List.{map-append, reverse-append}
+use Rattle.std.specs.List.{All, flat_map}
+use Rattle.std.specs.Prelude.{Bool, true, false, Option, None, Some, Contains, map, reverse}
+use Rattle.abnfread.specs.Element.{Rule}
+use Rattle.abnfcheck.specs.Derivable.{RuleDerives}
+use Rattle.abnfcheck.specs.Prefixes.{BeginsMember, IsFurthest}
+use Rattle.letters.specs.Letters.{has as has_letter}
+use Rattle.letters.specs.declared.alphabet.Alphabet.{Alphabet}
+use Rattle.rulelines.specs.declared.miss.prefixes.StatePrefix.{StatePrefix}
+use Rattle.rulelines.specs.LineSets.{is_line_symbol}
+use Rattle.rulelines.specs.Misses.{AreAllPrefixes, AreFirstPrefixes, CannotFollow, IsFirstWrong, IsMiss, IsStatePrefix, IsViable}
+use Rattle.rulelines.specs.Misses.{lines_of, refused_lines, wrong_lines}
+use Rattle.rulelines.specs.MissLists.{AreAllMisses, AreFirstMisses, AreToldLines, MissList, waiting}
+use Rattle.rulelines.specs.MissSearch.{AreTold}
+use Rattle.rulelines.proofs.SearchLemmas.{or_left}
+use Rattle.rulelines.proofs.ViableLemmas.{derived_viable, letters_join, take_front}
+
+-- lines that were put last first
+pub waiting_more : (lines : List (Vec ℕ Global)) (line : Vec ℕ Global)
+    → waiting (lines ++ line ∷ []) ≡ line.items ∷ waiting lines
+waiting_more lines line =
+    ap (λ v. reverse v) (map-append (λ l. l.items) lines (line ∷ []))
+    ∙ reverse-append (map (λ l. l.items) lines) (line.items ∷ [])
+
+module _ (alphabet : Alphabet) (terminator limit : ℕ) (rules : List Rule) (id : ℕ) where
+  abbrev Miss : List ℕ → Type 0
+  Miss = IsMiss alphabet terminator limit rules id
+
+  module _ (p : StatePrefix) (is : IsStatePrefix alphabet terminator limit rules id p) where
+    abbrev Here : List ℕ
+    Here = p.prefix.items
+
+    refused_is : p.is_refused ≡ true → Miss Here
+    refused_is so = record {
+      symbols = is.symbols;
+      within = is.within;
+      refused = is.refused so;
+      after = length Here;
+      furthest = record {
+        within = omega arith;
+        begins = is.viable;
+        last = λ m lt le b. omega (arith, lt, le);
+      };
+      near = inl refl;
+    }
+
+    viable_there : (c : ℕ) → IsViable alphabet terminator limit rules id Here
+        → BeginsMember (has_letter alphabet) rules id (Here ++ c ∷ []) (length Here)
+    viable_there c b = record {
+      rest = b.rest;
+      letters = b.letters;
+      derives = subst (λ v. RuleDerives (has_letter alphabet) rules id (v ++ b.rest))
+          (ap (λ v. take (length Here) v) (sym (append-nil Here))
+          ∙ (take_front Here [] ∙ sym (take_front Here (c ∷ [])))) b.derives;
+    }
+
+    wrong_is : (c : ℕ) → IsFirstWrong alphabet terminator limit rules id Here (Some c) → Miss (Here ++ c ∷ [])
+    wrong_is c w = record {
+      symbols = letters_join (is_line_symbol alphabet terminator) Here (c ∷ []) is.symbols (w.0.symbol, tt);
+      within = (let room = w.0.room in omega (arith, room, long));
+      refused = λ d. w.0.not_viable (derived_viable alphabet rules id (Here ++ c ∷ []) d);
+      after = length Here;
+      furthest = record {
+        within = omega (arith, long);
+        begins = λ some. viable_there c (is.viable some);
+        last = λ m lt le b. w.0.not_viable
+            (subst (λ v. BeginsMember (has_letter alphabet) rules id (Here ++ c ∷ []) v) (omega (arith, lt, le, long)) b);
+      };
+      near = inr (Here, c, refl, refl, w.1);
+    }
+      where
+        long : length (Here ++ c ∷ []) ≡ length Here + 1
+        long = length-append Here (c ∷ [])
+
+    by_refused : (b : Bool) → (b ≡ true → Miss Here) → All Miss (refused_lines b Here)
+    by_refused true miss = All-cons Miss Here [] (miss refl) (All-nil Miss)
+    by_refused false miss = All-nil Miss
+
+    by_wrong : (wrong : Option ℕ) → IsFirstWrong alphabet terminator limit rules id Here wrong
+        → All Miss (wrong_lines Here wrong)
+    by_wrong None w = All-nil Miss
+    by_wrong (Some c) w = All-cons Miss (Here ++ c ∷ []) [] (wrong_is c w) (All-nil Miss)
+
+    lines_right : All Miss (lines_of p)
+    lines_right = All-append Miss (refused_lines p.is_refused Here) (wrong_lines Here p.wrong)
+        (by_refused p.is_refused refused_is) (by_wrong p.wrong is.wrong)
+
+  all_right : (ps : List StatePrefix) → All (IsStatePrefix alphabet terminator limit rules id) ps
+      → All Miss (flat_map lines_of ps)
+  all_right [] all = All-nil Miss
+  all_right (p ∷ ps) all = All-append Miss (lines_of p) (flat_map lines_of ps)
+      (lines_right p (All-head (IsStatePrefix alphabet terminator limit rules id) p ps all))
+      (all_right ps (All-tail (IsStatePrefix alphabet terminator limit rules id) p ps all))
+
+  all_left : (ws rest : List (List ℕ)) → All Miss (ws ++ rest) → All Miss ws
+  all_left ws rest all k d lt = subst Miss (or_left ws rest k d lt)
+      (all k d (let l = length-append ws rest in omega (arith, lt, l)))
+
+  pub first_misses : (ps : List StatePrefix) → AreFirstPrefixes alphabet terminator limit rules id ps
+      → (ws rest : List (List ℕ)) → flat_map lines_of ps ≡ ws ++ rest
+      → AreFirstMisses alphabet terminator limit rules id ws
+  first_misses ps first ws rest are = record {
+    prefixes = ps;
+    first = first;
+    rest = rest;
+    are = are;
+    right = all_left ws rest (subst (All Miss) are (all_right ps first.are));
+  }
+
+-- what lines are told
+module _ (rules : List Rule) (id : ℕ) (list : MissList) (ws : List (List ℕ)) (t : AreToldLines rules id list ws) where
+  pub told_first : AreFirstMisses list.prefixes.set.alphabet list.prefixes.set.terminator list.prefixes.set.limit rules
+      id ws
+  told_first = first_misses list.prefixes.set.alphabet list.prefixes.set.terminator list.prefixes.set.limit rules id
+      t.prefixes t.told.told.first ws list.waiting t.are
+
+  none_waiting : list.waiting ≡ [] → flat_map lines_of t.prefixes ≡ ws
+  none_waiting none = t.are ∙ (ap (λ v. ws ++ v) none ∙ append-nil ws)
+
+  -- all prefixes are told
+  pub all_told : list.waiting ≡ [] → AreAllPrefixes list.prefixes.set.alphabet list.prefixes.set.terminator
+      list.prefixes.set.limit rules id t.prefixes
+      → AreAllMisses list.prefixes.set.alphabet list.prefixes.set.terminator list.prefixes.set.limit rules id ws
+  all_told none all = record {
+    prefixes = t.prefixes;
+    first = t.told.told.first;
+    all = all;
+    are = none_waiting none;
+  }
+
+  -- the lines of one more wait
+  pub refilled : (new : MissList) (p : StatePrefix) → list.waiting ≡ []
+      → AreTold rules id new.prefixes (t.prefixes ++ p ∷ []) → new.waiting ≡ lines_of p → AreToldLines rules id new ws
+  refilled new p none told waits = record {
+    prefixes = t.prefixes ++ p ∷ [];
+    told = told;
+    are = flat_map-append lines_of t.prefixes (p ∷ [])
+        ∙ (ap (λ v. v ++ (lines_of p ++ [])) (none_waiting none)
+        ∙ ap (λ v. ws ++ v) (append-nil (lines_of p) ∙ sym waits));
+  }
+
+  -- one of them is told
+  pub one_told : (new : MissList) (w : List ℕ) → new.prefixes ≡ list.prefixes → list.waiting ≡ w ∷ new.waiting
+      → AreToldLines rules id new (ws ++ w ∷ [])
+  one_told new w same waits = record {
+    prefixes = t.prefixes;
+    told = subst (λ v. AreTold rules id v t.prefixes) (sym same) t.told;
+    are = t.are ∙ (ap (λ v. ws ++ v) waits ∙ sym (append_assoc ws (w ∷ []) new.waiting));
+  }
+
+-- none is told yet
+pub no_lines_told : (rules : List Rule) (id : ℕ) (list : MissList) → AreTold rules id list.prefixes []
+    → list.waiting ≡ [] → AreToldLines rules id list []
+no_lines_told rules id list told none = record { prefixes = []; told = told; are = sym none }
+
+-- .. and no prefix
+pub no_prefixes : (alphabet : Alphabet) (terminator limit : ℕ) (rules : List Rule) (id : ℕ)
+    → AreFirstPrefixes alphabet terminator limit rules id []
+no_prefixes alphabet terminator limit rules id = record {
+  are = λ k d lt. absurd (omega (arith, lt));
+  rise = λ i j d lt less. absurd (omega (arith, less));
+  rest = λ v line. inr (λ k d lt. absurd (omega (arith, lt)));
+}
