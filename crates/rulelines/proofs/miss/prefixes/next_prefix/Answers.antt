@@ -1,4 +1,4 @@
-use Rattle.std.proofs.Common.{◌+◌, length, arith, refl, subst}
+use Rattle.std.proofs.Common.{◌≡◌, ◌+◌, length, arith, refl, subst}
 use Rattle.std.specs.Prelude.{IfSome}
 use Rattle.lazydfa.specs.StateSets.{StateSets}
 use Rattle.rulelines.specs.FoundPairs.{IsWordOf}
@@ -45,11 +45,12 @@ returns-clause-step c = λ flat inner rules id begun gives ps told.
       pairs = c.expand.new.search.pairs.items.items;
       at = c.in-Some.at + 1;
     } in
+    let count : c.len-2.result ≡ length c.in-Some-2.prefix.items =
+    (let l = c.len-2.ensures in let o = c.in-Some-2.prefix.ok.0 in omega (arith, l, o)) in
     one_more_told inner flat c.args.samples.now (found_of c.args.search.now) (found_of c.expand.new.search) new begun
     c.in-Some.at c.in-Some.ensures c.in-Some-3.wrong x.0 x.1 x.2 refl refl refl c.args.limit rules id gives
     c.in-Some-2.prefix.items
     (subst (λ v. IsWordIn v c.in-Some.at c.in-Some-2.prefix.items) c.deref.ensures.value word)
     (let short = c.if-len-limit.false in let l = c.len.ensures in let o = c.in-Some-2.prefix.ok.0 in
     omega (arith, short, l, o)) _ refl c.is_refused.ensures
-    (subst (λ v. IsWithin c.args.limit v c.in-Some-3.wrong c.within-wrong.result)
-    (let l = c.len-2.ensures in let o = c.in-Some-2.prefix.ok.0 in omega (arith, l, o)) c.within-wrong.ensures) ps told
+    (subst (λ v. IsWithin c.args.limit v c.in-Some-3.wrong c.within-wrong.result) count c.within-wrong.ensures) ps told

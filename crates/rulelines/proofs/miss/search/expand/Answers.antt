@@ -1,4 +1,4 @@
-use Rattle.std.proofs.Common.{◌+◌, subst}
+use Rattle.std.proofs.Common.{get_or, subst}
 use Rattle.std.specs.Prelude.{IfSome}
 use Rattle.std.proofs.lemmas.Option.{slice_get-get_or}
 use Rattle.rulelines.specs.MissSearch.{found_of, IsLed}
@@ -10,11 +10,12 @@ loop-symbol-init c = none_expanded c.args.samples.now (found_of c.args.search.no
 
 pub loop-symbol-preserved : goal.loop-symbol-preserved
 loop-symbol-preserved c =
+    let symbol = get_or c.args.samples.now c.loop-symbol.symbol-index 0 in
     one_expanded c.args.samples.now (found_of c.args.search.now) (found_of c.loop-symbol.search)
-    (found_of c.lead.new.search) c.args.at c.loop-symbol.symbol-index _ c.loop-symbol.wrong _ c.in-Some.is_live
-    (slice_get-get_or c.args.samples.now c.loop-symbol.symbol-index 0 c.loop-symbol-test.true)
-    c.loop-symbol.invariant
-    (subst (λ v. IfSome v (IsLed (found_of c.loop-symbol.search) (found_of c.lead.new.search) c.args.at _))
+    (found_of c.lead.new.search) c.args.at c.loop-symbol.symbol-index symbol c.loop-symbol.wrong
+    c.keep_wrong-wrong.result c.in-Some.is_live
+    (slice_get-get_or c.args.samples.now c.loop-symbol.symbol-index 0 c.loop-symbol-test.true) c.loop-symbol.invariant
+    (subst (λ v. IfSome v (IsLed (found_of c.loop-symbol.search) (found_of c.lead.new.search) c.args.at symbol))
     c.in-Some.is c.in_ok-is_live.ensures) c.keep_wrong-wrong.ensures
 
 pub returns : goal.returns
