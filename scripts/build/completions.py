@@ -36,7 +36,8 @@ class Option:
 @dataclasses.dataclass(frozen=True)
 class Program:
     """A program: its options, what stands after a rule's name where the grammar is printed, what the help says of its
-    file, the program that prints grammars, and its operands. A program without that sign takes any number of texts."""
+    file, the program that prints grammars, and its operands. A program without that sign takes any number of texts, and
+    others any number of inputs."""
 
     name: str
     options: tuple
@@ -297,7 +298,8 @@ def for_zsh(program):
     return filled(ZSH if program.sign else ZSH_TEXTS, NAME=program.name, SIGN=program.sign,
                   VALUED="|".join(program.valued()), OPTIONS="\n".join(map(spec, program.options)),
                   PROGRAM=program.printing("words[1]"),
-                  FILES=" ".join(f"'{n}:{it}:_files'" for n, it in enumerate(program.operands, 1)))
+                  FILES=" ".join(f"'{'*' if it == 'input' else n}:{it}:_files'"
+                                 for n, it in enumerate(program.operands, 1)))
 
 
 def for_fish(program):

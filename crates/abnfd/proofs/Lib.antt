@@ -1,4 +1,8 @@
 mod OpenedSideLemmas
+pub mod CheckedTextLemmas
 pub mod CompareAnswersLemmas
 pub mod CompareWordsLemmas
+pub mod CopiedRulesLemmas
 pub mod RulesByNameLemmas
+pub mod StatusLemmas
+pub mod UnchangedRulesLemmas

@@ -7,11 +7,15 @@ use Rattle.std.proofs.lemmas.Grind.{flat_map-append}
 use Rattle.std.proofs.lemmas.List.{map-append}
 use Rattle.std.proofs.lemmas.List.Elements.{All-append, All-cons, All-nil, filter-append}
 use Rattle.std.proofs.lemmas.Option.{get_or_from_slice_get, slice_get_within}
-use Rattle.std.specs.Prelude.{Some, codes, max, slice_get}
-use Rattle.std.specs.List.{filter}
-use Rattle.std.specs.Str.Lossy.{utf8_lossy}
-use Rattle.abnfd.specs.RulesByName.{EndsAs, HasRows, RuleRow, greatest_code, names_text, row_text}
+use Rattle.std.specs.Prelude.{Some, codes, is_some, max, slice_get}
+use Rattle.std.specs.List.{filter, list_any}
+use Rattle.abnfcheck.proofs.JoinLemmas.{position_found}
+use Rattle.abnfd.specs.RulesByName.{EndsAs, HasRows, RuleRow, greatest_code, is_named, names_text, row_text}
 use Rattle.letters.specs.declared.alphabet.Alphabet.{Alphabet}
+use Rattle.rulenames.proofs.IsAddedLemmas.{found_in}
+use Rattle.ruletable.specs.Rules.{Rules, find_in, names_of, same_name}
+use Rattle.ruletable.specs.declared.table.NameCase.{NameCase}
+use Rattle.ruletable.specs.declared.table.NameCase.TheVariants.{Fold}
 use Rattle.toolrun.specs.Status.{code_of}
 use Rattle.toolrun.specs.declared.status.Status.{Status}
 use Rattle.toolrun.specs.declared.status.Status.TheVariants.{Done}
@@ -39,6 +43,12 @@ text_more mark p names i name base text line at is written =
     (sym (flat_map-append (λ (n : List ℕ). mark ++ (n ++ codes "\n")) before next)
     ∙ ap (names_text mark) (sym (next_passes p names i name at)))))
 
+-- a table finds the names that it has
+pub named_found : (t : Rules (Unit {0})) (name : List ℕ) → t.names ≡ Fold
+    → is_some (find_in t name) ≡ is_named (names_of t) name
+named_found t name folds = ap is_some (found_in t name) ∙ (position_found (same_name t.names name) (names_of t)
+    ∙ ap (λ (case : NameCase). list_any (same_name case name) (names_of t)) folds)
+
 greatest_both : (rows more : List RuleRow) → greatest_code (rows ++ more)
     ≡ max (greatest_code rows) (greatest_code more)
 greatest_both [] more = omega arith
@@ -55,9 +65,9 @@ module _ (alphabet : Alphabet) (old new : List ℕ) where
 
   -- what holds of a row
   abbrev Ends : RuleRow → Type 0
-  Ends row = EndsAs alphabet old new (utf8_lossy row.name) row.status
+  Ends row = EndsAs alphabet old new row.name row.status
 
-  pub one_row : (name : List ℕ) (status : Status) → EndsAs alphabet old new (utf8_lossy name) status
+  pub one_row : (name : List ℕ) (status : Status) → EndsAs alphabet old new name status
       → HasRows alphabet old new (name ∷ []) (row_text name status) status
   one_row name status ends =
       let row : RuleRow = record { name = name; status = status } in

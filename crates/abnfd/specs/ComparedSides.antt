@@ -3,9 +3,11 @@ use Rattle.std.specs.Prelude.{◌≡◌, ◌≢◌, ℕ, List, ◌++◌, Option,
 use Rattle.std.specs.List.{flat_map}
 use Rattle.abnfcheck.specs.AbnfGrammar.{Grammar}
 use Rattle.abnfread.specs.AbnfReading.{IsFaultOf, Reads}
+use Rattle.abnfread.specs.AbnfTable.{IsCoreTable, IsTableOf}
 use Rattle.abnfread.specs.AbnfViews.{rules_of}
 use Rattle.abnfread.specs.Element.{Definition}
 use Rattle.abnfread.specs.declared.elem.Elem.{Elem}
+use Rattle.abnfread.specs.declared.table.Abnf.{Abnf}
 use Rattle.abnfrun.specs.AbnfNoted.{all_rules, judged_of, AreNotesOn, IsRefusedFor}
 use Rattle.ruletable.specs.Faults.{fault_text}
 use Rattle.ruletable.specs.Notes.{Said, note_text}
@@ -33,3 +35,8 @@ pub data IsSideOf (side text : List ℕ) (rule : Option (List ℕ)) : List ℕ �
       → IsSideOf side text rule (side_notes side notes) grammar
   has_fault : {fault : ReadFault} → IsFaultOf text fault → fault ≢ Memory
       → IsSideOf side text rule (side ++ fault_text fault) None
+
+-- the text reads as these rules, and those are the core rules
+abbrev pub IsReadText : List ℕ → Abnf → Type 0
+IsReadText text abnf = ((definitions : List Definition) × Reads text definitions
+    × IsTableOf definitions abnf.rules abnf.redefined.items abnf.extended.items) × IsCoreTable abnf.core

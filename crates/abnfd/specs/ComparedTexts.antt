@@ -4,6 +4,7 @@ use Rattle.abnfcheck.specs.AbnfGrammar.{Grammar}
 use Rattle.abnfd.specs.ComparedSides.{IsSideOf}
 use Rattle.abnfd.specs.ComparisonText.{comparison_text, verdict_between, verdict_status}
 use Rattle.abnfread.specs.AbnfViews.{rules_of}
+use Rattle.abnfread.specs.Element.{Rule}
 use Rattle.letters.specs.Letters.{has}
 use Rattle.letters.specs.declared.alphabet.Alphabet.{Alphabet}
 use Rattle.rulelines.specs.Alone.{IsKnownOf}
@@ -12,12 +13,17 @@ use Rattle.rulelines.specs.declared.comparison.Comparison.{Comparison}
 use Rattle.toolrun.specs.declared.status.Status.{Status}
 use Rattle.toolrun.specs.declared.status.Status.TheVariants.{Refused}
 
+-- what is found is known of the lines that each of two rules alone derives
+pub record AreLinesKnown (alphabet : Alphabet) (old : List Rule) (old_rule : ℕ) (new : List Rule) (new_rule : ℕ)
+    (found : Comparison) : Type 0 where
+  pub old_alone : IsKnownOf (IsOfOldAlone (has alphabet) old old_rule new new_rule) found.old_alone
+  pub new_alone : IsKnownOf (IsOfOldAlone (has alphabet) new new_rule old old_rule) found.new_alone
+
 -- what is found is known of the lines that the compared rule of each grammar alone derives
-pub record IsComparison (alphabet : Alphabet) (old new : Grammar) (found : Comparison) : Type 0 where
-  pub old_alone : IsKnownOf (IsOfOldAlone (has alphabet) (rules_of old.rules) old.judged (rules_of new.rules)
-      new.judged) found.old_alone
-  pub new_alone : IsKnownOf (IsOfOldAlone (has alphabet) (rules_of new.rules) new.judged (rules_of old.rules)
-      old.judged) found.new_alone
+abbrev pub IsComparison : Alphabet → Grammar → Grammar → Comparison → Type 0
+IsComparison alphabet old new found = AreLinesKnown alphabet (rules_of old.rules) old.judged (rules_of new.rules)
+    new.judged
+    found
 
 -- What is written on the output for two grammars, and the status: what is found of both, or nothing where one of them
 -- is rejected.

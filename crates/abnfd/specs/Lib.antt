@@ -5,3 +5,4 @@ pub mod ComparedTexts
 pub mod ComparisonText
 pub mod QuotedLines
 pub mod RulesByName
+pub mod UnchangedRules

@@ -1,12 +1,13 @@
 //! The comparison of two grammars' texts, and the report on it.
-ghost use Rattle.std.specs.Prelude.{◌≡◌, ◌++◌, [], IfOk, Some, option_copied};
-ghost use Rattle.abnfd.specs.ComparedTexts.{AreCompared, IsVerdictOn, IsReportOn};
+ghost use Rattle.std.specs.Prelude.{◌≡◌, ◌++◌, [], Bool, IfOk, Some, option_copied, slice_get};
+ghost use Rattle.abnfd.specs.ComparedTexts.{AreCompared, IsComparison, IsReportOn, IsVerdictOn};
 
+use crate::alike::unchanged_pairs;
 use crate::answer::{comparison_status, comparison_text};
 use crate::side::{Side, open_side};
 use abnfcheck::SoundAbnf;
 use letters::Alphabet;
-use rulelines::compare;
+use rulelines::{Alone, Comparison, compare};
 use ruletable::Memory;
 use std::alloc::Global;
 use toolrun::Status;
@@ -44,6 +45,44 @@ pub(crate) struct Report {
     pub(crate) answer: ComparisonAnswer,
 }
 
+/// Returns whether an old rule is paired with that new one.
+pub(crate) fn is_partner(partners: &[Option<usize>], id: usize, other: usize) -> bool
+    ensures { result ≡ Bool.true → slice_get partners.now id ≡ Some (Some other) }
+{
+    match partners.get(id) {
+        Some(Some(partner)) => *partner == other,
+        _ => false,
+    }
+}
+
+// Returns what is found of two rules that are alike: they derive the same lines.
+fn nothing_alone() -> Comparison
+    ensures old { result.old_alone ≡ Alone.Never }
+    ensures new { result.new_alone ≡ Alone.Never }
+{
+    Comparison {
+        old_alone: Alone::Never,
+        new_alone: Alone::Never,
+    }
+}
+
+// Returns what is found of the judged rules of two grammars. There is no search if they are unchanged. `Memory` if an
+// allocation fails.
+fn found_between(
+    alloc: Global,
+    settings: &CompareSettings<'_>,
+    old: &SoundAbnf,
+    new: &SoundAbnf,
+) -> Result<Comparison, Memory>
+    ensures { IfOk result (IsComparison settings.now.letters old.now new.now) }
+{
+    let partners = unchanged_pairs(alloc, old.rules(), new.rules())?;
+    if is_partner(&partners, old.judged(), new.judged()) {
+        return Ok(nothing_alone());
+    }
+    compare(alloc, settings.letters, old, new, settings.budget)
+}
+
 // Compares two grammars. `Memory` if an allocation fails.
 fn compared(
     alloc: Global,
@@ -53,7 +92,7 @@ fn compared(
 ) -> Result<ComparisonAnswer, Memory>
     ensures { IfOk result (λ a. IsVerdictOn settings.now.letters (Some old.now) (Some new.now) a.text.items a.status) }
 {
-    let found = compare(alloc, settings.letters, old, new, settings.budget)?;
+    let found = found_between(alloc, settings, old, new)?;
     let text = comparison_text(alloc, settings.letters, &found)?;
     Ok(ComparisonAnswer {
         text,

@@ -1,10 +1,12 @@
 //! Compares the lines that rules of two grammars in ABNF derive.
 #![tactic(auto)]
 
+mod alike;
 mod answer;
 mod by_name;
 mod command;
 mod compared;
+mod copies;
 mod files;
 mod quoted;
 mod run;

@@ -1,15 +1,14 @@
 //! The grammars that are compared, each with the messages on it.
-ghost use Rattle.std.specs.Prelude.{◌≡◌, ◌++◌, IfOk, IfSome, None, OnOk, map, option_copied};
+ghost use Rattle.std.specs.Prelude.{◌≡◌, ◌++◌, ℕ, List, IfOk, IfSome, None, OnOk, map, option_copied};
 ghost use Rattle.abnfcheck.specs.AbnfGrammar.{IsSoundGrammar};
-ghost use Rattle.abnfd.specs.ComparedSides.{IsMadeOf, IsSideOf, side_notes as the_notes};
+ghost use Rattle.abnfd.specs.ComparedSides.{IsMadeOf, IsReadText, IsSideOf, side_notes as the_notes};
 ghost use Rattle.ruletable.specs.Faults.{fault_text};
 ghost use Rattle.ruletable.specs.Notes.{note_text, said_of};
 
-use abnfcheck::{AllRules, SoundAbnf};
-use abnfrun::{AbnfLanguage, AbnfOptions, Alphabet, DEFAULT_LIMIT, Mode, Printed, Settings};
+use abnfcheck::{AllRules, JudgedAbnf, SoundAbnf, judge_abnf};
+use abnfread::{Abnf, read_abnf};
 use ruletable::{Memory, Note, ReadFault, SinkOf, write_fault, write_note};
 use std::alloc::Global;
-use toolrun::{Opened, open};
 
 /// A grammar that is compared, and the messages on it.
 #[derive(Drop)]
@@ -52,8 +51,8 @@ fn push_note(alloc: Global, side: &[u8], note: &Note, out: &mut Vec<u8>) -> Resu
     Ok(())
 }
 
-// Returns the lines of notes, each after the name of their side. `Memory` if an allocation fails.
-fn side_notes(alloc: Global, side: &[u8], notes: &[Note]) -> Result<Vec<u8>, Memory>
+/// Returns the lines of notes, each after the name of their side. `Memory` if an allocation fails.
+pub(crate) fn side_notes(alloc: Global, side: &[u8], notes: &[Note]) -> Result<Vec<u8>, Memory>
     ensures { IfOk result (λ text. text.items ≡ the_notes side.now (map said_of notes.now)) }
 {
     let mut text = Vec::new(alloc);
@@ -74,53 +73,39 @@ fn grammar_of(rules: AllRules, judged: Option<usize>) -> Option<SoundAbnf>
     }
 }
 
-// Returns a grammar that was opened, with its notes. `Memory` if an allocation fails.
-fn opened_side(alloc: Global, side: &[u8], opened: Opened<AllRules, usize>) -> Result<Side, Memory>
-    requires { IfSome opened.judged (λ id. IsSoundGrammar (record { rules = opened.rules.rules; judged = id })) }
-    ensures { IfOk result (λ s. (s.reported.items ≡ the_notes side.now (map said_of opened.notes.items))
-        × IsMadeOf opened.rules.rules opened.judged s.grammar) }
+// Checks a grammar that was read, by the rule of that name, or by its first rule. `Memory` if an allocation fails.
+fn checked_side(alloc: Global, side: &[u8], abnf: Abnf, rule: Option<&str>) -> Result<Side, Memory>
+    ensures { IfOk result (λ s. (text : List ℕ) → IsReadText text abnf
+        → IsSideOf side.now text (option_copied rule.entry) s.reported.items s.grammar) }
 {
-    let reported = side_notes(alloc, side, opened.notes.as_slice())?;
+    let JudgedAbnf { notes, all, judged } = judge_abnf(alloc, abnf, rule)?;
+    let reported = side_notes(alloc, side, notes.as_slice())?;
     Ok(Side {
         reported,
-        grammar: grammar_of(opened.rules, opened.judged),
+        grammar: grammar_of(all, judged),
     })
 }
 
-// Returns the message on a text that has a fault. `Memory` if an allocation fails.
-fn faulty_side(alloc: Global, side: &[u8], fault: &ReadFault) -> Result<Side, Memory>
-    ensures { IfOk result (λ s. (s.reported.items ≡ side.now ++ fault_text fault.now) × (s.grammar ≡ None)) }
+/// Returns the message on a text that has a fault. `Memory` if an allocation fails.
+pub(crate) fn faulty_text(alloc: Global, side: &[u8], fault: &ReadFault) -> Result<Vec<u8>, Memory>
+    ensures { IfOk result (λ reported. reported.items ≡ side.now ++ fault_text fault.now) }
 {
     let line = fault_line(alloc, fault)?;
     let mut reported = Vec::new(alloc);
     reported.extend_from_slice(side)?;
     reported.extend_from_slice(line.as_slice())?;
+    Ok(reported)
+}
+
+// Returns the side of a text that has a fault. `Memory` if an allocation fails.
+fn faulty_side(alloc: Global, side: &[u8], fault: &ReadFault) -> Result<Side, Memory>
+    ensures { IfOk result (λ s. (s.reported.items ≡ side.now ++ fault_text fault.now) × (s.grammar ≡ None)) }
+{
+    let reported = faulty_text(alloc, side, fault)?;
     Ok(Side {
         reported,
         grammar: None,
     })
-}
-
-// Returns the settings by which a grammar is opened: from the rule of that name, without explanations.
-fn opening_settings(rule: Option<&str>) -> Settings<'_, AbnfOptions>
-    ensures { option_copied result.start ≡ option_copied rule.entry }
-{
-    Settings {
-        mode: Mode::Check,
-        limit: DEFAULT_LIMIT,
-        start: rule,
-        explain: false,
-        options: AbnfOptions {
-            letters: Alphabet::Bytes,
-            viable: false,
-            nul: false,
-            keeps: false,
-            printed: Printed::Answers,
-            numbered: false,
-            quiet: false,
-            line_buffered: false,
-        },
-    }
 }
 
 /// Reads and checks the text of a grammar that is compared by the rule of that name, or by its first rule. `side` names
@@ -133,9 +118,8 @@ pub(crate) fn open_side(
 ) -> Result<Side, Memory>
     ensures { IfOk result (λ s. IsSideOf side.now text.now (option_copied rule.entry) s.reported.items s.grammar) }
 {
-    let settings = opening_settings(rule);
-    match open::<AbnfLanguage>(alloc, text, &settings) {
-        Ok(opened) => opened_side(alloc, side, opened),
+    match read_abnf(alloc, text) {
+        Ok(abnf) => checked_side(alloc, side, abnf, rule),
         Err(fault) => match fault {
             ReadFault::Memory => Err(Memory),
             _ => faulty_side(alloc, side, &fault),

@@ -15,7 +15,8 @@ abbrev pub ArePrinted : Names → Type 0
 ArePrinted =
     AreNames (codes "answers" ∷ codes "derived" ∷ codes "refused" ∷ codes "count" ∷ codes "none" ∷ [])
 
--- `abnfi [-m MODE] [-l N] [-s RULE] [-u MODE] [-p WHAT] [-n] [-w] [-z] [-k] [-q] [--line-buffered] [-x] GRAMMAR [FILE]`
+-- `abnfi [-m MODE] [-l N] [-s RULE] [-u MODE] [-p WHAT] [-n] [-w] [-z] [-k] [-q] [--line-buffered] [-x] GRAMMAR
+-- [FILE]..`
 abbrev pub abnfi_app : Names → Names → Names → App
 abnfi_app names alphabets printed = tool_app names (codes "abnfi") (letters_rule alphabets
     ∷ flag_rule (codes "viable") (code "w")

@@ -14,13 +14,13 @@ use toolrun::Status;
 
 /// The text of the help.
 const HELP: &str =
-    "Judge each line of a file or standard input by an ABNF grammar (RFC 5234, RFC 7405): yes or no
+    "Judge each line of files or standard input by an ABNF grammar (RFC 5234, RFC 7405): yes or no
 
-Usage: abnfi [OPTIONS] <GRAMMAR> [FILE]
+Usage: abnfi [OPTIONS] <GRAMMAR> [FILE]...
 
 Arguments:
   <GRAMMAR>  The file of the grammar, at most 1048576 bytes
-  [FILE]     The file of the input [default: standard input]
+  [FILE]...  The files of inputs, or further grammars to check or print [default: standard input]
 
 Grammar:
   -m, --mode <MODE>  Choose what to do with the grammar [default: run] [possible values: run, check, print]
@@ -86,7 +86,7 @@ fn printed_of(matches: &ArgMatches<'_>) -> Printed
 }
 
 /// The program `abnfi [-m MODE] [-l N] [-s RULE] [-u MODE] [-p WHAT] [-n] [-w] [-z] [-k] [-q] [--line-buffered] [-x]
-/// GRAMMAR [FILE]`.
+/// GRAMMAR [FILE]..`.
 pub(crate) struct Abnfi;
 
 impl Program for Abnfi {

@@ -1,4 +1,4 @@
-//! Judges the lines of a file or of its standard input by an ABNF grammar.
+//! Judges the lines of files or of its standard input by an ABNF grammar.
 #![tactic(auto)]
 
 mod command;
@@ -6,7 +6,7 @@ mod run;
 
 use crate::command::Abnfi;
 use crate::run::abnfi_main;
-use cli::{Program, end_without_memory, open_source, plain_words, start_program};
+use cli::{Program, end_without_memory, open_source, plain_words, run_several, start_program};
 use std::process::ExitCode;
 
 fn main(rt: HostRuntime) -> ExitCode {
@@ -20,6 +20,10 @@ fn main(rt: HostRuntime) -> ExitCode {
                 return end_without_memory(&rt);
             };
             let words = words.as_slice();
+            let several = run_several::<Abnfi, HostRuntime, _, _, _>(&rt, words, rt.stdin(), out, err);
+            if let Some(status) = several {
+                return ExitCode::from(status.code());
+            }
             match open_source::<Abnfi, HostRuntime, _, _, _>(&rt, words, rt.stdin(), out, err) {
                 Ok(mut reader) => ExitCode::from(abnfi_main(
                     &rt,

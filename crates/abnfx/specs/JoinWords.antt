@@ -10,7 +10,7 @@ use Rattle.cli.specs.Command.{flag_rule, operands_rule, program_app}
 -- `abnfx [-c | -l] TEXT..`
 abbrev pub abnfx_app : App
 abnfx_app = program_app (codes "abnfx") (flag_rule (codes "canonical") (code "c")
-    ∷ flag_rule (codes "list") (code "l") ∷ operands_rule (codes "text") ∷ [])
+    ∷ flag_rule (codes "list") (code "l") ∷ operands_rule (codes "text") true ∷ [])
 
 -- the paths of the texts
 abbrev pub paths_asked : List Row → List Text

@@ -39,7 +39,7 @@ Example:
 static PARAMETERS: [Parameter; 3] = [
     Parameter::Flag("canonical", 'c'),
     Parameter::Flag("list", 'l'),
-    Parameter::Operands("text", "TEXT"),
+    Parameter::Operands("text", "TEXT", true),
 ];
 
 /// Returns the command `abnfx [-c | -l] TEXT..`, or an error if an allocation fails.

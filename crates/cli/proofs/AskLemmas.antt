@@ -1,7 +1,7 @@
 -- What the words ask for, from what is found and what the getters read of it.
--- Serves: read_words
-use Rattle.std.proofs.Common.{◌≡◌, ◌∙◌, ap, subst, sym, List, Option, Some}
-use Rattle.std.specs.Prelude.{codes, option_map}
+-- Serves: asked_of
+use Rattle.std.proofs.Common.{◌≡◌, ◌∙◌, ap, subst, sym, refl, true, true≢false, is_some, List, Option, None, Some}
+use Rattle.std.specs.Prelude.{codes, option_map, IsSome}
 use Rattle.std.specs.Borrow.{Bor}
 use Rattle.clap.specs.Words.{Row, Text, first_of, first_value, one_of, one_text, rows_of}
 use Rattle.clap.specs.declared.parser.matches.Found.{Found}
@@ -37,3 +37,9 @@ words_ask Asks f rows e whole a path mode limit start explain options word is fi
           ∙ (sym word ∙ ap (option_map (λ (s : Bor Text). s.now)) is);
       file = file ∙ first_found f rows e (codes "file");
     }
+
+-- what is mapped to something is something
+pub some_mapped : {A B : Type 0} (f : A → B) (o : Option A) (p : Option B) → option_map f o ≡ p → is_some p ≡ true
+    → IsSome o
+some_mapped f None p e some = absurd (true≢false (sym some ∙ ap is_some (sym e)))
+some_mapped f (Some x) p e some = refl

@@ -1,6 +1,7 @@
 pub mod AddedLemmas
 pub mod AppLemmas
 mod EntryLemmas
+mod FileRunsLemmas
 pub mod AreWholeLemmas
 pub mod AskLemmas
 mod InputLemmas

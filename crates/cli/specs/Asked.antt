@@ -1,9 +1,9 @@
 -- What the words of a command line ask for.
 use Rattle.std.specs.Prelude.{◌≡◌, ◌≤◌, ℕ, option_map, Bool, true, false, List, Option, Some, None, codes}
-use Rattle.std.specs.Prelude.{if◌then◌else◌, is_some}
+use Rattle.std.specs.Prelude.{[], if◌then◌else◌, is_some, unwrap_or}
 use Rattle.std.specs.Str.{bytes_eq}
 use Rattle.std.specs.Str.Parse.{IsNumeral, digits_value, without_leading_plus}
-use Rattle.clap.specs.Words.{Row, Text, first_of, first_value, one_of, one_text}
+use Rattle.clap.specs.Words.{Row, Text, all_of, first_of, first_value, one_of, one_text}
 use Rattle.clap.specs.declared.parser.matches.Found.{Found}
 use Rattle.cli.specs.declared.settings.Asked.{Asked}
 use Rattle.letters.specs.declared.alphabet.Alphabet.{Alphabet}
@@ -48,6 +48,10 @@ pub record AreWhole (f : Found) : Type 0 where
 abbrev pub is_flagged : Option Text → Bool
 is_flagged None = false
 is_flagged (Some text) = bytes_eq text (codes "true")
+
+-- the files that words name after the grammar
+abbrev pub files_in : List Row → List Text
+files_in rows = unwrap_or (all_of (codes "file") rows) []
 
 -- The matches ask for these settings and this grammar. Asks says what they ask for in the language alone.
 pub record Ask {O : Type 0} (Asks : List Row → O → Type 0) (rows : List Row) (asked : Asked O) : Type 0 where

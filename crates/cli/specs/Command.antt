@@ -51,13 +51,13 @@ number_rule id letter greatest default = record (value_rule id letter) {
 abbrev pub operand_rule : Text → Bool → Rule
 operand_rule id is_required = record (new_rule id) { value_names = 1; action = Some Set; required = is_required }
 
--- one or more words that are no options
-abbrev pub operands_rule : Text → Rule
-operands_rule id = record (new_rule id) {
+-- words that are no options, and whether one is required
+abbrev pub operands_rule : Text → Bool → Rule
+operands_rule id is_required = record (new_rule id) {
   value_names = 1;
   action = Some Append;
   range = Some (record { start_inclusive = 1; end_inclusive = usize_max });
-  required = true;
+  required = is_required;
 }
 
 -- the rule of a parameter
@@ -68,7 +68,7 @@ parameter_rule (parameter.Text id letter value) = value_rule id.now letter
 parameter_rule (parameter.Choice id letter value names default) = choice_rule id.now letter names default.now
 parameter_rule (parameter.Number id letter greatest default) = number_rule id.now letter greatest default.now
 parameter_rule (parameter.Operand id value is_required) = operand_rule id.now is_required
-parameter_rule (parameter.Operands id value) = operands_rule id.now
+parameter_rule (parameter.Operands id value is_required) = operands_rule id.now is_required
 
 -- `--version`, which has no letter
 abbrev pub version_rule : Rule
@@ -105,11 +105,11 @@ rule_rule = value_rule (codes "rule") (code "s")
 abbrev pub grammar_rule : Rule
 grammar_rule = operand_rule (codes "grammar") true
 
--- the command of a tool, its modes under these names: that of both, `[-m MODE] [-l N] [-s RULE] [-x] GRAMMAR [FILE]`,
+-- the command of a tool, its modes under these names: that of both, `[-m MODE] [-l N] [-s RULE] [-x] GRAMMAR [FILE]..`,
 -- and its own rules
 abbrev pub tool_app : Names → Text → List Rule → App
 tool_app modes name own = program_app name (choice_rule (codes "mode") (code "m") modes (codes "run") ∷ limit_rule
-    ∷ rule_rule ∷ flag_rule (codes "explain") (code "x") ∷ grammar_rule ∷ operand_rule (codes "file") false ∷ own)
+    ∷ rule_rule ∷ flag_rule (codes "explain") (code "x") ∷ grammar_rule ∷ operands_rule (codes "file") false ∷ own)
 
 -- `-u MODE`, one of the names; `bytes` where it is not given
 abbrev pub letters_rule : Names → Rule

@@ -1,13 +1,11 @@
 -- Which input the words of a command line ask for.
-use Rattle.std.specs.Prelude.{◌≡◌, ℕ, List, [], ◌∷◌, ◌++◌, Option, Some, None, codes, if◌then◌else◌}
+use Rattle.std.specs.Prelude.{⊤, ◌≡◌, ℕ, List, [], ◌++◌, Option, Some, None, codes, if◌then◌else◌}
 use Rattle.std.specs.Str.{bytes_eq}
 use Rattle.clap.specs.Words.{App, Kinds, Text, fault_of, first_of, matches_of}
-use Rattle.clap.specs.declared.error.kind.ErrorKind.TheVariants.{ArgumentConflict}
-use Rattle.cli.specs.Parsing.{WordsState}
 use Rattle.cli.specs.declared.input.Inputless.{Inputless}
 use Rattle.cli.specs.declared.input.Inputless.TheVariants as inputless
 use Rattle.cli.specs.declared.input.Input.{Input}
-use Rattle.cli.specs.declared.input.Input.TheVariants.{Standard, Named}
+use Rattle.cli.specs.declared.input.Input.TheVariants.{Empty, Standard, Named}
 use Rattle.toolrun.specs.Input.{Input as Bytes}
 use Rattle.toolrun.specs.Plan.{stopped}
 use Rattle.toolrun.specs.Reply.{Reply}
@@ -32,6 +30,7 @@ IsInputOf {F = F} standard (Some name) input = (file : F) × (input ≡ Named fi
 abbrev pub rest_of : {S F : Type 0} → (S → Option (List ℕ)) → (F → Option (List ℕ)) → Input S F → Option (List ℕ)
 rest_of standard named (Standard reader) = standard reader
 rest_of standard named (Named reader) = named reader
+rest_of standard named Empty = Some []
 
 -- What is stated where a file of that name cannot be opened: a text on the error output names it, or an allocation
 -- failed. No clause says which reason the text gives.
@@ -42,6 +41,10 @@ pub data UnopenedStates (name : Text) (input : Bytes) : List ℕ → Reply → T
 
 -- what is stated for a program that has no input
 abbrev pub InputlessStates : Inputless → Bytes → List ℕ → Reply → Type 0
-InputlessStates inputless.Unasked = WordsState (ArgumentConflict ∷ [])
 InputlessStates (inputless.Unopened name fault) = UnopenedStates name.now
 InputlessStates inputless.NoMemory = UnopenedStates []
+
+-- the input of that name is missing for this reason
+abbrev pub IsUnopened : Text → Inputless → Type 0
+IsUnopened name (inputless.Unopened file fault) = file.now ≡ name
+IsUnopened name inputless.NoMemory = ⊤

@@ -1,5 +1,6 @@
 pub mod Asked
 pub mod Command
+pub mod FileRuns
 pub mod Inputs
 pub mod Jobs
 pub mod Parsing

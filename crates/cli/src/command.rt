@@ -26,8 +26,8 @@ pub enum Parameter<'a> {
     Number(&'a str, char, u32, &'a str),
     /// An operand, which messages call by the name that follows. It is required if the flag is set.
     Operand(&'a str, &'a str, bool),
-    /// One or more operands, which messages call by the name that follows.
-    Operands(&'a str, &'a str),
+    /// Any number of operands, which messages call by the name that follows. One is required if the flag is set.
+    Operands(&'a str, &'a str, bool),
 }
 
 /// The options and operands of both tools.
@@ -37,7 +37,7 @@ static TOOL: [Parameter; 6] = [
     Parameter::Text("rule", 's', "RULE"),
     Parameter::Flag("explain", 'x'),
     Parameter::Operand("grammar", "GRAMMAR", true),
-    Parameter::Operand("file", "FILE", false),
+    Parameter::Operands("file", "FILE", false),
 ];
 
 /// Returns an option that has its id as a long name too. `AllocError` if an allocation fails.
@@ -85,12 +85,12 @@ fn arg_of<'a>(alloc: Global, parameter: Parameter<'a>) -> Result<Arg<'a>, AllocE
                 .action(ArgAction::Set)
                 .required(is_required),
         ),
-        Parameter::Operands(id, value) => Ok(
+        Parameter::Operands(id, value, is_required) => Ok(
             Arg::new(alloc, id)
                 .value_name(value)
                 .action(ArgAction::Append)
                 .num_args(1..)
-                .required(true),
+                .required(is_required),
         ),
     }
 }
@@ -132,7 +132,7 @@ pub fn program_command<'a>(
     add_parameters(command, alloc, parameters)
 }
 
-/// Returns the command of a tool: that of both, `[-m MODE] [-l N] [-s RULE] [-x] GRAMMAR [FILE]`, and its own
+/// Returns the command of a tool: that of both, `[-m MODE] [-l N] [-s RULE] [-x] GRAMMAR [FILE]..`, and its own
 /// parameters. `AllocError` if an allocation fails.
 pub fn tool_command<'a>(
     alloc: Global,

@@ -21,9 +21,6 @@ use toolrun::{Status, Stop, close_run, end_run};
 /// The message on a word that is not UTF-8.
 const INVALID_UTF8: &str = "invalid UTF-8 was detected in one or more arguments";
 
-/// The message for a file of the input where no grammar is run.
-const UNASKED: &str = "FILE is read only with -m run";
-
 /// Writes a text on the error output, and ends with this status.
 fn report_fault<O: Sink, E: Sink>(text: &str, status: Status, out: &mut O, err: &mut E) -> Status
     requires out_is_fresh { O.failed out.old ≡ false }
@@ -141,29 +138,23 @@ fn unopened_text(alloc: Global, name: &str, fault: &io::Error) -> Option<String>
     Some(text)
 }
 
-/// Ends a program of that command whose input cannot be opened: `err` says why.
+/// Ends a program whose input cannot be opened: `err` says why.
 ///
-/// - `Unasked`: what is wrong with the words, `Refused`.
 /// - `Unopened`: `cannot read`, the file's name and the reason of the system, `Fault`.
-/// - `NoMemory`, or an allocation fails or failed for the command: `out of memory`, `NoMemory`.
+/// - `NoMemory`, or an allocation fails: `out of memory`, `NoMemory`.
 pub(crate) fn end_inputless<O: Sink, E: Sink>(
     alloc: Global,
-    command: Result<Command<'_>, AllocError>,
-    why: Inputless<'_>,
+    why: &Inputless<'_>,
     out: &mut O,
     err: &mut E,
 ) -> Status
     requires out_is_fresh { O.failed out.old ≡ false }
     requires err_is_fresh { E.failed err.old ≡ false }
-    ensures { RunIsRight (InputlessStates why.entry) no_input (passed O.contents O.failed out.old out.new)
+    ensures { RunIsRight (InputlessStates why.now) no_input (passed O.contents O.failed out.old out.new)
         (passed E.contents E.failed err.old err.new) (code_of result) }
 {
     match why {
-        Inputless::Unasked => {
-            let error = error_of(command, ErrorKind::ArgumentConflict, UNASKED);
-            end_error(alloc, error, out, err)
-        }
-        Inputless::Unopened(name, fault) => match unopened_text(alloc, name, &fault) {
+        Inputless::Unopened(name, fault) => match unopened_text(alloc, name, fault) {
             Some(text) => report_fault(text.as_str(), Status::Fault, out, err),
             None => end_run(Ok(Stop::NoMemory), out, err),
         },

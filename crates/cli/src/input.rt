@@ -1,7 +1,7 @@
 //! The input of a program: standard input, or the file that its words name.
 ghost use Rattle.std.specs.Prelude.{◌≡◌, IfErr, IfOk, false, map, string_bytes};
 ghost use Rattle.clap.specs.Words.{App};
-ghost use Rattle.cli.specs.Inputs.{InputlessStates, IsInputOf, file_of, rest_of};
+ghost use Rattle.cli.specs.Inputs.{InputlessStates, IsInputOf, IsUnopened, file_of, rest_of};
 ghost use Rattle.cli.specs.declared.input.Inputless.{Inputless as Why};
 ghost use Rattle.toolrun.specs.Right.{RunIsRight};
 ghost use Rattle.toolrun.specs.Status.{code_of};
@@ -16,7 +16,7 @@ use ruletable::Sink;
 use std::io::{BufReader, ErrorKind, Read};
 use std::rt::Files;
 use std::{fs, io};
-use toolrun::{Mode, Status, Stop, end_run};
+use toolrun::{Status, Stop, end_run};
 
 /// An input of a program.
 #[derive(Drop)]
@@ -25,6 +25,8 @@ pub enum Input<S, F> {
     Standard(S),
     /// The file that the words name.
     Named(F),
+    /// No bytes.
+    Empty,
 }
 
 impl<S: Read, F: Read> Read for Input<S, F> {
@@ -34,6 +36,7 @@ impl<S: Read, F: Read> Read for Input<S, F> {
         match self {
             Input::Standard(reader) => reader.read(buf),
             Input::Named(reader) => reader.read(buf),
+            Input::Empty => Ok(0),
         }
     }
 }
@@ -41,8 +44,6 @@ impl<S: Read, F: Read> Read for Input<S, F> {
 /// Why a program has no input.
 #[derive(Drop)]
 pub enum Inputless<'a> {
-    /// The words name a file, and do not ask for a run.
-    Unasked,
     /// The system cannot open the file of that name, for this reason.
     Unopened(&'a str, io::Error),
     /// An allocation failed.
@@ -50,7 +51,9 @@ pub enum Inputless<'a> {
 }
 
 /// Opens the file of that name.
-fn open_named<'a, R: Files>(rt: &R, name: &'a str) -> Result<R::File, Inputless<'a>> {
+fn open_named<'a, R: Files>(rt: &R, name: &'a str) -> Result<R::File, Inputless<'a>>
+    ensures { IfErr result (λ why. IsUnopened name.entry.now why) }
+{
     match fs::open(rt, name) {
         Ok(file) => Ok(file),
         Err(fault) if fault.kind() == ErrorKind::OutOfMemory => Err(Inputless::NoMemory),
@@ -62,7 +65,6 @@ fn open_named<'a, R: Files>(rt: &R, name: &'a str) -> Result<R::File, Inputless<
 /// something is wrong with the words; else the file, opened.
 ///
 /// # Errors
-/// - `Unasked` if the words name a file and ask for another mode than `run`.
 /// - `Unopened` if the file cannot be opened.
 /// - `NoMemory` if an allocation fails.
 fn open_input<'a, P: Program, R: Files + AllocGlobal, S: Drop>(
@@ -88,9 +90,6 @@ fn open_input<'a, P: Program, R: Files + AllocGlobal, S: Drop>(
     if name == "-" {
         return Ok(Input::Standard(standard));
     }
-    if asked.settings.mode != Mode::Run {
-        return Err(Inputless::Unasked);
-    }
     let file = open_named(rt, name)?;
     Ok(Input::Named(file))
 }
@@ -100,7 +99,6 @@ fn open_input<'a, P: Program, R: Files + AllocGlobal, S: Drop>(
 ///
 /// # Errors
 /// The status of a program that has no input; `err` says why:
-/// - The words name a file and ask for another mode than `run`: what is wrong with them, `Refused`.
 /// - The file cannot be opened: `cannot read`, its name and the reason of the system, `Fault`.
 /// - An allocation fails: `out of memory`, `NoMemory`.
 pub fn open_source<P: Program, R: Files + AllocGlobal, S: Read + Drop, O: Sink, E: Sink>(
@@ -121,12 +119,36 @@ pub fn open_source<P: Program, R: Files + AllocGlobal, S: Read + Drop, O: Sink, 
     let input = match open_input::<P, R, S>(rt, words, standard) {
         Ok(input) => input,
         Err(why) => {
-            let command = P::command(rt.alloc());
-            return Err(end_inputless(rt.alloc(), command, why, out, err));
+            return Err(end_inputless(rt.alloc(), &why, out, err));
         }
     };
     match BufReader::new(rt.alloc(), input) {
         Ok(ahead) => Ok(SourceOf::new(ahead)),
         Err(_) => Err(end_run(Ok(Stop::NoMemory), out, err)),
+    }
+}
+
+/// Returns a reader of the input of that name, which reads ahead. `-` names standard input, which is taken; it is empty
+/// where it has been taken before. Fails if the file cannot be opened or an allocation fails.
+pub(crate) fn open_reader<'a, R: Files + AllocGlobal, S: Read + Drop>(
+    rt: &R,
+    name: &'a str,
+    standard: &mut Option<S>,
+) -> Result<SourceOf<BufReader<Input<S, R::File>>>, Inputless<'a>>
+    ensures ready { IfOk result (λ source. (⟦<SourceOf<BufReader<Input<S, R::File>>> as Source>⟧.failed source ≡ false)
+        × (⟦<SourceOf<BufReader<Input<S, R::File>>> as Source>⟧.ended source ≡ false)) }
+    ensures named { IfErr result (λ why. IsUnopened name.entry.now why) }
+{
+    let input = if name == "-" {
+        match standard.take() {
+            Some(reader) => Input::Standard(reader),
+            None => Input::Empty,
+        }
+    } else {
+        Input::Named(open_named(rt, name)?)
+    };
+    match BufReader::new(rt.alloc(), input) {
+        Ok(ahead) => Ok(SourceOf::new(ahead)),
+        Err(_) => Err(Inputless::NoMemory),
     }
 }

@@ -4,11 +4,13 @@
 
 mod command;
 mod fault;
+mod held;
 mod input;
 mod output;
 mod program;
 mod reading;
 mod settings;
+mod several;
 mod sizes;
 mod start;
 mod tool;
@@ -21,6 +23,7 @@ pub use output::{BufferedSink, Output};
 pub use program::{Program, parse, parse_words};
 pub use reading::{Job, Unready, end_unready, read_grammar, read_job};
 pub use settings::{Asked, read_words, settings_of};
+pub use several::{greater_status, run_several};
 pub use sizes::plain_words;
 pub use start::{end_without_memory, start_program, words_of};
 pub use tool::tool_main;

@@ -3,6 +3,7 @@ ghost use Rattle.std.specs.Prelude.{◌≡◌, ◌≤◌, MatchResult, [], codes
 ghost use Rattle.clap.specs.Words.{App, HasKind, fault_of, first_of, first_value, found_of, matches_of, one_text};
 ghost use Rattle.clap.specs.Words.{rows_of};
 ghost use Rattle.cli.specs.Asked.{Ask, IsLimitOf, is_flagged, mode_named};
+ghost use Rattle.cli.specs.Parsing.{IsParsedBy};
 
 use crate::program::{Program, parse};
 use crate::values::is_given;
@@ -56,8 +57,21 @@ pub struct Asked<'a, O> {
     pub settings: Settings<'a, O>,
     /// The file of the grammar.
     pub path: &'a str,
-    /// The file of the input, if one is named.
+    /// The first file of an input, if one is named.
     pub file: Option<&'a str>,
+}
+
+/// Returns what the words of these matches ask for.
+pub(crate) fn asked_of<'a, P: Program>(matches: &ArgMatches<'a>) -> Asked<'a, P::Options>
+    requires { IsParsedBy P.is_app matches.now }
+    ensures { Ask P.asks (rows_of (found_of matches.now)) result }
+{
+    P::follows();
+    Asked {
+        settings: settings_of::<P>(matches),
+        path: matches.get_str("grammar").unwrap(),
+        file: matches.get_str("file"),
+    }
 }
 
 /// Reads the words of a program's command line, its name first.
@@ -72,17 +86,8 @@ pub fn read_words<'a, P: Program, S: AsStr>(
         Ask P.asks (matches_of app (map S.text words.entry.now)) a)
         (HasKind (fault_of app (map S.text words.entry.now))) }
 {
-    P::follows();
-    let matches = match parse::<P, S>(alloc, words) {
-        Ok(matches) => matches,
-        Err(error) => return Err(error),
-    };
-    let settings = settings_of::<P>(&matches);
-    let path = matches.get_str("grammar").unwrap();
-    let file = matches.get_str("file");
-    Ok(Asked {
-        settings,
-        path,
-        file,
-    })
+    match parse::<P, S>(alloc, words) {
+        Ok(matches) => Ok(asked_of::<P>(&matches)),
+        Err(error) => Err(error),
+    }
 }

@@ -6,7 +6,7 @@ use Rattle.cli.specs.Asked.{is_flagged}
 use Rattle.cli.specs.Command.{AreModes, Names, flag_rule, tool_app}
 use Rattle.pegrun.specs.declared.options.PegOptions.{PegOptions}
 
--- `pegi [-m MODE] [-l N] [-s RULE] [-r] [-1] [-x] GRAMMAR [FILE]`
+-- `pegi [-m MODE] [-l N] [-s RULE] [-r] [-1] [-x] GRAMMAR [FILE]..`
 abbrev pub pegi_app : Names → App
 pegi_app modes = tool_app modes (codes "pegi") (flag_rule (codes "raw") (code "r")
     ∷ flag_rule (codes "whole") (code "1") ∷ [])

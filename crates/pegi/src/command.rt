@@ -12,13 +12,13 @@ use toolrun::Status;
 
 /// The text of the help.
 const HELP: &str =
-    "Run a grammar in the syntax of peg(1) on a file or standard input, and print its actions in order
+    "Run a grammar in the syntax of peg(1) on files or standard input, and print its actions in order
 
-Usage: pegi [OPTIONS] <GRAMMAR> [FILE]
+Usage: pegi [OPTIONS] <GRAMMAR> [FILE]...
 
 Arguments:
   <GRAMMAR>  The file of the grammar, at most 1048576 bytes
-  [FILE]     The file of the input [default: standard input]
+  [FILE]...  The files of inputs, or further grammars to check or print [default: standard input]
 
 Grammar:
   -m, --mode <MODE>  Choose what to do with the grammar [default: run] [possible values: run, check, print]
@@ -48,7 +48,7 @@ Example:
 /// The options of the program alone.
 static OWN: [Parameter; 2] = [Parameter::Flag("raw", 'r'), Parameter::Flag("whole", '1')];
 
-/// The program `pegi [-m MODE] [-l N] [-s RULE] [-r] [-1] [-x] GRAMMAR [FILE]`.
+/// The program `pegi [-m MODE] [-l N] [-s RULE] [-r] [-1] [-x] GRAMMAR [FILE]..`.
 pub(crate) struct Pegi;
 
 impl Program for Pegi {

@@ -1,8 +1,8 @@
 -- The pieces of an XML text, one after another: comments (XML 1.0, section 2.5), tags of elements that can hold ABNF
 -- (3.1), marks of CDATA sections (2.7), references to characters (4.1), and runs of other bytes.
 use Prim.Native.Char.{code}
-use Rattle.std.specs.Prelude.{◌≡◌, ℕ, suc, ◌+◌, ◌==◌, ◌||◌, ◌&&◌, max, not, Bool, true, false, List, [], ◌∷◌, ◌++◌, map}
-use Rattle.std.specs.Prelude.{length, take, drop, codes, Option, None, Some, is_some, if◌then◌else◌}
+use Rattle.std.specs.Prelude.{ℕ, suc, ◌+◌, ◌==◌, ◌||◌, ◌&&◌, max, not, Bool, true, false, List, [], ◌∷◌, ◌++◌, map}
+use Rattle.std.specs.Prelude.{take, drop, codes, Option, None, Some, is_some, if◌then◌else◌}
 use Rattle.std.specs.List.{prefix_len}
 use Rattle.rfcforms.specs.XmlReferences.{referred_byte}
 use Rattle.rfcforms.specs.XmlTags.{tag_leads, text_leads, closing_front, holder_at, opens_abnf, tag_length}

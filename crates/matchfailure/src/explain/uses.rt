@@ -23,22 +23,23 @@ fn push_named(row: &mut Vec<usize>, node: &Node) -> Result<(), Memory>
     Ok(())
 }
 
-// Returns the ids that the nodes from one to before another name.
+// Returns the ids that the nodes from one to another name, the last one included.
 fn names_between(
     alloc: Global,
     peg: &SoundPeg,
     first: usize,
-    end: usize,
+    last: usize,
 ) -> Result<Vec<usize>, Memory>
-    requires order { first ≤ end }
-    requires within { end ≤ length peg.now.nodes }
+    requires order { first ≤ last }
+    requires within { last < length peg.now.nodes }
     ensures { IfOk result (λ row. row.items
-        ≡ flat_map named_id (take (end - first) (drop first (shapes_of peg.now.nodes)))) }
+        ≡ flat_map named_id (take (last + 1 - first) (drop first (shapes_of peg.now.nodes)))) }
 {
     let mut row = Vec::new(alloc);
-    for n in first..end {
+    for n in first..last {
         push_named(&mut row, peg.node(n))?;
     }
+    push_named(&mut row, peg.node(last))?;
     Ok(row)
 }
 
@@ -51,12 +52,12 @@ fn names_of(alloc: Global, peg: &SoundPeg, id: usize) -> Result<Vec<usize>, Memo
         (take (last + 1 - first_node peg.now.bodies id) (drop (first_node peg.now.bodies id)
         (shapes_of peg.now.nodes)))) }
 {
-    let end = peg.body_node(id) + 1;
+    let last = peg.body_node(id);
     if id == 0 {
-        return names_between(alloc, peg, 0, end);
+        return names_between(alloc, peg, 0, last);
     }
     let first = peg.body_node(id - 1) + 1;
-    names_between(alloc, peg, first, end)
+    names_between(alloc, peg, first, last)
 }
 
 // Returns of each rule the ids of those that its body names.

@@ -1,6 +1,5 @@
 -- Each reason has its message, or an allocation failed.
 use Rattle.std.proofs.Common.{◌∙◌, Some, [], false}
-use Rattle.clap.specs.declared.error.kind.ErrorKind.TheVariants.{ArgumentConflict}
 use Rattle.cli.proofs.JobStatesLemmas.{stop_comes}
 use Rattle.cli.specs.Inputs.{UnopenedStates, has_no_memory, says_name}
 use Rattle.toolrun.specs.Plan.{IsReportedAnd}
@@ -10,10 +9,6 @@ use Rattle.toolrun.specs.declared.status.Status.TheVariants.{Fault}
 use Rattle.toolrun.specs.declared.stop.Stop.TheVariants.{NoMemory, Quiet}
 use Rattle.toolrun.proofs.IsRightLemmas.{comes_as}
 use Rattle.cli.proofs.fault.end_inputless.Goals as goal
-
-pub returns-in-Unasked : goal.returns-in-Unasked
-returns-in-Unasked g c =
-    rw c.in-Unasked.is (c.end_error.ensures ArgumentConflict c.error_of-error.ensures.kind)
 
 pub returns-in-Some : goal.returns-in-Some
 returns-in-Some g c =
@@ -25,15 +20,15 @@ returns-in-Some g c =
     (passed g.E.Sink.contents g.E.Sink.failed c.args.err.now c.report_fault.new.err) (code_of c.report_fault.result)
     c.report_fault.ensures.right)
 
-pub returns-in-Unopened : goal.returns-in-Unopened
-returns-in-Unopened g c =
+pub returns-in-None : goal.returns-in-None
+returns-in-None g c =
     rw c.in-Unopened.is (stop_comes (UnopenedStates c.in-Unopened.name.now) NoMemory (λ input. has_no_memory) (Some [])
     false false (passed g.O.Sink.contents g.O.Sink.failed c.args.out.now c.finish.new.out)
     (passed g.E.Sink.contents g.E.Sink.failed c.args.err.now c.finish.new.err) (code_of c.finish.result)
     (c.finish.ensures.kept, c.finish.ensures.reported))
 
-pub returns : goal.returns
-returns g c =
+pub returns-in-NoMemory : goal.returns-in-NoMemory
+returns-in-NoMemory g c =
     rw c.in-NoMemory.is (stop_comes (UnopenedStates []) NoMemory (λ input. has_no_memory) (Some [])
     false false (passed g.O.Sink.contents g.O.Sink.failed c.args.out.now c.finish-in-NoMemory.new.out)
     (passed g.E.Sink.contents g.E.Sink.failed c.args.err.now c.finish-in-NoMemory.new.err)

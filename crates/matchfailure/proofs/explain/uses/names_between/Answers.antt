@@ -22,7 +22,14 @@ loop-n-preserved c =
 
 pub returns : goal.returns
 returns c =
-    let same : c.loop-n.n - c.args.first ≡ c.args.end - c.args.first =
-    omega (arith, c.loop-n-test.false, c.loop-n.invariant.high, c.loop-n.invariant.low, c.requires.order) in
-    c.loop-n.invariant.row
-    ∙ ap (λ (k : ℕ). flat_map named_id (take k (drop c.args.first (shapes_of c.args.peg.now.nodes)))) same
+    let over = c.loop-n-test.false in
+    let low = c.loop-n.invariant.low in
+    let rest = drop c.args.first (shapes_of c.args.peg.now.nodes) in
+    let same : c.loop-n.n - c.args.first ≡ c.args.last - c.args.first =
+    omega (arith, over, c.loop-n.invariant.high, low) in
+    let here = in-rest (shapes_of c.args.peg.now.nodes) c.args.first c.args.last (shape_of c.node-2.result.now)
+    c.requires.order (shape_at c.args.peg.now.nodes _ _ c.node-2.ensures) in
+    let whole : (c.args.last - c.args.first) + 1 ≡ c.args.last + 1 - c.args.first = omega (arith, c.requires.order) in
+    ids-more rest (c.args.last - c.args.first) (shape_of c.node-2.result.now) _ _ here
+    (c.loop-n.invariant.row ∙ ap (λ (k : ℕ). flat_map named_id (take k rest)) same) c.in_ok-push_named-2.ensures
+    ∙ ap (λ (k : ℕ). flat_map named_id (take k rest)) whole

@@ -1,5 +1,4 @@
-use Rattle.std.proofs.Common.{◌≡◌, ◌+◌, ◌==◌, ◌||◌, not, length}
-use Rattle.std.specs.List.{prefix_len}
+use Rattle.std.proofs.Common.{◌≡◌, ◌+◌, length}
 use Rattle.rfcforms.specs.XmlPieces.{run_size}
 use Rattle.rfcforms.proofs.xml.piece.run_size.Given as goal
 

@@ -1,4 +1,4 @@
-use Rattle.std.proofs.Common.{◌≡◌, ◌+◌, ◌==◌, ◌||◌, not, length}
+use Rattle.std.proofs.Common.{◌≡◌, ◌+◌, length}
 use Rattle.std.specs.List.{prefix_len}
 use Rattle.rfcforms.specs.XmlTags.{is_white}
 use Rattle.rfcforms.proofs.xml.space.white_size.Given as goal

@@ -1,4 +1,4 @@
-use Rattle.std.proofs.Common.{◌≡◌, ◌+◌, ◌==◌, ◌||◌, not, length}
+use Rattle.std.proofs.Common.{◌≡◌, ◌+◌, ◌==◌, not, length}
 use Rattle.std.specs.List.{prefix_len}
 use Rattle.rfcforms.proofs.xml.tag.size_before.Given as goal
 
