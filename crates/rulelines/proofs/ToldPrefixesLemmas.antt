@@ -1,5 +1,5 @@
 -- The first prefixes of states, from the search of states.
--- Serves: next
+-- Serves: new, next
 use Rattle.std.proofs.Common.{◌≡◌, ◌⊎◌, inl, inr, ℕ, zero, suc, ◌+◌, ◌<◌, ◌≤◌, List, [], ◌∷◌, ◌++◌, length, refl, sym}
 use Rattle.std.proofs.Common.{◌∙◌, ap, subst, arith, append_assoc, append-nil, length-append, get_or, ◌-◌}
 use Rattle.std.proofs.lemmas.Bool.{cases_lt}
@@ -18,18 +18,23 @@ use Rattle.flatgrammar.proofs.CallOfLemmas.{get_unmap}
 use Rattle.lazydfa.specs.StateSets.{AreMoreStates, grammar_of, last_in, StateSet}
 use Rattle.letterclasses.specs.Stacks.{AreUncounted, MarksLast}
 use Rattle.letters.specs.Letters.{has as has_letter}
+use Rattle.letters.specs.declared.alphabet.Alphabet.{Alphabet}
 use Rattle.lazydfa.proofs.StateSetsLemmas.{got_at}
 use Rattle.rulelines.specs.declared.list.keys.LineSymbols.{LineSymbols}
+use Rattle.rulelines.specs.declared.miss.prefixes.NextPrefix.{NextPrefix}
+use Rattle.rulelines.specs.declared.miss.prefixes.NextPrefix.TheVariants.{Prefix, Done}
 use Rattle.rulelines.specs.declared.miss.prefixes.StatePrefix.{StatePrefix}
 use Rattle.rulelines.specs.declared.pairs.SearchedPair.{SearchedPair}
 use Rattle.rulelines.specs.Alone.{AreOfGrammar}
 use Rattle.rulelines.specs.FirstLines.{ComesFirst, IsShortlexBefore}
+use Rattle.rulelines.specs.LineSets.{LineSet}
 use Rattle.rulelines.specs.FoundPairs.{AreFound, FoundPair, IsOldDead, IsWordOf, LeadsToFound, next, start}
 use Rattle.rulelines.specs.Misses.{AreAllPrefixes, HasPrefixFor, IsFirstWrong, IsStatePrefix, IsViableLine}
-use Rattle.rulelines.specs.MissSearch.{AreFoundStill, AreToldIn, GivesPrefixesTo, IsExpandedTo, IsFirstAstray}
-use Rattle.rulelines.specs.MissSearch.{IsFoundAt, IsLive, IsNextLive, IsPassed}
-use Rattle.rulelines.specs.MissSearch.{IsSearchFor, IsStateSearch, IsWithin, IsWordIn, SearchesStates}
-use Rattle.rulelines.specs.MissSearch.{FoundStates}
+use Rattle.rulelines.specs.MissSearch.{AreFoundStill, ArePrefixesOf, AreToldIn, FoundStates, GivesPrefixesTo}
+use Rattle.rulelines.specs.MissSearch.{IsExpandedTo, IsFirstAstray, IsFoundAt, IsLive, IsNextLive, IsPassed}
+use Rattle.rulelines.specs.MissSearch.{IsPrefixStep, IsSearchBegun, IsSearchFor, IsStateSearch, IsStepIn, IsWithin}
+use Rattle.rulelines.specs.MissSearch.{IsWordIn, SearchesStates, symbols_in}
+use Rattle.rulelines.specs.Samples.{AreInLineOrder}
 use Rattle.rulelines.specs.Search.{found_pair, found_pairs, state_at}
 use Rattle.rulelines.specs.StatePairs.{AreSamples, HasSample}
 use Rattle.rulelines.specs.StateTables.{line_symbols}
@@ -560,3 +565,48 @@ none_told inner limit rules id search first = record {
   each = λ i lt. absurd (omega (arith, lt, first));
   from = λ q h. absurd (let lt = h.1 in omega (arith, lt));
 }
+
+-- a search that begins
+pub begun_for : (flat : Flat) (inner : LineSymbols) (samples : List ℕ) (search : FoundStates)
+    → IsSearchBegun flat search → AreSamples flat flat (line_symbols inner) samples
+    → AreInLineOrder (line_symbols inner) samples → IsSearchFor flat inner samples search
+begun_for flat inner samples search begun each in_order = record {
+  grammar = begun.grammar;
+  searches = subst (λ v. SearchesStates (line_symbols inner) samples search v 0) (sym begun.at_first)
+      (begun.starts (line_symbols inner) samples);
+  each = each;
+  order = in_order;
+}
+
+pub prefixes_begun : (alphabet : Alphabet) (terminator limit : ℕ) (rules : List Rule) (id : ℕ) (flat : Flat)
+    (search : FoundStates) → GivesPrefixesTo alphabet limit rules id flat → search.at ≡ 0
+    → ArePrefixesOf alphabet terminator limit rules id (record {
+      set = record { flat = flat; alphabet = alphabet; terminator = terminator; limit = limit };
+      search = Some search;
+    })
+prefixes_begun alphabet terminator limit rules id flat search gives first = record {
+  alphabet_is = refl;
+  terminator_is = refl;
+  limit_is = refl;
+  gives = gives;
+  none = record {
+    search = search;
+    is = refl;
+    told = none_told (record { alphabet = alphabet; terminator = terminator }) limit rules id search first;
+  };
+}
+
+-- a step of a search is one of the list
+pub search_step : (rules : List Rule) (id : ℕ) (set : LineSet) (old new : FoundStates) (step : NextPrefix)
+    → IsStepIn (symbols_in set) set.limit rules id old new step
+    → IsPrefixStep rules id (record { set = set; search = Some old }) (record { set = set; search = Some new }) step
+search_step rules id set old new (Prefix p) is = λ ps t.
+    let one : t.search ≡ old = cc t.is in
+    record {
+      search = new;
+      is = refl;
+      told = is ps (subst (λ v. AreToldIn (symbols_in set) set.limit rules id v ps) one t.told);
+    }
+search_step rules id set old new Done is = λ ps t.
+    let one : t.search ≡ old = cc t.is in
+    is ps (subst (λ v. AreToldIn (symbols_in set) set.limit rules id v ps) one t.told)
