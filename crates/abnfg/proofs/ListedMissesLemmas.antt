@@ -14,8 +14,8 @@ use Rattle.abnfg.specs.declared.lines.Halt.TheVariants.{All as Finished}
 use Rattle.abnfread.specs.Element.{Rule}
 use Rattle.letters.specs.declared.alphabet.Alphabet.{Alphabet}
 use Rattle.rulelines.specs.LineSets.{LineSet}
-use Rattle.rulelines.specs.MissLists.{AreAllMisses, AreFirstMisses, AreMissesOf, AreToldLines, IsRuleOf, MissList}
-use Rattle.rulelines.proofs.MissLinesLemmas.{first_misses, no_prefixes, told_first}
+use Rattle.rulelines.specs.MissLists.{AreAllMisses, AreFirstMisses, AreMissesOf, AreLinesReported, AreOfRule, MissList}
+use Rattle.rulelines.proofs.MissLinesLemmas.{first_misses, no_prefixes, reported_first}
 use Rattle.ruletable.proofs.AppendsLemmas.{Appends-join, Appends-same, AppendsPart-join}
 use Rattle.ruletable.specs.Writing.{AppendsPart}
 use Rattle.ruletable.specs.declared.sink.WriteFault.{WriteFault}
@@ -28,7 +28,8 @@ no_misses_first alphabet terminator limit rules id =
 module _ (rules : List Rule) (id : ℕ) (text_of : List ℕ → List ℕ) where
   -- the next line was written
   pub miss_written : (done : ℕ) (old new : MissList) (from to : Option (List ℕ)) (w : Vec ℕ Global)
-      → IsMissNext rules id old new w → (r : Result (Option Halt) WriteFault) → IsRecordWritten text_of w.items from to r
+      → IsMissNext rules id old new w → (r : Result (Option Halt) WriteFault)
+      → IsRecordWritten text_of w.items from to r
       → IsMissWritten rules id text_of done old new from to r
   miss_written done old new from to w next (Ok None) is = λ ws t. (w.items, next ws t, is)
   miss_written done old new from to w next (Ok (Some halt)) is = (halt_memory halt is.0, is.1)
@@ -41,13 +42,19 @@ module _ (rules : List Rule) (id : ℕ) (text_of : List ℕ → List ℕ) where
   pub record IsMissedTo (set : LineSet) (done : ℕ) (list : MissList) (old new : Option (List ℕ)) : Type 0 where
     pub same : list.prefixes.set ≡ set
     pub ws : List (List ℕ)
-    pub told : AreToldLines rules id list ws
+    pub reported : AreLinesReported rules id list ws
     pub count : length ws ≡ done
     pub text : Appends old new (flat_map text_of ws)
 
-  pub none_missed : (list : MissList) (old : Option (List ℕ)) → AreToldLines rules id list []
+  pub none_missed : (list : MissList) (old : Option (List ℕ)) → AreLinesReported rules id list []
       → IsMissedTo list.prefixes.set 0 list old old
-  none_missed list old told = record { same = refl; ws = []; told = told; count = refl; text = Appends-same old }
+  none_missed list old reported = record {
+    same = refl;
+    ws = [];
+    reported = reported;
+    count = refl;
+    text = Appends-same old;
+  }
 
   one_text : (ws : List (List ℕ)) (w : List ℕ) → flat_map text_of (ws ++ w ∷ []) ≡ flat_map text_of ws ++ text_of w
   one_text ws w =
@@ -59,19 +66,19 @@ module _ (rules : List Rule) (id : ℕ) (text_of : List ℕ → List ℕ) where
   abbrev pub WholeOf : LineSet → List (List ℕ) → Type 0
   WholeOf set = AreAllMisses set.alphabet set.terminator set.limit rules id
 
-  first_told : (set : LineSet) (list : MissList) → list.prefixes.set ≡ set → (ws : List (List ℕ))
-      → AreToldLines rules id list ws → FirstOf set ws
-  first_told set list same ws t = subst (λ v. FirstOf v ws) same (told_first rules id list ws t)
+  first_reported : (set : LineSet) (list : MissList) → list.prefixes.set ≡ set → (ws : List (List ℕ))
+      → AreLinesReported rules id list ws → FirstOf set ws
+  first_reported set list same ws t = subst (λ v. FirstOf v ws) same (reported_first rules id list ws t)
 
   module _ (set : LineSet) (done count : ℕ) (list next : MissList) (a b c : Option (List ℕ))
       (u : IsMissedTo set done list a b) (still : next.prefixes.set ≡ list.prefixes.set) where
     pub one_missed : IsMissWritten rules id text_of done list next b c (Ok None) → IsMissedTo set (done + 1) next a c
     one_missed is =
-        let g = is u.ws u.told in
+        let g = is u.ws u.reported in
         record {
           same = still ∙ u.same;
           ws = u.ws ++ g.0 ∷ [];
-          told = g.1;
+          reported = g.1;
           count = (let n = length-append u.ws (g.0 ∷ []) in let e = u.count in omega (arith, n, e));
           text = subst (λ v. Appends a c v) (sym (one_text u.ws g.0))
               (Appends-join a b c (flat_map text_of u.ws) (text_of g.0) u.text g.2);
@@ -86,7 +93,7 @@ module _ (rules : List Rule) (id : ℕ) (text_of : List ℕ → List ℕ) where
         within = let e = u.count in omega (arith, e, le)
 
         first : FirstOf set u.ws
-        first = first_told set list u.same u.ws u.told
+        first = first_reported set list u.same u.ws u.reported
 
         no_length : {A : Type 0} (xs : List A) → length xs ≡ 0 → xs ≡ []
         no_length [] is = refl
@@ -100,13 +107,13 @@ module _ (rules : List Rule) (id : ℕ) (text_of : List ℕ → List ℕ) where
           inr (
             λ none. all.0 (let e = u.count in let n = ap length none in omega (arith, e, n)),
             within,
-            subst (λ v. WholeOf v u.ws) u.same (all.1 u.ws u.told),
+            subst (λ v. WholeOf v u.ws) u.same (all.1 u.ws u.reported),
           ),
           text,
         )
         by Nothing all text =
             let none = no_length u.ws (let e = u.count in let z = all.0 in omega (arith, e, z)) in (
-              subst (λ v. WholeOf set v) none (subst (λ v. WholeOf v u.ws) u.same (all.1 u.ws u.told)),
+              subst (λ v. WholeOf set v) none (subst (λ v. WholeOf v u.ws) u.same (all.1 u.ws u.reported)),
               subst (λ v. Appends a c (flat_map text_of v)) none text,
             )
         by TooMany none text = (u.ws, first, within, text)
@@ -115,9 +122,9 @@ module _ (rules : List Rule) (id : ℕ) (text_of : List ℕ → List ℕ) where
     pub miss_cut : (fault : WriteFault) → done < count → IsMissWritten rules id text_of done list next b c (Err fault)
         → AreWritten (FirstOf set) (WholeOf set) text_of count a c (Err fault)
     miss_cut fault lt is =
-        let g = is u.ws u.told in (
+        let g = is u.ws u.reported in (
           u.ws ++ g.0 ∷ [],
-          first_told set next (still ∙ u.same) (u.ws ++ g.0 ∷ []) g.1,
+          first_reported set next (still ∙ u.same) (u.ws ++ g.0 ∷ []) g.1,
           (let e = u.count in let n = length-append u.ws (g.0 ∷ []) in omega (arith, e, n, lt)),
           subst (λ v. AppendsPart a c v) (sym (one_text u.ws g.0))
               (AppendsPart-join a b c (flat_map text_of u.ws) (text_of g.0) u.text g.2),
@@ -128,7 +135,7 @@ module _ (rules : List Rule) (id : ℕ) (text_of : List ℕ → List ℕ) where
       → AreWritten (FirstOf set) (WholeOf set) text_of count a c (Ok Finished)
   all_missed set done count list a b c u same still = (
     u.ws,
-    first_told set list u.same u.ws u.told,
+    first_reported set list u.same u.ws u.reported,
     inl (let e = u.count in omega (arith, e, same)),
     subst (λ v. Appends a v (flat_map text_of u.ws)) still u.text,
   )

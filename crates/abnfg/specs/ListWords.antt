@@ -22,17 +22,18 @@ abnfg_app letters modes = program_app (codes "abnfg") (rule_rule
 
 -- this is the command of the program
 abbrev pub IsAbnfgApp : App → Type 0
-IsAbnfgApp app = (letters : Names) × AreAlphabets letters × (modes : Names) × AreNames (codes "all" ∷ codes "miss" ∷ []) modes
+IsAbnfgApp app = (letters : Names) × AreAlphabets letters × (modes : Names)
+    × AreNames (codes "all" ∷ codes "miss" ∷ []) modes
     × (app ≡ abnfg_app letters modes)
 
 -- the mode of a name; `all` where none is given
-abbrev pub mode_named : Option Text → ListMode
-mode_named None = All
-mode_named (Some name) = if bytes_eq name (codes "miss") then Miss else All
+abbrev pub mode_of_name : Option Text → ListMode
+mode_of_name None = All
+mode_of_name (Some name) = if bytes_eq name (codes "miss") then Miss else All
 
 -- the matches of the words ask for these lines
 pub record AskLines (rows : List Row) (settings : ListSettings) : Type 0 where
-  pub mode : settings.mode ≡ mode_named (first_of (codes "mode") rows)
+  pub mode : settings.mode ≡ mode_of_name (first_of (codes "mode") rows)
   pub rule : option_copied settings.rule ≡ first_of (codes "rule") rows
   pub letters : settings.letters ≡ alphabet_named (first_of (codes "letters") rows)
   pub limit : IsNumberOf 256 (one_of (codes "limit") rows) settings.limit

@@ -38,8 +38,8 @@ AreEnough whole count ws = (length ws ≡ count) ⊎ ((ws ≢ []) × (length ws 
 
 -- of lists of lines the first ones, and the whole ones
 module _ (first whole : List (List ℕ) → Type 0) (text_of : List ℕ → List ℕ) (count : ℕ) where
-  -- The texts of first lines are written. The status is 0 if they are enough, and 1 if there is no line at all. Or there
-  -- are too many states of the grammar, or an allocation fails, after some first lines.
+  -- The texts of first lines are written. The status is 0 if they are enough, and 1 if there is no line at all. Or
+  -- there are too many states of the grammar, or an allocation fails, after some first lines.
   pub data LinesReply : Reply → Type 0 where
     listed : {ws : List (List ℕ)} → first ws → AreEnough whole count ws
         → LinesReply (record { out = flat_map text_of ws; err = []; status = code_of Done; taken = 0 })

@@ -1,6 +1,6 @@
 //! The command line.
 ghost use Rattle.std.specs.Prelude.{◌≡◌, codes, IfOk};
-ghost use Rattle.abnfg.specs.ListWords.{AskLines, IsAbnfgApp, mode_named};
+ghost use Rattle.abnfg.specs.ListWords.{AskLines, IsAbnfgApp, mode_of_name};
 ghost use Rattle.clap.specs.Words.{app_of, first_of, found_of, rows_of};
 
 use crate::lines::{ListMode, ListSettings};
@@ -63,7 +63,7 @@ pub(crate) fn abnfg_command<'a>(alloc: Global) -> Result<Command<'a>, AllocError
 
 // Returns the mode that the words ask for.
 fn mode_of(matches: &ArgMatches<'_>) -> ListMode
-    ensures { result ≡ mode_named (first_of (codes "mode") (rows_of (found_of matches.now))) }
+    ensures { result ≡ mode_of_name (first_of (codes "mode") (rows_of (found_of matches.now))) }
 {
     match matches.get_str("mode") {
         Some(name) if name == "miss" => ListMode::Miss,

@@ -3,7 +3,7 @@ ghost use Rattle.std.specs.Prelude.{◌≡◌, ◌++◌, ℕ, List, [], IfOk, If
 ghost use Rattle.abnfg.specs.ListedLines.{AreFirstLines, AreListed, AreWritten, HaltEnds, HoldAll, IsHaltAt};
 ghost use Rattle.abnfg.specs.ListedLines.{IsLineNext, IsRecordWritten, IsStepOf, IsWrittenNext, LinesReply, end_of};
 ghost use Rattle.abnfg.specs.ListedLines.{record_text};
-ghost use Rattle.abnfg.specs.ListModes.{AreFirst, AreWhole};
+ghost use Rattle.abnfg.specs.ListModes.{AreFirstAsked, AreWholeAsked};
 ghost use Rattle.abnfread.specs.AbnfViews.{rules_of};
 ghost use Rattle.rulelines.specs.LineSets.{IsLineIn, IsRuleLine};
 ghost use Rattle.ruletable.specs.Writing.{Flags};
@@ -103,8 +103,8 @@ fn next_line(lines: &mut Lines, done: u32, last: &[u32]) -> Result<Vec<u32>, Hal
     }
 }
 
-/// Writes a line with its end. Returns `NoMemory` if an allocation fails. `WriteFault` if the output fails; then a prefix
-/// is written.
+/// Writes a line with its end. Returns `NoMemory` if an allocation fails. `WriteFault` if the output fails; then a
+/// prefix is written.
 pub(crate) fn write_record<O: Sink>(
     alloc: Global,
     settings: &ListSettings<'_>,
@@ -161,8 +161,9 @@ fn write_lines<O: Sink>(
     out: &mut O,
 ) -> Result<Halt, WriteFault>
     requires { O.failed out.old ≡ false }
-    ensures lines { AreWritten (AreFirstLines (IsLineIn lines.old)) (HoldAll (IsLineIn lines.old)) (record_text settings.now.letters (end_of settings.now.nul))
-        settings.now.count (O.contents out.old) (O.contents out.new) result }
+    ensures lines { AreWritten (AreFirstLines (IsLineIn lines.old)) (HoldAll (IsLineIn lines.old))
+        (record_text settings.now.letters (end_of settings.now.nul)) settings.now.count (O.contents out.old)
+        (O.contents out.new) result }
     ensures flag { Flags (O.failed out.old) (O.failed out.new) result }
 {
     let mut last = Vec::new(alloc);
@@ -238,8 +239,8 @@ fn write_asked<O: Sink>(
     out: &mut O,
 ) -> Result<Halt, WriteFault>
     requires { O.failed out.old ≡ false }
-    ensures lines { AreWritten (AreFirst settings.now (rules_of grammar.now.rules) grammar.now.judged)
-        (AreWhole settings.now (rules_of grammar.now.rules) grammar.now.judged)
+    ensures lines { AreWritten (AreFirstAsked settings.now (rules_of grammar.now.rules) grammar.now.judged)
+        (AreWholeAsked settings.now (rules_of grammar.now.rules) grammar.now.judged)
         (record_text settings.now.letters (end_of settings.now.nul)) settings.now.count (O.contents out.old)
         (O.contents out.new) result }
     ensures flag { Flags (O.failed out.old) (O.failed out.new) result }
@@ -259,8 +260,8 @@ pub(crate) fn list_lines<O: Sink>(
     out: &mut O,
 ) -> Result<Ending, WriteFault>
     requires { O.failed out.old ≡ false }
-    ensures { Fulfils (λ input. LinesReply (AreFirst settings.now (rules_of grammar.now.rules) grammar.now.judged)
-        (AreWhole settings.now (rules_of grammar.now.rules) grammar.now.judged)
+    ensures { Fulfils (λ input. LinesReply (AreFirstAsked settings.now (rules_of grammar.now.rules) grammar.now.judged)
+        (AreWholeAsked settings.now (rules_of grammar.now.rules) grammar.now.judged)
         (record_text settings.now.letters (end_of settings.now.nul)) settings.now.count) no_input
         (passed O.contents O.failed out.old out.new) result }
 {

@@ -2,10 +2,10 @@
 ghost use Rattle.std.specs.Prelude.{◌≡◌, ℕ, List, false, MatchResult};
 ghost use Rattle.abnfg.specs.ListedLines.{AreWritten, end_of, record_text};
 ghost use Rattle.abnfg.specs.ListModes.{AreMissesAll, AreMissesFirst, IsMissHalt, IsMissNext, IsMissWritten};
-ghost use Rattle.abnfg.specs.ListModes.{IsNoneTold};
+ghost use Rattle.abnfg.specs.ListModes.{IsNoLineReported};
 ghost use Rattle.abnfread.specs.AbnfViews.{rules_of};
 ghost use Rattle.abnfread.specs.Element.{Rule};
-ghost use Rattle.rulelines.specs.MissLists.{AreAllMisses, AreFirstMisses, IsRuleOf};
+ghost use Rattle.rulelines.specs.MissLists.{AreAllMisses, AreFirstMisses, AreOfRule};
 ghost use Rattle.ruletable.specs.Writing.{Flags};
 
 use crate::lines::{Halt, ListSettings, ROOM, end_byte, write_record};
@@ -17,7 +17,7 @@ use std::alloc::Global;
 // Returns the line after so many lines, or why there is none.
 fn next_miss(misses: &mut Misses, done: u32) -> Result<Vec<u32>, Halt>
     ensures same { misses.new.prefixes.set ≡ misses.old.prefixes.set }
-    ensures next { (rules : List Rule) (id : ℕ) → IsRuleOf rules id misses.old →
+    ensures next { (rules : List Rule) (id : ℕ) → AreOfRule rules id misses.old →
         MatchResult result (IsMissNext rules id misses.old misses.new) (IsMissHalt rules id done misses.old) }
 {
     match misses.next() {
@@ -28,8 +28,8 @@ fn next_miss(misses: &mut Misses, done: u32) -> Result<Vec<u32>, Halt>
     }
 }
 
-// Writes the line after so many lines, and returns why there is none. `WriteFault` if the output fails; then a prefix of
-// the line is written.
+// Writes the line after so many lines, and returns why there is none. `WriteFault` if the output fails; then a prefix
+// of the line is written.
 fn write_miss<O: Sink>(
     alloc: Global,
     settings: &ListSettings<'_>,
@@ -39,7 +39,7 @@ fn write_miss<O: Sink>(
 ) -> Result<Option<Halt>, WriteFault>
     requires { O.failed out.old ≡ false }
     ensures same { misses.new.prefixes.set ≡ misses.old.prefixes.set }
-    ensures next { (rules : List Rule) (id : ℕ) → IsRuleOf rules id misses.old →
+    ensures next { (rules : List Rule) (id : ℕ) → AreOfRule rules id misses.old →
         IsMissWritten rules id (record_text settings.now.letters (end_of settings.now.nul)) done misses.old misses.new
         (O.contents out.old) (O.contents out.new) result }
     ensures flag { Flags (O.failed out.old) (O.failed out.new) result }
@@ -59,7 +59,8 @@ fn write_misses<O: Sink>(
     out: &mut O,
 ) -> Result<Halt, WriteFault>
     requires { O.failed out.old ≡ false }
-    ensures lines { (rules : List Rule) (id : ℕ) → IsRuleOf rules id misses.old → IsNoneTold rules id misses.old →
+    ensures lines { (rules : List Rule) (id : ℕ) → AreOfRule rules id misses.old →
+        IsNoLineReported rules id misses.old →
         AreWritten (AreMissesFirst rules id misses.old) (AreMissesAll rules id misses.old)
         (record_text settings.now.letters (end_of settings.now.nul)) settings.now.count (O.contents out.old)
         (O.contents out.new) result }
@@ -75,8 +76,8 @@ fn write_misses<O: Sink>(
     Ok(Halt::All)
 }
 
-/// Writes lines that the judged rule of a grammar does not derive, as many as are asked for, and returns why no more are
-/// written. `WriteFault` if the output fails; then a prefix of a line is written after whole lines.
+/// Writes lines that the judged rule of a grammar does not derive, as many as are asked for, and returns why no more
+/// are written. `WriteFault` if the output fails; then a prefix of a line is written after whole lines.
 pub(crate) fn write_refused<O: Sink>(
     alloc: Global,
     settings: &ListSettings<'_>,

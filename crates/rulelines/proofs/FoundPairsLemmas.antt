@@ -31,7 +31,8 @@ take_next x j c is =
     let same : suc j ≡ j + 1 = omega arith in
     subst (λ v. take v x ≡ take j x ++ c ∷ []) same (take_suc x j c is)
 
-pub symbols_then : (has : ℕ → Bool) (w : List ℕ) (c : ℕ) → AreLetters has w → has c ≡ true → AreLetters has (w ++ c ∷ [])
+pub symbols_then : (has : ℕ → Bool) (w : List ℕ) (c : ℕ) → AreLetters has w → has c ≡ true
+    → AreLetters has (w ++ c ∷ [])
 symbols_then has [] c all is = (is, tt)
 symbols_then has (b ∷ w) c all is = (all.0, symbols_then has w c all.1 is)
 

@@ -20,5 +20,5 @@ mod LineSamplesLemmas
 mod MissSearchLemmas
 mod StateClosuresLemmas
 mod ViableLemmas
-mod ToldPrefixesLemmas
+mod ReportedPrefixesLemmas
 pub mod MissLinesLemmas

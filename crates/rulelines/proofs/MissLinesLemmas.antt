@@ -14,16 +14,16 @@ use Rattle.letters.specs.Letters.{has as has_letter}
 use Rattle.letters.specs.declared.alphabet.Alphabet.{Alphabet}
 use Rattle.rulelines.specs.declared.miss.prefixes.StatePrefix.{StatePrefix}
 use Rattle.rulelines.specs.LineSets.{is_line_symbol}
-use Rattle.rulelines.specs.Misses.{AreAllPrefixes, AreFirstPrefixes, CannotFollow, IsFirstWrong, IsMiss, IsStatePrefix, IsViable}
-use Rattle.rulelines.specs.Misses.{lines_of, refused_lines, wrong_lines}
-use Rattle.rulelines.specs.MissLists.{AreAllMisses, AreFirstMisses, AreToldLines, MissList, waiting}
-use Rattle.rulelines.specs.MissSearch.{AreTold}
+use Rattle.rulelines.specs.Misses.{AreAllPrefixes, AreFirstPrefixes, CannotFollow, IsFirstWrong, IsMiss}
+use Rattle.rulelines.specs.Misses.{IsStatePrefix, IsViable, prefix_lines, refused_lines, wrong_lines}
+use Rattle.rulelines.specs.MissLists.{AreAllMisses, AreFirstMisses, AreLinesReported, MissList, waiting_lines}
+use Rattle.rulelines.specs.MissSearch.{ArePrefixesReported}
 use Rattle.rulelines.proofs.SearchLemmas.{or_left}
-use Rattle.rulelines.proofs.ViableLemmas.{derived_viable, letters_join, take_front}
+use Rattle.rulelines.proofs.ViableLemmas.{derived_viable, letters_join, take_prefix}
 
 -- lines that were put last first
 pub waiting_more : (lines : List (Vec ℕ Global)) (line : Vec ℕ Global)
-    → waiting (lines ++ line ∷ []) ≡ line.items ∷ waiting lines
+    → waiting_lines (lines ++ line ∷ []) ≡ line.items ∷ waiting_lines lines
 waiting_more lines line =
     ap (λ v. reverse v) (map-append (λ l. l.items) lines (line ∷ []))
     ∙ reverse-append (map (λ l. l.items) lines) (line.items ∷ [])
@@ -57,7 +57,7 @@ module _ (alphabet : Alphabet) (terminator limit : ℕ) (rules : List Rule) (id 
       letters = b.letters;
       derives = subst (λ v. RuleDerives (has_letter alphabet) rules id (v ++ b.rest))
           (ap (λ v. take (length Here) v) (sym (append-nil Here))
-          ∙ (take_front Here [] ∙ sym (take_front Here (c ∷ [])))) b.derives;
+          ∙ (take_prefix Here [] ∙ sym (take_prefix Here (c ∷ [])))) b.derives;
     }
 
     wrong_is : (c : ℕ) → IsFirstWrong alphabet terminator limit rules id Here (Some c) → Miss (Here ++ c ∷ [])
@@ -70,7 +70,8 @@ module _ (alphabet : Alphabet) (terminator limit : ℕ) (rules : List Rule) (id 
         within = omega (arith, long);
         begins = λ some. viable_there c (is.viable some);
         last = λ m lt le b. w.0.not_viable
-            (subst (λ v. BeginsMember (has_letter alphabet) rules id (Here ++ c ∷ []) v) (omega (arith, lt, le, long)) b);
+            (subst (λ v. BeginsMember (has_letter alphabet) rules id (Here ++ c ∷ []) v)
+            (omega (arith, lt, le, long)) b);
       };
       near = inr (Here, c, refl, refl, w.1);
     }
@@ -87,14 +88,14 @@ module _ (alphabet : Alphabet) (terminator limit : ℕ) (rules : List Rule) (id 
     by_wrong None w = All-nil Miss
     by_wrong (Some c) w = All-cons Miss (Here ++ c ∷ []) [] (wrong_is c w) (All-nil Miss)
 
-    lines_right : All Miss (lines_of p)
+    lines_right : All Miss (prefix_lines p)
     lines_right = All-append Miss (refused_lines p.is_refused Here) (wrong_lines Here p.wrong)
         (by_refused p.is_refused refused_is) (by_wrong p.wrong is.wrong)
 
   all_right : (ps : List StatePrefix) → All (IsStatePrefix alphabet terminator limit rules id) ps
-      → All Miss (flat_map lines_of ps)
+      → All Miss (flat_map prefix_lines ps)
   all_right [] all = All-nil Miss
-  all_right (p ∷ ps) all = All-append Miss (lines_of p) (flat_map lines_of ps)
+  all_right (p ∷ ps) all = All-append Miss (prefix_lines p) (flat_map prefix_lines ps)
       (lines_right p (All-head (IsStatePrefix alphabet terminator limit rules id) p ps all))
       (all_right ps (All-tail (IsStatePrefix alphabet terminator limit rules id) p ps all))
 
@@ -103,7 +104,7 @@ module _ (alphabet : Alphabet) (terminator limit : ℕ) (rules : List Rule) (id 
       (all k d (let l = length-append ws rest in omega (arith, lt, l)))
 
   pub first_misses : (ps : List StatePrefix) → AreFirstPrefixes alphabet terminator limit rules id ps
-      → (ws rest : List (List ℕ)) → flat_map lines_of ps ≡ ws ++ rest
+      → (ws rest : List (List ℕ)) → flat_map prefix_lines ps ≡ ws ++ rest
       → AreFirstMisses alphabet terminator limit rules id ws
   first_misses ps first ws rest are = record {
     prefixes = ps;
@@ -113,51 +114,53 @@ module _ (alphabet : Alphabet) (terminator limit : ℕ) (rules : List Rule) (id 
     right = all_left ws rest (subst (All Miss) are (all_right ps first.are));
   }
 
--- what lines are told
-module _ (rules : List Rule) (id : ℕ) (list : MissList) (ws : List (List ℕ)) (t : AreToldLines rules id list ws) where
-  pub told_first : AreFirstMisses list.prefixes.set.alphabet list.prefixes.set.terminator list.prefixes.set.limit rules
-      id ws
-  told_first = first_misses list.prefixes.set.alphabet list.prefixes.set.terminator list.prefixes.set.limit rules id
-      t.prefixes t.told.told.first ws list.waiting t.are
+-- what lines are reported
+module _ (rules : List Rule) (id : ℕ) (list : MissList) (ws : List (List ℕ))
+    (t : AreLinesReported rules id list ws) where
+  pub reported_first : AreFirstMisses list.prefixes.set.alphabet list.prefixes.set.terminator
+      list.prefixes.set.limit rules id ws
+  reported_first = first_misses list.prefixes.set.alphabet list.prefixes.set.terminator list.prefixes.set.limit rules id
+      t.prefixes t.reported.reported.first ws list.waiting t.are
 
-  none_waiting : list.waiting ≡ [] → flat_map lines_of t.prefixes ≡ ws
+  none_waiting : list.waiting ≡ [] → flat_map prefix_lines t.prefixes ≡ ws
   none_waiting none = t.are ∙ (ap (λ v. ws ++ v) none ∙ append-nil ws)
 
-  -- all prefixes are told
-  pub all_told : list.waiting ≡ [] → AreAllPrefixes list.prefixes.set.alphabet list.prefixes.set.terminator
+  -- all prefixes are reported
+  pub all_reported : list.waiting ≡ [] → AreAllPrefixes list.prefixes.set.alphabet list.prefixes.set.terminator
       list.prefixes.set.limit rules id t.prefixes
       → AreAllMisses list.prefixes.set.alphabet list.prefixes.set.terminator list.prefixes.set.limit rules id ws
-  all_told none all = record {
+  all_reported none all = record {
     prefixes = t.prefixes;
-    first = t.told.told.first;
+    first = t.reported.reported.first;
     all = all;
     are = none_waiting none;
   }
 
   -- the lines of one more wait
-  pub refilled : (new : MissList) (p : StatePrefix) → list.waiting ≡ []
-      → AreTold rules id new.prefixes (t.prefixes ++ p ∷ []) → new.waiting ≡ lines_of p → AreToldLines rules id new ws
-  refilled new p none told waits = record {
+  pub lines_refilled : (new : MissList) (p : StatePrefix) → list.waiting ≡ []
+      → ArePrefixesReported rules id new.prefixes (t.prefixes ++ p ∷ []) → new.waiting ≡ prefix_lines p
+      → AreLinesReported rules id new ws
+  lines_refilled new p none reported waits = record {
     prefixes = t.prefixes ++ p ∷ [];
-    told = told;
-    are = flat_map-append lines_of t.prefixes (p ∷ [])
-        ∙ (ap (λ v. v ++ (lines_of p ++ [])) (none_waiting none)
-        ∙ ap (λ v. ws ++ v) (append-nil (lines_of p) ∙ sym waits));
+    reported = reported;
+    are = flat_map-append prefix_lines t.prefixes (p ∷ [])
+        ∙ (ap (λ v. v ++ (prefix_lines p ++ [])) (none_waiting none)
+        ∙ ap (λ v. ws ++ v) (append-nil (prefix_lines p) ∙ sym waits));
   }
 
-  -- one of them is told
-  pub one_told : (new : MissList) (w : List ℕ) → new.prefixes ≡ list.prefixes → list.waiting ≡ w ∷ new.waiting
-      → AreToldLines rules id new (ws ++ w ∷ [])
-  one_told new w same waits = record {
+  -- one of them is reported
+  pub one_reported : (new : MissList) (w : List ℕ) → new.prefixes ≡ list.prefixes → list.waiting ≡ w ∷ new.waiting
+      → AreLinesReported rules id new (ws ++ w ∷ [])
+  one_reported new w same waits = record {
     prefixes = t.prefixes;
-    told = subst (λ v. AreTold rules id v t.prefixes) (sym same) t.told;
+    reported = subst (λ v. ArePrefixesReported rules id v t.prefixes) (sym same) t.reported;
     are = t.are ∙ (ap (λ v. ws ++ v) waits ∙ sym (append_assoc ws (w ∷ []) new.waiting));
   }
 
--- none is told yet
-pub no_lines_told : (rules : List Rule) (id : ℕ) (list : MissList) → AreTold rules id list.prefixes []
-    → list.waiting ≡ [] → AreToldLines rules id list []
-no_lines_told rules id list told none = record { prefixes = []; told = told; are = sym none }
+-- none is reported yet
+pub no_lines_reported : (rules : List Rule) (id : ℕ) (list : MissList) → ArePrefixesReported rules id list.prefixes []
+    → list.waiting ≡ [] → AreLinesReported rules id list []
+no_lines_reported rules id list reported none = record { prefixes = []; reported = reported; are = sym none }
 
 -- .. and no prefix
 pub no_prefixes : (alphabet : Alphabet) (terminator limit : ℕ) (rules : List Rule) (id : ℕ)

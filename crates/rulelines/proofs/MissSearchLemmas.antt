@@ -16,8 +16,8 @@ use Rattle.lazydfa.proofs.StateSetsLemmas.{contained_at, got_at}
 use Rattle.rulelines.specs.declared.pairs.SearchedPair.{SearchedPair}
 use Rattle.rulelines.specs.FirstLines.{sort_key}
 use Rattle.rulelines.specs.FoundPairs.{IsWordOf, next, start}
-use Rattle.rulelines.specs.MissSearch.{AreFoundStill, IsAstrayTo, IsExpandedTo, IsFirstAstray, IsFoundAt, IsLed, IsLedBy}
-use Rattle.rulelines.specs.MissSearch.{IsLive, IsStateSearch, IsWordIn, IsWrongKept, LeadsAstray, LeadsOn}
+use Rattle.rulelines.specs.MissSearch.{AreFoundStill, IsAstrayTo, IsExpandedTo, IsFirstAstray, IsFoundAt, IsLedBy}
+use Rattle.rulelines.specs.MissSearch.{IsLedFrom, IsLive, IsStateSearch, IsWordIn, IsWrongKept, LeadsAstray, LeadsOn}
 use Rattle.rulelines.specs.MissSearch.{FoundStates}
 use Rattle.rulelines.specs.Samples.{AreInLineOrder}
 use Rattle.rulelines.specs.Search.{found_pair, found_pairs, IsPairAdded, IsPairSearch}
@@ -103,7 +103,8 @@ pub was_led : (old new : FoundStates) (at c t : ℕ) (p : SearchedPair) (live : 
     → slice_get old.pairs at ≡ Some p → AreMoreStates old.states new.states → new.at ≡ old.at
     → IsNextState new.states c p.old t
     → IsPairAdded old.pairs (record { old = t; new = t; parent = at; symbol = c }) new.pairs
-    → ((to : StateSet) → slice_get new.states.states t ≡ Some to → IsTrue live ↔ IsLive to) → IsLed old new at c live
+    → ((to : StateSet) → slice_get new.states.states t ≡ Some to → IsTrue live ↔ IsLive to)
+    → IsLedFrom old new at c live
 was_led old new at c t p live at_p more index led added reported = record {
   more = more;
   still = added_still old.pairs new.pairs _ added;
@@ -124,9 +125,11 @@ was_led old new at c t p live at_p more index led added reported = record {
         → slice_get new.pairs i ≡ Some q → q.new ≡ q.old
     own before i q (inl h) is = before i q (subst (λ v. slice_get v i ≡ Some q) h.0 is)
     own before i q (inr grown) is =
-        by (push_cases old.pairs (record { old = t; new = t; parent = at; symbol = c }) i q (subst (λ v. slice_get v i ≡ Some q) grown is))
+        by (push_cases old.pairs (record { old = t; new = t; parent = at; symbol = c }) i q
+        (subst (λ v. slice_get v i ≡ Some q) grown is))
       where
-        by : (slice_get old.pairs i ≡ Some q) ⊎ ((i ≡ length old.pairs) × (record { old = t; new = t; parent = at; symbol = c } ≡ q))
+        by : (slice_get old.pairs i ≡ Some q)
+            ⊎ ((i ≡ length old.pairs) × (record { old = t; new = t; parent = at; symbol = c } ≡ q))
             → q.new ≡ q.old
         by (inl h) = before i q h
         by (inr h) = subst (λ (v : SearchedPair). v.new ≡ v.old) h.1 refl
@@ -165,7 +168,7 @@ module _ (samples : List ℕ) where
         subst (λ v. IsAstrayTo flat last samples (k + 1) s v) (sym is) (k, at_k, led, was)
 
   pub one_expanded : (old mid new : FoundStates) (at k c : ℕ) (wrong more : Option ℕ) (live : Bool)
-      → slice_get samples k ≡ Some c → IsExpandedTo samples k old mid at wrong → IsLed mid new at c live
+      → slice_get samples k ≡ Some c → IsExpandedTo samples k old mid at wrong → IsLedFrom mid new at c live
       → IsWrongKept wrong c live more → IsExpandedTo samples (k + 1) old new at more
   one_expanded old mid new at k c wrong more live at_k e l kept = record {
     more = more_trans old.states mid.states new.states e.more l.more;

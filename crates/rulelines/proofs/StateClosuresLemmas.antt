@@ -39,9 +39,9 @@ module _ (flat : Flat) (last : Dot → Bool) where
   Next s c t = IsNext flat last (Contains s.stacks) c (Contains t.stacks) t.ended
 
   -- where moves lead, they begin
-  origin : {f : List Dot → Type 0} (t : List Dot) → Led flat last f t → (s : List Dot) × f s
-  origin t (led h) = (t, h)
-  origin t (moves h m) = origin _ h
+  moves_begin : {f : List Dot → Type 0} (t : List Dot) → Led flat last f t → (s : List Dot) × f s
+  moves_begin t (led h) = (t, h)
+  moves_begin t (moves h m) = moves_begin _ h
 
   module _ (u : List ℕ) (s : StateSet) (leads : LeadTo u s) where
     pub lead_next : (c d : ℕ) → AreAlike flat c d → (t : StateSet) → Next s d t → LeadTo (u ++ c ∷ []) t
@@ -54,15 +54,16 @@ module _ (flat : Flat) (last : Dot → Bool) where
         (leads (c ∷ rest)) next))
 
     -- a symbol is read where it leads to some stack
-    taken : (c : ℕ) (rest : List ℕ) → ((a : List Dot) × Reach flat last (u ++ c ∷ rest) (length u + 1) a)
+    symbol_taken : (c : ℕ) (rest : List ℕ) → ((a : List Dot) × Reach flat last (u ++ c ∷ rest) (length u + 1) a)
         ↔ ((a : List Dot) × ReadBy flat last (Contains s.stacks) c a)
-    taken c rest =
-        taken_by_tops flat last (u ++ c ∷ rest) (length u) c c (at_seam u c rest) (self_alike flat c) (Contains s.stacks)
+    symbol_taken c rest =
+        taken_by_tops flat last (u ++ c ∷ rest) (length u) c c (at_seam u c rest) (self_alike flat c)
+        (Contains s.stacks)
         [] (nothing_below flat last (u ++ c ∷ rest) (length u) (Contains s.stacks) s.ended (leads (c ∷ rest)))
 
     pub read_there : (c : ℕ) (rest : List ℕ) → (a : List Dot) × Reach flat last (u ++ c ∷ rest) (length u + 1) a
         → (a : List Dot) × ReadBy flat last (Contains s.stacks) c a
-    read_there c rest h = (taken c rest).0 h
+    read_there c rest h = (symbol_taken c rest).0 h
 
     pub none_there : (c : ℕ) (rest : List ℕ) → s.stacks ≡ []
         → (a : List Dot) × Reach flat last (u ++ c ∷ rest) (length u + 1) a → ⊥
@@ -74,7 +75,7 @@ module _ (flat : Flat) (last : Dot → Bool) where
     -- a live state is reached by some stack
     pub live_reached : (c : ℕ) (rest : List ℕ) (t : StateSet) → Next s c t → IsLive t
         → (a : List Dot) × Reach flat last (u ++ c ∷ rest) (length u + 1) a
-    live_reached c rest t next live = (taken c rest).1 (by live)
+    live_reached c rest t next live = (symbol_taken c rest).1 (by live)
       where
         some : (xs : List (List Dot)) → (xs ≡ [] → ⊥) → (top : List Dot) × Contains xs top
         some [] none = absurd (none refl)
@@ -83,8 +84,8 @@ module _ (flat : Flat) (last : Dot → Bool) where
         by : IsLive t → (a : List Dot) × ReadBy flat last (Contains s.stacks) c a
         by (inl full) =
             let g = some t.stacks full in
-            origin g.0 ((next.tops_are g.0).0 g.1).1
-        by (inr ended) = let e = next.ended_is.0 ended in origin (e.position ∷ []) e.led_to
+            moves_begin g.0 ((next.tops_are g.0).0 g.1).1
+        by (inr ended) = let e = next.ended_is.0 ended in moves_begin (e.position ∷ []) e.led_to
 
     -- what the state takes is accepted after the prefix
     module _ (r : List ℕ) where

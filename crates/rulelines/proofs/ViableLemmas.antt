@@ -18,7 +18,7 @@ use Rattle.lazydfa.specs.StateSets.{StateSet}
 use Rattle.rulelines.specs.FirstLines.{sort_key}
 use Rattle.rulelines.specs.LineSets.{is_line_symbol}
 use Rattle.rulelines.specs.Misses.{CannotFollow, HaveSameRests, IsFirstWrong, IsViable}
-use Rattle.rulelines.specs.MissSearch.{GivesPrefixesTo, IsFirstAstray, IsLive, IsWithin, LeadsAstray, LeadsOn}
+use Rattle.rulelines.specs.MissSearch.{GivesPrefixesTo, IsFirstAstray, IsLive, IsKeptWithin, LeadsAstray, LeadsOn}
 use Rattle.rulelines.specs.StatePairs.{AcceptsRule}
 use Rattle.rulelines.proofs.LineOrderLemmas.{inner_letters}
 use Rattle.rulelines.proofs.StateClosuresLemmas.{accepts_ended, accepts_takes, ended_accepts, lead_next, LeadTo}
@@ -37,20 +37,20 @@ pub letters_right : (has : ℕ → Bool) (u v : List ℕ) → AreLetters has (u 
 letters_right has [] v all = all
 letters_right has (b ∷ u) v all = letters_right has u v all.1
 
-pub take_front : (u v : List ℕ) → take (length u) (u ++ v) ≡ u
-take_front [] v = refl
-take_front (b ∷ u) v = ap (λ x. b ∷ x) (take_front u v)
+pub take_prefix : (u v : List ℕ) → take (length u) (u ++ v) ≡ u
+take_prefix [] v = refl
+take_prefix (b ∷ u) v = ap (λ x. b ∷ x) (take_prefix u v)
 
 pub take_whole : (u : List ℕ) → take (length u) u ≡ u
-take_whole u = ap (λ v. take (length u) v) (sym (append-nil u)) ∙ take_front u []
+take_whole u = ap (λ v. take (length u) v) (sym (append-nil u)) ∙ take_prefix u []
 
 module _ (alphabet : Alphabet) (rules : List Rule) (id : ℕ) where
   abbrev pub Viable : List ℕ → Type 0
   Viable u = BeginsMember (has_letter alphabet) rules id u (length u)
 
   -- a prefix of a viable prefix
-  pub viable_front : (u v : List ℕ) → AreLetters (has_letter alphabet) v → Viable (u ++ v) → Viable u
-  viable_front u v letters b = record {
+  pub viable_prefix : (u v : List ℕ) → AreLetters (has_letter alphabet) v → Viable (u ++ v) → Viable u
+  viable_prefix u v letters b = record {
     rest = v ++ b.rest;
     letters = letters_join (has_letter alphabet) v b.rest letters b.letters;
     derives = subst (λ x. RuleDerives (has_letter alphabet) rules id x)
@@ -103,44 +103,46 @@ module _ (alphabet : Alphabet) (terminator limit : ℕ) (rules : List Rule) (id 
     derives = gives.prefixes.lines;
   }
 
-  short : (n : ℕ) → n ≤ limit + 1 → n ≤ flat.limit
-  short n le = let e = gives.most in omega (arith, e, le)
+  within_flat : (n : ℕ) → n ≤ limit + 1 → n ≤ flat.limit
+  within_flat n le = let e = gives.most in omega (arith, e, le)
 
   -- a viable prefix is one that leads to some stack
   pub viable_reached : (u : List ℕ) → AreLetters Has u → length u ≤ limit + 1 → 0 < length u
       → Viable alphabet rules id u → (a : List Dot) × Reach flat last u (length u) a
   viable_reached u letters le some viable =
       item_reached flat uncounted u last tails
-      ((gives.prefixes.viable u (length u) (short (length u) le) letters some (omega arith)).1 viable)
+      ((gives.prefixes.viable u (length u) (within_flat (length u) le) letters some (omega arith)).1 viable)
 
   pub reached_viable : (u : List ℕ) → AreLetters Has u → length u ≤ limit + 1 → 0 < length u
       → (a : List Dot) × Reach flat last u (length u) a → Viable alphabet rules id u
   reached_viable u letters le some h =
-      (gives.prefixes.viable u (length u) (short (length u) le) letters some (omega arith)).0
+      (gives.prefixes.viable u (length u) (within_flat (length u) le) letters some (omega arith)).0
       (reached_item flat uncounted u last tails h.0 h.1)
 
-  long : (u : List ℕ) (c : ℕ) → length (u ++ c ∷ []) ≡ length u + 1
-  long u c = length-append u (c ∷ [])
+  length_pushed : (u : List ℕ) (c : ℕ) → length (u ++ c ∷ []) ≡ length u + 1
+  length_pushed u c = length-append u (c ∷ [])
 
   module _ (u : List ℕ) (s : StateSet) (leads : LeadTo flat last u s) (letters : AreLetters Has u)
       (within : length u ≤ limit) where
     pub ended_derives : s.ended ≡ true → RuleDerives Has rules id u
     ended_derives ended =
-        accepted_derived Has rules id flat last flat.limit accepts_rule u (short (length u) (omega (arith, within)))
+        accepted_derived Has rules id flat last flat.limit accepts_rule u
+        (within_flat (length u) (omega (arith, within)))
         letters (ended_accepts flat last u s leads ended)
 
     pub derives_ended : RuleDerives Has rules id u → s.ended ≡ true
     derives_ended d = accepts_ended flat last u s leads
-        (derived_accepted Has rules id flat last flat.limit accepts_rule u (short (length u) (omega (arith, within)))
+        (derived_accepted Has rules id flat last flat.limit accepts_rule u
+        (within_flat (length u) (omega (arith, within)))
         letters d)
 
     -- a symbol follows, so there is a stack
     pub follows_some : (c : ℕ) → Has c ≡ true → Viable alphabet rules id (u ++ c ∷ []) → s.stacks ≡ [] → ⊥
     follows_some c symbol viable none =
         none_there flat last u s leads c [] none
-        (subst (λ v. (a : List Dot) × Reach flat last (u ++ c ∷ []) v a) (long u c)
+        (subst (λ v. (a : List Dot) × Reach flat last (u ++ c ∷ []) v a) (length_pushed u c)
         (viable_reached (u ++ c ∷ []) (letters_join Has u (c ∷ []) letters (symbol, tt))
-        (let e = long u c in omega (arith, e, within)) (let e = long u c in omega (arith, e)) viable))
+        (let e = length_pushed u c in omega (arith, e, within)) (let e = length_pushed u c in omega (arith, e)) viable))
 
     pub viable_live : Viable alphabet rules id u → IsLive s
     viable_live viable = by (viable_cases alphabet rules id u viable)
@@ -154,14 +156,14 @@ module _ (alphabet : Alphabet) (terminator limit : ℕ) (rules : List Rule) (id 
         → Viable alphabet rules id (u ++ c ∷ [])
     live_viable c symbol t next live =
         reached_viable (u ++ c ∷ []) (letters_join Has u (c ∷ []) letters (symbol, tt))
-        (let e = long u c in omega (arith, e, within)) (let e = long u c in omega (arith, e))
-        (subst (λ v. (a : List Dot) × Reach flat last (u ++ c ∷ []) v a) (sym (long u c))
+        (let e = length_pushed u c in omega (arith, e, within)) (let e = length_pushed u c in omega (arith, e))
+        (subst (λ v. (a : List Dot) × Reach flat last (u ++ c ∷ []) v a) (sym (length_pushed u c))
         (live_reached flat last u s leads c [] t next live))
 
   module _ (u : List ℕ) (s : StateSet) (leads : LeadTo flat last u s)
       (letters : AreLetters (is_line_symbol alphabet terminator) u) (within : length u ≤ limit) where
-    inner : (c : ℕ) → is_line_symbol alphabet terminator c ≡ true → Has c ≡ true
-    inner c symbol = (inner_letters alphabet terminator (c ∷ []) (symbol, tt)).0
+    inner_symbol : (c : ℕ) → is_line_symbol alphabet terminator c ≡ true → Has c ≡ true
+    inner_symbol c symbol = (inner_letters alphabet terminator (c ∷ []) (symbol, tt)).0
 
     letters_are : AreLetters Has u
     letters_are = inner_letters alphabet terminator u letters
@@ -170,7 +172,8 @@ module _ (alphabet : Alphabet) (terminator limit : ℕ) (rules : List Rule) (id 
     Wrong c = CannotFollow alphabet terminator limit rules id u c
 
     on_wrong : (c : ℕ) → LeadsOn flat last s c → Wrong c → ⊥
-    on_wrong c l w = w.not_viable (live_viable u s leads letters_are within c (inner c w.symbol) l.to l.next l.live)
+    on_wrong c l w = w.not_viable (live_viable u s leads letters_are within c (inner_symbol c w.symbol)
+        l.to l.next l.live)
 
     astray_wrong : (c : ℕ) → is_line_symbol alphabet terminator c ≡ true → length u < limit
         → LeadsAstray flat last s c → Wrong c
@@ -179,8 +182,8 @@ module _ (alphabet : Alphabet) (terminator limit : ℕ) (rules : List Rule) (id 
       room = room;
       not_viable = λ viable. a.dead (viable_live (u ++ c ∷ []) a.to
           (lead_next flat last u s leads c c (self_alike flat c) a.to a.next)
-          (letters_join Has u (c ∷ []) letters_are (inner c symbol, tt))
-          (let e = long u c in omega (arith, e, room)) viable);
+          (letters_join Has u (c ∷ []) letters_are (inner_symbol c symbol, tt))
+          (let e = length_pushed u c in omega (arith, e, room)) viable);
     }
 
     first_wrong : length u < limit → (wrong : Option ℕ)
@@ -198,7 +201,7 @@ module _ (alphabet : Alphabet) (terminator limit : ℕ) (rules : List Rule) (id 
 
     -- .. if there is room for it
     pub wrong_within : (wrong new : Option ℕ) → IsFirstAstray flat last (is_line_symbol alphabet terminator) s wrong
-        → IsWithin limit (length u) wrong new → IsFirstWrong alphabet terminator limit rules id u new
+        → IsKeptWithin limit (length u) wrong new → IsFirstWrong alphabet terminator limit rules id u new
     wrong_within wrong new a is = by (cases_lt (length u) limit)
       where
         by : (length u < limit) ⊎ (limit ≤ length u) → IsFirstWrong alphabet terminator limit rules id u new

@@ -30,8 +30,8 @@ pub record FoundStates : Type 0 where
   pub pairs : List SearchedPair
   pub at : ℕ
 
-abbrev pub found_of : StateSearch → FoundStates
-found_of search = record { states = search.states; pairs = search.pairs.items.items; at = search.at }
+abbrev pub found_states : StateSearch → FoundStates
+found_states search = record { states = search.states; pairs = search.pairs.items.items; at = search.at }
 
 -- a symbol can follow, or the whole may end
 abbrev pub IsLive : StateSet → Type 0
@@ -87,7 +87,7 @@ IsFoundAt search i s = (p : SearchedPair) × (slice_get search.pairs i ≡ Some 
     × (slice_get search.states.states p.old ≡ Some s)
 
 -- a symbol leads on from the state at an index, or astray
-pub record IsLed (old new : FoundStates) (at c : ℕ) (live : Bool) : Type 0 where
+pub record IsLedFrom (old new : FoundStates) (at c : ℕ) (live : Bool) : Type 0 where
   pub more : AreMoreStates old.states new.states
   pub still : AreFoundStill old.pairs new.pairs
   pub index : new.at ≡ old.at
@@ -116,19 +116,19 @@ IsWrongKept None symbol true new = new ≡ None
 IsWrongKept None symbol false new = new ≡ Some symbol
 
 -- no line leads to the state at an index, and it is not the first
-abbrev pub IsPassed : FoundStates → ℕ → Type 0
-IsPassed search i = (0 < i) × ((s : StateSet) → IsFoundAt search i s → IsLive s → ⊥)
+abbrev pub IsStatePassed : FoundStates → ℕ → Type 0
+IsStatePassed search i = (0 < i) × ((s : StateSet) → IsFoundAt search i s → IsLive s → ⊥)
 
 -- the next state that a line leads to, or the first one
 abbrev pub IsNextLive : FoundStates → Option ℕ → Type 0
-IsNextLive search None = (i : ℕ) → search.at ≤ i → i < length search.pairs → IsPassed search i
+IsNextLive search None = (i : ℕ) → search.at ≤ i → i < length search.pairs → IsStatePassed search i
 IsNextLive search (Some at) = (search.at ≤ at) × (at < length search.pairs)
     × (0 < at → (s : StateSet) → IsFoundAt search at s → IsLive s)
-    × ((i : ℕ) → search.at ≤ i → i < at → IsPassed search i)
+    × ((i : ℕ) → search.at ≤ i → i < at → IsStatePassed search i)
 
 -- the symbol, if there is room for one after so many
-abbrev pub IsWithin : ℕ → ℕ → Option ℕ → Option ℕ → Type 0
-IsWithin limit count symbol new = (count < limit → new ≡ symbol) × (limit ≤ count → new ≡ None)
+abbrev pub IsKeptWithin : ℕ → ℕ → Option ℕ → Option ℕ → Type 0
+IsKeptWithin limit count symbol new = (count < limit → new ≡ symbol) × (limit ≤ count → new ≡ None)
 
 -- these symbols lead to what was found at an index
 abbrev pub IsWordIn : List SearchedPair → ℕ → List ℕ → Type 0
@@ -149,18 +149,18 @@ pub record IsSearchFor (flat : Flat) (inner : LineSymbols) (samples : List ℕ) 
 
 module _ (inner : LineSymbols) (limit : ℕ) (rules : List Rule) (id : ℕ) (search : FoundStates) where
   -- the prefixes are those of the live states below the search's index
-  pub record AreToldIn (ps : List StatePrefix) : Type 0 where
+  pub record AreReportedIn (ps : List StatePrefix) : Type 0 where
     pub first : AreFirstPrefixes inner.alphabet inner.terminator limit rules id ps
-    pub each : (i : ℕ) → i < search.at → IsPassed search i ⊎ ((q : StatePrefix) × Contains ps q
+    pub each : (i : ℕ) → i < search.at → IsStatePassed search i ⊎ ((q : StatePrefix) × Contains ps q
         × IsWordIn search.pairs i q.prefix.items)
     pub from : (q : StatePrefix) → Contains ps q → (i : ℕ) × (i < search.at)
         × IsWordIn search.pairs i q.prefix.items
 
--- one more prefix is told, or all are
+-- one more prefix is reported, or all are
 abbrev pub IsStepIn : LineSymbols → ℕ → List Rule → ℕ → FoundStates → FoundStates → NextPrefix → Type 0
-IsStepIn inner limit rules id old new (Prefix p) = (ps : List StatePrefix) → AreToldIn inner limit rules id old ps
-    → AreToldIn inner limit rules id new (ps ++ p ∷ [])
-IsStepIn inner limit rules id old new Done = (ps : List StatePrefix) → AreToldIn inner limit rules id old ps
+IsStepIn inner limit rules id old new (Prefix p) = (ps : List StatePrefix) → AreReportedIn inner limit rules id old ps
+    → AreReportedIn inner limit rules id new (ps ++ p ∷ [])
+IsStepIn inner limit rules id old new Done = (ps : List StatePrefix) → AreReportedIn inner limit rules id old ps
     → AreAllPrefixes inner.alphabet inner.terminator limit rules id ps
 
 -- a flat grammar that answers for a rule on lines of one symbol more than so many
@@ -176,24 +176,25 @@ pub record PrefixSearch : Type 0 where
 abbrev pub symbols_in : LineSet → LineSymbols
 symbols_in set = record { alphabet = set.alphabet; terminator = set.terminator }
 
--- these are the first prefixes, and the search has told them
-pub record AreTold (rules : List Rule) (id : ℕ) (prefixes : PrefixSearch) (ps : List StatePrefix) : Type 0 where
+-- these are the first prefixes, and the search has reported them
+pub record ArePrefixesReported (rules : List Rule) (id : ℕ) (prefixes : PrefixSearch)
+    (ps : List StatePrefix) : Type 0 where
   pub search : FoundStates
   pub is : prefixes.search ≡ Some search
-  pub told : AreToldIn (symbols_in prefixes.set) prefixes.set.limit rules id search ps
+  pub reported : AreReportedIn (symbols_in prefixes.set) prefixes.set.limit rules id search ps
 
--- one more prefix is told, or all are
+-- one more prefix is reported, or all are
 abbrev pub IsPrefixStep : List Rule → ℕ → PrefixSearch → PrefixSearch → NextPrefix → Type 0
-IsPrefixStep rules id old new (Prefix p) = (ps : List StatePrefix) → AreTold rules id old ps
-    → AreTold rules id new (ps ++ p ∷ [])
-IsPrefixStep rules id old new Done = (ps : List StatePrefix) → AreTold rules id old ps
+IsPrefixStep rules id old new (Prefix p) = (ps : List StatePrefix) → ArePrefixesReported rules id old ps
+    → ArePrefixesReported rules id new (ps ++ p ∷ [])
+IsPrefixStep rules id old new Done = (ps : List StatePrefix) → ArePrefixesReported rules id old ps
     → AreAllPrefixes old.set.alphabet old.set.terminator old.set.limit rules id ps
 
--- no prefix is told yet of those of a rule
+-- no prefix is reported yet of those of a rule
 pub record ArePrefixesOf (alphabet : Alphabet) (terminator limit : ℕ) (rules : List Rule) (id : ℕ)
     (prefixes : PrefixSearch) : Type 0 where
   pub alphabet_is : prefixes.set.alphabet ≡ alphabet
   pub terminator_is : prefixes.set.terminator ≡ terminator
   pub limit_is : prefixes.set.limit ≡ limit
   pub gives : GivesPrefixesTo alphabet limit rules id prefixes.set.flat
-  pub none : AreTold rules id prefixes []
+  pub none : ArePrefixesReported rules id prefixes []

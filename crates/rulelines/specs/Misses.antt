@@ -20,8 +20,8 @@ abbrev pub wrong_lines : List ℕ → Option ℕ → List (List ℕ)
 wrong_lines u None = []
 wrong_lines u (Some c) = (u ++ c ∷ []) ∷ []
 
-abbrev pub lines_of : StatePrefix → List (List ℕ)
-lines_of p = refused_lines p.is_refused p.prefix.items ++ wrong_lines p.prefix.items p.wrong
+abbrev pub prefix_lines : StatePrefix → List (List ℕ)
+prefix_lines p = refused_lines p.is_refused p.prefix.items ++ wrong_lines p.prefix.items p.wrong
 
 module _ (alphabet : Alphabet) (terminator limit : ℕ) (rules : List Rule) (id : ℕ) where
   -- some line that the rule derives begins so
@@ -39,7 +39,7 @@ module _ (alphabet : Alphabet) (terminator limit : ℕ) (rules : List Rule) (id 
   IsFirstWrong u None = (c : ℕ) → CannotFollow u c → ⊥
   IsFirstWrong u (Some c) = CannotFollow u c × ((d : ℕ) → CannotFollow u d → sort_key c ≤ sort_key d)
 
-  -- what is told of a prefix is right
+  -- what is reported of a prefix is right
   pub record IsStatePrefix (p : StatePrefix) : Type 0 where
     pub symbols : AreLetters (is_line_symbol alphabet terminator) p.prefix.items
     pub within : length p.prefix.items ≤ limit

@@ -2,8 +2,8 @@
 ghost use Rattle.std.specs.Prelude.{◌≡◌, ◌∷◌, ◌++◌, ℕ, List, IfOk, IfSome};
 ghost use Rattle.abnfread.specs.AbnfViews.{rules_of};
 ghost use Rattle.abnfread.specs.Element.{Rule};
-ghost use Rattle.rulelines.specs.Misses.{lines_of, refused_lines, wrong_lines};
-ghost use Rattle.rulelines.specs.MissLists.{AreMissesOf, IsMissStep, IsRefilled, IsRuleOf, waiting};
+ghost use Rattle.rulelines.specs.Misses.{prefix_lines, refused_lines, wrong_lines};
+ghost use Rattle.rulelines.specs.MissLists.{AreMissesOf, IsMissStep, IsRefilled, AreOfRule, waiting_lines};
 
 use crate::list::NextLine;
 use crate::miss::prefixes::{NextPrefix, StatePrefix, StatePrefixes};
@@ -28,11 +28,11 @@ pub struct Misses {
 
 impl Model for Misses {
     ghost use Rattle.std.specs.Prelude.{true};
-    ghost use Rattle.rulelines.specs.MissLists.{MissList, waiting};
+    ghost use Rattle.rulelines.specs.MissLists.{MissList, waiting_lines};
 
     ghost Value = { MissList };
 
-    ghost view = { λ m. record { prefixes = m.prefixes; waiting = waiting m.left.items } };
+    ghost view = { λ m. record { prefixes = m.prefixes; waiting = waiting_lines m.left.items } };
 }
 
 // Adds a prefix with the symbol that cannot follow it, if there is one. `Memory` if an allocation fails.
@@ -42,7 +42,8 @@ fn push_wrong(
     wrong: Option<u32>,
     lines: &mut Vec<Vec<u32>>,
 ) -> Result<(), Memory>
-    ensures { IfOk result (λ done. waiting lines.new.items ≡ wrong_lines prefix.now wrong ++ waiting lines.old.items) }
+    ensures { IfOk result (λ done. waiting_lines lines.new.items ≡ wrong_lines prefix.now wrong
+        ++ waiting_lines lines.old.items) }
 {
     let Some(symbol) = wrong else {
         return Ok(());
@@ -55,8 +56,8 @@ fn push_wrong(
 
 // Adds a prefix, if it is refused. `Memory` if an allocation fails.
 fn push_refused(prefix: Vec<u32>, is_refused: bool, lines: &mut Vec<Vec<u32>>) -> Result<(), Memory>
-    ensures { IfOk result (λ done. waiting lines.new.items ≡ refused_lines is_refused prefix.items
-        ++ waiting lines.old.items) }
+    ensures { IfOk result (λ done. waiting_lines lines.new.items ≡ refused_lines is_refused prefix.items
+        ++ waiting_lines lines.old.items) }
 {
     if is_refused {
         lines.push(prefix)?;
@@ -66,7 +67,7 @@ fn push_refused(prefix: Vec<u32>, is_refused: bool, lines: &mut Vec<Vec<u32>>) -
 
 // Returns the lines of a prefix, the last one first. `Memory` if an allocation fails.
 fn lines_from(alloc: Global, prefix: StatePrefix) -> Result<Vec<Vec<u32>>, Memory>
-    ensures { IfOk result (λ lines. waiting lines.items ≡ lines_of prefix) }
+    ensures { IfOk result (λ lines. waiting_lines lines.items ≡ prefix_lines prefix) }
 {
     let mut lines = Vec::new(alloc);
     push_wrong(alloc, &prefix.prefix, prefix.wrong, &mut lines)?;
@@ -75,9 +76,9 @@ fn lines_from(alloc: Global, prefix: StatePrefix) -> Result<Vec<Vec<u32>>, Memor
 }
 
 impl Misses {
-    /// Returns the lines of at most `limit` symbols that the judged rule of a grammar does not derive, none of them told,
-    /// with room for `room` entries of states. `None` if the grammar counts how often something nullable is repeated, or
-    /// there is no room. `Memory` if an allocation fails.
+    /// Returns the lines of at most `limit` symbols that the judged rule of a grammar does not derive, before the first
+    /// one. They have room for `room` entries of states. `None` if the grammar counts how often something nullable is
+    /// repeated, or there is no room. `Memory` if an allocation fails.
     pub fn new(
         alloc: Global,
         grammar: &SoundAbnf,
@@ -105,7 +106,7 @@ impl Misses {
     fn refill(&mut self) -> Result<Option<bool>, Memory>
         ensures same { self.new.prefixes.set ≡ self.old.prefixes.set }
         ensures filled { IfOk result (λ reported. IfSome reported (λ some. (rules : List Rule) (id : ℕ) →
-            IsRuleOf rules id self.old → IsRefilled rules id self.old self.new some)) }
+            AreOfRule rules id self.old → IsRefilled rules id self.old self.new some)) }
     {
         match self.prefixes.next()? {
             None => Ok(None),
@@ -122,7 +123,7 @@ impl Misses {
     pub fn next(&mut self) -> Result<Option<NextLine>, Memory>
         ensures same { self.new.prefixes.set ≡ self.old.prefixes.set }
         ensures next { IfOk result (λ reported. IfSome reported (λ step. (rules : List Rule) (id : ℕ) →
-            IsRuleOf rules id self.old → IsMissStep rules id self.old self.new step)) }
+            AreOfRule rules id self.old → IsMissStep rules id self.old self.new step)) }
     {
         for _ in 0..u64::MAX {
             if let Some(line) = self.left.pop() {

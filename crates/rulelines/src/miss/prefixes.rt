@@ -6,7 +6,7 @@ ghost use Rattle.flatgrammar.specs.Flat.{Flat as the_flat};
 ghost use Rattle.lazydfa.specs.StateSets.{StateSet};
 ghost use Rattle.rulelines.specs.declared.list.keys.LineSymbols.{LineSymbols as the_symbols};
 ghost use Rattle.rulelines.specs.MissSearch.{ArePrefixesOf, GivesPrefixesTo, IsFoundAt, IsPrefixStep, IsSearchBegun};
-ghost use Rattle.rulelines.specs.MissSearch.{IsSearchFor, IsStepIn, IsWithin, found_of};
+ghost use Rattle.rulelines.specs.MissSearch.{IsSearchFor, IsStepIn, IsKeptWithin, found_states};
 
 use crate::alone::word_of;
 use crate::list::keys::LineSymbols;
@@ -60,7 +60,7 @@ pub(crate) struct StatePrefixes {
 
 impl Model for StatePrefixes {
     ghost use Rattle.std.specs.Prelude.{IfSome, option_map};
-    ghost use Rattle.rulelines.specs.MissSearch.{IsSearchFor, PrefixSearch, found_of};
+    ghost use Rattle.rulelines.specs.MissSearch.{IsSearchFor, PrefixSearch, found_states};
 
     ghost Value = { PrefixSearch };
 
@@ -71,16 +71,17 @@ impl Model for StatePrefixes {
         terminator = p.inner.terminator;
         limit = p.limit;
       };
-      search = option_map found_of p.search;
+      search = option_map found_states p.search;
     } };
 
-    ghost invariant = { λ p. IfSome p.search (λ search. IsSearchFor p.flat p.inner p.samples.items (found_of search)) };
+    ghost invariant = { λ p. IfSome p.search (λ search. IsSearchFor p.flat p.inner p.samples.items
+        (found_states search)) };
 }
 
 // Returns a search whose first state is the start state of a flat grammar, with so much room for states. `None` if the
 // grammar counts how often something nullable is repeated, or there is no room. `Memory` if an allocation fails.
 fn begin_search(alloc: Global, flat: &Flat, room: usize) -> Result<Option<StateSearch>, Memory>
-    ensures { IfOk result (λ reported. IfSome reported (λ search. IsSearchBegun flat.now (found_of search))) }
+    ensures { IfOk result (λ reported. IfSome reported (λ search. IsSearchBegun flat.now (found_states search))) }
 {
     let Some(mut states) = States::new(alloc, flat, room)? else {
         return Ok(None);
@@ -105,14 +106,14 @@ fn begin_search(alloc: Global, flat: &Flat, room: usize) -> Result<Option<StateS
 
 // Returns the symbol, if a line of at most `limit` symbols has room for one after so many.
 fn within(limit: u32, count: usize, symbol: Option<u32>) -> Option<u32>
-    ensures { IsWithin limit count symbol result }
+    ensures { IsKeptWithin limit count symbol result }
 {
     if count < limit as usize { symbol } else { None }
 }
 
 // Returns whether the whole may not end in the state of an index.
 fn is_refused(search: &StateSearch, at: usize) -> bool
-    ensures { (s : StateSet) → IsFoundAt (found_of search.now) at s → result ≡ not s.ended }
+    ensures { (s : StateSet) → IsFoundAt (found_states search.now) at s → result ≡ not s.ended }
 {
     match search.pairs.items.get(at) {
         Some(found) => !search.states.has_ended(found.old),
@@ -128,12 +129,12 @@ fn next_prefix(
     limit: u32,
 ) -> Result<Option<NextPrefix>, Memory>
     ensures kept { IfOk result (λ reported. IfSome reported (λ step. (flat : the_flat) (inner : the_symbols) →
-        IsSearchFor flat inner samples.now (found_of search.old) → IsSearchFor flat inner samples.now
-        (found_of search.new))) }
+        IsSearchFor flat inner samples.now (found_states search.old) → IsSearchFor flat inner samples.now
+        (found_states search.new))) }
     ensures step { IfOk result (λ reported. IfSome reported (λ step. (flat : the_flat) (inner : the_symbols)
-        (rules : List Rule) (id : ℕ) → IsSearchFor flat inner samples.now (found_of search.old) →
-        GivesPrefixesTo inner.alphabet limit rules id flat → IsStepIn inner limit rules id (found_of search.old)
-        (found_of search.new) step)) }
+        (rules : List Rule) (id : ℕ) → IsSearchFor flat inner samples.now (found_states search.old) →
+        GivesPrefixesTo inner.alphabet limit rules id flat → IsStepIn inner limit rules id (found_states search.old)
+        (found_states search.new) step)) }
 {
     let Some(at) = next_live(search) else {
         return Ok(Some(NextPrefix::Done));
@@ -157,9 +158,9 @@ fn next_prefix(
 }
 
 impl StatePrefixes {
-    /// Returns the prefixes of the judged rule of a grammar, of at most `limit` symbols, none of them told, with room for
-    /// `room` entries of states. `None` if the grammar counts how often something nullable is repeated, or there is no
-    /// room. `Memory` if an allocation fails.
+    /// Returns the prefixes of the judged rule of a grammar, of at most `limit` symbols, before the first one. They
+    /// have room for `room` entries of states. `None` if the grammar counts how often something nullable is repeated,
+    /// or there is no room. `Memory` if an allocation fails.
     pub(crate) fn new(
         alloc: Global,
         grammar: &SoundAbnf,

@@ -1,8 +1,8 @@
 //! A breadth-first search of the states of a grammar, and of the symbols that cannot follow.
 ghost use Rattle.std.specs.Prelude.{◌≡◌, ◌↔◌, ◌<◌, false, IsTrue, IfOk, IfSome, slice_get, Some, length};
 ghost use Rattle.lazydfa.specs.StateSets.{StateSet};
-ghost use Rattle.rulelines.specs.MissSearch.{IsExpanded, IsFoundAt, IsLed, IsLive, IsNextLive, IsPassed};
-ghost use Rattle.rulelines.specs.MissSearch.{IsWrongKept, found_of};
+ghost use Rattle.rulelines.specs.MissSearch.{IsExpanded, IsFoundAt, IsLedFrom, IsLive, IsNextLive, IsStatePassed};
+ghost use Rattle.rulelines.specs.MissSearch.{IsWrongKept, found_states};
 
 use crate::pairs::{Pairs, SearchedPair, add_pair};
 use lazydfa::States;
@@ -29,7 +29,8 @@ fn is_live(states: &States, state: usize) -> bool
 // Finds the state that a symbol leads to from the one of an index. Returns whether it is live; `None` if there is no
 // room for it. `Memory` if an allocation fails.
 fn lead(search: &mut StateSearch, at: usize, symbol: u32) -> Result<Option<bool>, Memory>
-    ensures { IfOk result (λ reported. IfSome reported (IsLed (found_of search.old) (found_of search.new) at symbol)) }
+    ensures { IfOk result (λ reported. IfSome reported (IsLedFrom (found_states search.old) (found_states search.new)
+        at symbol)) }
 {
     let Some(found) = search.pairs.items.get(at) else {
         return Ok(None);
@@ -67,8 +68,8 @@ pub(crate) fn expand(
     at: usize,
     samples: &[u32],
 ) -> Result<Option<Option<u32>>, Memory>
-    ensures { IfOk result (λ reported. IfSome reported (IsExpanded samples.now (found_of search.old)
-        (found_of search.new) at)) }
+    ensures { IfOk result (λ reported. IfSome reported (IsExpanded samples.now (found_states search.old)
+        (found_states search.new) at)) }
 {
     let mut wrong = None;
     for symbol in samples {
@@ -82,9 +83,9 @@ pub(crate) fn expand(
 
 // Returns whether the state of an index is live, or the first one.
 fn is_next(search: &StateSearch, at: usize) -> bool
-    ensures live { IsTrue result → 0 < at → (s : StateSet) → IsFoundAt (found_of search.now) at s → IsLive s }
+    ensures live { IsTrue result → 0 < at → (s : StateSet) → IsFoundAt (found_states search.now) at s → IsLive s }
     ensures passed { (result ≡ false) → at < length search.now.pairs.items.items →
-        IsPassed (found_of search.now) at }
+        IsStatePassed (found_states search.now) at }
 {
     match search.pairs.items.get(at) {
         Some(found) => at == 0 || is_live(&search.states, found.old),
@@ -94,7 +95,7 @@ fn is_next(search: &StateSearch, at: usize) -> bool
 
 /// Returns the index of the next live state, or of the first state; `None` if there is none.
 pub(crate) fn next_live(search: &StateSearch) -> Option<usize>
-    ensures { IsNextLive (found_of search.now) result }
+    ensures { IsNextLive (found_states search.now) result }
 {
     for at in search.at..search.pairs.items.len() {
         if is_next(search, at) {

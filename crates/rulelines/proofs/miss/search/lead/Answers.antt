@@ -2,13 +2,13 @@ use Rattle.std.proofs.Common.{◌≡◌, ap, refl, subst, sym, ◌∙◌, arith}
 use Rattle.std.specs.Prelude.{IfSome, Some, slice_get}
 use Rattle.std.proofs.lemmas.Option.{slice_get-get_or}
 use Rattle.lazydfa.specs.StateSets.{IsNextState}
-use Rattle.rulelines.specs.MissSearch.{found_of}
+use Rattle.rulelines.specs.MissSearch.{found_states}
 use Rattle.rulelines.proofs.MissSearchLemmas.{was_led}
 use Rattle.rulelines.proofs.miss.search.lead.Goals as goal
 
 pub returns : goal.returns
 returns c =
-    was_led (found_of c.args.search.now) (record {
+    was_led (found_states c.args.search.now) (record {
       states = c.next.new.self;
       pairs = c.add_pair.new.pairs.items.items;
       at = c.args.search.now.at;

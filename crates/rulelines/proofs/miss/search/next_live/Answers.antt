@@ -1,6 +1,6 @@
 use Rattle.std.proofs.Common.{◌≡◌, arith, subst, ⊎_elim}
 use Rattle.std.proofs.lemmas.Bool.{cases_lt}
-use Rattle.rulelines.specs.MissSearch.{found_of, IsPassed}
+use Rattle.rulelines.specs.MissSearch.{found_states, IsStatePassed}
 use Rattle.rulelines.proofs.miss.search.next_live.Goals as goal
 
 pub returns-then-is_next : goal.returns-then-is_next
@@ -16,7 +16,7 @@ pub loop-at-preserved : goal.loop-at-preserved
 loop-at-preserved c = λ i low lt.
     ⊎_elim (λ less. c.loop-at.invariant i low less) (λ more.
     let here : c.loop-at.at ≡ i = omega (arith, lt, more) in
-    subst (λ v. IsPassed (found_of c.args.search.now) v) here
+    subst (λ v. IsStatePassed (found_states c.args.search.now) v) here
     (c.is_next.ensures.passed c.if-is_next.false
     (let below = c.loop-at-test.true in let l = c.len-at-end.ensures in let o = c.args.search.now.pairs.items.ok.0 in
     omega (arith, below, l, o)))) (cases_lt i c.loop-at.at)

@@ -30,9 +30,9 @@ use Rattle.rulelines.specs.FirstLines.{ComesFirst, IsShortlexBefore}
 use Rattle.rulelines.specs.LineSets.{LineSet}
 use Rattle.rulelines.specs.FoundPairs.{AreFound, FoundPair, IsOldDead, IsWordOf, LeadsToFound, next, start}
 use Rattle.rulelines.specs.Misses.{AreAllPrefixes, HasPrefixFor, IsFirstWrong, IsStatePrefix, IsViableLine}
-use Rattle.rulelines.specs.MissSearch.{AreFoundStill, ArePrefixesOf, AreToldIn, FoundStates, GivesPrefixesTo}
-use Rattle.rulelines.specs.MissSearch.{IsExpandedTo, IsFirstAstray, IsFoundAt, IsLive, IsNextLive, IsPassed}
-use Rattle.rulelines.specs.MissSearch.{IsPrefixStep, IsSearchBegun, IsSearchFor, IsStateSearch, IsStepIn, IsWithin}
+use Rattle.rulelines.specs.MissSearch.{AreFoundStill, ArePrefixesOf, AreReportedIn, FoundStates, GivesPrefixesTo}
+use Rattle.rulelines.specs.MissSearch.{IsExpandedTo, IsFirstAstray, IsFoundAt, IsLive, IsNextLive, IsStatePassed}
+use Rattle.rulelines.specs.MissSearch.{IsPrefixStep, IsSearchBegun, IsSearchFor, IsStateSearch, IsStepIn, IsKeptWithin}
 use Rattle.rulelines.specs.MissSearch.{IsWordIn, SearchesStates, symbols_in}
 use Rattle.rulelines.specs.Samples.{AreInLineOrder}
 use Rattle.rulelines.specs.Search.{found_pair, found_pairs, state_at}
@@ -49,7 +49,7 @@ use Rattle.rulelines.proofs.SearchLemmas.{old_there, search_iteration, search_sk
 use Rattle.rulelines.proofs.StateClosuresLemmas.{lead_next, LeadTo}
 use Rattle.rulelines.proofs.StatePairsLemmas.{element_at}
 use Rattle.rulelines.proofs.ViableLemmas.{derives_ended, ended_derives, follows_some, letters_join, letters_left}
-use Rattle.rulelines.proofs.ViableLemmas.{letters_right, live_viable, same_rests, viable_front, viable_live, Viable}
+use Rattle.rulelines.proofs.ViableLemmas.{letters_right, live_viable, same_rests, viable_prefix, viable_live, Viable}
 use Rattle.rulelines.proofs.ViableLemmas.{wrong_within}
 
 -- a list before one that comes no later than another
@@ -67,7 +67,7 @@ no_stacks s dead = by s.stacks (λ full. dead (inl full))
 -- states that no line leads to are skipped
 module _ (has : ℕ → Bool) (samples : List ℕ) (search : FoundStates) where
   pub states_skipped : (n d m : ℕ) → m ≡ n + d → m ≤ length search.pairs
-      → ((i : ℕ) → n ≤ i → i < m → IsPassed search i) → SearchesStates has samples search n 0
+      → ((i : ℕ) → n ≤ i → i < m → IsStatePassed search i) → SearchesStates has samples search n 0
       → SearchesStates has samples search m 0
   states_skipped n zero m is le passed s = subst (λ v. SearchesStates has samples search v 0) (omega (arith, is)) s
   states_skipped n (suc d) m is le passed s =
@@ -213,17 +213,17 @@ module _ (inner : LineSymbols) (limit : ℕ) (rules : List Rule) (id : ℕ) (fla
     past = past;
     live = live_of u (state_of here.entry) here.leads (letters_left Inner u w letters)
         (let l = length-append u w in omega (arith, le, l))
-        (viable_front inner.alphabet rules id u w (letters_of w (letters_right Inner u w letters)) viable);
+        (viable_prefix inner.alphabet rules id u w (letters_of w (letters_right Inner u w letters)) viable);
     word = here.word;
     word_is = here.word_is;
     order = first_trans here.word u (u ++ w) here.order (prefix_first u w);
   }
 
-  walk : (w u : List ℕ) → AreLetters Inner (u ++ w) → length (u ++ w) ≤ limit
+  words_walked : (w u : List ℕ) → AreLetters Inner (u ++ w) → length (u ++ w) ≤ limit
       → Viable inner.alphabet rules id (u ++ w) → AtState u → AtState (u ++ w) ⊎ IsPast (u ++ w)
-  walk [] u letters le viable here = inl (subst AtState (sym (append-nil u)) here)
-  walk (c ∷ w) u letters le viable here =
-      by (λ all fits begins there. walk w (u ++ c ∷ []) all fits begins there) (cases_lt here.index n)
+  words_walked [] u letters le viable here = inl (subst AtState (sym (append-nil u)) here)
+  words_walked (c ∷ w) u letters le viable here =
+      by (λ all fits begins there. words_walked w (u ++ c ∷ []) all fits begins there) (cases_lt here.index n)
     where
       same : (u ++ c ∷ []) ++ w ≡ u ++ c ∷ w
       same = append_assoc u (c ∷ []) w
@@ -244,15 +244,15 @@ module _ (inner : LineSymbols) (limit : ℕ) (rules : List Rule) (id : ℕ) (fla
           subst (λ v. AtState v ⊎ IsPast v) same
           (on all fits begins
           (at_next u c symbol (letters_left Inner u (c ∷ w) letters) (omega (arith, le, short))
-          (viable_front inner.alphabet rules id (u ++ c ∷ []) w
+          (viable_prefix inner.alphabet rules id (u ++ c ∷ []) w
           (letters_of w (letters_right Inner (u ++ c ∷ []) w all)) begins) here less))
 
   -- a viable prefix leads to a state that was searched, or comes after one that was not
   abbrev IsCovered : List ℕ → Type 0
   IsCovered v = ((here : AtState v) × (here.index < n)) ⊎ IsPast v
 
-  covered : (v : List ℕ) → IsViableLine inner.alphabet inner.terminator limit rules id v → IsCovered v
-  covered v line = by (walk v [] line.symbols line.within line.viable at_start)
+  prefix_covered : (v : List ℕ) → IsViableLine inner.alphabet inner.terminator limit rules id v → IsCovered v
+  prefix_covered v line = by (words_walked v [] line.symbols line.within line.viable at_start)
     where
       at_end : (here : AtState v) → (here.index < n) ⊎ (n ≤ here.index) → IsCovered v
       at_end here (inl less) = inl (here, less)
@@ -265,17 +265,17 @@ module _ (inner : LineSymbols) (limit : ℕ) (rules : List Rule) (id : ℕ) (fla
       by (inl here) = at_end here (cases_lt here.index n)
       by (inr past) = inr past
 
-  -- by the prefixes that are told
+  -- by the prefixes that are reported
   module _ (ps : List StatePrefix)
-      (told : (i : ℕ) → i < n → IsPassed search i ⊎ ((q : StatePrefix) × Contains ps q
+      (reported : (i : ℕ) → i < n → IsStatePassed search i ⊎ ((q : StatePrefix) × Contains ps q
       × IsWordIn search.pairs i q.prefix.items))
       (from : (q : StatePrefix) → Contains ps q → (i : ℕ) × (i < n)
       × IsWordIn search.pairs i q.prefix.items) where
     prefix_there : (v : List ℕ) → IsViableLine inner.alphabet inner.terminator limit rules id v → (here : AtState v)
         → here.index < n → HasPrefixFor inner.alphabet inner.terminator limit rules id ps v
-    prefix_there v line here lt = by (told here.index lt)
+    prefix_there v line here lt = by (reported here.index lt)
       where
-        by : IsPassed search here.index ⊎ ((q : StatePrefix) × Contains ps q
+        by : IsStatePassed search here.index ⊎ ((q : StatePrefix) × Contains ps q
             × IsWordIn search.pairs here.index q.prefix.items)
             → HasPrefixFor inner.alphabet inner.terminator limit rules id ps v
         by (inl passed) = absurd (passed.1 (state_of here.entry) (found_state here.index here.entry here.is)
@@ -304,7 +304,7 @@ module _ (inner : LineSymbols) (limit : ℕ) (rules : List Rule) (id : ℕ) (fla
     pub prefixes_rest : (v : List ℕ) → IsViableLine inner.alphabet inner.terminator limit rules id v
         → HasPrefixFor inner.alphabet inner.terminator limit rules id ps v
         ⊎ All (λ p. IsShortlexBefore p.prefix.items v) ps
-    prefixes_rest v line = by (covered v line)
+    prefixes_rest v line = by (prefix_covered v line)
       where
         by : IsCovered v → HasPrefixFor inner.alphabet inner.terminator limit rules id ps v
             ⊎ All (λ p. IsShortlexBefore p.prefix.items v) ps
@@ -313,7 +313,7 @@ module _ (inner : LineSymbols) (limit : ℕ) (rules : List Rule) (id : ℕ) (fla
 
     all_if : ((v : List ℕ) → IsViableLine inner.alphabet inner.terminator limit rules id v → IsPast v → ⊥)
         → AreAllPrefixes inner.alphabet inner.terminator limit rules id ps
-    all_if none v line = by (covered v line)
+    all_if none v line = by (prefix_covered v line)
       where
         by : IsCovered v → HasPrefixFor inner.alphabet inner.terminator limit rules id ps v
         by (inl h) = prefix_there v line h.0 h.1
@@ -325,17 +325,17 @@ module _ (inner : LineSymbols) (limit : ℕ) (rules : List Rule) (id : ℕ) (fla
         let l = length-map search.pairs (found_pair search.states search.states) in
         omega (arith, lt, l)
 
-    not_passed : (v : List ℕ) (past : IsPast v) → IsPassed search past.index → ⊥
+    not_passed : (v : List ℕ) (past : IsPast v) → IsStatePassed search past.index → ⊥
     not_passed v past passed =
         passed.1 (state_of past.entry) (found_state past.index past.entry past.is) past.live
 
     -- no state is left, or the prefixes that are left are too long
-    pub none_left : ((i : ℕ) → n ≤ i → i < length search.pairs → IsPassed search i)
+    pub none_left : ((i : ℕ) → n ≤ i → i < length search.pairs → IsStatePassed search i)
         → AreAllPrefixes inner.alphabet inner.terminator limit rules id ps
     none_left passed = all_if (λ v line past.
         not_passed v past (passed past.index past.past (past_within v past)))
 
-    pub long_left : (at : ℕ) (w : List ℕ) → ((i : ℕ) → n ≤ i → i < at → IsPassed search i)
+    pub long_left : (at : ℕ) (w : List ℕ) → ((i : ℕ) → n ≤ i → i < at → IsStatePassed search i)
         → IsWordIn search.pairs at w → limit < length w
         → AreAllPrefixes inner.alphabet inner.terminator limit rules id ps
     long_left at w passed word long = all_if (λ v line past. by v line past (cases_lt past.index at))
@@ -385,7 +385,7 @@ module _ (inner : LineSymbols) (limit : ℕ) (rules : List Rule) (id : ℕ) (fla
 
     pub prefix_is : (0 < at → IsLive (state_of e)) → (p : StatePrefix) → p.prefix.items ≡ w
         → p.is_refused ≡ not e.pair.old_ended
-        → (wrong : Option ℕ) → IsFirstAstray G L Inner (state_of e) wrong → IsWithin limit (length w) wrong p.wrong
+        → (wrong : Option ℕ) → IsFirstAstray G L Inner (state_of e) wrong → IsKeptWithin limit (length w) wrong p.wrong
         → IsStatePrefix inner.alphabet inner.terminator limit rules id p
     prefix_is live p is refused wrong astray kept = record {
       symbols = subst (λ v. AreLetters Inner v) (sym is) (letters_found here_word);
@@ -411,16 +411,16 @@ module _ (inner : LineSymbols) (limit : ℕ) (rules : List Rule) (id : ℕ) (fla
         true_of true so = refl
         true_of false so = cc so
 
--- one more prefix is told
+-- one more prefix is reported
 module _ (inner : LineSymbols) (flat : Flat) (samples : List ℕ) (old mid new : FoundStates)
     (for : IsSearchFor flat inner samples old) (at : ℕ) (ahead : IsNextLive old (Some at)) (wrong : Option ℕ) (k : ℕ)
     (full : length samples ≤ k) (e : IsExpandedTo samples k old mid at wrong) (states : new.states ≡ mid.states)
     (pairs : new.pairs ≡ mid.pairs) (index : new.at ≡ at + 1) where
-  more : AreMoreStates old.states new.states
-  more = subst (λ v. AreMoreStates old.states v) (sym states) e.more
+  states_grown : AreMoreStates old.states new.states
+  states_grown = subst (λ v. AreMoreStates old.states v) (sym states) e.more
 
-  still : AreFoundStill old.pairs new.pairs
-  still = subst (λ v. AreFoundStill old.pairs v) (sym pairs) e.still
+  pairs_still : AreFoundStill old.pairs new.pairs
+  pairs_still = subst (λ v. AreFoundStill old.pairs v) (sym pairs) e.still
 
   at_old : SearchesStates (line_symbols inner) samples old at 0
   at_old =
@@ -444,7 +444,7 @@ module _ (inner : LineSymbols) (flat : Flat) (samples : List ℕ) (old mid new :
 
   pub search_on : IsSearchFor flat inner samples new
   search_on = record {
-    grammar = still_of flat old.states new.states more.same for.grammar;
+    grammar = still_of flat old.states new.states states_grown.same for.grammar;
     searches = at_new;
     each = for.each;
     order = for.order;
@@ -456,10 +456,11 @@ module _ (inner : LineSymbols) (flat : Flat) (samples : List ℕ) (old mid new :
       (let lt = ahead.1 in let l = length-map old.pairs (found_pair old.states old.states) in
       omega (arith, lt, l))
 
-  still_passed : (i : ℕ) → i < length old.pairs → IsPassed old i → IsPassed new i
+  still_passed : (i : ℕ) → i < length old.pairs → IsStatePassed old i → IsStatePassed new i
   still_passed i lt passed = (
     passed.0,
-    λ s f live. passed.1 s (found_back old new more still (line_symbols inner) samples old.at 0 for.searches i lt s f)
+    λ s f live. passed.1 s (found_back old new states_grown pairs_still (line_symbols inner) samples old.at 0
+        for.searches i lt s f)
         live,
   )
 
@@ -467,62 +468,63 @@ module _ (inner : LineSymbols) (flat : Flat) (samples : List ℕ) (old mid new :
       (w : List ℕ) (word : IsWordIn old.pairs at w) (within : length w ≤ limit) (p : StatePrefix)
       (is : p.prefix.items ≡ w)
       (refused : (s : StateSet) → IsFoundAt new at s → p.is_refused ≡ not s.ended)
-      (kept : IsWithin limit (length w) wrong p.wrong) where
-    right : IsStatePrefix inner.alphabet inner.terminator limit rules id p
-    right =
+      (kept : IsKeptWithin limit (length w) wrong p.wrong) where
+    prefix_right : IsStatePrefix inner.alphabet inner.terminator limit rules id p
+    prefix_right =
         let f = entry_here in
         let there = found_state inner limit rules id flat gives samples for.each old for.grammar at at_old at f.0 f.1 in
         prefix_is inner limit rules id flat gives samples for.each old for.grammar at at_old at w word f.0 f.1 within
         (λ lt. ahead.2 lt (state_of f.0) there) p is
-        (refused (state_of f.0) (found_still old new more still at (state_of f.0) there)) wrong
+        (refused (state_of f.0) (found_still old new states_grown pairs_still at (state_of f.0) there)) wrong
         (first_astray (grammar_of old.states) (last_in old.states) (line_symbols inner) samples
-        (subst (λ v. AreSamples v v (line_symbols inner) samples) (sym for.grammar.is) for.each) for.order (state_of f.0)
+        (subst (λ v. AreSamples v v (line_symbols inner) samples) (sym for.grammar.is) for.each) for.order
+        (state_of f.0)
         k full wrong (e.wrong_is (state_of f.0) there))
         kept
 
-    module _ (ps : List StatePrefix) (told : AreToldIn inner limit rules id old ps) where
+    module _ (ps : List StatePrefix) (reported : AreReportedIn inner limit rules id old ps) where
       abbrev More : List StatePrefix
       More = ps ++ p ∷ []
 
       word_new : IsWordIn new.pairs at p.prefix.items
       word_new = subst (λ v. IsWordIn new.pairs at v) (sym is)
-          (word_still old.pairs new.pairs still at w word)
+          (word_still old.pairs new.pairs pairs_still at w word)
 
-      abbrev IsToldNow : ℕ → Type 0
-      IsToldNow i = IsPassed new i ⊎ ((q : StatePrefix) × Contains More q
+      abbrev IsReportedNow : ℕ → Type 0
+      IsReportedNow i = IsStatePassed new i ⊎ ((q : StatePrefix) × Contains More q
           × IsWordIn new.pairs i q.prefix.items)
 
-      each_told : (i : ℕ) → i < new.at → IsToldNow i
-      each_told i lt = by (cases_lt i old.at) (cases_lt i at)
+      each_reported : (i : ℕ) → i < new.at → IsReportedNow i
+      each_reported i lt = by (cases_lt i old.at) (cases_lt i at)
         where
-          before : IsPassed old i ⊎ ((q : StatePrefix) × Contains ps q
-              × IsWordIn old.pairs i q.prefix.items) → i < length old.pairs → IsToldNow i
+          before : IsStatePassed old i ⊎ ((q : StatePrefix) × Contains ps q
+              × IsWordIn old.pairs i q.prefix.items) → i < length old.pairs → IsReportedNow i
           before (inl passed) less = inl (still_passed i less passed)
           before (inr q) less = inr (
             q.0,
             Contains-append_left ps (p ∷ []) q.0 q.1,
-            word_still old.pairs new.pairs still i q.0.prefix.items q.2,
+            word_still old.pairs new.pairs pairs_still i q.0.prefix.items q.2,
           )
 
-          by : (i < old.at) ⊎ (old.at ≤ i) → (i < at) ⊎ (at ≤ i) → IsToldNow i
-          by (inl less) _ = before (told.each i less)
+          by : (i < old.at) ⊎ (old.at ≤ i) → (i < at) ⊎ (at ≤ i) → IsReportedNow i
+          by (inl less) _ = before (reported.each i less)
               (let le = ahead.0 in let below = ahead.1 in omega (arith, less, le, below))
           by (inr ge) (inl less) = inl (still_passed i (let below = ahead.1 in omega (arith, less, below))
               (ahead.3 i ge less))
-          by (inr ge) (inr more) =
-              let here : at ≡ i = omega (arith, more, lt, index) in
+          by (inr ge) (inr after) =
+              let here : at ≡ i = omega (arith, after, lt, index) in
               inr (p, Contains-push ps p, subst (λ v. IsWordIn new.pairs v p.prefix.items) here word_new)
 
-      from_told : (q : StatePrefix) → Contains More q → (i : ℕ) × (i < new.at)
+      from_reported : (q : StatePrefix) → Contains More q → (i : ℕ) × (i < new.at)
           × IsWordIn new.pairs i q.prefix.items
-      from_told q h = by (Contains-push_cases ps p q h)
+      from_reported q h = by (Contains-push_cases ps p q h)
         where
           by : Contains ps q ⊎ (p ≡ q) → (i : ℕ) × (i < new.at) × IsWordIn new.pairs i q.prefix.items
           by (inl there) =
-              let f = told.from q there in (
+              let f = reported.from q there in (
                 f.0,
                 (let lt = f.1 in let le = ahead.0 in omega (arith, lt, le, index)),
-                word_still old.pairs new.pairs still f.0 q.prefix.items f.2,
+                word_still old.pairs new.pairs pairs_still f.0 q.prefix.items f.2,
               )
           by (inr same) = (
             at,
@@ -530,10 +532,10 @@ module _ (inner : LineSymbols) (flat : Flat) (samples : List ℕ) (old mid new :
             subst (λ v. IsWordIn new.pairs at v.prefix.items) same word_new,
           )
 
-      rises : (k : ℕ) (d : StatePrefix) → k < length ps
+      prefixes_rise : (k : ℕ) (d : StatePrefix) → k < length ps
           → IsShortlexBefore (get_or ps k d).prefix.items p.prefix.items
-      rises k d lt =
-          let f = told.from (get_or ps k d) (Contains-get_or ps k d lt) in
+      prefixes_rise k d lt =
+          let f = reported.from (get_or ps k d) (Contains-get_or ps k d lt) in
           let less = f.1 in
           let le = ahead.0 in
           subst (λ v. IsShortlexBefore (get_or ps k d).prefix.items v) (sym is)
@@ -541,22 +543,24 @@ module _ (inner : LineSymbols) (flat : Flat) (samples : List ℕ) (old mid new :
           (last_in old.states) (found_pairs old.states old.states old.pairs) at_old.found.found
           (f.2 old.states old.states) (word old.states old.states) (omega (arith, less, le)))
 
-      pub one_more_told : AreToldIn inner limit rules id new More
-      one_more_told = record {
+      pub one_more_reported : AreReportedIn inner limit rules id new More
+      one_more_reported = record {
         first = record {
-          are = All-push (IsStatePrefix inner.alphabet inner.terminator limit rules id) ps p told.first.are right;
-          rise = all_pairs_push (λ a b. IsShortlexBefore a.prefix.items b.prefix.items) ps p told.first.rise rises;
+          are = All-push (IsStatePrefix inner.alphabet inner.terminator limit rules id) ps p
+              reported.first.are prefix_right;
+          rise = all_pairs_push (λ a b. IsShortlexBefore a.prefix.items b.prefix.items) ps p
+              reported.first.rise prefixes_rise;
           rest = prefixes_rest inner limit rules id flat gives samples for.each new search_on.grammar new.at at_new
-              More each_told from_told;
+              More each_reported from_reported;
         };
-        each = each_told;
-        from = from_told;
+        each = each_reported;
+        from = from_reported;
       }
 
--- no prefix is told yet
-pub none_told : (inner : LineSymbols) (limit : ℕ) (rules : List Rule) (id : ℕ) (search : FoundStates) → search.at ≡ 0
-    → AreToldIn inner limit rules id search []
-none_told inner limit rules id search first = record {
+-- no prefix is reported yet
+pub none_reported : (inner : LineSymbols) (limit : ℕ) (rules : List Rule) (id : ℕ) (search : FoundStates)
+    → search.at ≡ 0 → AreReportedIn inner limit rules id search []
+none_reported inner limit rules id search first = record {
   first = record {
     are = λ k d lt. absurd (omega (arith, lt));
     rise = λ i j d lt less. absurd (omega (arith, less));
@@ -592,7 +596,7 @@ prefixes_begun alphabet terminator limit rules id flat search gives first = reco
   none = record {
     search = search;
     is = refl;
-    told = none_told (record { alphabet = alphabet; terminator = terminator }) limit rules id search first;
+    reported = none_reported (record { alphabet = alphabet; terminator = terminator }) limit rules id search first;
   };
 }
 
@@ -605,8 +609,8 @@ search_step rules id set old new (Prefix p) is = λ ps t.
     record {
       search = new;
       is = refl;
-      told = is ps (subst (λ v. AreToldIn (symbols_in set) set.limit rules id v ps) one t.told);
+      reported = is ps (subst (λ v. AreReportedIn (symbols_in set) set.limit rules id v ps) one t.reported);
     }
 search_step rules id set old new Done is = λ ps t.
     let one : t.search ≡ old = cc t.is in
-    is ps (subst (λ v. AreToldIn (symbols_in set) set.limit rules id v ps) one t.told)
+    is ps (subst (λ v. AreReportedIn (symbols_in set) set.limit rules id v ps) one t.reported)
