@@ -5,7 +5,7 @@ usage: random_misses.py [-n GRAMMARS] [-s SEED]
 
 No line may be derived. Its longest viable prefix is all of it, or all but its last letter; then that letter is the
 first that cannot stand there. The prefixes ascend, and no line comes twice. If all are written, the letters of each
-viable prefix of a few letters lead on from one of the prefixes too. Grammars and their order follow from the seed alone.
+viable prefix of a few letters lead on from one of the prefixes too. Grammars and their order follow from the seed.
 Prints how many grammars were tried, and how they ended; at the first disagreement it prints the grammar, and then the
 status is 1. A program that is not built is skipped.
 """

@@ -49,8 +49,8 @@ returns-clause-step c = λ flat inner rules id begun gives ps reported.
     } in
     let count : c.len-2.result ≡ length c.in-Some-2.prefix.items =
     (let l = c.len-2.ensures in let o = c.in-Some-2.prefix.ok.0 in omega (arith, l, o)) in
-    one_more_reported inner flat c.args.samples.now (found_states c.args.search.now) (found_states c.expand.new.search) new
-    begun c.in-Some.at c.in-Some.ensures c.in-Some-3.wrong x.0 x.1 x.2 refl refl refl c.args.limit rules id gives
+    one_more_reported inner flat c.args.samples.now (found_states c.args.search.now) (found_states c.expand.new.search)
+    new begun c.in-Some.at c.in-Some.ensures c.in-Some-3.wrong x.0 x.1 x.2 refl refl refl c.args.limit rules id gives
     c.in-Some-2.prefix.items
     (subst (λ v. IsWordIn v c.in-Some.at c.in-Some-2.prefix.items) c.deref.ensures.value word)
     (let short = c.if-len-limit.false in let l = c.len.ensures in let o = c.in-Some-2.prefix.ok.0 in
