@@ -14,5 +14,5 @@ returns-in-Ok-clause-next g c = λ ws l.
     (sym c.deref.ensures.value) l)) refl c.write_record-written.result
     (subst (λ (v : List ℕ). IsRecordWritten (record_text c.args.settings.now.letters
     (end_of c.args.settings.now.nul)) v (g.O.Sink.contents c.args.out.now)
-    (g.O.Sink.contents c.write_record-written.new.out) c.write_record-written.result) c.deref-2.ensures.value
+    (g.O.Sink.contents c.write_record-written.new.out) c.write_record-written.result) c.deref-in-Ok.ensures.value
     c.write_record-written.ensures.next)
