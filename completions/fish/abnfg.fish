@@ -20,7 +20,7 @@ function __abnfg_rules
 end
 
 complete -c abnfg -s s -l rule -x -a '(__abnfg_rules)' -d 'List lines of this rule [default: the first rule]'
-complete -c abnfg -s m -l mode -x -a 'all' -d 'Choose which lines to list'
+complete -c abnfg -s m -l mode -x -a 'all miss' -d 'Choose which lines to list'
 complete -c abnfg -s l -l limit -x -d 'List lines of at most N symbols, from 1 to 16777216'
 complete -c abnfg -s c -l count -x -d 'List at most N lines, from 1 to 4294967295'
 complete -c abnfg -s u -l letters -x -a 'bytes utf8' -d 'Take bytes or code points of UTF-8 as symbols'
