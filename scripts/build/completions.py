@@ -253,7 +253,8 @@ function __@NAME@_rules
             case '*'
                 set -l file (string replace -r '^~/' "$HOME/" -- $words[$at])
                 if test -f "$file"
-                    @PROGRAM@ -m print "$file" 2> /dev/null | string match -rg '^([A-Za-z_][A-Za-z0-9_-]*) @SIGN@ '
+                    set -l program @PROGRAM@
+                    command $program -m print "$file" 2> /dev/null | string match -rg '^([A-Za-z_][A-Za-z0-9_-]*) @SIGN@ '
                 end
         end
         set at (math $at + 1)
@@ -311,7 +312,7 @@ def for_fish(program):
         return f"complete -c {program.name} {name}{values} -d '{it.text}'"
     return filled(FISH if program.sign else FISH_TEXTS, NAME=program.name, SIGN=program.sign,
                   VALUED=" ".join(program.valued()), OPTIONS="\n".join(map(line, program.options)),
-                  PROGRAM=f"command (string replace -r '{program.name}$' {program.printer} -- $words[1])"
+                  PROGRAM=f"(string replace -r '{program.name}$' {program.printer} -- $words[1])"
                   if program.printer else "$words[1]")
 
 
