@@ -254,7 +254,8 @@ function __@NAME@_rules
                 set -l file (string replace -r '^~/' "$HOME/" -- $words[$at])
                 if test -f "$file"
                     set -l program @PROGRAM@
-                    command $program -m print "$file" 2> /dev/null | string match -rg '^([A-Za-z_][A-Za-z0-9_-]*) @SIGN@ '
+                    set -l text (command $program -m print "$file" 2> /dev/null)
+                    string match -rg '^([A-Za-z_][A-Za-z0-9_-]*) @SIGN@ ' -- $text
                 end
         end
         set at (math $at + 1)
