@@ -173,7 +173,7 @@ module _ (rules : List Rule) (given : Option (List ℕ)) (names : List (List ℕ
         let r = reached_from b.reaches in
         ⊎_elim
         (λ low. by_prose (subst (λ v. Reachable rules s v) low.1 r.reachable)
-            (marked_prose rules b.bad true low.0 b.broken))
+        (marked_prose rules b.bad true low.0 b.broken))
         (λ high. n.by_name (subst (λ v. Reachable rules s v) high.1 r.reachable)) r.is
 
     position_comes : (position : ℕ) → Reaches rows s position → position < length rows

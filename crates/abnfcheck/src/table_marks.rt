@@ -63,7 +63,8 @@ fn broken_needs<'a>(
 /// `Memory` if an allocation fails.
 pub fn sound_rules(alloc: Global, rules: &RuleTable<Elem>) -> Result<Vec<bool>, Memory>
     requires { rules.now.names ≡ NameCase.Fold }
-    ensures sound { IfOk result (λ marks. AreMarks (IsSound (rules_of rules.now)) (length (rules_of rules.now)) marks.items) }
+    ensures sound { IfOk result (λ marks. AreMarks (IsSound (rules_of rules.now)) (length (rules_of rules.now))
+        marks.items) }
     ensures others { IfOk result (λ marks. AreOthersRefused (rules_of rules.now) marks.items) }
 {
     let ids = name_ids(alloc, rules, None)?;

@@ -1,6 +1,7 @@
 -- The rules of a text that was read and checked.
 -- Serves: abnfd_main
-use Rattle.std.proofs.Common.{◌≡◌, ◌∙◌, ap, refl, subst, sym, ℕ, ◌<◌, ⊎_elim, Bool, true, false, List, arith, length, map}
+use Rattle.std.proofs.Common.{◌≡◌, ◌∙◌, ap, refl, subst, sym, ℕ, ◌<◌, ⊎_elim, Bool, true, false, List, arith}
+use Rattle.std.proofs.Common.{length, map}
 use Rattle.std.proofs.lemmas.Bool.{cases_lt}
 use Rattle.std.proofs.lemmas.List.{length-map}
 use Rattle.std.proofs.lemmas.Simd.{map-map}
@@ -67,7 +68,7 @@ module _ (file rules : List Rule) (again : List ℕ) where
     rejected_others false same are rule off =
         ⊎_elim (λ lt. are.1 (id_of rules rule) lt off file again)
         (λ le. unnamed_refused (id_of rules rule)
-            (let most = id_most rules rule in omega (arith, le, most)))
+        (let most = id_most rules rule in omega (arith, le, most)))
         (cases_lt (id_of rules rule) (length rules))
 
 ok_both : {T E : Type 0} (result : Result T E) {P Q : T → Type 0} → IfOk result P → IfOk result Q

@@ -75,8 +75,8 @@ abbrev pub greatest_code : List RuleRow → ℕ
 greatest_code [] = 0
 greatest_code (row ∷ rows) = max (code_of row.status) (greatest_code rows)
 
--- The text defines these names, and these are its rules with the core rules. Those rules are marked by which lines can be
--- judged: nothing rejects the grammar where they are. Something rejects it where another rule is.
+-- The text defines these names, and these are its rules with the core rules. Where a marked rule is judged, nothing
+-- rejects the grammar; where another one is, something does.
 pub record AreChecked (text : List ℕ) (checked : CheckedRules) : Type 0 where
   pub definitions : List Definition
   pub reads : Reads text definitions
