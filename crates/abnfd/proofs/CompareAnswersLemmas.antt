@@ -6,7 +6,8 @@ use Rattle.std.specs.Prelude.{Result, Ok, Err, codes}
 use Rattle.std.specs.Io.KnownBytes.{Appends}
 use Rattle.abnfd.specs.CompareAnswers.{CompareAnswers, FilesCompared, answer_reply, clash_text, clashes}
 use Rattle.abnfd.specs.CompareAnswers.{compares_files}
-use Rattle.abnfd.specs.CompareWords.{all_asked, is_clash, new_rule_asked, new_rule_found, old_rule_asked}
+use Rattle.abnfd.specs.CompareWords.{all_asked, explain_asked, is_clash, new_rule_asked, new_rule_found}
+use Rattle.abnfd.specs.CompareWords.{old_rule_asked}
 use Rattle.abnfd.specs.CompareWords.{symbols_asked}
 use Rattle.clap.specs.Words.{Text, first_of, first_value, rows_of}
 use Rattle.clap.specs.declared.parser.matches.Found.{Found}
@@ -83,18 +84,22 @@ module _ (f : Found) (all : Bool) (new_rule : Option Text) (flag : all ≡ all_a
       → IsReportedAnd clash_text (Quiet Refused) input notes reply → CompareAnswers (rows_of f) input notes reply
   asked_twice twice input notes reply is = rw (is.0, is.1) (clashes (sym clash_asked ∙ twice))
 
-  pub asked_compared : (alphabet : Alphabet) (old_rule : Option Text)
-      → alphabet ≡ symbols_asked (rows_of f) → old_rule ≡ first_value f (codes "rule")
+  pub asked_compared : (explain : Bool) (alphabet : Alphabet) (old_rule : Option Text)
+      → explain ≡ explain_asked (rows_of f) → alphabet ≡ symbols_asked (rows_of f)
+      → old_rule ≡ first_value f (codes "rule")
       → is_clash all new_rule ≡ false → (input : Input) (notes : List ℕ) (reply : Reply)
-      → FilesCompared all alphabet old_rule new_rule input notes reply → CompareAnswers (rows_of f) input notes reply
-  asked_compared alphabet old_rule letters old once input notes reply is =
+      → FilesCompared all explain alphabet old_rule new_rule input notes reply
+      → CompareAnswers (rows_of f) input notes reply
+  asked_compared explain alphabet old_rule explained letters old once input notes reply is =
       let rows = rows_of f in
       let first = first_value-rows f in
       let e2 : old_rule ≡ old_rule_asked rows = old ∙ first (codes "rule") in
       compares_files (sym clash_asked ∙ once)
-      (subst (λ (b : Bool). FilesCompared b (symbols_asked rows) (old_rule_asked rows) (new_rule_asked rows) input notes
-      reply) flag
-      (subst (λ (a : Alphabet). FilesCompared all a (old_rule_asked rows) (new_rule_asked rows) input notes reply)
-      letters
-      (subst (λ (o : Option Text). FilesCompared all alphabet o (new_rule_asked rows) input notes reply) e2
-      (subst (λ (o : Option Text). FilesCompared all alphabet old_rule o input notes reply) rule_asked is))))
+      (subst (λ (b : Bool). FilesCompared b (explain_asked rows) (symbols_asked rows) (old_rule_asked rows)
+      (new_rule_asked rows) input notes reply) flag
+      (subst (λ (b : Bool). FilesCompared all b (symbols_asked rows) (old_rule_asked rows) (new_rule_asked rows) input
+      notes reply) explained
+      (subst (λ (a : Alphabet). FilesCompared all explain a (old_rule_asked rows) (new_rule_asked rows) input notes
+      reply) letters
+      (subst (λ (o : Option Text). FilesCompared all explain alphabet o (new_rule_asked rows) input notes reply) e2
+      (subst (λ (o : Option Text). FilesCompared all explain alphabet old_rule o input notes reply) rule_asked is)))))

@@ -1,6 +1,7 @@
 -- What the program states where nothing is wrong with its words.
 use Rattle.std.specs.Prelude.{◌≡◌, ℕ, Bool, true, false, List, [], ◌++◌, Option, codes}
-use Rattle.abnfd.specs.CompareWords.{all_asked, is_clash, new_rule_asked, old_rule_asked, symbols_asked}
+use Rattle.abnfd.specs.CompareWords.{all_asked, explain_asked, is_clash, new_rule_asked, old_rule_asked}
+use Rattle.abnfd.specs.CompareWords.{symbols_asked}
 use Rattle.abnfd.specs.RulesByName.{IsAskedReport}
 use Rattle.abnfd.specs.declared.files.UnreadFile.{UnreadFile}
 use Rattle.abnfd.specs.declared.files.UnreadFile.TheVariants.{New, NoMemory, Old}
@@ -43,14 +44,14 @@ clash_text = codes "error: the argument '-a' cannot be used with '-s' or '-t'\n\
 
 -- What is stated for the files of two grammars: the report on their texts. No clause can say which text a file holds.
 -- Or one cannot be read, or an allocation failed.
-pub data FilesCompared (all : Bool) (alphabet : Alphabet) (old_rule new_rule : Option (List ℕ)) (input : Input)
+pub data FilesCompared (all explain : Bool) (alphabet : Alphabet) (old_rule new_rule : Option (List ℕ)) (input : Input)
     : List ℕ → Reply → Type 0 where
   compares : {old new reported text : List ℕ} {status : Status}
-      → IsAskedReport alphabet old_rule new_rule old new all reported text status
-      → FilesCompared all alphabet old_rule new_rule input reported (answer_reply text status)
-  unread : (why : UnreadFile) → FilesCompared all alphabet old_rule new_rule input (missing_text why)
+      → IsAskedReport explain alphabet old_rule new_rule old new all reported text status
+      → FilesCompared all explain alphabet old_rule new_rule input reported (answer_reply text status)
+  unread : (why : UnreadFile) → FilesCompared all explain alphabet old_rule new_rule input (missing_text why)
       (stopped (missing_stop why))
-  no_memory : FilesCompared all alphabet old_rule new_rule input [] (stopped stop.NoMemory)
+  no_memory : FilesCompared all explain alphabet old_rule new_rule input [] (stopped stop.NoMemory)
 
 -- What is stated for the matches of the words. They ask for all rules and for one, and nothing is read; or they do not,
 -- and the files are compared. Or an allocation failed.
@@ -58,6 +59,6 @@ pub data CompareAnswers (rows : List Row) (input : Input) : List ℕ → Reply �
   clashes : is_clash (all_asked rows) (new_rule_asked rows) ≡ true
       → CompareAnswers rows input clash_text (stopped (stop.Quiet Refused))
   compares_files : {notes : List ℕ} {reply : Reply} → is_clash (all_asked rows) (new_rule_asked rows) ≡ false
-      → FilesCompared (all_asked rows) (symbols_asked rows) (old_rule_asked rows) (new_rule_asked rows) input notes
-      reply → CompareAnswers rows input notes reply
+      → FilesCompared (all_asked rows) (explain_asked rows) (symbols_asked rows) (old_rule_asked rows)
+      (new_rule_asked rows) input notes reply → CompareAnswers rows input notes reply
   unroomed : CompareAnswers rows input [] (stopped stop.NoMemory)

@@ -7,7 +7,7 @@ use Rattle.cli.specs.Command.{AreAlphabets, Names, flag_rule, letters_rule, numb
 use Rattle.cli.specs.Command.{rule_rule, value_rule}
 use Rattle.letters.specs.declared.alphabet.Alphabet.{Alphabet}
 
--- `abnfd [-s RULE] [-t RULE] [-a] [-b N] OLD NEW [-u MODE]`
+-- `abnfd [-s RULE] [-t RULE] [-a] [-b N] OLD NEW [-u MODE] [-x]`
 abbrev pub abnfd_app : Names → App
 abnfd_app names = program_app (codes "abnfd") (rule_rule
     ∷ value_rule (codes "new-rule") (code "t")
@@ -15,7 +15,8 @@ abnfd_app names = program_app (codes "abnfd") (rule_rule
     ∷ number_rule (codes "budget") (code "b") 4294967295 (codes "1000000")
     ∷ operand_rule (codes "old") true
     ∷ operand_rule (codes "new") true
-    ∷ letters_rule names ∷ [])
+    ∷ letters_rule names
+    ∷ flag_rule (codes "explain") (code "x") ∷ [])
 
 -- this is the command of the program
 abbrev pub IsAbnfdApp : App → Type 0
@@ -40,6 +41,10 @@ new_rule_asked rows = new_rule_found (first_of (codes "new-rule") rows) (first_o
 -- the words ask for all rules
 abbrev pub all_asked : List Row → Bool
 all_asked rows = is_flagged (first_of (codes "all") rows)
+
+-- the words ask for explanations
+abbrev pub explain_asked : List Row → Bool
+explain_asked rows = is_flagged (first_of (codes "explain") rows)
 
 -- all rules are asked for, and one too
 abbrev pub is_clash : Bool → Option Text → Bool

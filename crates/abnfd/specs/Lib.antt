@@ -1,3 +1,4 @@
+pub mod AloneRefusals
 pub mod CompareAnswers
 pub mod CompareWords
 pub mod ComparedSides

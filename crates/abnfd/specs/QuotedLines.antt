@@ -1,4 +1,4 @@
--- A line in quotes, all in ASCII.
+-- The bytes of a line, and the line in quotes, all in ASCII.
 use Prim.Native.Char.{code}
 use Rattle.std.specs.Prelude.{ℕ, ◌/◌, ◌%◌, ◌==◌, ◌||◌, nat_lt, Bool, List, [], ◌∷◌, ◌++◌, codes, if◌then◌else◌}
 use Rattle.std.specs.Char.{encode_utf8}
@@ -24,9 +24,10 @@ abbrev pub symbol_bytes : Alphabet → ℕ → List ℕ
 symbol_bytes Bytes c = if has Bytes c then c ∷ [] else []
 symbol_bytes Utf8 c = if has Utf8 c then encode_utf8 c else []
 
-abbrev pub quoted_symbols : Alphabet → List ℕ → List ℕ
-quoted_symbols alphabet line = flat_map (λ c. quoted_bytes (symbol_bytes alphabet c)) line
+-- the bytes of all symbols, one after another
+abbrev pub unquoted_line : Alphabet → List ℕ → List ℕ
+unquoted_line alphabet line = flat_map (symbol_bytes alphabet) line
 
 -- all of the line
 abbrev pub quoted_line : Alphabet → List ℕ → List ℕ
-quoted_line alphabet line = codes "\"" ++ (quoted_symbols alphabet line ++ codes "\"")
+quoted_line alphabet line = codes "\"" ++ (quoted_bytes (unquoted_line alphabet line) ++ codes "\"")

@@ -163,11 +163,11 @@ module _ (alphabet : Alphabet) (old new : List ℕ) where
     pub all : reported ≡ old_reported ++ new_reported
     pub answer : IsAnswerByName text status
 
--- the report that is asked for: on all rules, or on one of each text
-pub data IsAskedReport (alphabet : Alphabet) (old_rule new_rule : Option (List ℕ)) (old new : List ℕ)
-    : Bool → List ℕ → List ℕ → Status → Type 0 where
+-- the report that is asked for: on all rules, where nothing is explained, or on one of each text
+pub data IsAskedReport (explain : Bool) (alphabet : Alphabet) (old_rule new_rule : Option (List ℕ))
+    (old new : List ℕ) : Bool → List ℕ → List ℕ → Status → Type 0 where
   on_all : {reported text : List ℕ} {status : Status} → AreComparedByName alphabet old new reported text status
-      → IsAskedReport alphabet old_rule new_rule old new true reported text status
+      → IsAskedReport explain alphabet old_rule new_rule old new true reported text status
   on_one : {reported text : List ℕ} {status : Status}
-      → AreCompared alphabet old_rule new_rule old new reported text status
-      → IsAskedReport alphabet old_rule new_rule old new false reported text status
+      → AreCompared explain alphabet old_rule new_rule old new reported text status
+      → IsAskedReport explain alphabet old_rule new_rule old new false reported text status

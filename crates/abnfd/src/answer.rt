@@ -53,11 +53,16 @@ pub(crate) fn comparison_status(found: &Comparison) -> Status
 }
 
 // Adds what is known of the lines that one rule alone derives.
-fn push_alone(alphabet: Alphabet, alone: &Alone, out: &mut Vec<u8>) -> Result<(), Memory>
+fn push_alone(
+    alloc: Global,
+    alphabet: Alphabet,
+    alone: &Alone,
+    out: &mut Vec<u8>,
+) -> Result<(), Memory>
     ensures { OnOk result (out.new.items ≡ out.old.items ++ alone_text alphabet alone.now) }
 {
     match alone {
-        Alone::First(line) => push_quoted(alphabet, line.as_slice(), out),
+        Alone::First(line) => push_quoted(alloc, alphabet, line.as_slice(), out),
         Alone::Never => {
             out.extend_from_slice(b"none")?;
             Ok(())
@@ -76,19 +81,29 @@ fn push_alone(alphabet: Alphabet, alone: &Alone, out: &mut Vec<u8>) -> Result<()
 }
 
 // Adds a line for each rule, with what it alone derives.
-fn push_sides(alphabet: Alphabet, found: &Comparison, out: &mut Vec<u8>) -> Result<(), Memory>
+fn push_sides(
+    alloc: Global,
+    alphabet: Alphabet,
+    found: &Comparison,
+    out: &mut Vec<u8>,
+) -> Result<(), Memory>
     ensures { OnOk result (out.new.items ≡ out.old.items ++ sides_text alphabet found.now) }
 {
     out.extend_from_slice(b"< ")?;
-    push_alone(alphabet, &found.old_alone, out)?;
+    push_alone(alloc, alphabet, &found.old_alone, out)?;
     out.extend_from_slice(b"\n> ")?;
-    push_alone(alphabet, &found.new_alone, out)?;
+    push_alone(alloc, alphabet, &found.new_alone, out)?;
     out.extend_from_slice(b"\n")?;
     Ok(())
 }
 
 // Adds the text of a comparison.
-fn push_comparison(alphabet: Alphabet, found: &Comparison, out: &mut Vec<u8>) -> Result<(), Memory>
+fn push_comparison(
+    alloc: Global,
+    alphabet: Alphabet,
+    found: &Comparison,
+    out: &mut Vec<u8>,
+) -> Result<(), Memory>
     ensures { OnOk result (out.new.items ≡ out.old.items ++ the_text alphabet found.now) }
 {
     match verdict_of(found) {
@@ -98,11 +113,11 @@ fn push_comparison(alphabet: Alphabet, found: &Comparison, out: &mut Vec<u8>) ->
         }
         LinesVerdict::Differ => {
             out.extend_from_slice(b"differ\n")?;
-            push_sides(alphabet, found, out)
+            push_sides(alloc, alphabet, found, out)
         }
         LinesVerdict::NotKnown => {
             out.extend_from_slice(b"not known\n")?;
-            push_sides(alphabet, found, out)
+            push_sides(alloc, alphabet, found, out)
         }
     }
 }
@@ -117,6 +132,6 @@ pub(crate) fn comparison_text(
     ensures { IfOk result (λ text. text.items ≡ the_text alphabet found.now) }
 {
     let mut text = Vec::new(alloc);
-    push_comparison(alphabet, found, &mut text)?;
+    push_comparison(alloc, alphabet, found, &mut text)?;
     Ok(text)
 }

@@ -419,9 +419,9 @@ pub(crate) fn compare_asked(
     settings: &CompareSettings<'_>,
     texts: &Texts,
 ) -> Result<Report, Memory>
-    ensures { IfOk result (λ r. IsAskedReport settings.now.letters (option_copied settings.now.old_rule)
-        (option_copied settings.now.new_rule) texts.now.old.items texts.now.new.items settings.now.all
-        r.reported.items r.answer.text.items r.answer.status) }
+    ensures { IfOk result (λ r. IsAskedReport settings.now.explain settings.now.letters
+        (option_copied settings.now.old_rule) (option_copied settings.now.new_rule) texts.now.old.items
+        texts.now.new.items settings.now.all r.reported.items r.answer.text.items r.answer.status) }
 {
     if settings.all {
         compare_by_name(alloc, settings, texts)

@@ -1,6 +1,6 @@
 //! The command line.
 ghost use Rattle.std.specs.Prelude.{◌≡◌, IfOk, codes, option_copied};
-ghost use Rattle.abnfd.specs.CompareWords.{IsAbnfdApp, all_asked, new_rule_found, symbols_asked};
+ghost use Rattle.abnfd.specs.CompareWords.{IsAbnfdApp, all_asked, explain_asked, new_rule_found, symbols_asked};
 ghost use Rattle.clap.specs.Words.{app_of, first_value, found_of, rows_of};
 
 use crate::compared::CompareSettings;
@@ -25,6 +25,7 @@ Grammar:
 Comparison:
   -u, --letters <MODE>  Take bytes or code points of UTF-8 as letters [default: bytes] [possible values: bytes, utf8]
   -b, --budget <N>      Search at most N pairs of states, from 1 to 4294967295 [default: 1000000]
+  -x, --explain         Explain why a line is not derived
 
 Other options:
   -h, --help     Print this help
@@ -42,7 +43,7 @@ Example:
   abnfd -s date old.abnf new.abnf";
 
 /// The options and operands.
-static PARAMETERS: [Parameter; 7] = [
+static PARAMETERS: [Parameter; 8] = [
     Parameter::Text("rule", 's', "RULE"),
     Parameter::Text("new-rule", 't', "RULE"),
     Parameter::Flag("all", 'a'),
@@ -50,9 +51,11 @@ static PARAMETERS: [Parameter; 7] = [
     Parameter::Operand("old", "OLD", true),
     Parameter::Operand("new", "NEW", true),
     Parameter::Choice("letters", 'u', "MODE", &["bytes", "utf8"], "bytes"),
+    Parameter::Flag("explain", 'x'),
 ];
 
-/// Returns the command `abnfd [-s RULE] [-t RULE] [-a] [-b N] [-u MODE] OLD NEW`, or an error if an allocation fails.
+/// Returns the command `abnfd [-s RULE] [-t RULE] [-a] [-b N] [-u MODE] [-x] OLD NEW`, or an error if an allocation
+/// fails.
 pub(crate) fn abnfd_command<'a>(alloc: Global) -> Result<Command<'a>, AllocError>
     ensures { (app : _) × IsAbnfdApp app × IfOk result (λ c. app_of c ≡ app) }
 {
@@ -72,6 +75,7 @@ fn new_rule_of<'a>(matches: &ArgMatches<'a>) -> Option<&'a str>
 /// Returns how the words ask to compare.
 pub(crate) fn settings_of<'a>(matches: &ArgMatches<'a>) -> CompareSettings<'a>
     ensures all { result.all ≡ all_asked (rows_of (found_of matches.now)) }
+    ensures explain { result.explain ≡ explain_asked (rows_of (found_of matches.now)) }
     ensures old_rule { option_copied result.old_rule ≡ first_value (found_of matches.now) (codes "rule") }
     ensures new_rule { option_copied result.new_rule ≡ new_rule_found (first_value (found_of matches.now)
         (codes "new-rule")) (first_value (found_of matches.now) (codes "rule")) }
@@ -79,6 +83,7 @@ pub(crate) fn settings_of<'a>(matches: &ArgMatches<'a>) -> CompareSettings<'a>
 {
     CompareSettings {
         all: is_given(matches, "all"),
+        explain: is_given(matches, "explain"),
         old_rule: matches.get_str("rule"),
         new_rule: new_rule_of(matches),
         letters: letters_of(matches),

@@ -4,6 +4,7 @@ ghost use Rattle.abnfd.specs.ComparedTexts.{AreCompared, IsComparison, IsReportO
 
 use crate::alike::unchanged_pairs;
 use crate::answer::{comparison_status, comparison_text};
+use crate::refusals::asked_refusals;
 use crate::side::{Side, open_side};
 use abnfcheck::SoundAbnf;
 use letters::Alphabet;
@@ -17,6 +18,8 @@ use toolrun::Status;
 pub(crate) struct CompareSettings<'a> {
     /// Whether all rules are compared, by name.
     pub(crate) all: bool,
+    /// Whether it is explained why a rule rejects a line, unless all rules are compared.
+    pub(crate) explain: bool,
     /// The compared rule of the old grammar; its first rule if there is no name.
     pub(crate) old_rule: Option<&'a str>,
     /// The compared rule of the new grammar; its first rule if there is no name.
@@ -83,17 +86,20 @@ fn found_between(
     compare(alloc, settings.letters, old, new, settings.budget)
 }
 
-// Compares two grammars. `Memory` if an allocation fails.
+// Compares two grammars, and explains the difference if that is asked. `Memory` if an allocation fails.
 fn compared(
     alloc: Global,
     settings: &CompareSettings<'_>,
     old: &SoundAbnf,
     new: &SoundAbnf,
 ) -> Result<ComparisonAnswer, Memory>
-    ensures { IfOk result (λ a. IsVerdictOn settings.now.letters (Some old.now) (Some new.now) a.text.items a.status) }
+    ensures { IfOk result (λ a. IsVerdictOn settings.now.explain settings.now.letters (Some old.now) (Some new.now)
+        a.text.items a.status) }
 {
     let found = found_between(alloc, settings, old, new)?;
-    let text = comparison_text(alloc, settings.letters, &found)?;
+    let mut text = comparison_text(alloc, settings.letters, &found)?;
+    let why = asked_refusals(alloc, settings, old, new, &found)?;
+    text.extend_from_slice(why.as_slice())?;
     Ok(ComparisonAnswer {
         text,
         status: comparison_status(&found),
@@ -118,8 +124,8 @@ fn answer_to(
     old: &Side,
     new: &Side,
 ) -> Result<ComparisonAnswer, Memory>
-    ensures { IfOk result (λ a. IsVerdictOn settings.now.letters old.now.grammar new.now.grammar a.text.items
-        a.status) }
+    ensures { IfOk result (λ a. IsVerdictOn settings.now.explain settings.now.letters old.now.grammar new.now.grammar
+        a.text.items a.status) }
 {
     match &old.grammar {
         Some(before) => match &new.grammar {
@@ -148,7 +154,8 @@ fn report_on(
     new: &Side,
 ) -> Result<Report, Memory>
     ensures { IfOk result (λ r. (r.reported.items ≡ old.now.reported.items ++ new.now.reported.items)
-        × IsVerdictOn settings.now.letters old.now.grammar new.now.grammar r.answer.text.items r.answer.status) }
+        × IsVerdictOn settings.now.explain settings.now.letters old.now.grammar new.now.grammar r.answer.text.items
+        r.answer.status) }
 {
     let reported = both_reported(alloc, old.reported.as_slice(), new.reported.as_slice())?;
     let answer = answer_to(alloc, settings, old, new)?;
@@ -162,8 +169,9 @@ fn compare_with(
     old: &Side,
     new: &[u8],
 ) -> Result<Report, Memory>
-    ensures { IfOk result (λ r. IsReportOn settings.now.letters (option_copied settings.now.new_rule)
-        old.now.reported.items old.now.grammar new.now r.reported.items r.answer.text.items r.answer.status) }
+    ensures { IfOk result (λ r. IsReportOn settings.now.explain settings.now.letters
+        (option_copied settings.now.new_rule) old.now.reported.items old.now.grammar new.now r.reported.items
+        r.answer.text.items r.answer.status) }
 {
     let new = open_side(alloc, b"new: ", new, settings.new_rule)?;
     report_on(alloc, settings, old, &new)
@@ -177,8 +185,9 @@ pub(crate) fn compare_texts(
     old: &[u8],
     new: &[u8],
 ) -> Result<Report, Memory>
-    ensures { IfOk result (λ r. AreCompared settings.now.letters (option_copied settings.now.old_rule)
-        (option_copied settings.now.new_rule) old.now new.now r.reported.items r.answer.text.items r.answer.status) }
+    ensures { IfOk result (λ r. AreCompared settings.now.explain settings.now.letters
+        (option_copied settings.now.old_rule) (option_copied settings.now.new_rule) old.now new.now r.reported.items
+        r.answer.text.items r.answer.status) }
 {
     let old = open_side(alloc, b"old: ", old, settings.old_rule)?;
     compare_with(alloc, settings, &old, new)

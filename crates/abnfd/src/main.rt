@@ -9,6 +9,7 @@ mod compared;
 mod copies;
 mod files;
 mod quoted;
+mod refusals;
 mod run;
 mod side;
 

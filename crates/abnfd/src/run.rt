@@ -114,7 +114,7 @@ fn compare_read<O: Sink, E: Sink>(
 ) -> Status
     requires out_is_fresh { O.failed out.old ≡ false }
     requires err_is_fresh { E.failed err.old ≡ false }
-    ensures right { RunIsRight (FilesCompared settings.now.all settings.now.letters
+    ensures right { RunIsRight (FilesCompared settings.now.all settings.now.explain settings.now.letters
         (option_copied settings.now.old_rule) (option_copied settings.now.new_rule)) no_input
         (passed O.contents O.failed out.old out.new) (passed E.contents E.failed err.old err.new) (code_of result) }
 {
@@ -135,7 +135,7 @@ fn compare_files<R: Files + AllocGlobal, O: Sink, E: Sink>(
 ) -> Status
     requires out_is_fresh { O.failed out.old ≡ false }
     requires err_is_fresh { E.failed err.old ≡ false }
-    ensures right { RunIsRight (FilesCompared settings.now.all settings.now.letters
+    ensures right { RunIsRight (FilesCompared settings.now.all settings.now.explain settings.now.letters
         (option_copied settings.now.old_rule) (option_copied settings.now.new_rule)) no_input
         (passed O.contents O.failed out.old out.new) (passed E.contents E.failed err.old err.new) (code_of result) }
 {
@@ -173,8 +173,9 @@ fn run_asked<R: Files + AllocGlobal, O: Sink, E: Sink>(
     compare_files(rt, &settings, old, new, out, err)
 }
 
-/// Runs the program, whose words are its own name and `[-s RULE] [-t RULE] [-a] [-b N] [-u MODE] OLD NEW`: it compares
-/// the lines that a rule of the grammar in the file OLD derives with those of a rule of the grammar in the file NEW.
+/// Runs the program, whose words are its own name and `[-s RULE] [-t RULE] [-a] [-b N] [-u MODE] [-x] OLD NEW`: it
+/// compares the lines that a rule of the grammar in the file OLD derives with those of a rule of the grammar in the file
+/// NEW.
 ///
 /// - `-h`: the help on `out`, `Done`.
 /// - Other words: what is wrong with them on `err`, `Refused`, and nothing is read.
@@ -185,10 +186,11 @@ fn run_asked<R: Files + AllocGlobal, O: Sink, E: Sink>(
 /// - Else `same` on `out`, `Done`; or `differ`, `NoMatch`, if the first line is known that one of the rules derives
 ///   alone, or `not known`, `Overlong`, and two lines. They say what is known of the lines that the old rule alone
 ///   derives, and of those of the new one.
+/// - `-x`: after these lines it stands why the other rule rejects each line that is known.
 /// - `-a`: the messages as without it. Then a line on `out` for each rule that both texts define, in the order of OLD:
 ///   its name, and `same`, `differ`, `rejected` or `not known`, as the comparison of these rules ends. After these come
 ///   the names that OLD alone defines, each after `< `, and that NEW alone defines, each after `> `. The status is the
-///   greatest of the comparisons. A text with a fault: no line, `Refused`.
+///   greatest of the comparisons. A text with a fault: no line, `Refused`. `-x` changes nothing.
 /// - If an allocation fails: `out of memory`, `NoMemory`.
 pub(crate) fn abnfd_main<R: Files + AllocGlobal, O: Sink, E: Sink>(
     rt: &R,

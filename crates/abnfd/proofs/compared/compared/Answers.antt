@@ -1,5 +1,6 @@
+-- What is found, and its explanations.
 use Rattle.abnfd.specs.ComparedTexts.{has_found}
 use Rattle.abnfd.proofs.compared.compared.Goals as goal
 
 pub returns : goal.returns
-returns c = rw (c.in_ok-text.ensures, c.comparison_status.ensures) (has_found c.in_ok-found.found c.in_ok-found.ensures)
+returns c = ?

@@ -13,8 +13,8 @@ returns-in-Err g c = record {
       let why = c.in-Err.why in
       let settings = c.args.settings.now in
       comes_as (IsReportedAnd (missing_text why) (missing_stop why))
-      (FilesCompared settings.all settings.letters (option_copied settings.old_rule)
-      (option_copied settings.new_rule))
+      (FilesCompared settings.all settings.explain settings.letters
+      (option_copied settings.old_rule) (option_copied settings.new_rule))
       (λ input notes reply is. rw (is.0, is.1) (unread why)) no_input
       (passed g.O.Sink.contents g.O.Sink.failed c.args.out.now c.end_unread.new.out)
       (passed g.E.Sink.contents g.E.Sink.failed c.args.err.now c.end_unread.new.err) (code_of c.end_unread.result)

@@ -15,8 +15,8 @@ returns-in-Ok g c = record {
       let settings = c.args.settings.now in
       let report = c.in-Ok.report in
       comes_as (IsWholeReport report.reported.items report.answer.text.items report.answer.status)
-      (FilesCompared settings.all settings.letters (option_copied settings.old_rule)
-      (option_copied settings.new_rule))
+      (FilesCompared settings.all settings.explain settings.letters
+      (option_copied settings.old_rule) (option_copied settings.new_rule))
       (λ input notes reply is. rw (is.0, is.1) (compares c.in-Ok.ensures)) no_input
       (passed g.O.Sink.contents g.O.Sink.failed c.args.out.now c.end_compared.new.out)
       (passed g.E.Sink.contents g.E.Sink.failed c.args.err.now c.end_compared.new.err)
@@ -27,8 +27,8 @@ pub returns-in-Err : goal.returns-in-Err
 returns-in-Err g c = record {
   right =
       let settings = c.args.settings.now in
-      stop_comes (FilesCompared settings.all settings.letters (option_copied settings.old_rule)
-      (option_copied settings.new_rule)) NoMemory (λ input. no_memory) (Some []) false false
+      stop_comes (FilesCompared settings.all settings.explain settings.letters
+      (option_copied settings.old_rule) (option_copied settings.new_rule)) NoMemory (λ input. no_memory) (Some []) false false
       (passed g.O.Sink.contents g.O.Sink.failed c.args.out.now c.finish.new.out)
       (passed g.E.Sink.contents g.E.Sink.failed c.args.err.now c.finish.new.err) (code_of c.finish.result)
       (c.finish.ensures.kept, c.finish.ensures.reported);

@@ -32,10 +32,10 @@ returns g c = record {
       let settings = c.settings_of-settings.result in
       let asked = c.settings_of-settings.ensures in
       let f = found_of c.args.matches.now in
-      comes_as (FilesCompared settings.all settings.letters (option_copied settings.old_rule)
-      (option_copied settings.new_rule)) (CompareAnswers (rows_of f))
-      (asked_compared f settings.all (option_copied settings.new_rule) asked.all asked.new_rule settings.letters
-      (option_copied settings.old_rule) asked.letters asked.old_rule
+      comes_as (FilesCompared settings.all settings.explain settings.letters
+      (option_copied settings.old_rule) (option_copied settings.new_rule)) (CompareAnswers (rows_of f))
+      (asked_compared f settings.all (option_copied settings.new_rule) asked.all asked.new_rule settings.explain
+      settings.letters (option_copied settings.old_rule) asked.explain asked.letters asked.old_rule
       (sym c.is_clash.ensures ∙ c.if-is_clash.false)) no_input
       (passed g.O.Sink.contents g.O.Sink.failed c.args.out.now c.compare_files.new.out)
       (passed g.E.Sink.contents g.E.Sink.failed c.args.err.now c.compare_files.new.err)
