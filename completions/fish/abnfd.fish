@@ -26,5 +26,6 @@ complete -c abnfd -s t -l new-rule -x -a '(__abnfd_rules)' -d 'Compare this rule
 complete -c abnfd -s a -l all -d 'Compare all rules that both grammars define, by name'
 complete -c abnfd -s u -l letters -x -a 'bytes utf8' -d 'Take bytes or code points of UTF-8 as letters'
 complete -c abnfd -s b -l budget -x -d 'Search at most N pairs of states, from 1 to 4294967295'
+complete -c abnfd -s x -l explain -d 'Explain why the other rule rejects a line'
 complete -c abnfd -s h -l help -f -d 'Print this help'
 complete -c abnfd -l version -f -d 'Print the version'

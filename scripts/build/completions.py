@@ -104,6 +104,7 @@ PROGRAMS = (
         Option("a", "all", "", (), "Compare all rules that both grammars define, by name"),
         Option("u", "letters", "MODE", ("bytes", "utf8"), "Take bytes or code points of UTF-8 as letters"),
         Option("b", "budget", "N", (), "Search at most N pairs of states, from 1 to 4294967295"),
+        Option("x", "explain", "", (), "Explain why the other rule rejects a line"),
         HELP,
         VERSION,
     ), "=", "The file of the old grammar, at most 1048576 bytes", "abnfi", ("old", "new")),

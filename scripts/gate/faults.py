@@ -120,6 +120,10 @@ NONE_TAKEN = taken("a text without rules", b"Rules\n", [], b"no rules found\n", 
 
 COMPARED = compared("rules that differ", b's = 1*ALPHA "\\"\n', b't = 1*2ALPHA "\\"\nu = s\ns = "x"\n',
                     [b'differ\n< "AAA\\x5C"\n> none\n'], b"new: rule 'u' defined but not used\n", 1, words=["-t", "t"])
+COMPARED_EXPLAINED = compared("lines of one rule alone explained", b's = "ab"\n', b's = "a" / "b"\n',
+                              [b'differ\n< "AB"\n> "A"\n'
+                               b'new, letter 2: expected the end of the line\n  AB\n   ^\n'
+                               b'old ends too early: expected "B"\n  A\n   ^\n'], status=1, words=["-x"])
 ALIKE = compared("rules that derive the same lines", b's = "a" s / "b"\n', b's = *"a" "b"\n', [b"same\n"])
 REJECTED = compared("grammars that are rejected", b"s = <any>\n", b"s : x\n", [],
                     b"old: prose in rule 's'\nnew: line 1: syntax error\n", 2)
@@ -163,6 +167,7 @@ GROWING = [
     TAKEN_LISTED,
     NONE_TAKEN,
     COMPARED,
+    COMPARED_EXPLAINED,
     ALIKE,
     REJECTED,
     BY_NAME,

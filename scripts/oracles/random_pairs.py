@@ -4,8 +4,9 @@
 usage: random_pairs.py [-n PAIRS] [-s SEED]
 
 A pair is a random grammar (random_abnf.py) and one like it: the same rules spelled otherwise, or with a part replaced,
-or another grammar. Each quoted line is judged by bin/abnfi and both grammars. Pairs and their order follow from the
-seed alone. The lines of -a are compared with a run of each rule that both grammars define. Prints how many pairs were
+or another grammar. Each quoted line is judged by bin/abnfi and both grammars. What -x adds is compared with what
+bin/abnfi -x writes for each quoted line by the grammar that rejects it. Pairs and their order follow from the seed
+alone. The lines of -a are compared with a run of each rule that both grammars define. Prints how many pairs were
 compared, and how often what was known; at the first disagreement it prints the pair, and then the status is 1. A
 program that is not built is skipped.
 """
@@ -55,17 +56,25 @@ def like(r, grammar):
     return random_abnf.grammar(r)
 
 
+def judged(text, key, line, is_utf8, folder, *options):
+    """Returns how abnfi judges a line by a rule; nothing where both of its ends stand in the line."""
+    ends = [it for it in (b"\n", b"\0") if it not in line]
+    if not ends:
+        return None
+    (folder / "judged").write_bytes(text)
+    words = ["-s", key, *(["-u", "utf8"] if is_utf8 else []), *(["-z"] if ends[0] == b"\0" else []), *options, "judged"]
+    ran = subprocess.run([BIN / "abnfi", *words], cwd=folder, input=line + ends[0], capture_output=True, check=False)
+    assert ran.stdout in (b"yes\n", b"no\n"), ran
+    return ran
+
+
 def is_derived(rules, text, key, line, is_utf8, folder):
     """Returns whether abnfi says that a rule derives a line. Where both of its ends stand in the line, the slow answer
     says it."""
-    ends = [it for it in (b"\n", b"\0") if it not in line]
-    if not ends:
+    ran = judged(text, key, line, is_utf8, folder)
+    if ran is None:
         letters, is_text = slow_abnf.letters_of(line, is_utf8)
         return is_text and slow_abnf.Deriver(rules, letters).derives(key)
-    (folder / "judged").write_bytes(text)
-    words = ["-s", key, *(["-u", "utf8"] if is_utf8 else []), *(["-z"] if ends[0] == b"\0" else []), "judged"]
-    ran = subprocess.run([BIN / "abnfi", *words], cwd=folder, input=line + ends[0], capture_output=True, check=False)
-    assert ran.stdout in (b"yes\n", b"no\n"), ran
     return ran.stdout == b"yes\n"
 
 
@@ -136,6 +145,21 @@ def fault_of(old, new, is_utf8, ran, folder):
                        else "nothing" for it in known)
 
 
+def fault_of_explained(old, new, is_utf8, ran, options, folder):
+    """Returns what is wrong with a run with -x, if something is: it adds what abnfi -x writes for each quoted line by
+    the other grammar, with the name of that one in place of `line 1`."""
+    found = [ALONE.fullmatch(it) for it in ran.stdout.split(b"\n")[1:3]]
+    quoted = [(side, unquoted(it["line"])) for side, it in zip((new, old), found) if it and it["line"] is not None]
+    runs = [(side, judged(side.text, side.key, line, is_utf8, folder, "-x")) for side, line in quoted]
+    if not all(run for _, run in runs):
+        return None
+    added = [re.sub(rb"(?ms)(.*?)^line 1(.*)", side.name + rb"\2", run.stderr) for side, run in runs]
+    wanted = ran.stdout + b"".join(added), ran.stderr, ran.returncode
+    words = [BIN / "abnfd", "-x", *options, "old", "new"]
+    run = subprocess.run(words, cwd=folder, capture_output=True, check=False)
+    return None if (run.stdout, run.stderr, run.returncode) == wanted else f"with -x {run}, not {wanted}"
+
+
 def fault_of_all(old, new, options, folder):
     """Returns what is wrong with a run with -a, if something is: a run of each rule gives the status of its line."""
     def ran(*words):
@@ -174,6 +198,7 @@ def main():
             ran = subprocess.run([BIN / "abnfd", *options, "old", "new"], cwd=folder, capture_output=True, check=False)
             fault, known = fault_of(old, new, is_utf8, ran, folder)
             counts["; ".join(known)] += 1
+            fault = fault or fault_of_explained(old, new, is_utf8, ran, options, folder)
             if not fault and number % 10 == 0:
                 fault = fault_of_all(old, new, options[2:] if rule else options, folder)
             if fault:

@@ -25,7 +25,7 @@ Grammar:
 Comparison:
   -u, --letters <MODE>  Take bytes or code points of UTF-8 as letters [default: bytes] [possible values: bytes, utf8]
   -b, --budget <N>      Search at most N pairs of states, from 1 to 4294967295 [default: 1000000]
-  -x, --explain         Explain why a line is not derived
+  -x, --explain         Explain why the other rule rejects a line
 
 Other options:
   -h, --help     Print this help
