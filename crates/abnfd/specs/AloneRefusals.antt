@@ -24,8 +24,7 @@ IsRefusalOfAlone alphabet side grammar Never text = text ≡ []
 IsRefusalOfAlone alphabet side grammar (NeverUpTo n) text = text ≡ []
 IsRefusalOfAlone alphabet side grammar Unknown text = text ≡ []
 
--- The new rule rejects the line that the old one alone derives, and that comes first; the old rule rejects the line that
--- the new one alone derives.
+-- the new rule rejects the line that the old one alone derives, and then the old one that of the new one
 pub record AreRefusals (alphabet : Alphabet) (old new : Grammar) (found : Comparison) (text : List ℕ) : Type 0 where
   pub by_new : List ℕ
   pub by_old : List ℕ

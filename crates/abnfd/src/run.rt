@@ -174,8 +174,8 @@ fn run_asked<R: Files + AllocGlobal, O: Sink, E: Sink>(
 }
 
 /// Runs the program, whose words are its own name and `[-s RULE] [-t RULE] [-a] [-b N] [-u MODE] [-x] OLD NEW`: it
-/// compares the lines that a rule of the grammar in the file OLD derives with those of a rule of the grammar in the file
-/// NEW.
+/// compares the lines that a rule of the grammar in the file OLD derives with those of a rule of the grammar in the
+/// file NEW.
 ///
 /// - `-h`: the help on `out`, `Done`.
 /// - Other words: what is wrong with them on `err`, `Refused`, and nothing is read.

@@ -1,25 +1,39 @@
 -- An explanation of the first line of an input begins with `line 1`.
-use Rattle.std.proofs.Common.{◌≡◌, ◌∙◌, ℕ, Bool, true, false, List, ◌++◌, ap, arith, drop, length, refl, subst, sym}
-use Rattle.std.specs.Prelude.{codes, if◌then◌else◌, nat_lt, take}
-use Rattle.abnfd.proofs.refusals.explain_symbols.Goals as goal
+use Rattle.std.proofs.Common.{◌≡◌, ℕ, Bool, true, false, List, ◌++◌, arith, drop, length, refl, subst, sym}
+use Rattle.std.proofs.lemmas.Fmt.{decimal_digit}
+use Rattle.std.proofs.lemmas.List.{take_rest}
+use Rattle.std.specs.Prelude.{codes, decimal, if◌then◌else◌, nat_lt, take}
 use Rattle.abnfd.specs.QuotedLines.{unquoted_line}
 use Rattle.abnfread.specs.AbnfViews.{rules_of}
 use Rattle.abnfread.specs.Element.{Rule}
+use Rattle.diagnostics.specs.ShownBytes.{cut}
 use Rattle.letters.specs.declared.alphabet.Alphabet.{Alphabet}
 use Rattle.refusedlines.specs.RefusedText.{is_none, nothing_text, refused_at, refusal_text, reported_expected}
 use Rattle.refusedlines.specs.Refusals.{IsRefusalReported, name_at, octet_count}
 use Rattle.refusedlines.specs.declared.letterruns.run.LetterRun.{LetterRun}
 use Rattle.refusedlines.specs.declared.refusal.RefusedAt.{RefusedAt}
 use Rattle.refusedlines.specs.declared.refusal.RefusedAt.TheVariants.{End, Letter, NoText}
+use Rattle.abnfd.proofs.refusals.explain_symbols.Goals as goal
 
 abbrev IsOfFirst : List ℕ → Type 0
 IsOfFirst text = text ≡ codes "line 1" ++ drop 6 text
 
+nothing_of_first : (name : List ℕ) → IsOfFirst (nothing_text 1 name)
+nothing_of_first name = subst
+    (λ (d : List ℕ). IsOfFirst (codes "line " ++ (d ++ (codes ": rule '" ++ (cut name
+    ++ codes "' derives nothing\n")))))
+    (sym (decimal_digit 1 (omega arith))) refl
+
+-- what follows the number stands in two parts
+parts_of_first : (x y : List ℕ) → IsOfFirst ((codes "line " ++ (decimal 1 ++ x)) ++ y)
+parts_of_first x y = subst (λ (d : List ℕ). IsOfFirst ((codes "line " ++ (d ++ x)) ++ y))
+    (sym (decimal_digit 1 (omega arith))) refl
+
 expected_of_first : (alphabet : Alphabet) (line : List ℕ) (at : RefusedAt) (position : ℕ) (runs : List LetterRun)
     (ends : Bool) → IsOfFirst (reported_expected alphabet 1 line at position runs ends)
-expected_of_first alphabet line (Letter n) position runs ends = refl
-expected_of_first alphabet line (NoText n) position runs ends = refl
-expected_of_first alphabet line End position runs ends = refl
+expected_of_first alphabet line (Letter n) position runs ends = parts_of_first _ _
+expected_of_first alphabet line (NoText n) position runs ends = parts_of_first _ _
+expected_of_first alphabet line End position runs ends = parts_of_first _ _
 
 either_of_first : (b : Bool) (x y : List ℕ) → IsOfFirst x → IsOfFirst y → IsOfFirst (if b then x else y)
 either_of_first true x y p q = p
@@ -29,7 +43,7 @@ text_of_first : (alphabet : Alphabet) (name line : List ℕ) (at : RefusedAt) (p
     (ends : Bool) → IsOfFirst (refusal_text alphabet name 1 line at position runs ends)
 text_of_first alphabet name line at position runs ends =
     either_of_first (is_none runs ends) (nothing_text 1 name) (reported_expected alphabet 1 line at position runs ends)
-    refl (expected_of_first alphabet line at position runs ends)
+    (nothing_of_first name) (expected_of_first alphabet line at position runs ends)
 
 refusal_of_first : (alphabet : Alphabet) (rules : List Rule) (judged : ℕ) (line text : List ℕ)
     → IsRefusalReported alphabet rules judged line 1 text → IsOfFirst text
@@ -39,4 +53,23 @@ refusal_of_first alphabet rules judged line text r = subst IsOfFirst (sym r.is)
     r.runs r.ends)
 
 pub returns : goal.returns
-returns c = ?
+returns c =
+    let why = c.in_ok-why.why.items in
+    let letters = c.args.letters in
+    let rules = rules_of c.args.grammar.now.rules in
+    let judged = c.args.grammar.now.judged in
+    let line = unquoted_line letters c.args.line.now in
+    let r : IsRefusalReported letters rules judged line 1 why =
+    rw (c.as_slice.ensures.value, c.in_ok-bytes.ensures) at c.in_ok-why.ensures in
+    record {
+      rest = drop 6 why;
+      reported = subst (λ (t : List ℕ). IsRefusalReported letters rules judged line 1 t)
+          (refusal_of_first letters rules judged line why r) r;
+      is = rw (
+        c.in_ok-extend_from_slice-2.ensures.items,
+        take_rest c.as_slice-2.result.now 6,
+        c.as_slice-2.ensures.value,
+        c.in_ok-extend_from_slice.ensures.items,
+        c.new-text.ensures.items,
+      ) refl;
+    }

@@ -28,7 +28,8 @@ returns-in-Err g c = record {
   right =
       let settings = c.args.settings.now in
       stop_comes (FilesCompared settings.all settings.explain settings.letters
-      (option_copied settings.old_rule) (option_copied settings.new_rule)) NoMemory (λ input. no_memory) (Some []) false false
+      (option_copied settings.old_rule) (option_copied settings.new_rule)) NoMemory (λ input. no_memory)
+      (Some []) false false
       (passed g.O.Sink.contents g.O.Sink.failed c.args.out.now c.finish.new.out)
       (passed g.E.Sink.contents g.E.Sink.failed c.args.err.now c.finish.new.err) (code_of c.finish.result)
       (c.finish.ensures.kept, c.finish.ensures.reported);
