@@ -97,7 +97,7 @@ fn explain_alone(
 {
     match alone {
         Alone::First(line) => explain_symbols(alloc, letters, side, grammar, line.as_slice()),
-        _ => Ok(Vec::new(alloc)),
+        Alone::Never | Alone::NeverUpTo(_) | Alone::Unknown => Ok(Vec::new(alloc)),
     }
 }
 

@@ -1,4 +1,5 @@
 -- The text on the new side comes first.
+use Rattle.std.proofs.Common.{refl}
 use Rattle.abnfd.proofs.refusals.explain_both.Goals as goal
 
 pub returns : goal.returns
