@@ -78,9 +78,10 @@ fn explain_symbols(
 {
     let bytes = bytes_of(alloc, letters, line)?;
     let why = explain_bytes(alloc, letters, grammar, bytes.as_slice())?;
+    let rest = &why.as_slice()[FIRST_LINE.len()..];
     let mut text = Vec::new(alloc);
     text.extend_from_slice(side)?;
-    text.extend_from_slice(&why.as_slice()[FIRST_LINE.len()..])?;
+    text.extend_from_slice(rest)?;
     Ok(text)
 }
 

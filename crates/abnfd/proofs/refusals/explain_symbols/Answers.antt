@@ -1,5 +1,5 @@
 -- An explanation of the first line of an input begins with `line 1`.
-use Rattle.std.proofs.Common.{◌≡◌, ℕ, Bool, true, false, List, ◌++◌, arith, drop, length, refl, subst, sym}
+use Rattle.std.proofs.Common.{◌≡◌, ℕ, Bool, true, false, List, ◌++◌, ◌≤◌, ap, arith, drop, length, refl, rules, subst, sym}
 use Rattle.std.proofs.lemmas.Fmt.{decimal_digit}
 use Rattle.std.proofs.lemmas.List.{take_rest}
 use Rattle.std.specs.Prelude.{codes, decimal, if◌then◌else◌, nat_lt, take}
@@ -11,8 +11,6 @@ use Rattle.letters.specs.declared.alphabet.Alphabet.{Alphabet}
 use Rattle.refusedlines.specs.RefusedText.{is_none, nothing_text, refused_at, refusal_text, reported_expected}
 use Rattle.refusedlines.specs.Refusals.{IsRefusalReported, name_at, octet_count}
 use Rattle.refusedlines.specs.declared.letterruns.run.LetterRun.{LetterRun}
-use Rattle.refusedlines.specs.declared.refusal.RefusedAt.{RefusedAt}
-use Rattle.refusedlines.specs.declared.refusal.RefusedAt.TheVariants.{End, Letter, NoText}
 use Rattle.abnfd.proofs.refusals.explain_symbols.Goals as goal
 
 abbrev IsOfFirst : List ℕ → Type 0
@@ -29,28 +27,47 @@ parts_of_first : (x y : List ℕ) → IsOfFirst ((codes "line " ++ (decimal 1 ++
 parts_of_first x y = subst (λ (d : List ℕ). IsOfFirst ((codes "line " ++ (d ++ x)) ++ y))
     (sym (decimal_digit 1 (omega arith))) refl
 
-expected_of_first : (alphabet : Alphabet) (line : List ℕ) (at : RefusedAt) (position : ℕ) (runs : List LetterRun)
-    (ends : Bool) → IsOfFirst (reported_expected alphabet 1 line at position runs ends)
-expected_of_first alphabet line (Letter n) position runs ends = parts_of_first _ _
-expected_of_first alphabet line (NoText n) position runs ends = parts_of_first _ _
-expected_of_first alphabet line End position runs ends = parts_of_first _ _
+either_case : {A : Type 0} (P : A → Type 0) (b : Bool) (x y : A) → P x → P y → P (if b then x else y)
+either_case P true x y p q = p
+either_case P false x y p q = q
 
-either_of_first : (b : Bool) (x y : List ℕ) → IsOfFirst x → IsOfFirst y → IsOfFirst (if b then x else y)
-either_of_first true x y p q = p
-either_of_first false x y p q = q
+expected_of_first : (alphabet : Alphabet) (line : List ℕ) (n count : ℕ) (torn : Bool) (position : ℕ)
+    (runs : List LetterRun) (ends : Bool)
+    → IsOfFirst (reported_expected alphabet 1 line (refused_at n count torn) position runs ends)
+expected_of_first alphabet line n count torn position runs ends =
+    either_case (λ at. IsOfFirst (reported_expected alphabet 1 line at position runs ends)) (nat_lt n count) _ _
+    (parts_of_first _ _)
+    (either_case (λ at. IsOfFirst (reported_expected alphabet 1 line at position runs ends)) torn _ _
+    (parts_of_first _ _) (parts_of_first _ _))
 
-text_of_first : (alphabet : Alphabet) (name line : List ℕ) (at : RefusedAt) (position : ℕ) (runs : List LetterRun)
-    (ends : Bool) → IsOfFirst (refusal_text alphabet name 1 line at position runs ends)
-text_of_first alphabet name line at position runs ends =
-    either_of_first (is_none runs ends) (nothing_text 1 name) (reported_expected alphabet 1 line at position runs ends)
-    (nothing_of_first name) (expected_of_first alphabet line at position runs ends)
+text_of_first : (alphabet : Alphabet) (name line : List ℕ) (n count : ℕ) (torn : Bool) (position : ℕ)
+    (runs : List LetterRun) (ends : Bool)
+    → IsOfFirst (refusal_text alphabet name 1 line (refused_at n count torn) position runs ends)
+text_of_first alphabet name line n count torn position runs ends =
+    either_case IsOfFirst (is_none runs ends) (nothing_text 1 name)
+    (reported_expected alphabet 1 line (refused_at n count torn) position runs ends)
+    (nothing_of_first name) (expected_of_first alphabet line n count torn position runs ends)
 
 refusal_of_first : (alphabet : Alphabet) (rules : List Rule) (judged : ℕ) (line text : List ℕ)
     → IsRefusalReported alphabet rules judged line 1 text → IsOfFirst text
 refusal_of_first alphabet rules judged line text r = subst IsOfFirst (sym r.is)
-    (text_of_first alphabet (name_at rules judged) line
-    (refused_at r.after (length r.first) (nat_lt r.size (length line))) (octet_count alphabet (take r.after r.first))
-    r.runs r.ends)
+    (text_of_first alphabet (name_at rules judged) line r.after (length r.first) (nat_lt r.size (length line))
+    (octet_count alphabet (take r.after r.first)) r.runs r.ends)
+
+pub slice_bounds-rest-count : goal.slice_bounds-rest-count
+slice_bounds-rest-count c =
+    let size = ap length (refusal_of_first c.args.letters (rules_of c.args.grammar.now.rules)
+    c.args.grammar.now.judged c.as_slice.result.now c.in_ok-why.why.items c.in_ok-why.ensures) in
+    let same = ap length c.as_slice-2.ensures.value in
+    omega (arith, size, same)
+
+pub slice_bounds-rest-start : goal.slice_bounds-rest-start
+slice_bounds-rest-start c =
+    let size = ap length (refusal_of_first c.args.letters (rules_of c.args.grammar.now.rules)
+    c.args.grammar.now.judged c.as_slice.result.now c.in_ok-why.why.items c.in_ok-why.ensures) in
+    let same = ap length c.as_slice-2.ensures.value in
+    let enough : 6 ≤ length c.as_slice-2.result.now = omega (arith, size, same) in
+    first_of (enough, search (rules, enough), omega (arith, enough))
 
 pub returns : goal.returns
 returns c =
