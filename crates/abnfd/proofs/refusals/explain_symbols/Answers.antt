@@ -1,5 +1,5 @@
 -- An explanation of the first line of an input begins with `line 1`.
-use Rattle.std.proofs.Common.{◌≡◌, ℕ, Bool, true, false, List, ◌++◌, ◌≤◌, ap, arith, drop, length, refl, rules, subst, sym}
+use Rattle.std.proofs.Common.{◌≡◌, ℕ, Bool, true, false, List, ◌++◌, ◌≤◌, ap, arith, drop, length, refl, subst, sym}
 use Rattle.std.proofs.lemmas.Fmt.{decimal_digit}
 use Rattle.std.proofs.lemmas.List.{take_rest}
 use Rattle.std.specs.Prelude.{codes, decimal, if◌then◌else◌, nat_lt, take}
@@ -54,20 +54,22 @@ refusal_of_first alphabet rules judged line text r = subst IsOfFirst (sym r.is)
     (text_of_first alphabet (name_at rules judged) line r.after (length r.first) (nat_lt r.size (length line))
     (octet_count alphabet (take r.after r.first)) r.runs r.ends)
 
-pub slice_bounds-rest-count : goal.slice_bounds-rest-count
-slice_bounds-rest-count c =
-    let size = ap length (refusal_of_first c.args.letters (rules_of c.args.grammar.now.rules)
-    c.args.grammar.now.judged c.as_slice.result.now c.in_ok-why.why.items c.in_ok-why.ensures) in
-    let same = ap length c.as_slice-2.ensures.value in
+first_has_number : (alphabet : Alphabet) (rules : List Rule) (judged : ℕ) (line text part : List ℕ)
+    → IsRefusalReported alphabet rules judged line 1 text → part ≡ text → 6 ≤ length part
+first_has_number alphabet rules judged line text part r is =
+    let size = ap length (refusal_of_first alphabet rules judged line text r) in
+    let same = ap length is in
     omega (arith, size, same)
 
+pub slice_bounds-rest-count : goal.slice_bounds-rest-count
+slice_bounds-rest-count c = first_has_number c.args.letters (rules_of c.args.grammar.now.rules)
+    c.args.grammar.now.judged c.as_slice.result.now c.in_ok-why.why.items c.as_slice-2.result.now
+    c.in_ok-why.ensures c.as_slice-2.ensures.value
+
 pub slice_bounds-rest-start : goal.slice_bounds-rest-start
-slice_bounds-rest-start c =
-    let size = ap length (refusal_of_first c.args.letters (rules_of c.args.grammar.now.rules)
-    c.args.grammar.now.judged c.as_slice.result.now c.in_ok-why.why.items c.in_ok-why.ensures) in
-    let same = ap length c.as_slice-2.ensures.value in
-    let enough : 6 ≤ length c.as_slice-2.result.now = omega (arith, size, same) in
-    first_of (enough, search (rules, enough), omega (arith, enough))
+slice_bounds-rest-start c = first_has_number c.args.letters (rules_of c.args.grammar.now.rules)
+    c.args.grammar.now.judged c.as_slice.result.now c.in_ok-why.why.items c.as_slice-2.result.now
+    c.in_ok-why.ensures c.as_slice-2.ensures.value
 
 pub returns : goal.returns
 returns c =
