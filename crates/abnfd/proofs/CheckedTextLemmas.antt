@@ -71,16 +71,18 @@ module _ (file rules : List Rule) (again : List ℕ) where
         (let most = id_most rules rule in omega (arith, le, most)))
         (cases_lt (id_of rules rule) (length rules))
 
-ok_both : {T E : Type 0} (result : Result T E) {P Q : T → Type 0} → IfOk result P → IfOk result Q
+ok_both : {T E : Type 0} (result : Result T E) (P Q : T → Type 0) → IfOk result P → IfOk result Q
     → IfOk result (λ x. P x × Q x)
-ok_both (Ok x) p q = (p, q)
-ok_both (Err e) p q = tt
+ok_both (Ok x) P Q p q = (p, q)
+ok_both (Err e) P Q p q = tt
 
 pub accepted_both : {E : Type 0} (result : Result (Vec Bool Global) E) (rules : List Rule)
     → IfOk result (λ marks. AreMarks (IsSound rules) (length rules) marks.items)
     → IfOk result (λ marks. AreOthersRefused rules marks.items)
     → IfOk result (λ marks. AreAccepted rules false marks.items)
-accepted_both result rules sound others = ok_both result sound others
+accepted_both result rules sound others =
+    ok_both result (λ marks. AreMarks (IsSound rules) (length rules) marks.items)
+    (λ marks. AreOthersRefused rules marks.items) sound others
 
 pub text_is_checked : (text : List ℕ) (abnf : Abnf) (checked : CheckedRules) (redefined : Bool) → IsReadText text abnf
     → checked.names.names ≡ Fold → names_of checked.names ≡ names_of abnf.rules
