@@ -1,7 +1,7 @@
 -- The notes on a grammar in ABNF, in order, and what rejects it. Own, but for what RFC 5234, sections 2.1, 3.3 and 4,
 -- says of rule names, `=/` and prose.
-use Rattle.std.specs.Prelude.{◌≡◌, ℕ, suc, ◌<◌, List, [], ◌∷◌, ◌++◌, map, length, Option, Some, None, option_to_list}
-use Rattle.std.specs.Prelude.{Contains, MatchOption}
+use Rattle.std.specs.Prelude.{◌≡◌, ℕ, suc, ◌<◌, Bool, List, [], ◌∷◌, ◌++◌, map, length, Option, Some, None}
+use Rattle.std.specs.Prelude.{Contains, MatchOption, option_to_list}
 use Rattle.ruletable.specs.Notes.{Said, said}
 use Rattle.ruletable.specs.Rules as table
 use Rattle.ruletable.specs.declared.note.NoteKind.TheVariants as kind
