@@ -23,8 +23,8 @@ use toolrun::{Ending, ReportedRefusals, Status, Stop};
 /// How many entries the states of a grammar may have.
 pub(crate) const ROOM: usize = 1_000_000;
 
-/// Which lines are listed. `All`: those that the rule derives. `Miss`: near ones that it does not. `Random`: derived ones
-/// by lot.
+/// Which lines are listed. `All`: those that the rule derives. `Random`: some of these, by lot. `Miss`: near ones that
+/// it does not.
 #[derive(Clone, Copy)]
 pub(crate) enum ListMode {
     All,
