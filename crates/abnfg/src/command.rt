@@ -1,7 +1,8 @@
 //! The command line.
-ghost use Rattle.std.specs.Prelude.{◌≡◌, codes, false, IfOk};
+ghost use Rattle.std.specs.Prelude.{◌≡◌, ◌∷◌, [], codes, false, IfOk};
 ghost use Rattle.abnfg.specs.ListWords.{AskLines, IsAbnfgApp, IsSeedOf, mode_of_name, seed_rule};
-ghost use Rattle.clap.specs.Words.{app_of, first_of, found_of, one_of, rows_of, rule_of};
+ghost use Rattle.clap.specs.Words.{app_of, first_value, found_of, one_of, rows_of, rule_of};
+ghost use Rattle.cli.specs.Command.{with_rules};
 
 use crate::lines::{ListMode, ListSettings};
 use clap::{Arg, ArgAction, ArgMatches, Command, value_parser};
@@ -67,18 +68,25 @@ fn seed_arg<'a>(alloc: Global) -> Result<Arg<'a>, AllocError>
     )
 }
 
+// Adds the seed to a command. `AllocError` if an allocation fails.
+fn add_seed<'a>(command: Command<'a>, alloc: Global) -> Result<Command<'a>, AllocError>
+    ensures { IfOk result (λ c. app_of c ≡ with_rules (app_of command.entry) (seed_rule ∷ [])) }
+{
+    command.arg(seed_arg(alloc)?)
+}
+
 /// Returns the command `abnfg [-m MODE] [-l N] [-c N] [-g SEED] [-s RULE] [-u MODE] [-z] GRAMMAR`, or an error if an
 /// allocation fails.
 pub(crate) fn abnfg_command<'a>(alloc: Global) -> Result<Command<'a>, AllocError>
     ensures { (app : _) × IsAbnfgApp app × IfOk result (λ c. app_of c ≡ app) }
 {
     let command = program_command(alloc, "abnfg", HELP, PARAMETERS.as_slice())?;
-    command.arg(seed_arg(alloc)?)
+    add_seed(command, alloc)
 }
 
 // Returns the mode that the words ask for.
 fn mode_of(matches: &ArgMatches<'_>) -> ListMode
-    ensures { result ≡ mode_of_name (first_of (codes "mode") (rows_of (found_of matches.now))) }
+    ensures { result ≡ mode_of_name (first_value (found_of matches.now) (codes "mode")) }
 {
     match matches.get_str("mode") {
         Some(name) if name == "miss" => ListMode::Miss,

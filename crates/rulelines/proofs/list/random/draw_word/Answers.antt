@@ -9,9 +9,9 @@ loop-done-init c = λ s is. none_drawn c.args.table.now s c.args.table.now.start
 
 pub loop-done-preserved : goal.loop-done-preserved
 loop-done-preserved c = λ s is.
-    one_drawn c.args.table.now s c.loop-done.done c.loop-done.at c.in-Some.symbol c.in-Some-2.next
+    one_drawn c.args.table.now s c.loop-done.done c.loop-done.at c.in-Some.symbol c.in-Some-step.next
     c.loop-done.word.items c.push.new.self.items (c.loop-done.invariant s is)
-    (subst (λ v. IfSome v (IsStep c.args.table.now c.loop-done.at c.in-Some.symbol)) c.in-Some-2.is c.step.ensures)
+    (subst (λ v. IfSome v (IsStep c.args.table.now c.loop-done.at c.in-Some.symbol)) c.in-Some-step.is c.step.ensures)
     c.in_ok-push.ensures.items
 
 pub returns : goal.returns
