@@ -1,7 +1,7 @@
 -- Lines by lot.
 -- Serves: by_lot.
 use Rattle.std.proofs.Common.{◌≡◌, ℕ, ◌+◌, ◌≤◌, List, [], ◌∷◌, ◌++◌, length, refl, sym, ◌∙◌}
-use Rattle.std.proofs.Common.{ap, subst, arith, append_assoc, append-nil, length-append, Vec, Global}
+use Rattle.std.proofs.Common.{subst, arith, append_assoc, append-nil, length-append, Vec, Global}
 use Rattle.std.specs.Prelude.{Bool, true}
 use Rattle.abnfcheck.specs.Derivable.{AreLetters}
 use Rattle.lazydfa.specs.StateSets.{grammar_of, last_in, StateSet}

@@ -14,7 +14,7 @@ use letters::Alphabet;
 use ruletable::Memory;
 use std::alloc::Global;
 
-// Returns by lot one of the lengths, at most `limit`, that lines of the table have. `None` if it has no line.
+// Returns by lot one of the lengths, at most `limit`, of which the table shows lines. `None` if there is none.
 fn draw_length(table: &Table, limit: u32, lots: &mut Lots) -> Option<usize>
     requires table { IsStateTable table.now }
     ensures { IfSome result (λ length. length ≤ limit) }
@@ -30,14 +30,14 @@ fn draw_length(table: &Table, limit: u32, lots: &mut Lots) -> Option<usize>
     choice.number
 }
 
-// Returns by lot the index of a class whose symbols, and exactly `rest` more, may lead from a state to the end. `None`
-// if there is none, or the table lacks an entry.
+// Returns by lot the index of a class whose symbols, and exactly `rest` more, may lead from a state to the end, as the
+// table shows. `None` if there is none.
 fn draw_class(table: &Table, state: usize, rest: usize, lots: &mut Lots) -> Option<usize>
     requires table { IsStateTable table.now }
 {
     let mut choice = no_choice();
     for class in 0..table.starts.len() {
-        if takes_key(table, state, table.starts[class], rest)? {
+        if takes_key(table, state, table.starts[class], rest).unwrap_or(false) {
             choice = offer(choice, class, lots);
         }
     }
@@ -71,7 +71,7 @@ fn class_end(inner: LineSymbols, start: u32, next: Option<u32>) -> u32 {
 }
 
 // Returns by lot a symbol that, with exactly `rest` more, may lead from a state to the end: its class, and then one of
-// the class. `None` if there is none, or the table lacks an entry.
+// the class. `None` if there is none.
 fn draw_symbol(table: &Table, state: usize, rest: usize, lots: &mut Lots) -> Option<u32>
     requires table { IsStateTable table.now }
 {
