@@ -19,7 +19,7 @@ use Rattle.ruletable.specs.declared.sink.WriteFault.{WriteFault}
 
 module _ (lines : List ℕ → Type 0) where
   pub no_draws : All lines []
-  no_draws k d lt = absurd (omega (arith, lt))
+  no_draws = λ k d lt. absurd (omega (arith, lt))
 
   module _ (text_of : List ℕ → List ℕ) where
     -- a line was written
