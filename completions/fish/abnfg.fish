@@ -6,7 +6,7 @@ function __abnfg_rules
     set -l at 2
     while test $at -le (count $words)
         switch $words[$at]
-            case -s --rule -m --mode -l --limit -c --count -u --letters
+            case -s --rule -m --mode -l --limit -c --count -g --seed -u --letters
                 set at (math $at + 1)
             case '-*'
             case '*'
@@ -22,9 +22,10 @@ function __abnfg_rules
 end
 
 complete -c abnfg -s s -l rule -x -a '(__abnfg_rules)' -d 'List lines of this rule [default: the first rule]'
-complete -c abnfg -s m -l mode -x -a 'all miss' -d 'Choose which lines to list'
+complete -c abnfg -s m -l mode -x -a 'all miss random' -d 'Choose which lines to list'
 complete -c abnfg -s l -l limit -x -d 'List lines of at most N symbols, from 1 to 16777216'
 complete -c abnfg -s c -l count -x -d 'List at most N lines, from 1 to 4294967295'
+complete -c abnfg -s g -l seed -x -d 'Draw lines of mode `random` by this number, from 0 to 18446744073709551615'
 complete -c abnfg -s u -l letters -x -a 'bytes utf8' -d 'Take bytes or code points of UTF-8 as symbols'
 complete -c abnfg -s z -l null-data -d 'End lines with NUL bytes in place of line feeds'
 complete -c abnfg -s h -l help -f -d 'Print this help'

@@ -110,9 +110,10 @@ PROGRAMS = (
     ), "=", "The file of the old grammar, at most 1048576 bytes", "abnfi", ("old", "new")),
     Program("abnfg", (
         Option("s", "rule", "RULE", (), "List lines of this rule [default: the first rule]"),
-        Option("m", "mode", "MODE", ("all", "miss"), "Choose which lines to list"),
+        Option("m", "mode", "MODE", ("all", "miss", "random"), "Choose which lines to list"),
         Option("l", "limit", "N", (), "List lines of at most N symbols, from 1 to 16777216"),
         Option("c", "count", "N", (), "List at most N lines, from 1 to 4294967295"),
+        Option("g", "seed", "SEED", (), "Draw lines of mode `random` by this number, from 0 to 18446744073709551615"),
         Option("u", "letters", "MODE", ("bytes", "utf8"), "Take bytes or code points of UTF-8 as symbols"),
         Option("z", "null-data", "", (), "End lines with NUL bytes in place of line feeds"),
         HELP,

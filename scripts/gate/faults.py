@@ -134,6 +134,7 @@ BY_NAME = compared("all rules by name", b's = 1*ALPHA\nt = "x"\n', b'S = *ALPHA\
 LISTED = listed("lines of a rule", b'd = 1*2BIT "x"\nu = d\n', [b"0X\n", b"0x\n", b"1X\n", b"1x\n", b"00X\n"],
                 b"rule 'u' defined but not used\n", words=["-c", "5"])
 ALL_LISTED = listed("all lines of a rule", b's = "a" / %s"bc"\n', [b"A\0", b"a\0", b"bc\0"], words=["-z"])
+DRAWN = listed("lines by lot", b's = %s"bc"\n', [b"bc\n"] * 3, words=["-m", "random", "-c", "3", "-l", "9"])
 NONE_LISTED = listed("a rule without lines", b's = "a" s\n', [], status=1)
 UNLISTED = listed("a grammar whose lines are not listed", b's = <any>\n', [], b"prose in rule 's'\n", 2)
 
@@ -173,6 +174,7 @@ GROWING = [
     BY_NAME,
     LISTED,
     ALL_LISTED,
+    DRAWN,
     NONE_LISTED,
     UNLISTED,
     STOP_EXPLAINED,
@@ -185,7 +187,7 @@ GROWING = [
 # The runs whose writes fail.
 WRITTEN = [USERNAME, WORDS, NOTED, ABNF_NOTED, PRINTED, ABNF_PRINTED, CHECKED, ABNF_CHECKED, EXPLAINED, ABNF_EXPLAINED,
            HINTED, TAKEN, TAKEN_PRINTED, TAKEN_LISTED, NONE_TAKEN, COMPARED, ALIKE, REJECTED,
-           LISTED, ALL_LISTED, NONE_LISTED, UNLISTED]
+           LISTED, ALL_LISTED, DRAWN, NONE_LISTED, UNLISTED]
 
 
 class Tools:

@@ -1,6 +1,6 @@
 #!/usr/bin/env python3
-"""Lists lines of each grammar of examples/ by bin/abnfg, and judges them by bin/abnfi: each is derived, or with
-`-m miss` none is.
+"""Lists lines of each grammar of examples/ by bin/abnfg, and judges them by bin/abnfi: each is derived, also
+by lot, or with `-m miss` none is.
 
 usage: listed_lines.py [-c LINES]
 
@@ -30,16 +30,16 @@ def main():
     if not all((BIN / it).is_file() for it in ("abnfg", "abnfi")):
         print("listed_lines: abnfg or abnfi: not built: skipped")
         return 0
-    judged = {"all": 0, "miss": 0}
+    judged = {"all": 0, "random": 0, "miss": 0}
     for grammar in sorted(TOP.glob("examples/*/*.abnf")):
-        for mode, verdict, status in (("all", b"yes\n", 0), ("miss", b"no\n", 1)):
+        for mode, verdict, status in (("all", b"yes\n", 0), ("random", b"yes\n", 0), ("miss", b"no\n", 1)):
             lines = listed(grammar, mode, count)
             ran = subprocess.run([BIN / "abnfi", "-z", grammar], input=lines, capture_output=True, check=False)
             if lines and (ran.returncode, ran.stdout) != (status, verdict * lines.count(b"\0")):
                 print(f"{grammar.relative_to(TOP)}: a line of -m {mode} has another verdict: {ran}")
                 return 1
             judged[mode] += lines.count(b"\0")
-    print(f"{judged['all']} listed lines are derived, and {judged['miss']} are not")
+    print(f"{judged['all'] + judged['random']} listed lines are derived, and {judged['miss']} are not")
     return 0
 
 

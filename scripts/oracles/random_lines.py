@@ -1,5 +1,6 @@
 #!/usr/bin/env python3
 """Compares bin/abnfg with a slow answer on random grammars: all short lists that the rule derives, as a set, in order.
+With `-m random` each line is derived, and a seed gives the same lines again.
 
 usage: random_lines.py [-n GRAMMARS] [-s SEED]
 
@@ -52,8 +53,10 @@ class Case:
         rules = slow_abnf.Rules(grammar)
         self.reported, self.is_refused = slow_abnf.notes_on(rules, rule)
         self.lines, self.limit = [], 1
+        self.rules, self.key = rules, (rule or next(iter(rules.file))).upper()
         if not self.is_refused:
-            self.find_lines(rules, (rule or next(iter(rules.file))).upper(), r.choice([1, 2, 3, 8]))
+            self.find_lines(rules, self.key, r.choice([1, 2, 3, 8]))
+        self.seed = str(r.choice([0, 1, 2**64 - 1, r.randrange(2**64)]))
         self.words = [*(["-s", rule] if rule else []), *(["-u", "utf8"] if self.is_utf8 else []),
                       *(["-z"] if self.end == 0 else []), "-c", str(self.count), "-l", str(self.limit)]
 
@@ -79,6 +82,28 @@ class Case:
         wanted = (self.output(), self.reported, 0 if self.lines else 1)
         return ("lines" if self.lines else "no line") if (out, err, status) == wanted else None
 
+    def is_line(self, line):
+        is_right = all(it != self.end and slow_abnf.is_letter(it, self.is_utf8) for it in line)
+        return is_right and len(line) <= self.limit and slow_abnf.Deriver(self.rules, line).derives(self.key)
+
+    def drawn(self, out, err, status):
+        """Returns how a run of lines by lot ended: a word, or nothing if something is wrong with it."""
+        if self.is_refused:
+            return "refused" if (out, err, status) == (b"", self.reported, 2) else None
+        text = out.decode("utf-8" if self.is_utf8 else "latin-1")
+        *lines, rest = [tuple(map(ord, it)) for it in text.split(chr(self.end))]
+        if rest or not all(map(self.is_line, set(lines))):
+            return None
+        if status == 3:
+            return "too many stacks" if not lines and err == self.reported + TOO_MANY else None
+        count, wanted = (self.count, 0) if self.lines else (0, 1)
+        return "by lot" if (len(lines), err, status) == (count, self.reported, wanted) else None
+
+
+def run(words):
+    ran = subprocess.run(words, capture_output=True, check=False)
+    return ran.stdout, ran.stderr, ran.returncode
+
 
 def main():
     words = argparse.ArgumentParser(description="Compares abnfg with slow answers on random grammars.")
@@ -94,11 +119,16 @@ def main():
         for number in range(asked.n):
             case = Case(r)
             grammar.write_bytes(case.text)
-            ran = subprocess.run([BIN / "abnfg", *case.words, grammar], capture_output=True, check=False)
-            how = case.ended(ran.stdout, ran.stderr, ran.returncode)
+            ran = run([BIN / "abnfg", *case.words, grammar])
+            by_lot = [BIN / "abnfg", "-m", "random", "-g", case.seed, *case.words, grammar]
+            drawn = run(by_lot)
+            how = case.ended(*ran)
             counts[how] += 1
             if how is None:
                 print(f"grammar {number}: abnfg {' '.join(case.words)}: {ran}\n{case.text}\nwanted: {case.output()}")
+                return 1
+            if case.drawn(*drawn) is None or run(by_lot) != drawn:
+                print(f"grammar {number}: abnfg -m random -g {case.seed} {' '.join(case.words)}: {drawn}\n{case.text}")
                 return 1
     reported = ", ".join(f"{count} ({what})" for what, count in counts.most_common())
     print(f"{asked.n} grammars listed: {reported}")

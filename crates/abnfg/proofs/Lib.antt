@@ -3,3 +3,4 @@ pub mod ListedReplyLemmas
 pub mod ListAnswersLemmas
 pub mod ListWordsLemmas
 pub mod ListedMissesLemmas
+pub mod DrawnLinesLemmas

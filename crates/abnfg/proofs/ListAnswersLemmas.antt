@@ -6,8 +6,9 @@ use Rattle.abnfg.specs.ListAnswers.{JudgedReply, OpenedStates, TextStates, fault
 use Rattle.abnfg.specs.ListedLines.{end_of, no_room}
 use Rattle.abnfg.specs.ListModes.{FirstIn}
 use Rattle.abnfg.specs.declared.lines.ListMode.{ListMode}
-use Rattle.abnfg.specs.declared.lines.ListMode.TheVariants.{All as Derived, Miss}
+use Rattle.abnfg.specs.declared.lines.ListMode.TheVariants.{All as Derived, Miss, Random}
 use Rattle.abnfg.specs.declared.lines.ListSettings.{ListSettings}
+use Rattle.abnfg.proofs.DrawnLinesLemmas.{no_draws}
 use Rattle.abnfg.proofs.ListedLinesLemmas.{no_lines_first}
 use Rattle.abnfg.proofs.ListedMissesLemmas.{no_misses_first}
 use Rattle.abnfread.specs.AbnfReading.{IsFaultOf}
@@ -54,6 +55,7 @@ no_first : (mode : ListMode) (alphabet : Alphabet) (terminator limit : ℕ) (rul
     → FirstIn mode alphabet terminator limit rules id []
 no_first Derived alphabet terminator limit rules id = no_lines_first (IsRuleLine alphabet terminator limit rules id)
 no_first Miss alphabet terminator limit rules id = no_misses_first alphabet terminator limit rules id
+no_first Random alphabet terminator limit rules id = no_draws (IsRuleLine alphabet terminator limit rules id)
 
 -- some reply is stated
 pub judged_some : (settings : ListSettings) (rules : List Rule) (judged : Option ℕ)

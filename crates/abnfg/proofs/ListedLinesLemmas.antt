@@ -249,7 +249,7 @@ written_of set other text_of same done was last b c r is =
 
 -- the same lines, stated otherwise
 module _ (A B : List ℕ → Type 0) (same : (w : List ℕ) → A w ↔ B w) where
-  first_as : (ws : List (List ℕ)) → AreFirstLines A ws → AreFirstLines B ws
+  pub first_as : (ws : List (List ℕ)) → AreFirstLines A ws → AreFirstLines B ws
   first_as ws f = record {
     are = All-weaker A B (λ w. (same w).0) ws f.are;
     rise = f.rise;
@@ -260,11 +260,11 @@ module _ (A B : List ℕ → Type 0) (same : (w : List ℕ) → A w ↔ B w) whe
   enough_as count ws (inl all) = inl all
   enough_as count ws (inr some) = inr (some.0, some.1, λ v line. some.2 v ((same v).1 line))
 
-  pub written_as : (text_of : List ℕ → List ℕ) (count : ℕ) (old new : Option (List ℕ)) (r : Result Halt WriteFault)
-      → AreWritten (AreFirstLines A) (HoldAll A) text_of count old new r
-      → AreWritten (AreFirstLines B) (HoldAll B) text_of count old new r
-  written_as text_of count old new (Ok Finished) is = (is.0, first_as is.0 is.1, enough_as count is.0 is.2, is.3)
-  written_as text_of count old new (Ok Nothing) is = (λ w line. is.0 w ((same w).1 line), is.1)
-  written_as text_of count old new (Ok TooMany) is = (is.0, first_as is.0 is.1, is.2, is.3)
-  written_as text_of count old new (Ok HaltsUnroomed) is = (is.0, first_as is.0 is.1, is.2, is.3)
-  written_as text_of count old new (Err fault) is = (is.0, first_as is.0 is.1, is.2, is.3)
+  module _ (first other : List (List ℕ) → Type 0) (on : (ws : List (List ℕ)) → first ws → other ws) where
+    pub written_as : (text_of : List ℕ → List ℕ) (count : ℕ) (old new : Option (List ℕ)) (r : Result Halt WriteFault)
+        → AreWritten first (HoldAll A) text_of count old new r → AreWritten other (HoldAll B) text_of count old new r
+    written_as text_of count old new (Ok Finished) is = (is.0, on is.0 is.1, enough_as count is.0 is.2, is.3)
+    written_as text_of count old new (Ok Nothing) is = (λ w line. is.0 w ((same w).1 line), is.1)
+    written_as text_of count old new (Ok TooMany) is = (is.0, on is.0 is.1, is.2, is.3)
+    written_as text_of count old new (Ok HaltsUnroomed) is = (is.0, on is.0 is.1, is.2, is.3)
+    written_as text_of count old new (Err fault) is = (is.0, on is.0 is.1, is.2, is.3)

@@ -1,16 +1,18 @@
 -- Which lines each mode lists.
 use Rattle.std.specs.Prelude.{◌≡◌, ◌≢◌, ℕ, ◌+◌, List, [], ◌∷◌, ◌++◌, length, Option, None, Some, Result, Ok, Err}
 use Rattle.std.specs.Io.KnownBytes.{Appends}
+use Rattle.std.specs.List.{All}
 use Rattle.std.proofs.Common.{Vec, Global}
 use Rattle.abnfg.specs.ListedLines.{AreFirstLines, HoldAll, end_of}
 use Rattle.abnfg.specs.declared.lines.Halt.{Halt}
 use Rattle.abnfg.specs.declared.lines.Halt.TheVariants.{NoMemory as HaltsUnroomed, Nothing, TooMany}
 use Rattle.abnfg.specs.declared.lines.Halt.TheVariants.{All as Finished}
 use Rattle.abnfg.specs.declared.lines.ListMode.{ListMode}
-use Rattle.abnfg.specs.declared.lines.ListMode.TheVariants.{All as Derived, Miss}
+use Rattle.abnfg.specs.declared.lines.ListMode.TheVariants.{All as Derived, Miss, Random}
 use Rattle.abnfg.specs.declared.lines.ListSettings.{ListSettings}
 use Rattle.abnfread.specs.Element.{Rule}
 use Rattle.letters.specs.declared.alphabet.Alphabet.{Alphabet}
+use Rattle.rulelines.specs.FirstLines.{HasNoLine}
 use Rattle.rulelines.specs.LineSets.{IsRuleLine}
 use Rattle.rulelines.specs.MissLists.{AreAllMisses, AreFirstMisses, AreLinesReported, MissList}
 use Rattle.ruletable.specs.Writing.{AppendsPart}
@@ -20,11 +22,13 @@ use Rattle.ruletable.specs.declared.sink.WriteFault.{WriteFault}
 abbrev pub FirstIn : ListMode → Alphabet → ℕ → ℕ → List Rule → ℕ → List (List ℕ) → Type 0
 FirstIn Derived alphabet terminator limit rules id = AreFirstLines (IsRuleLine alphabet terminator limit rules id)
 FirstIn Miss alphabet terminator limit rules id = AreFirstMisses alphabet terminator limit rules id
+FirstIn Random alphabet terminator limit rules id = All (IsRuleLine alphabet terminator limit rules id)
 
 -- the lists of all its lines
 abbrev pub WholeIn : ListMode → Alphabet → ℕ → ℕ → List Rule → ℕ → List (List ℕ) → Type 0
 WholeIn Derived alphabet terminator limit rules id = HoldAll (IsRuleLine alphabet terminator limit rules id)
 WholeIn Miss alphabet terminator limit rules id = AreAllMisses alphabet terminator limit rules id
+WholeIn Random alphabet terminator limit rules id = HoldAll (IsRuleLine alphabet terminator limit rules id)
 
 abbrev pub AreFirstAsked : ListSettings → List Rule → ℕ → List (List ℕ) → Type 0
 AreFirstAsked settings rules id = FirstIn settings.mode settings.letters (end_of settings.nul) settings.limit rules id
@@ -67,3 +71,22 @@ module _ (rules : List Rule) (id : ℕ) where
   -- no line is reported yet
   abbrev pub IsNoLineReported : MissList → Type 0
   IsNoLineReported list = AreLinesReported rules id list []
+
+module _ (lines : List ℕ → Type 0) where
+  -- a line by lot
+  abbrev pub IsDrawn : Vec ℕ Global → Type 0
+  IsDrawn line = lines line.items
+
+  -- why there is none after so many
+  abbrev pub IsDrawnHalt : ℕ → Halt → Type 0
+  IsDrawnHalt done Finished = (done ≢ 0) × HasNoLine lines
+  IsDrawnHalt done Nothing = (done ≡ 0) × HasNoLine lines
+  IsDrawnHalt done TooMany = Unit {0}
+  IsDrawnHalt done HaltsUnroomed = Unit {0}
+
+  -- it was written; or none was, or a part of it
+  abbrev pub IsDrawnWritten : (List ℕ → List ℕ) → ℕ → Option (List ℕ) → Option (List ℕ)
+      → Result (Option Halt) WriteFault → Type 0
+  IsDrawnWritten text_of done from to (Ok None) = (w : List ℕ) × lines w × Appends from to (text_of w)
+  IsDrawnWritten text_of done from to (Ok (Some halt)) = IsDrawnHalt done halt × Appends from to []
+  IsDrawnWritten text_of done from to (Err fault) = (w : List ℕ) × lines w × AppendsPart from to (text_of w)

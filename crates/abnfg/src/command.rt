@@ -1,10 +1,11 @@
 //! The command line.
-ghost use Rattle.std.specs.Prelude.{◌≡◌, codes, IfOk};
-ghost use Rattle.abnfg.specs.ListWords.{AskLines, IsAbnfgApp, mode_of_name};
-ghost use Rattle.clap.specs.Words.{app_of, first_of, found_of, rows_of};
+ghost use Rattle.std.specs.Prelude.{◌≡◌, ◌∷◌, [], codes, false, IfOk};
+ghost use Rattle.abnfg.specs.ListWords.{AskLines, IsAbnfgApp, IsSeedOf, mode_of_name, seed_rule};
+ghost use Rattle.clap.specs.Words.{app_of, first_value, found_of, one_of, rows_of, rule_of};
+ghost use Rattle.cli.specs.Command.{with_rules};
 
 use crate::lines::{ListMode, ListSettings};
-use clap::{ArgMatches, Command};
+use clap::{Arg, ArgAction, ArgMatches, Command, value_parser};
 use cli::{Parameter, is_given, letters_of, number_of, program_command};
 use std::alloc::{AllocError, Global};
 
@@ -21,9 +22,10 @@ Grammar:
   -s, --rule <RULE>  List lines of this rule [default: the first rule]
 
 Lines:
-  -m, --mode <MODE>     Choose which lines to list [default: all] [possible values: all, miss]
+  -m, --mode <MODE>     Choose which lines to list [default: all] [possible values: all, miss, random]
   -l, --limit <N>       List lines of at most N symbols, from 1 to 16777216 [default: 256]
   -c, --count <N>       List at most N lines, from 1 to 4294967295 [default: 1000]
+  -g, --seed <SEED>     Draw lines of mode `random` by this number, from 0 to 18446744073709551615 [default: 1]
   -u, --letters <MODE>  Take bytes or code points of UTF-8 as symbols [default: bytes] [possible values: bytes, utf8]
   -z, --null-data       End lines with NUL bytes in place of line feeds
 
@@ -42,7 +44,7 @@ Exit status:
 Example:
   abnfg -c 20 date.abnf";
 
-/// The options and operands.
+/// The options and operands but for the seed.
 static PARAMETERS: [Parameter; 7] = [
     Parameter::Text("rule", 's', "RULE"),
     Parameter::Number("limit", 'l', 16_777_216, "256"),
@@ -50,25 +52,54 @@ static PARAMETERS: [Parameter; 7] = [
     Parameter::Flag("null-data", 'z'),
     Parameter::Operand("grammar", "GRAMMAR", true),
     Parameter::Choice("letters", 'u', "MODE", &["bytes", "utf8"], "bytes"),
-    Parameter::Choice("mode", 'm', "MODE", &["all", "miss"], "all"),
+    Parameter::Choice("mode", 'm', "MODE", &["all", "miss", "random"], "all"),
 ];
 
-/// Returns the command `abnfg [-m MODE] [-l N] [-c N] [-s RULE] [-u MODE] [-z] GRAMMAR`, or an error if an allocation
-/// fails.
+// Returns the option `-g SEED`, whose value is a number of 64 bits. `AllocError` if an allocation fails.
+fn seed_arg<'a>(alloc: Global) -> Result<Arg<'a>, AllocError>
+    ensures { IfOk result (λ a. (rule_of a ≡ seed_rule) × (a.global ≡ false)) }
+{
+    let arg = Arg::new(alloc, "seed").short('g').alias("seed")?;
+    Ok(
+        arg.value_name("SEED")
+            .action(ArgAction::Set)
+            .value_parser(value_parser!(u64))
+            .default_value("1"),
+    )
+}
+
+// Adds the seed to a command. `AllocError` if an allocation fails.
+fn add_seed<'a>(command: Command<'a>, alloc: Global) -> Result<Command<'a>, AllocError>
+    ensures { IfOk result (λ c. app_of c ≡ with_rules (app_of command.entry) (seed_rule ∷ [])) }
+{
+    command.arg(seed_arg(alloc)?)
+}
+
+/// Returns the command `abnfg [-m MODE] [-l N] [-c N] [-g SEED] [-s RULE] [-u MODE] [-z] GRAMMAR`, or an error if an
+/// allocation fails.
 pub(crate) fn abnfg_command<'a>(alloc: Global) -> Result<Command<'a>, AllocError>
     ensures { (app : _) × IsAbnfgApp app × IfOk result (λ c. app_of c ≡ app) }
 {
-    program_command(alloc, "abnfg", HELP, PARAMETERS.as_slice())
+    let command = program_command(alloc, "abnfg", HELP, PARAMETERS.as_slice())?;
+    add_seed(command, alloc)
 }
 
 // Returns the mode that the words ask for.
 fn mode_of(matches: &ArgMatches<'_>) -> ListMode
-    ensures { result ≡ mode_of_name (first_of (codes "mode") (rows_of (found_of matches.now))) }
+    ensures { result ≡ mode_of_name (first_value (found_of matches.now) (codes "mode")) }
 {
     match matches.get_str("mode") {
         Some(name) if name == "miss" => ListMode::Miss,
+        Some(name) if name == "random" => ListMode::Random,
         _ => ListMode::All,
     }
+}
+
+// Returns the seed that the words give.
+fn seed_of(matches: &ArgMatches<'_>) -> u64
+    ensures { IsSeedOf (one_of (codes "seed") (rows_of (found_of matches.now))) result }
+{
+    matches.get_one::<u64>("seed").unwrap_or(1)
 }
 
 /// Returns which lines the words ask for.
@@ -82,5 +113,6 @@ pub(crate) fn settings_of<'a>(matches: &ArgMatches<'a>) -> ListSettings<'a>
         limit: number_of(matches, "limit", 256),
         count: number_of(matches, "count", 1000),
         nul: is_given(matches, "null-data"),
+        seed: seed_of(matches),
     }
 }

@@ -11,6 +11,7 @@ ghost use Rattle.toolrun.specs.Stopped.{Fulfils};
 ghost use Rattle.toolrun.specs.Stream.{no_input, passed};
 
 use crate::misses::write_refused;
+use crate::random::write_random;
 use crate::symbols::push_line;
 use abnfcheck::SoundAbnf;
 use letters::Alphabet;
@@ -22,11 +23,13 @@ use toolrun::{Ending, ReportedRefusals, Status, Stop};
 /// How many entries the states of a grammar may have.
 pub(crate) const ROOM: usize = 1_000_000;
 
-/// Which lines are listed. `All`: those that the rule derives. `Miss`: near ones that it does not.
+/// Which lines are listed. `All`: those that the rule derives. `Random`: some of these, by lot. `Miss`: near ones that
+/// it does not.
 #[derive(Clone, Copy)]
 pub(crate) enum ListMode {
     All,
     Miss,
+    Random,
 }
 
 /// Which lines are listed, and how.
@@ -44,6 +47,8 @@ pub(crate) struct ListSettings<'a> {
     pub(crate) count: u32,
     /// Whether a NUL byte ends a line, in place of LF.
     pub(crate) nul: bool,
+    /// The seed of lines by lot.
+    pub(crate) seed: u64,
 }
 
 /// Why no more lines are written.
@@ -248,6 +253,7 @@ fn write_asked<O: Sink>(
     match settings.mode {
         ListMode::All => write_derived(alloc, settings, grammar, out),
         ListMode::Miss => write_refused(alloc, settings, grammar, out),
+        ListMode::Random => write_random(alloc, settings, grammar, out),
     }
 }
 

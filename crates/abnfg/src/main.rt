@@ -5,6 +5,7 @@ mod command;
 mod grammar;
 mod lines;
 mod misses;
+mod random;
 mod run;
 mod symbols;
 

@@ -16,6 +16,7 @@ mod WordLemmas
 mod OverLemmas
 mod LineOrderLemmas
 mod LineSetLemmas
+mod SomeLineLemmas
 mod LineSamplesLemmas
 mod MissSearchLemmas
 mod StateClosuresLemmas

@@ -58,3 +58,8 @@ IsLineAfter lines before Done = HasNoneAfter lines before
 abbrev pub IsFirstStep : (List ℕ → Type 0) → NextLine → Type 0
 IsFirstStep lines (Line w) = IsFirstLine lines w.items
 IsFirstStep lines Done = HasNoLine lines
+
+-- some line
+abbrev pub IsSomeLine : (List ℕ → Type 0) → NextLine → Type 0
+IsSomeLine lines (Line w) = lines w.items
+IsSomeLine lines Done = HasNoLine lines

@@ -14,7 +14,7 @@ use Rattle.rulelines.specs.declared.list.lines.NextLine.TheVariants.{Line, Done}
 use Rattle.rulelines.specs.declared.list.search.Change.{Change}
 use Rattle.rulelines.specs.declared.list.table.Table.{Table}
 use Rattle.rulelines.specs.LineSets.{is_line_symbol, LineSet}
-use Rattle.rulelines.specs.Rests.{HasNoNextRest, HasRest, IsFirstKey, IsFirstRest, IsNextRest, TakesKey}
+use Rattle.rulelines.specs.Rests.{HasNoNextRest, HasRest, IsFirstKey, IsFirstRest, IsNextRest, IsRest, TakesKey}
 use Rattle.rulelines.specs.Starts.{AreClassStarts}
 
 -- the number of each state that starts lead to from a state
@@ -79,6 +79,9 @@ pub record IsStep (table : Table) (s c t : ℕ) : Type 0 where
 
 abbrev pub IsCan : Table → ℕ → ℕ → Bool → Type 0
 IsCan table = IsCanOf table.states (line_symbols table.inner)
+
+abbrev pub IsRestIn : Table → StateSet → ℕ → List ℕ → Type 0
+IsRestIn table = IsRest (grammar_of table.states) (last_in table.states) (line_symbols table.inner)
 
 abbrev pub HasRestIn : Table → StateSet → ℕ → Type 0
 HasRestIn table = HasRest (grammar_of table.states) (last_in table.states) (line_symbols table.inner)

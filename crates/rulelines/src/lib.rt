@@ -17,5 +17,5 @@ pub use laws::{
     any_length, closed_pairs_include, first_line, included_lines, no_line, no_line_up_to,
     suffixes_include, swapped_pairs,
 };
-pub use list::{Lines, NextLine};
+pub use list::{Lines, Lots, NextLine};
 pub use miss::Misses;

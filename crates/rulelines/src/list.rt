@@ -2,9 +2,12 @@
 
 pub(crate) mod keys;
 mod lines;
+mod lots;
 mod over;
+mod random;
 mod search;
 pub(crate) mod starts;
 mod table;
 
 pub use lines::{Lines, NextLine};
+pub use lots::Lots;

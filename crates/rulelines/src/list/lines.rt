@@ -1,10 +1,12 @@
 //! The lines that a rule derives, one after another.
 ghost use Rattle.std.specs.Prelude.{◌≡◌, IfOk, IfSome};
 ghost use Rattle.abnfread.specs.AbnfViews.{rules_of};
-ghost use Rattle.rulelines.specs.LineSets.{AreRuleLines, IsLineAfter, IsFirstStep, IsLineIn};
+ghost use Rattle.rulelines.specs.LineSets.{AreRuleLines, IsLineAfter, IsFirstStep, IsLineIn, IsSomeLine};
 ghost use Rattle.rulelines.specs.StateTables.{IsTableFor};
 
 use crate::list::keys::LineSymbols;
+use crate::list::lots::Lots;
+use crate::list::random::line_by_lot;
 use crate::list::search::{line_after, line_from};
 use crate::list::starts::find_starts;
 use crate::list::table::Table;
@@ -146,6 +148,21 @@ impl Lines {
             return Ok(None);
         };
         let step = line_after(self.alloc, &mut table, line, self.limit)?;
+        self.table = Some(table);
+        Ok(step)
+    }
+
+    /// Returns a line by lot, and `Done` if there is no line: one of the lengths that lines have, as far as there is
+    /// room for the states of so many symbols, then the class of each symbol, and the symbol. `None` if there is no
+    /// room for the states. `Memory` if an allocation fails, and `None` from then on.
+    pub fn by_lot(&mut self, lots: &mut Lots) -> Result<Option<NextLine>, Memory>
+        ensures same { self.new ≡ self.old }
+        ensures is { IfOk result (λ reported. IfSome reported (IsSomeLine (IsLineIn self.old))) }
+    {
+        let Some(mut table) = self.table.take() else {
+            return Ok(None);
+        };
+        let step = line_by_lot(self.alloc, &mut table, self.limit, lots)?;
         self.table = Some(table);
         Ok(step)
     }

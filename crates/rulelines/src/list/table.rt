@@ -61,9 +61,9 @@ pub(crate) fn can_end(table: &Table, state: usize, count: usize) -> Option<bool>
     Some(*can)
 }
 
-// Returns whether the symbol of a key, and exactly `rest` more, may lead from a state to the end; `None` if the table
-// lacks an entry.
-fn takes_key(table: &Table, state: usize, key: u32, rest: usize) -> Option<bool>
+/// Returns whether the symbol of a key, and exactly `rest` more, may lead from a state to the end; `None` if the table
+/// lacks an entry.
+pub(crate) fn takes_key(table: &Table, state: usize, key: u32, rest: usize) -> Option<bool>
     requires table { IsStateTable table.now }
     ensures { IfSome result (λ takes. (s : StateSet) → slice_get table.now.states.states state ≡ Some s →
         IsTrue takes ↔ TakesKeyIn table.now s key rest) }
@@ -230,7 +230,10 @@ fn add_level(alloc: Global, table: &mut Table) -> Result<bool, Memory>
         return Ok(false);
     }
     table.levels.push(Vec::new(alloc))?;
-    for count in 0..table.levels.len() {
+    let whole = table
+        .levels
+        .partition_point(|level| level.len() >= table.seen);
+    for count in whole..table.levels.len() {
         extend_level(table, count)?;
     }
     Ok(true)
