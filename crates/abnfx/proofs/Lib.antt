@@ -1,1 +1,2 @@
+mod JoinRunLemmas
 mod TextsReadLemmas

@@ -2,6 +2,7 @@
 #![tactic(auto)]
 
 mod command;
+mod join;
 mod run;
 mod texts;
 
