@@ -12,7 +12,9 @@ function __abnfg_rules
             case '*'
                 set -l file (string replace -r '^~/' "$HOME/" -- $words[$at])
                 if test -f "$file"
-                    command (string replace -r 'abnfg$' abnfi -- $words[1]) -m print "$file" 2> /dev/null | string match -rg '^([A-Za-z_][A-Za-z0-9_-]*) = '
+                    set -l program (string replace -r 'abnfg$' abnfi -- $words[1])
+                    set -l text (command $program -m print "$file" 2> /dev/null)
+                    string match -rg '^([A-Za-z_][A-Za-z0-9_-]*) = ' -- $text
                 end
         end
         set at (math $at + 1)
@@ -20,7 +22,7 @@ function __abnfg_rules
 end
 
 complete -c abnfg -s s -l rule -x -a '(__abnfg_rules)' -d 'List lines of this rule [default: the first rule]'
-complete -c abnfg -s m -l mode -x -a 'all' -d 'Choose which lines to list'
+complete -c abnfg -s m -l mode -x -a 'all miss' -d 'Choose which lines to list'
 complete -c abnfg -s l -l limit -x -d 'List lines of at most N symbols, from 1 to 16777216'
 complete -c abnfg -s c -l count -x -d 'List at most N lines, from 1 to 4294967295'
 complete -c abnfg -s u -l letters -x -a 'bytes utf8' -d 'Take bytes or code points of UTF-8 as symbols'

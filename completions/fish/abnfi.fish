@@ -12,7 +12,9 @@ function __abnfi_rules
             case '*'
                 set -l file (string replace -r '^~/' "$HOME/" -- $words[$at])
                 if test -f "$file"
-                    $words[1] -m print "$file" 2> /dev/null | string match -rg '^([A-Za-z_][A-Za-z0-9_-]*) = '
+                    set -l program $words[1]
+                    set -l text (command $program -m print "$file" 2> /dev/null)
+                    string match -rg '^([A-Za-z_][A-Za-z0-9_-]*) = ' -- $text
                 end
         end
         set at (math $at + 1)

@@ -109,7 +109,7 @@ PROGRAMS = (
     ), "=", "The file of the old grammar, at most 1048576 bytes", "abnfi", ("old", "new")),
     Program("abnfg", (
         Option("s", "rule", "RULE", (), "List lines of this rule [default: the first rule]"),
-        Option("m", "mode", "MODE", ("all",), "Choose which lines to list"),
+        Option("m", "mode", "MODE", ("all", "miss"), "Choose which lines to list"),
         Option("l", "limit", "N", (), "List lines of at most N symbols, from 1 to 16777216"),
         Option("c", "count", "N", (), "List at most N lines, from 1 to 4294967295"),
         Option("u", "letters", "MODE", ("bytes", "utf8"), "Take bytes or code points of UTF-8 as symbols"),
@@ -253,7 +253,9 @@ function __@NAME@_rules
             case '*'
                 set -l file (string replace -r '^~/' "$HOME/" -- $words[$at])
                 if test -f "$file"
-                    @PROGRAM@ -m print "$file" 2> /dev/null | string match -rg '^([A-Za-z_][A-Za-z0-9_-]*) @SIGN@ '
+                    set -l program @PROGRAM@
+                    set -l text (command $program -m print "$file" 2> /dev/null)
+                    string match -rg '^([A-Za-z_][A-Za-z0-9_-]*) @SIGN@ ' -- $text
                 end
         end
         set at (math $at + 1)
@@ -311,7 +313,7 @@ def for_fish(program):
         return f"complete -c {program.name} {name}{values} -d '{it.text}'"
     return filled(FISH if program.sign else FISH_TEXTS, NAME=program.name, SIGN=program.sign,
                   VALUED=" ".join(program.valued()), OPTIONS="\n".join(map(line, program.options)),
-                  PROGRAM=f"command (string replace -r '{program.name}$' {program.printer} -- $words[1])"
+                  PROGRAM=f"(string replace -r '{program.name}$' {program.printer} -- $words[1])"
                   if program.printer else "$words[1]")
 
 

@@ -34,7 +34,8 @@ AFTER = (
     ("oracles/random_cases.py", "-n", "5000", "-u", "-w", "-z", "-k", "-p", "-q", "-b", "-1", "-x"),
     ("oracles/both_judges.py",),
     ("oracles/dense_lines.py",), ("oracles/slow_abnfx.py",), ("oracles/random_texts.py", "-n", "300"),
-    ("oracles/random_pairs.py", "-n", "300"), ("oracles/random_lines.py", "-n", "300"), ("oracles/listed_lines.py",),
+    ("oracles/random_pairs.py", "-n", "300"), ("oracles/random_lines.py", "-n", "300"),
+    ("oracles/random_misses.py", "-n", "300"), ("oracles/listed_lines.py",),
     ("bench/hostile_grammars.py",), ("gate/faults.py",), ("gate/completions_test.py",), ("gate/package_test.py",),
     ("gate/line_buffered_test.py",), ("gate/library_test.py",), ("gate/python_test.py",)
 )

@@ -1,5 +1,6 @@
 #!/usr/bin/env python3
-"""Lists lines of each grammar of examples/ by bin/abnfg, and judges them by bin/abnfi: each is derived.
+"""Lists lines of each grammar of examples/ by bin/abnfg, and judges them by bin/abnfi: each is derived, or with
+`-m miss` none is.
 
 usage: listed_lines.py [-c LINES]
 
@@ -15,9 +16,9 @@ TOP = pathlib.Path(__file__).resolve().parents[2]
 BIN = TOP / "bin"
 
 
-def listed(grammar, count):
-    """Returns the lines of a grammar, each with its end; none if the grammar is rejected."""
-    words = [BIN / "abnfg", "-z", "-c", str(count), grammar]
+def listed(grammar, mode, count):
+    """Returns the lines of a grammar in a mode, each with its end; none if the grammar is rejected."""
+    words = [BIN / "abnfg", "-z", "-m", mode, "-c", str(count), grammar]
     ran = subprocess.run(words, capture_output=True, check=False)
     return ran.stdout if ran.returncode in (0, 3) else b""
 
@@ -29,15 +30,16 @@ def main():
     if not all((BIN / it).is_file() for it in ("abnfg", "abnfi")):
         print("listed_lines: abnfg or abnfi: not built: skipped")
         return 0
-    judged = 0
+    judged = {"all": 0, "miss": 0}
     for grammar in sorted(TOP.glob("examples/*/*.abnf")):
-        lines = listed(grammar, count)
-        ran = subprocess.run([BIN / "abnfi", "-z", grammar], input=lines, capture_output=True, check=False)
-        if lines and (ran.returncode, ran.stdout) != (0, b"yes\n" * lines.count(b"\0")):
-            print(f"{grammar.relative_to(TOP)}: a listed line is rejected: {ran}")
-            return 1
-        judged += lines.count(b"\0")
-    print(f"{judged} listed lines are derived")
+        for mode, verdict, status in (("all", b"yes\n", 0), ("miss", b"no\n", 1)):
+            lines = listed(grammar, mode, count)
+            ran = subprocess.run([BIN / "abnfi", "-z", grammar], input=lines, capture_output=True, check=False)
+            if lines and (ran.returncode, ran.stdout) != (status, verdict * lines.count(b"\0")):
+                print(f"{grammar.relative_to(TOP)}: a line of -m {mode} has another verdict: {ran}")
+                return 1
+            judged[mode] += lines.count(b"\0")
+    print(f"{judged['all']} listed lines are derived, and {judged['miss']} are not")
     return 0
 
 

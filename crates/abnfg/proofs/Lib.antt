@@ -2,3 +2,4 @@ pub mod ListedLinesLemmas
 pub mod ListedReplyLemmas
 pub mod ListAnswersLemmas
 pub mod ListWordsLemmas
+pub mod ListedMissesLemmas

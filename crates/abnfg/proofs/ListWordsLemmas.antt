@@ -8,6 +8,7 @@ use Rattle.clap.specs.declared.builder.command.Command.{Command}
 use Rattle.cli.specs.Command.{AreAlphabets, AreNames, Names}
 
 pub app_made : {E : Type 0} (r : Result Command E) (letters modes : Names)
-    → IfOk r (λ c. app_of c ≡ abnfg_app letters modes) → AreAlphabets letters → AreNames (codes "all" ∷ []) modes
+    → IfOk r (λ c. app_of c ≡ abnfg_app letters modes) → AreAlphabets letters
+    → AreNames (codes "all" ∷ codes "miss" ∷ []) modes
     → (app : App) × IsAbnfgApp app × IfOk r (λ c. app_of c ≡ app)
 app_made r letters modes is are named = (abnfg_app letters modes, (letters, are, modes, named, refl), is)

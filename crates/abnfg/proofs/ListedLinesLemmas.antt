@@ -9,7 +9,7 @@ use Rattle.std.proofs.lemmas.Grind.{flat_map-append}
 use Rattle.std.proofs.lemmas.List.Elements.{All-contains, All-get_or, All-push, All-weaker, Contains-append_left}
 use Rattle.std.proofs.lemmas.List.Elements.{Contains-push}
 use Rattle.std.proofs.lemmas.List.Quantifiers.{all_pairs_push}
-use Rattle.abnfg.specs.ListedLines.{AreEnough, AreFirstLines, AreListed, AreWritten, IsHaltAt, IsLineNext}
+use Rattle.abnfg.specs.ListedLines.{AreEnough, AreFirstLines, AreListed, AreWritten, HoldAll, IsHaltAt, IsLineNext}
 use Rattle.abnfg.specs.ListedLines.{IsRecordWritten, IsStepOf, IsWrittenNext}
 use Rattle.abnfg.specs.declared.lines.Halt.{Halt}
 use Rattle.abnfg.specs.declared.lines.Halt.TheVariants.{NoMemory as HaltsUnroomed, Nothing, TooMany}
@@ -148,9 +148,7 @@ module _ (lines : List ℕ → Type 0) where
   -- why there is no line
   pub halt_none : (ws : List (List ℕ)) (done : ℕ) (last : List ℕ) → AreListed lines done last ws → done ≡ 0
       → IsStepOf lines ws Done → IsHaltAt lines ws Nothing
-  halt_none ws done last l none all =
-      let same = no_length ws (let e = l.count in omega (arith, e, none)) in
-      (same, λ v line. let h = subst (λ u. Contains u v) same (all v line) in let lt = h.1 in omega (arith, lt))
+  halt_none ws done last l none all = (no_length ws (let e = l.count in omega (arith, e, none)), all)
 
   pub halt_all : (ws : List (List ℕ)) (done : ℕ) (last : List ℕ) → AreListed lines done last ws → (done ≡ 0 → ⊥)
       → IsStepOf lines ws Done → IsHaltAt lines ws Finished
@@ -163,18 +161,18 @@ module _ (lines : List ℕ → Type 0) where
     -- the next line was written
     pub record_next : (ws : List (List ℕ)) (done : ℕ) (was last : List ℕ) (old new : Option (List ℕ))
         → AreListed lines done was ws
-        → (w : Vec ℕ Global) → IsLineNext lines ws w → (r : Result (Option Halt) WriteFault)
-        → IsRecordWritten text_of w.items last old new r → IsWrittenNext lines text_of done ws last old new r
-    record_next ws done was last old new l w next (Ok None) is = (
+        → (w : Vec ℕ Global) → IsLineNext lines ws w → last ≡ w.items → (r : Result (Option Halt) WriteFault)
+        → IsRecordWritten text_of w.items old new r → IsWrittenNext lines text_of done ws last old new r
+    record_next ws done was last old new l w next same (Ok None) is = (
       w.items,
-      subst (λ v. AreListed lines (done + 1) v (ws ++ w.items ∷ [])) (sym is.0) (listed_on ws done was l w next),
-      is.1,
+      subst (λ v. AreListed lines (done + 1) v (ws ++ w.items ∷ [])) (sym same) (listed_on ws done was l w next),
+      is,
     )
-    record_next ws done was last old new l w next (Ok (Some halt)) is = (halt_memory halt is.0, is.1)
+    record_next ws done was last old new l w next same (Ok (Some halt)) is = (halt_memory halt is.0, is.1)
       where
         halt_memory : (h : Halt) → h ≡ HaltsUnroomed → IsHaltAt lines ws h
         halt_memory h same = subst (λ v. IsHaltAt lines ws v) (sym same) tt
-    record_next ws done was last old new l w next (Err fault) is = (w.items, next.0, is)
+    record_next ws done was last old new l w next same (Err fault) is = (w.items, next.0, is)
 
     -- some lines were written, the last of which is given
     pub record IsUpTo (done : ℕ) (last : List ℕ) (old new : Option (List ℕ)) : Type 0 where
@@ -201,7 +199,7 @@ module _ (lines : List ℕ → Type 0) where
 
       pub halt_written : (halt : Halt) (last : List ℕ) → done ≤ count
           → IsWrittenNext lines text_of done u.ws last b c (Ok (Some halt))
-          → AreWritten lines text_of count a c (Ok halt)
+          → AreWritten (AreFirstLines lines) (HoldAll lines) text_of count a c (Ok halt)
       halt_written halt last le is = by halt is.0 (subst (λ v. Appends a c v) (append-nil (flat_map text_of u.ws))
           (Appends-join a b c (flat_map text_of u.ws) [] u.text is.1))
         where
@@ -209,15 +207,18 @@ module _ (lines : List ℕ → Type 0) where
           within = let e = u.listed.count in omega (arith, e, le)
 
           by : (h : Halt) → IsHaltAt lines u.ws h → Appends a c (flat_map text_of u.ws)
-              → AreWritten lines text_of count a c (Ok h)
+              → AreWritten (AreFirstLines lines) (HoldAll lines) text_of count a c (Ok h)
           by Finished all text = (u.ws, u.listed.are, inr (all.0, within, all.1), text)
-          by Nothing none text = (none.1, subst (λ v. Appends a c (flat_map text_of v)) none.0 text)
+          by Nothing none text = (
+            subst (λ v. HoldAll lines v) none.0 none.1,
+            subst (λ v. Appends a c (flat_map text_of v)) none.0 text,
+          )
           by TooMany none text = (u.ws, u.listed.are, within, text)
           by HaltsUnroomed none text = (u.ws, u.listed.are, within, text)
 
       pub cut_off : (fault : WriteFault) (last : List ℕ) → done < count
           → IsWrittenNext lines text_of done u.ws last b c (Err fault)
-          → AreWritten lines text_of count a c (Err fault)
+          → AreWritten (AreFirstLines lines) (HoldAll lines) text_of count a c (Err fault)
       cut_off fault last lt is = (
         u.ws ++ is.0 ∷ [],
         is.1,
@@ -226,7 +227,8 @@ module _ (lines : List ℕ → Type 0) where
             (AppendsPart-join a b c (flat_map text_of u.ws) (text_of is.0) u.text is.2),
       )
 
-      pub all_written : done ≡ count → b ≡ c → AreWritten lines text_of count a c (Ok Finished)
+      pub all_written : done ≡ count → b ≡ c
+          → AreWritten (AreFirstLines lines) (HoldAll lines) text_of count a c (Ok Finished)
       all_written same still = (
         u.ws,
         u.listed.are,
@@ -254,12 +256,13 @@ module _ (A B : List ℕ → Type 0) (same : (w : List ℕ) → A w ↔ B w) whe
     rest = λ v line. f.rest v ((same v).1 line);
   }
 
-  enough_as : (count : ℕ) (ws : List (List ℕ)) → AreEnough A count ws → AreEnough B count ws
+  enough_as : (count : ℕ) (ws : List (List ℕ)) → AreEnough (HoldAll A) count ws → AreEnough (HoldAll B) count ws
   enough_as count ws (inl all) = inl all
   enough_as count ws (inr some) = inr (some.0, some.1, λ v line. some.2 v ((same v).1 line))
 
   pub written_as : (text_of : List ℕ → List ℕ) (count : ℕ) (old new : Option (List ℕ)) (r : Result Halt WriteFault)
-      → AreWritten A text_of count old new r → AreWritten B text_of count old new r
+      → AreWritten (AreFirstLines A) (HoldAll A) text_of count old new r
+      → AreWritten (AreFirstLines B) (HoldAll B) text_of count old new r
   written_as text_of count old new (Ok Finished) is = (is.0, first_as is.0 is.1, enough_as count is.0 is.2, is.3)
   written_as text_of count old new (Ok Nothing) is = (λ w line. is.0 w ((same w).1 line), is.1)
   written_as text_of count old new (Ok TooMany) is = (is.0, first_as is.0 is.1, is.2, is.3)

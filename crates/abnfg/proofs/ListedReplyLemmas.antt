@@ -21,14 +21,14 @@ use Rattle.toolrun.specs.declared.status.Status.{Status}
 use Rattle.toolrun.specs.declared.status.Status.TheVariants.{Done, NoMatch, NoMemory as WithoutMemory, Overlong}
 use Rattle.toolrun.specs.declared.stop.Stop.TheVariants.{NoMemory, Quiet}
 
-module _ (lines : List ℕ → Type 0) (text_of : List ℕ → List ℕ) (count : ℕ) (s0 s1 : Option (List ℕ))
+module _ (first whole : List (List ℕ) → Type 0) (text_of : List ℕ → List ℕ) (count : ℕ) (s0 s1 : Option (List ℕ))
     (was failed : Bool) where
   abbrev pub Fulfilled : Result Ending WriteFault → Type 0
-  Fulfilled r = Fulfils (λ input. LinesReply lines text_of count) no_input
+  Fulfilled r = Fulfils (λ input. LinesReply first whole text_of count) no_input
       (record { old = s0; new = s1; was = was; failed = failed }) r
 
   text_fulfils : (out err : List ℕ) (status : Status) (ending : Ending)
-      → LinesReply lines text_of count (record { out = out; err = err; status = code_of status; taken = 0 })
+      → LinesReply first whole text_of count (record { out = out; err = err; status = code_of status; taken = 0 })
       → Appends s0 s1 out → EndsWith err status ending → failed ≡ was → Fulfilled (Ok ending)
   text_fulfils out err status ending states more ends flag = record {
     stopped = (
@@ -47,7 +47,7 @@ module _ (lines : List ℕ → Type 0) (text_of : List ℕ → List ℕ) (count 
     flag = flag;
   }
 
-  pub halt_fulfils : (halt : Halt) (ending : Ending) → AreWritten lines text_of count s0 s1 (Ok halt)
+  pub halt_fulfils : (halt : Halt) (ending : Ending) → AreWritten first whole text_of count s0 s1 (Ok halt)
       → HaltEnds halt ending → failed ≡ was → Fulfilled (Ok ending)
   halt_fulfils Finished ending is ends =
       text_fulfils (flat_map text_of is.0) [] Done ending (listed is.1 is.2) is.3 ends
@@ -59,7 +59,7 @@ module _ (lines : List ℕ → Type 0) (text_of : List ℕ → List ℕ) (count 
   halt_fulfils HaltsUnroomed ending is ends =
       text_fulfils (flat_map text_of is.0) (message_of NoMemory) WithoutMemory ending (no_room is.1 is.2) is.3 ends
 
-  pub cut_fulfils : (fault : WriteFault) → AreWritten lines text_of count s0 s1 (Err fault) → failed ≡ true
+  pub cut_fulfils : (fault : WriteFault) → AreWritten first whole text_of count s0 s1 (Err fault) → failed ≡ true
       → Fulfilled (Err fault)
   cut_fulfils fault is flag = record {
     stopped = (

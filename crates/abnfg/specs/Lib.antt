@@ -2,3 +2,4 @@ pub mod LineBytes
 pub mod ListAnswers
 pub mod ListWords
 pub mod ListedLines
+pub mod ListModes

@@ -2,12 +2,12 @@
 use Rattle.std.specs.Prelude.{◌≡◌, ◌≢◌, ℕ, List, [], Option, None, Some, option_copied}
 use Rattle.abnfg.specs.ListWords.{AskLines}
 use Rattle.abnfg.specs.ListedLines.{LinesReply, end_of, record_text}
+use Rattle.abnfg.specs.ListModes.{AreFirstAsked, AreWholeAsked}
 use Rattle.abnfg.specs.declared.lines.ListSettings.{ListSettings}
 use Rattle.abnfread.specs.AbnfReading.{IsFaultOf, Reads}
 use Rattle.abnfread.specs.Element.{Definition, Rule}
 use Rattle.abnfrun.specs.AbnfNoted.{AreNotesOn, IsRefusedFor, all_rules, judged_of}
 use Rattle.clap.specs.Words.{Row}
-use Rattle.rulelines.specs.LineSets.{IsRuleLine}
 use Rattle.ruletable.specs.Notes.{Said}
 use Rattle.ruletable.specs.declared.fault.ReadFault.{ReadFault}
 use Rattle.ruletable.specs.declared.fault.ReadFault.TheVariants.{Memory}
@@ -21,8 +21,8 @@ use Rattle.toolrun.specs.declared.stop.Stop.TheVariants as stop
 -- what is stated after the notes: the lines of the judged rule; or nothing, and the rules are rejected
 abbrev pub JudgedReply : ListSettings → List Rule → Option ℕ → Reply → Type 0
 JudgedReply settings rules None reply = reply ≡ stopped (stop.Quiet Refused)
-JudgedReply settings rules (Some id) reply = LinesReply
-    (IsRuleLine settings.letters (end_of settings.nul) settings.limit rules id)
+JudgedReply settings rules (Some id) reply = LinesReply (AreFirstAsked settings rules id)
+    (AreWholeAsked settings rules id)
     (record_text settings.letters (end_of settings.nul)) settings.count reply
 
 -- the text of the notes comes first
@@ -31,7 +31,7 @@ OpenedStates settings reported rules judged input notes reply = (notes ≡ repor
     × JudgedReply settings rules judged reply
 
 -- What is stated for a grammar's text: its fault; or the notes on it, and it is rejected for them; or the notes, and
--- then the first lines that the rule derives. Or an allocation fails.
+-- then the first lines of the mode. Or an allocation fails.
 pub data TextStates (text : List ℕ) (settings : ListSettings) (input : Input) : List ℕ → Reply → Type 0 where
   faulty : {fault : ReadFault} → IsFaultOf text fault → fault ≢ Memory
       → TextStates text settings input [] (stopped (stop.Refused fault))

@@ -1,8 +1,11 @@
 -- The words of the program: its command, as a parse reads it, and what the words ask for.
 use Prim.Native.Char.{code}
-use Rattle.std.specs.Prelude.{◌≡◌, List, [], ◌∷◌, codes, option_copied}
+use Rattle.std.specs.Prelude.{◌≡◌, List, [], ◌∷◌, codes, option_copied, Option, None, Some, if◌then◌else◌}
+use Rattle.std.specs.Str.{bytes_eq}
+use Rattle.abnfg.specs.declared.lines.ListMode.{ListMode}
+use Rattle.abnfg.specs.declared.lines.ListMode.TheVariants.{All, Miss}
 use Rattle.abnfg.specs.declared.lines.ListSettings.{ListSettings}
-use Rattle.clap.specs.Words.{App, Row, first_of, one_of}
+use Rattle.clap.specs.Words.{App, Row, Text, first_of, one_of}
 use Rattle.cli.specs.Asked.{IsNumberOf, alphabet_named, is_flagged}
 use Rattle.cli.specs.Command.{AreAlphabets, AreNames, Names, choice_rule, flag_rule, grammar_rule, letters_rule}
 use Rattle.cli.specs.Command.{number_rule, program_app, rule_rule}
@@ -19,11 +22,18 @@ abnfg_app letters modes = program_app (codes "abnfg") (rule_rule
 
 -- this is the command of the program
 abbrev pub IsAbnfgApp : App → Type 0
-IsAbnfgApp app = (letters : Names) × AreAlphabets letters × (modes : Names) × AreNames (codes "all" ∷ []) modes
+IsAbnfgApp app = (letters : Names) × AreAlphabets letters × (modes : Names)
+    × AreNames (codes "all" ∷ codes "miss" ∷ []) modes
     × (app ≡ abnfg_app letters modes)
+
+-- the mode of a name; `all` where none is given
+abbrev pub mode_of_name : Option Text → ListMode
+mode_of_name None = All
+mode_of_name (Some name) = if bytes_eq name (codes "miss") then Miss else All
 
 -- the matches of the words ask for these lines
 pub record AskLines (rows : List Row) (settings : ListSettings) : Type 0 where
+  pub mode : settings.mode ≡ mode_of_name (first_of (codes "mode") rows)
   pub rule : option_copied settings.rule ≡ first_of (codes "rule") rows
   pub letters : settings.letters ≡ alphabet_named (first_of (codes "letters") rows)
   pub limit : IsNumberOf 256 (one_of (codes "limit") rows) settings.limit

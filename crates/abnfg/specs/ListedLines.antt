@@ -12,7 +12,7 @@ use Rattle.rulelines.specs.declared.list.lines.NextLine.TheVariants.{Line, Done 
 use Rattle.letters.specs.declared.alphabet.Alphabet.{Alphabet}
 use Rattle.ruletable.specs.Writing.{AppendsPart}
 use Rattle.ruletable.specs.declared.sink.WriteFault.{WriteFault}
-use Rattle.rulelines.specs.FirstLines.{ComesFirst, HasNoLine, IsShortlexBefore}
+use Rattle.rulelines.specs.FirstLines.{ComesFirst, IsShortlexBefore}
 use Rattle.abnfg.specs.LineBytes.{line_bytes}
 use Rattle.toolrun.specs.Plan.{stopped}
 use Rattle.toolrun.specs.Reply.{Reply, without_memory}
@@ -32,6 +32,39 @@ end_of nul = if nul then 0 else 10
 abbrev pub record_text : Alphabet → ℕ → List ℕ → List ℕ
 record_text alphabet end line = line_bytes alphabet line ++ end ∷ []
 
+-- as many as are asked for, or some, and these are all
+abbrev pub AreEnough : (List (List ℕ) → Type 0) → ℕ → List (List ℕ) → Type 0
+AreEnough whole count ws = (length ws ≡ count) ⊎ ((ws ≢ []) × (length ws ≤ count) × whole ws)
+
+-- of lists of lines the first ones, and the whole ones
+module _ (first whole : List (List ℕ) → Type 0) (text_of : List ℕ → List ℕ) (count : ℕ) where
+  -- The texts of first lines are written. The status is 0 if they are enough, and 1 if there is no line at all. Or
+  -- there are too many states of the grammar, or an allocation fails, after some first lines.
+  pub data LinesReply : Reply → Type 0 where
+    listed : {ws : List (List ℕ)} → first ws → AreEnough whole count ws
+        → LinesReply (record { out = flat_map text_of ws; err = []; status = code_of Done; taken = 0 })
+    no_line : whole [] → LinesReply (stopped (Quiet NoMatch))
+    too_many : {ws : List (List ℕ)} → first ws → length ws ≤ count → LinesReply (record {
+      out = flat_map text_of ws;
+      err = codes "too many stacks\n";
+      status = code_of Overlong;
+      taken = 0;
+    })
+    no_room : {ws : List (List ℕ)} → first ws → length ws ≤ count
+        → LinesReply (without_memory (flat_map text_of ws) 0)
+
+  -- first lines were written, at most so many, and why no more are; or a part of their text
+  abbrev pub AreWritten : Option (List ℕ) → Option (List ℕ) → Result Halt WriteFault → Type 0
+  AreWritten old new (Ok Finished) = (ws : List (List ℕ)) × first ws × AreEnough whole count ws
+      × Appends old new (flat_map text_of ws)
+  AreWritten old new (Ok Nothing) = whole [] × Appends old new []
+  AreWritten old new (Ok TooMany) = (ws : List (List ℕ)) × first ws × (length ws ≤ count)
+      × Appends old new (flat_map text_of ws)
+  AreWritten old new (Ok HaltsUnroomed) = (ws : List (List ℕ)) × first ws × (length ws ≤ count)
+      × Appends old new (flat_map text_of ws)
+  AreWritten old new (Err fault) = (ws : List (List ℕ)) × first ws × (length ws ≤ count)
+      × AppendsPart old new (flat_map text_of ws)
+
 module _ (lines : List ℕ → Type 0) where
   -- the first ones of some lines, each once and in order: each other line comes after all of them
   pub record AreFirstLines (ws : List (List ℕ)) : Type 0 where
@@ -39,26 +72,9 @@ module _ (lines : List ℕ → Type 0) where
     pub rise : AllPairs IsShortlexBefore ws
     pub rest : (v : List ℕ) → lines v → Contains ws v ⊎ All (λ w. IsShortlexBefore w v) ws
 
-  -- as many as are asked for, or some, and all that there are
-  abbrev pub AreEnough : ℕ → List (List ℕ) → Type 0
-  AreEnough count ws = (length ws ≡ count)
-      ⊎ ((ws ≢ []) × (length ws ≤ count) × ((v : List ℕ) → lines v → Contains ws v))
-
-  module _ (text_of : List ℕ → List ℕ) (count : ℕ) where
-    -- The texts of the first lines are written. The status is 0 if they are enough, and 1 if there is no line at all.
-    -- Or there are too many states of the grammar, or an allocation fails, after some first lines.
-    pub data LinesReply : Reply → Type 0 where
-      listed : {ws : List (List ℕ)} → AreFirstLines ws → AreEnough count ws
-          → LinesReply (record { out = flat_map text_of ws; err = []; status = code_of Done; taken = 0 })
-      no_line : HasNoLine lines → LinesReply (stopped (Quiet NoMatch))
-      too_many : {ws : List (List ℕ)} → AreFirstLines ws → length ws ≤ count → LinesReply (record {
-        out = flat_map text_of ws;
-        err = codes "too many stacks\n";
-        status = code_of Overlong;
-        taken = 0;
-      })
-      no_room : {ws : List (List ℕ)} → AreFirstLines ws → length ws ≤ count
-          → LinesReply (without_memory (flat_map text_of ws) 0)
+  -- there is no more
+  abbrev pub HoldAll : List (List ℕ) → Type 0
+  HoldAll ws = (v : List ℕ) → lines v → Contains ws v
 
   -- so many first lines, the last of which is given
   pub record AreListed (done : ℕ) (last : List ℕ) (ws : List (List ℕ)) : Type 0 where
@@ -74,12 +90,12 @@ module _ (lines : List ℕ → Type 0) where
   -- it, or there is none
   abbrev pub IsStepOf : List (List ℕ) → NextLine → Type 0
   IsStepOf ws (Line line) = IsLineNext ws line
-  IsStepOf ws End = (v : List ℕ) → lines v → Contains ws v
+  IsStepOf ws End = HoldAll ws
 
   -- why no line is written after some first lines
   abbrev pub IsHaltAt : List (List ℕ) → Halt → Type 0
-  IsHaltAt ws Finished = (ws ≢ []) × ((v : List ℕ) → lines v → Contains ws v)
-  IsHaltAt ws Nothing = (ws ≡ []) × HasNoLine lines
+  IsHaltAt ws Finished = (ws ≢ []) × HoldAll ws
+  IsHaltAt ws Nothing = (ws ≡ []) × HoldAll ws
   IsHaltAt ws TooMany = Unit {0}
   IsHaltAt ws HaltsUnroomed = Unit {0}
 
@@ -93,24 +109,12 @@ module _ (lines : List ℕ → Type 0) where
     IsWrittenNext done ws last old new (Err fault) = (w : List ℕ) × AreFirstLines (ws ++ w ∷ [])
         × AppendsPart old new (text_of w)
 
-    -- first lines were written, at most so many, and why no more are; or a part of their text
-    abbrev pub AreWritten : ℕ → Option (List ℕ) → Option (List ℕ) → Result Halt WriteFault → Type 0
-    AreWritten count old new (Ok Finished) = (ws : List (List ℕ)) × AreFirstLines ws × AreEnough count ws
-        × Appends old new (flat_map text_of ws)
-    AreWritten count old new (Ok Nothing) = HasNoLine lines × Appends old new []
-    AreWritten count old new (Ok TooMany) = (ws : List (List ℕ)) × AreFirstLines ws × (length ws ≤ count)
-        × Appends old new (flat_map text_of ws)
-    AreWritten count old new (Ok HaltsUnroomed) = (ws : List (List ℕ)) × AreFirstLines ws × (length ws ≤ count)
-        × Appends old new (flat_map text_of ws)
-    AreWritten count old new (Err fault) = (ws : List (List ℕ)) × AreFirstLines ws × (length ws ≤ count)
-        × AppendsPart old new (flat_map text_of ws)
-
--- the text of a line was written, and is the last now; or an allocation failed, or a part of it was written
-abbrev pub IsRecordWritten : (List ℕ → List ℕ) → List ℕ → List ℕ → Option (List ℕ) → Option (List ℕ)
+-- the text of a line was written; or an allocation failed, or a part of it was written
+abbrev pub IsRecordWritten : (List ℕ → List ℕ) → List ℕ → Option (List ℕ) → Option (List ℕ)
     → Result (Option Halt) WriteFault → Type 0
-IsRecordWritten text_of line last old new (Ok None) = (last ≡ line) × Appends old new (text_of line)
-IsRecordWritten text_of line last old new (Ok (Some halt)) = (halt ≡ HaltsUnroomed) × Appends old new []
-IsRecordWritten text_of line last old new (Err fault) = AppendsPart old new (text_of line)
+IsRecordWritten text_of line old new (Ok None) = Appends old new (text_of line)
+IsRecordWritten text_of line old new (Ok (Some halt)) = (halt ≡ HaltsUnroomed) × Appends old new []
+IsRecordWritten text_of line old new (Err fault) = AppendsPart old new (text_of line)
 
 -- the message and the status of a run that writes no more lines; an allocation may fail in making the message
 abbrev pub EndsWith : List ℕ → Status → Ending → Type 0

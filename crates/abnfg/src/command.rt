@@ -1,16 +1,16 @@
 //! The command line.
-ghost use Rattle.std.specs.Prelude.{◌≡◌, IfOk};
-ghost use Rattle.abnfg.specs.ListWords.{AskLines, IsAbnfgApp};
-ghost use Rattle.clap.specs.Words.{app_of, found_of, rows_of};
+ghost use Rattle.std.specs.Prelude.{◌≡◌, codes, IfOk};
+ghost use Rattle.abnfg.specs.ListWords.{AskLines, IsAbnfgApp, mode_of_name};
+ghost use Rattle.clap.specs.Words.{app_of, first_of, found_of, rows_of};
 
-use crate::lines::ListSettings;
+use crate::lines::{ListMode, ListSettings};
 use clap::{ArgMatches, Command};
 use cli::{Parameter, is_given, letters_of, number_of, program_command};
 use std::alloc::{AllocError, Global};
 
 /// The text of the help.
 const HELP: &str =
-    "List the lines that a rule of an ABNF grammar (RFC 5234, RFC 7405) derives, shortest first
+    "List lines that a rule of an ABNF grammar (RFC 5234, RFC 7405) derives, or near ones that it does not
 
 Usage: abnfg [OPTIONS] <GRAMMAR>
 
@@ -21,7 +21,7 @@ Grammar:
   -s, --rule <RULE>  List lines of this rule [default: the first rule]
 
 Lines:
-  -m, --mode <MODE>     Choose which lines to list [default: all] [possible values: all]
+  -m, --mode <MODE>     Choose which lines to list [default: all] [possible values: all, miss]
   -l, --limit <N>       List lines of at most N symbols, from 1 to 16777216 [default: 256]
   -c, --count <N>       List at most N lines, from 1 to 4294967295 [default: 1000]
   -u, --letters <MODE>  Take bytes or code points of UTF-8 as symbols [default: bytes] [possible values: bytes, utf8]
@@ -33,7 +33,7 @@ Other options:
 
 Exit status:
   0  lines are listed
-  1  the rule derives no such line
+  1  there is no such line
   2  the grammar or the arguments are refused
   3  too many stacks: more lines may follow
   4  a write error, or the grammar's file cannot be read
@@ -50,7 +50,7 @@ static PARAMETERS: [Parameter; 7] = [
     Parameter::Flag("null-data", 'z'),
     Parameter::Operand("grammar", "GRAMMAR", true),
     Parameter::Choice("letters", 'u', "MODE", &["bytes", "utf8"], "bytes"),
-    Parameter::Choice("mode", 'm', "MODE", &["all"], "all"),
+    Parameter::Choice("mode", 'm', "MODE", &["all", "miss"], "all"),
 ];
 
 /// Returns the command `abnfg [-m MODE] [-l N] [-c N] [-s RULE] [-u MODE] [-z] GRAMMAR`, or an error if an allocation
@@ -61,11 +61,22 @@ pub(crate) fn abnfg_command<'a>(alloc: Global) -> Result<Command<'a>, AllocError
     program_command(alloc, "abnfg", HELP, PARAMETERS.as_slice())
 }
 
+// Returns the mode that the words ask for.
+fn mode_of(matches: &ArgMatches<'_>) -> ListMode
+    ensures { result ≡ mode_of_name (first_of (codes "mode") (rows_of (found_of matches.now))) }
+{
+    match matches.get_str("mode") {
+        Some(name) if name == "miss" => ListMode::Miss,
+        _ => ListMode::All,
+    }
+}
+
 /// Returns which lines the words ask for.
 pub(crate) fn settings_of<'a>(matches: &ArgMatches<'a>) -> ListSettings<'a>
     ensures { AskLines (rows_of (found_of matches.now)) result }
 {
     ListSettings {
+        mode: mode_of(matches),
         rule: matches.get_str("rule"),
         letters: letters_of(matches),
         limit: number_of(matches, "limit", 256),

@@ -1,13 +1,16 @@
 //! The lines of a grammar, written one after another.
 ghost use Rattle.std.specs.Prelude.{◌≡◌, ◌++◌, ℕ, List, [], IfOk, IfSome, MatchResult, false};
-ghost use Rattle.abnfg.specs.ListedLines.{AreListed, IsHaltAt, IsLineNext, IsRecordWritten, IsStepOf, IsWrittenNext};
-ghost use Rattle.abnfg.specs.ListedLines.{AreWritten, HaltEnds, LinesReply, end_of, record_text};
+ghost use Rattle.abnfg.specs.ListedLines.{AreFirstLines, AreListed, AreWritten, HaltEnds, HoldAll, IsHaltAt};
+ghost use Rattle.abnfg.specs.ListedLines.{IsLineNext, IsRecordWritten, IsStepOf, IsWrittenNext, LinesReply, end_of};
+ghost use Rattle.abnfg.specs.ListedLines.{record_text};
+ghost use Rattle.abnfg.specs.ListModes.{AreFirstAsked, AreWholeAsked};
 ghost use Rattle.abnfread.specs.AbnfViews.{rules_of};
 ghost use Rattle.rulelines.specs.LineSets.{IsLineIn, IsRuleLine};
 ghost use Rattle.ruletable.specs.Writing.{Flags};
 ghost use Rattle.toolrun.specs.Stopped.{Fulfils};
 ghost use Rattle.toolrun.specs.Stream.{no_input, passed};
 
+use crate::misses::write_refused;
 use crate::symbols::push_line;
 use abnfcheck::SoundAbnf;
 use letters::Alphabet;
@@ -17,11 +20,20 @@ use std::alloc::Global;
 use toolrun::{Ending, ReportedRefusals, Status, Stop};
 
 /// How many entries the states of a grammar may have.
-const ROOM: usize = 1_000_000;
+pub(crate) const ROOM: usize = 1_000_000;
+
+/// Which lines are listed. `All`: those that the rule derives. `Miss`: near ones that it does not.
+#[derive(Clone, Copy)]
+pub(crate) enum ListMode {
+    All,
+    Miss,
+}
 
 /// Which lines are listed, and how.
 #[derive(Clone, Copy)]
 pub(crate) struct ListSettings<'a> {
+    /// Which lines.
+    pub(crate) mode: ListMode,
     /// The rule; the first one if there is no name.
     pub(crate) rule: Option<&'a str>,
     /// The alphabet of lines.
@@ -47,8 +59,8 @@ pub(crate) enum Halt {
     NoMemory,
 }
 
-// Returns the byte that ends a line.
-fn end_byte(settings: &ListSettings<'_>) -> u8
+/// Returns the byte that ends a line.
+pub(crate) fn end_byte(settings: &ListSettings<'_>) -> u8
     ensures { result ≡ end_of settings.now.nul }
 {
     if settings.nul { 0 } else { b'\n' }
@@ -91,29 +103,26 @@ fn next_line(lines: &mut Lines, done: u32, last: &[u32]) -> Result<Vec<u32>, Hal
     }
 }
 
-// Writes a line with its end, and keeps it as the last one. Returns `NoMemory` if an allocation fails. `WriteFault` if
-// the output fails; then a prefix is written.
-fn write_record<O: Sink>(
+/// Writes a line with its end. Returns `NoMemory` if an allocation fails. `WriteFault` if the output fails; then a
+/// prefix is written.
+pub(crate) fn write_record<O: Sink>(
     alloc: Global,
     settings: &ListSettings<'_>,
-    line: Vec<u32>,
-    last: &mut Vec<u32>,
+    line: &[u32],
     out: &mut O,
 ) -> Result<Option<Halt>, WriteFault>
     requires { O.failed out.old ≡ false }
-    ensures next { IsRecordWritten (record_text settings.now.letters (end_of settings.now.nul)) line.items
-        last.new.items (O.contents out.old) (O.contents out.new) result }
+    ensures next { IsRecordWritten (record_text settings.now.letters (end_of settings.now.nul)) line.now
+        (O.contents out.old) (O.contents out.new) result }
     ensures flag { Flags (O.failed out.old) (O.failed out.new) result }
 {
-    let Ok(text) = line_text(alloc, settings, &line) else {
+    let Ok(text) = line_text(alloc, settings, line) else {
         return Ok(Some(Halt::NoMemory));
     };
     match write_whole(out, &text) {
-        Ok(()) => {}
-        Err(fault) => return Err(fault),
+        Ok(()) => Ok(None),
+        Err(fault) => Err(fault),
     }
-    *last = line;
-    Ok(None)
 }
 
 // Writes the line after so many lines, the last of which is given, and keeps it as the last one. Returns why there is
@@ -134,7 +143,11 @@ fn write_next<O: Sink>(
     ensures flag { Flags (O.failed out.old) (O.failed out.new) result }
 {
     match next_line(lines, done, last) {
-        Ok(line) => write_record(alloc, settings, line, last, out),
+        Ok(line) => {
+            let written = write_record(alloc, settings, &line, out);
+            *last = line;
+            written
+        }
         Err(halt) => Ok(Some(halt)),
     }
 }
@@ -148,8 +161,9 @@ fn write_lines<O: Sink>(
     out: &mut O,
 ) -> Result<Halt, WriteFault>
     requires { O.failed out.old ≡ false }
-    ensures lines { AreWritten (IsLineIn lines.old) (record_text settings.now.letters (end_of settings.now.nul))
-        settings.now.count (O.contents out.old) (O.contents out.new) result }
+    ensures lines { AreWritten (AreFirstLines (IsLineIn lines.old)) (HoldAll (IsLineIn lines.old))
+        (record_text settings.now.letters (end_of settings.now.nul)) settings.now.count (O.contents out.old)
+        (O.contents out.new) result }
     ensures flag { Flags (O.failed out.old) (O.failed out.new) result }
 {
     let mut last = Vec::new(alloc);
@@ -191,8 +205,8 @@ fn ending_of(alloc: Global, halt: Halt) -> Ending
     }
 }
 
-// Writes the lines of a grammar that are asked for, and returns why no more are written. `WriteFault` if the output
-// fails; then a prefix of a line is written after whole lines.
+// Writes the lines of a grammar that its rule derives, as many as are asked for, and returns why no more are written.
+// `WriteFault` if the output fails; then a prefix of a line is written after whole lines.
 fn write_derived<O: Sink>(
     alloc: Global,
     settings: &ListSettings<'_>,
@@ -200,9 +214,12 @@ fn write_derived<O: Sink>(
     out: &mut O,
 ) -> Result<Halt, WriteFault>
     requires { O.failed out.old ≡ false }
-    ensures lines { AreWritten (IsRuleLine settings.now.letters (end_of settings.now.nul) settings.now.limit
-        (rules_of grammar.now.rules) grammar.now.judged) (record_text settings.now.letters (end_of settings.now.nul))
-        settings.now.count (O.contents out.old) (O.contents out.new) result }
+    ensures lines { AreWritten (AreFirstLines (IsRuleLine settings.now.letters (end_of settings.now.nul)
+        settings.now.limit (rules_of grammar.now.rules) grammar.now.judged))
+        (HoldAll (IsRuleLine settings.now.letters (end_of settings.now.nul) settings.now.limit
+        (rules_of grammar.now.rules) grammar.now.judged))
+        (record_text settings.now.letters (end_of settings.now.nul)) settings.now.count (O.contents out.old)
+        (O.contents out.new) result }
     ensures flag { Flags (O.failed out.old) (O.failed out.new) result }
 {
     let end = end_byte(settings);
@@ -213,8 +230,29 @@ fn write_derived<O: Sink>(
     }
 }
 
-/// Writes the lines that are asked for of those that the judged rule of a grammar derives, each with its end, and
-/// returns how the run ends. `WriteFault` if the output fails; then a prefix of a line is written after whole lines.
+// Writes the lines of a grammar that are asked for, and returns why no more are written. `WriteFault` if the output
+// fails; then a prefix of a line is written after whole lines.
+fn write_asked<O: Sink>(
+    alloc: Global,
+    settings: &ListSettings<'_>,
+    grammar: &SoundAbnf,
+    out: &mut O,
+) -> Result<Halt, WriteFault>
+    requires { O.failed out.old ≡ false }
+    ensures lines { AreWritten (AreFirstAsked settings.now (rules_of grammar.now.rules) grammar.now.judged)
+        (AreWholeAsked settings.now (rules_of grammar.now.rules) grammar.now.judged)
+        (record_text settings.now.letters (end_of settings.now.nul)) settings.now.count (O.contents out.old)
+        (O.contents out.new) result }
+    ensures flag { Flags (O.failed out.old) (O.failed out.new) result }
+{
+    match settings.mode {
+        ListMode::All => write_derived(alloc, settings, grammar, out),
+        ListMode::Miss => write_refused(alloc, settings, grammar, out),
+    }
+}
+
+/// Writes the lines that are asked for of those by the judged rule of a grammar, each with its end, and returns how the
+/// run ends. `WriteFault` if the output fails; then a prefix of a line is written after whole lines.
 pub(crate) fn list_lines<O: Sink>(
     alloc: Global,
     settings: &ListSettings<'_>,
@@ -222,12 +260,12 @@ pub(crate) fn list_lines<O: Sink>(
     out: &mut O,
 ) -> Result<Ending, WriteFault>
     requires { O.failed out.old ≡ false }
-    ensures { Fulfils (λ input. LinesReply (IsRuleLine settings.now.letters (end_of settings.now.nul)
-        settings.now.limit (rules_of grammar.now.rules) grammar.now.judged)
+    ensures { Fulfils (λ input. LinesReply (AreFirstAsked settings.now (rules_of grammar.now.rules) grammar.now.judged)
+        (AreWholeAsked settings.now (rules_of grammar.now.rules) grammar.now.judged)
         (record_text settings.now.letters (end_of settings.now.nul)) settings.now.count) no_input
         (passed O.contents O.failed out.old out.new) result }
 {
-    match write_derived(alloc, settings, grammar, out) {
+    match write_asked(alloc, settings, grammar, out) {
         Ok(halt) => Ok(ending_of(alloc, halt)),
         Err(fault) => Err(fault),
     }

@@ -4,6 +4,7 @@
 mod command;
 mod grammar;
 mod lines;
+mod misses;
 mod run;
 mod symbols;
 

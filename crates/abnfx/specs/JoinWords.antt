@@ -1,6 +1,6 @@
 -- The words of the program: its command, as a parse reads it, and what the words ask for.
 use Prim.Native.Char.{code}
-use Rattle.std.specs.Prelude.{List, [], ◌∷◌, Bool, Option, Some, None, codes, if◌then◌else◌, unwrap_or}
+use Rattle.std.specs.Prelude.{List, [], ◌∷◌, Bool, true, Option, Some, None, codes, if◌then◌else◌, unwrap_or}
 use Rattle.clap.specs.Words.{App, Row, Text, all_of, first_of}
 use Rattle.abnftexts.specs.declared.joined.JoinForm.{JoinForm}
 use Rattle.abnftexts.specs.declared.joined.JoinForm.TheVariants.{Plain, Canonical, Listed}

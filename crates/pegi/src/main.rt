@@ -20,7 +20,13 @@ fn main(rt: HostRuntime) -> ExitCode {
                 return end_without_memory(&rt);
             };
             let words = words.as_slice();
-            let several = run_several::<Pegi, HostRuntime, _, _, _>(&rt, words, rt.stdin(), out, err);
+            let several = run_several::<Pegi, HostRuntime, _, _, _>(
+                &rt,
+                words,
+                rt.stdin(),
+                out,
+                err,
+            );
             if let Some(status) = several {
                 return ExitCode::from(status.code());
             }

@@ -21,22 +21,23 @@ use Rattle.rulelines.proofs.ComesFirstLemmas.{last_first, nothing_before, nothin
 use Rattle.rulelines.proofs.StatePairsLemmas.{accepted_derived, ArePairClosures, derived_accepted, element_at}
 use Rattle.rulelines.proofs.StatePairsLemmas.{next_closures, start_closures, symbol_at}
 
-take_suc : (x : List ℕ) (j c : ℕ) → slice_get x j ≡ Some c → take (suc j) x ≡ take j x ++ c ∷ []
+pub take_suc : (x : List ℕ) (j c : ℕ) → slice_get x j ≡ Some c → take (suc j) x ≡ take j x ++ c ∷ []
 take_suc [] j c is = cc is
 take_suc (b ∷ x) zero c is = ap (λ v. v ∷ []) (cc is)
 take_suc (b ∷ x) (suc j) c is = ap (λ v. b ∷ v) (take_suc x j c is)
 
-take_next : (x : List ℕ) (j c : ℕ) → slice_get x j ≡ Some c → take (j + 1) x ≡ take j x ++ c ∷ []
+pub take_next : (x : List ℕ) (j c : ℕ) → slice_get x j ≡ Some c → take (j + 1) x ≡ take j x ++ c ∷ []
 take_next x j c is =
     let same : suc j ≡ j + 1 = omega arith in
     subst (λ v. take v x ≡ take j x ++ c ∷ []) same (take_suc x j c is)
 
-symbols_then : (has : ℕ → Bool) (w : List ℕ) (c : ℕ) → AreLetters has w → has c ≡ true → AreLetters has (w ++ c ∷ [])
+pub symbols_then : (has : ℕ → Bool) (w : List ℕ) (c : ℕ) → AreLetters has w → has c ≡ true
+    → AreLetters has (w ++ c ∷ [])
 symbols_then has [] c all is = (is, tt)
 symbols_then has (b ∷ w) c all is = (all.0, symbols_then has w c all.1 is)
 
 -- where a stack is reached, stacks were reached before
-reached_before : (flat : Flat) (last : Dot → Bool) (x : List ℕ) {m : ℕ} {s : List Dot} → Reach flat last x m s
+pub reached_before : (flat : Flat) (last : Dot → Bool) (x : List ℕ) {m : ℕ} {s : List Dot} → Reach flat last x m s
     → (j : ℕ) → j ≤ m → (t : List Dot) × Reach flat last x j t
 reached_before flat last x (begins {p = p} st) j le =
     (p ∷ [], subst (λ v. Reach flat last x v (p ∷ [])) (omega (arith, le)) (begins st))
@@ -52,7 +53,7 @@ reached_before flat last x (has_read {j = m} {c = c} {q = q} {r = r} {set = set}
     )
     by up (inr less) = up less
 
-none_read : (flat : Flat) (last : Dot → Bool) (tops : List (List Dot)) (c : ℕ) (s : List Dot) → tops ≡ []
+pub none_read : (flat : Flat) (last : Dot → Bool) (tops : List (List Dot)) (c : ℕ) (s : List Dot) → tops ≡ []
     → ReadBy flat last (Contains tops) c s → ⊥
 none_read flat last tops c s none (ReadBy.reads {q = q} {below = below} h rd lies) = omega (arith, ap length none, h.1)
 
@@ -142,7 +143,7 @@ module _ (has : ℕ → Bool) (old : Flat) (old_last : Dot → Bool) (new : Flat
       at_seam (b ∷ w) c rest = at_seam w c rest
 
   -- the symbols to where a pair leads come no later than those to it and one more
-  lead_order : {i k : ℕ} {u v : List ℕ} {e : FoundPair} {c : ℕ} → IsWordOf found i u → IsWordOf found k v
+  pub lead_order : {i k : ℕ} {u v : List ℕ} {e : FoundPair} {c : ℕ} → IsWordOf found i u → IsWordOf found k v
       → (l : LeadsToFound old old_last new new_last found i e c) → k ≡ l.index → ComesFirst v (u ++ c ∷ [])
   lead_order {u = u} {c = c} h start l same = nothing_first (u ++ c ∷ [])
   lead_order {i = i} {u = u} {c = c} h (next {i = k} {e = f} {w = v} at below g) l same = by l.order

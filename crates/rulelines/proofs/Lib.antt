@@ -16,3 +16,9 @@ mod WordLemmas
 mod OverLemmas
 mod LineOrderLemmas
 mod LineSetLemmas
+mod LineSamplesLemmas
+mod MissSearchLemmas
+mod StateClosuresLemmas
+mod ViableLemmas
+mod ReportedPrefixesLemmas
+pub mod MissLinesLemmas

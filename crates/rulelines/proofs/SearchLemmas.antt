@@ -31,7 +31,7 @@ get_end : {A : Type 0} (xs : List A) (x : A) → slice_get (xs ++ x ∷ []) (len
 get_end [] x = refl
 get_end (y ∷ xs) x = get_end xs x
 
-or_left : {A : Type 0} (xs ys : List A) (k : ℕ) (d : A) → k < length xs → get_or (xs ++ ys) k d ≡ get_or xs k d
+pub or_left : {A : Type 0} (xs ys : List A) (k : ℕ) (d : A) → k < length xs → get_or (xs ++ ys) k d ≡ get_or xs k d
 or_left [] ys k d lt = absurd (omega (arith, lt))
 or_left (y ∷ xs) ys zero d lt = refl
 or_left (y ∷ xs) ys (suc k) d lt = or_left xs ys k d (omega (arith, lt))

@@ -155,7 +155,7 @@ start_reported starts key above (Some j) within point ordered is =
     last_start starts key above j within point (omega (arith, some, e)) ordered
 
 -- the class of a symbol
-alike_on : (flat : Flat) (c d b : ℕ) → AreAlike flat c d → AreAlike flat d b → AreAlike flat c b
+pub alike_on : (flat : Flat) (c d b : ℕ) → AreAlike flat c d → AreAlike flat d b → AreAlike flat c b
 alike_on flat c d b first then q r set rd = (
   λ h. (then q r set rd).0 ((first q r set rd).0 h),
   λ h. (first q r set rd).1 ((then q r set rd).1 h),

@@ -22,7 +22,7 @@ symbol_at has [] i c all is = cc is
 symbol_at has (b ∷ x) zero c all is = subst (λ v. has v ≡ true) (cc is) all.0
 symbol_at has (b ∷ x) (suc i) c all is = symbol_at has x i c all.1 is
 
-closure_on : (flat : Flat) (last : Dot → Bool) (x : List ℕ) (j c d : ℕ) → slice_get x j ≡ Some c → AreAlike flat c d
+pub closure_on : (flat : Flat) (last : Dot → Bool) (x : List ℕ) (j c d : ℕ) → slice_get x j ≡ Some c → AreAlike flat c d
     → (tops next : List (List Dot)) (ended now : Bool) → IsStackClosure flat last x j (Contains tops) ended []
     → IsNext flat last (Contains tops) d (Contains next) now → IsStackClosure flat last x (j + 1) (Contains next) now []
 closure_on flat last x j c d is alike tops next ended now closure is_next =

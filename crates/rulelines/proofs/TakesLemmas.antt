@@ -108,13 +108,13 @@ module _ (flat : Flat) (last : Dot → Bool) where
     led_reached j f among s (led h) = among s h
     led_reached j f among s (moves h m) = Reach.moved (led_reached j f among _ h) m
 
-    read_reached : (j c : ℕ) (f : List Dot → Type 0) → slice_get x j ≡ Some c → AreReached j f
+    pub read_reached : (j c : ℕ) (f : List Dot → Type 0) → slice_get x j ≡ Some c → AreReached j f
         → AreReached (suc j) (ReadBy flat last f c)
     read_reached j c f is among s (reads {r = r} {below = below} h rd lies) =
         let next : j + 1 ≡ suc j = omega arith in
         subst (λ v. Reach flat last x v (r ∷ below)) next (Reach.has_read (among _ h) rd is lies)
 
-    accepts_led : (w : List ℕ) (j : ℕ) (f : List Dot → Type 0) → j ≤ length x → drop j x ≡ w → AreReached j f
+    pub accepts_led : (w : List ℕ) (j : ℕ) (f : List Dot → Type 0) → j ≤ length x → drop j x ≡ w → AreReached j f
         → LeadToEnd flat last f w → Accepts flat last x (length x)
     accepts_led [] j f le same among e = record {
       position = e.position;
@@ -127,7 +127,7 @@ module _ (flat : Flat) (last : Dot → Bool) where
         accepts_led w (suc j) (ReadBy flat last (Led flat last f) c) g.2 g.1
         (read_reached j c (Led flat last f) g.0 (led_reached j f among)) h
 
-    led_read : (j c : ℕ) (f : List Dot → Type 0) → slice_get x j ≡ Some c
+    pub led_read : (j c : ℕ) (f : List Dot → Type 0) → slice_get x j ≡ Some c
         → ((q : Dot) (below : List Dot) → IsReading flat (q ∷ below) → Reach flat last x j (q ∷ below)
         → f (q ∷ below))
         → (m : ℕ) → m ≡ suc j → (s : List Dot) → Reach flat last x m s → Led flat last (ReadBy flat last f c) s
@@ -140,7 +140,7 @@ module _ (flat : Flat) (last : Dot → Bool) where
         led (reads (among q below (reading rd) (subst (λ v. Reach flat last x v (q ∷ below)) here h)) rd
         (subst (λ v. Has set v) same_letter lies))
 
-    led_accepts : (w : List ℕ) (j : ℕ) (f : List Dot → Type 0) → j ≤ length x → drop j x ≡ w → AreLed j f
+    pub led_accepts : (w : List ℕ) (j : ℕ) (f : List Dot → Type 0) → j ≤ length x → drop j x ≡ w → AreLed j f
         → Accepts flat last x (length x) → LeadToEnd flat last f w
     led_accepts [] j f le same among a = record {
       position = a.position;
@@ -152,7 +152,7 @@ module _ (flat : Flat) (last : Dot → Bool) where
         led_accepts w (suc j) (ReadBy flat last (Led flat last f) c) g.2 g.1
         (λ s h. led_read j c (Led flat last f) g.0 (λ q below r r_h. among (q ∷ below) r_h) (suc j) refl s h) a
 
-  no_led_none : (s : List Dot) → Led flat last (λ v. [] ≡ v) s → (s ≡ [] → ⊥) → ⊥
+  pub no_led_none : (s : List Dot) → Led flat last (λ v. [] ≡ v) s → (s ≡ [] → ⊥) → ⊥
   no_led_none s (led same) some = some (sym same)
   no_led_none s (moves h m) some = no_led_none _ h (λ same. from_none m same)
     where

@@ -10,3 +10,6 @@ pub mod LineSets
 pub mod Rests
 pub mod Starts
 pub mod StateTables
+pub mod Misses
+pub mod MissSearch
+pub mod MissLists

@@ -29,9 +29,13 @@ pub enum Alone {
     Unknown,
 }
 
-// Returns the symbols that lead to the pair of an index; `None` if there is none, or a parent does not come earlier.
-// `Memory` if an allocation fails.
-fn word_of(alloc: Global, pairs: &[SearchedPair], index: usize) -> Result<Option<Vec<u32>>, Memory>
+/// Returns the symbols that lead to the pair of an index; `None` if there is none, or a parent does not come earlier.
+/// `Memory` if an allocation fails.
+pub(crate) fn word_of(
+    alloc: Global,
+    pairs: &[SearchedPair],
+    index: usize,
+) -> Result<Option<Vec<u32>>, Memory>
     ensures { IfOk result (λ reported. IfSome reported (λ word. (olds news : StateSets)
         → IsWordOf (found_pairs olds news
         pairs.now) index word.items)) }

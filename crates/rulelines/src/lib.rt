@@ -6,6 +6,7 @@ mod comparison;
 mod counts;
 mod laws;
 mod list;
+mod miss;
 mod pairs;
 mod samples;
 mod search;
@@ -17,3 +18,4 @@ pub use laws::{
     suffixes_include, swapped_pairs,
 };
 pub use list::{Lines, NextLine};
+pub use miss::Misses;

@@ -1,10 +1,10 @@
 //! The lines that a rule derives, in order.
 
-mod keys;
+pub(crate) mod keys;
 mod lines;
 mod over;
 mod search;
-mod starts;
+pub(crate) mod starts;
 mod table;
 
 pub use lines::{Lines, NextLine};

@@ -6,6 +6,7 @@ use Rattle.abnfg.proofs.command.settings_of.Goals as goal
 
 pub returns : goal.returns
 returns c = record {
+  mode = c.mode_of.ensures;
   rule = c.get_str.ensures ∙ first_value-rows (found_of c.args.matches.now) (codes "rule");
   letters = c.letters_of.ensures;
   limit = c.number_of.ensures;

@@ -1,0 +1,172 @@
+-- Lines that a rule does not derive, by its first prefixes.
+-- Serves: next, abnfg_main
+use Rattle.std.proofs.Common.{◌≡◌, ◌⊎◌, inl, inr, ℕ, zero, suc, ◌+◌, ◌<◌, ◌≤◌, List, [], ◌∷◌, ◌++◌, length, refl, sym}
+use Rattle.std.proofs.Common.{◌∙◌, ap, subst, arith, append_assoc, append-nil, length-append, take, Vec, Global, get_or}
+use Rattle.std.proofs.lemmas.Grind.{flat_map-append}
+use Rattle.std.proofs.lemmas.List.Elements.{All-append, All-cons, All-head, All-nil, All-tail}
+use Rattle.std.proofs.lemmas.List.{map-append, reverse-append}
+use Rattle.std.specs.List.{All, flat_map}
+use Rattle.std.specs.Prelude.{Bool, true, false, Option, None, Some, Contains, map, reverse}
+use Rattle.abnfread.specs.Element.{Rule}
+use Rattle.abnfcheck.specs.Derivable.{RuleDerives}
+use Rattle.abnfcheck.specs.Prefixes.{BeginsMember, IsFurthest}
+use Rattle.letters.specs.Letters.{has as has_letter}
+use Rattle.letters.specs.declared.alphabet.Alphabet.{Alphabet}
+use Rattle.rulelines.specs.declared.miss.prefixes.StatePrefix.{StatePrefix}
+use Rattle.rulelines.specs.LineSets.{is_line_symbol}
+use Rattle.rulelines.specs.Misses.{AreAllPrefixes, AreFirstPrefixes, CannotFollow, IsFirstWrong, IsMiss}
+use Rattle.rulelines.specs.Misses.{IsStatePrefix, IsViable, prefix_lines, refused_lines, wrong_lines}
+use Rattle.rulelines.specs.MissLists.{AreAllMisses, AreFirstMisses, AreLinesReported, MissList, waiting_lines}
+use Rattle.rulelines.specs.MissSearch.{ArePrefixesReported}
+use Rattle.rulelines.proofs.SearchLemmas.{or_left}
+use Rattle.rulelines.proofs.ViableLemmas.{derived_viable, letters_join, take_prefix}
+
+-- lines that were put last first
+pub waiting_more : (lines : List (Vec ℕ Global)) (line : Vec ℕ Global)
+    → waiting_lines (lines ++ line ∷ []) ≡ line.items ∷ waiting_lines lines
+waiting_more lines line =
+    ap (λ v. reverse v) (map-append (λ l. l.items) lines (line ∷ []))
+    ∙ reverse-append (map (λ l. l.items) lines) (line.items ∷ [])
+
+module _ (alphabet : Alphabet) (terminator limit : ℕ) (rules : List Rule) (id : ℕ) where
+  abbrev Miss : List ℕ → Type 0
+  Miss = IsMiss alphabet terminator limit rules id
+
+  module _ (p : StatePrefix) (is : IsStatePrefix alphabet terminator limit rules id p) where
+    abbrev Here : List ℕ
+    Here = p.prefix.items
+
+    refused_is : p.is_refused ≡ true → Miss Here
+    refused_is so = record {
+      symbols = is.symbols;
+      within = is.within;
+      refused = is.refused so;
+      after = length Here;
+      furthest = record {
+        within = omega arith;
+        begins = is.viable;
+        last = λ m lt le b. omega (arith, lt, le);
+      };
+      near = inl refl;
+    }
+
+    viable_there : (c : ℕ) → IsViable alphabet terminator limit rules id Here
+        → BeginsMember (has_letter alphabet) rules id (Here ++ c ∷ []) (length Here)
+    viable_there c b = record {
+      rest = b.rest;
+      letters = b.letters;
+      derives = subst (λ v. RuleDerives (has_letter alphabet) rules id (v ++ b.rest))
+          (ap (λ v. take (length Here) v) (sym (append-nil Here))
+          ∙ (take_prefix Here [] ∙ sym (take_prefix Here (c ∷ [])))) b.derives;
+    }
+
+    wrong_is : (c : ℕ) → IsFirstWrong alphabet terminator limit rules id Here (Some c) → Miss (Here ++ c ∷ [])
+    wrong_is c w = record {
+      symbols = letters_join (is_line_symbol alphabet terminator) Here (c ∷ []) is.symbols (w.0.symbol, tt);
+      within = (let room = w.0.room in omega (arith, room, long));
+      refused = λ d. w.0.not_viable (derived_viable alphabet rules id (Here ++ c ∷ []) d);
+      after = length Here;
+      furthest = record {
+        within = omega (arith, long);
+        begins = λ some. viable_there c (is.viable some);
+        last = λ m lt le b. w.0.not_viable
+            (subst (λ v. BeginsMember (has_letter alphabet) rules id (Here ++ c ∷ []) v)
+            (omega (arith, lt, le, long)) b);
+      };
+      near = inr (Here, c, refl, refl, w.1);
+    }
+      where
+        long : length (Here ++ c ∷ []) ≡ length Here + 1
+        long = length-append Here (c ∷ [])
+
+    by_refused : (b : Bool) → (b ≡ true → Miss Here) → All Miss (refused_lines b Here)
+    by_refused true miss = All-cons Miss Here [] (miss refl) (All-nil Miss)
+    by_refused false miss = All-nil Miss
+
+    by_wrong : (wrong : Option ℕ) → IsFirstWrong alphabet terminator limit rules id Here wrong
+        → All Miss (wrong_lines Here wrong)
+    by_wrong None w = All-nil Miss
+    by_wrong (Some c) w = All-cons Miss (Here ++ c ∷ []) [] (wrong_is c w) (All-nil Miss)
+
+    lines_right : All Miss (prefix_lines p)
+    lines_right = All-append Miss (refused_lines p.is_refused Here) (wrong_lines Here p.wrong)
+        (by_refused p.is_refused refused_is) (by_wrong p.wrong is.wrong)
+
+  all_right : (ps : List StatePrefix) → All (IsStatePrefix alphabet terminator limit rules id) ps
+      → All Miss (flat_map prefix_lines ps)
+  all_right [] all = All-nil Miss
+  all_right (p ∷ ps) all = All-append Miss (prefix_lines p) (flat_map prefix_lines ps)
+      (lines_right p (All-head (IsStatePrefix alphabet terminator limit rules id) p ps all))
+      (all_right ps (All-tail (IsStatePrefix alphabet terminator limit rules id) p ps all))
+
+  all_left : (ws rest : List (List ℕ)) → All Miss (ws ++ rest) → All Miss ws
+  all_left ws rest all k d lt = subst Miss (or_left ws rest k d lt)
+      (all k d (let l = length-append ws rest in omega (arith, lt, l)))
+
+  pub first_misses : (ps : List StatePrefix) → AreFirstPrefixes alphabet terminator limit rules id ps
+      → (ws rest : List (List ℕ)) → flat_map prefix_lines ps ≡ ws ++ rest
+      → AreFirstMisses alphabet terminator limit rules id ws
+  first_misses ps first ws rest are = record {
+    prefixes = ps;
+    first = first;
+    rest = rest;
+    are = are;
+    right = all_left ws rest (subst (All Miss) are (all_right ps first.are));
+  }
+
+-- what lines are reported
+module _ (rules : List Rule) (id : ℕ) (list : MissList) (ws : List (List ℕ))
+    (t : AreLinesReported rules id list ws) where
+  pub reported_first : AreFirstMisses list.prefixes.set.alphabet list.prefixes.set.terminator
+      list.prefixes.set.limit rules id ws
+  reported_first = first_misses list.prefixes.set.alphabet list.prefixes.set.terminator list.prefixes.set.limit rules id
+      t.prefixes t.reported.reported.first ws list.waiting t.are
+
+  none_waiting : list.waiting ≡ [] → flat_map prefix_lines t.prefixes ≡ ws
+  none_waiting none = t.are ∙ (ap (λ v. ws ++ v) none ∙ append-nil ws)
+
+  -- all prefixes are reported
+  pub all_reported : list.waiting ≡ [] → AreAllPrefixes list.prefixes.set.alphabet list.prefixes.set.terminator
+      list.prefixes.set.limit rules id t.prefixes
+      → AreAllMisses list.prefixes.set.alphabet list.prefixes.set.terminator list.prefixes.set.limit rules id ws
+  all_reported none all = record {
+    prefixes = t.prefixes;
+    first = t.reported.reported.first;
+    all = all;
+    are = none_waiting none;
+  }
+
+  -- the lines of one more wait
+  pub lines_refilled : (new : MissList) (p : StatePrefix) → list.waiting ≡ []
+      → ArePrefixesReported rules id new.prefixes (t.prefixes ++ p ∷ []) → new.waiting ≡ prefix_lines p
+      → AreLinesReported rules id new ws
+  lines_refilled new p none reported waits = record {
+    prefixes = t.prefixes ++ p ∷ [];
+    reported = reported;
+    are = flat_map-append prefix_lines t.prefixes (p ∷ [])
+        ∙ (ap (λ v. v ++ (prefix_lines p ++ [])) (none_waiting none)
+        ∙ ap (λ v. ws ++ v) (append-nil (prefix_lines p) ∙ sym waits));
+  }
+
+  -- one of them is reported
+  pub one_reported : (new : MissList) (w : List ℕ) → new.prefixes ≡ list.prefixes → list.waiting ≡ w ∷ new.waiting
+      → AreLinesReported rules id new (ws ++ w ∷ [])
+  one_reported new w same waits = record {
+    prefixes = t.prefixes;
+    reported = subst (λ v. ArePrefixesReported rules id v t.prefixes) (sym same) t.reported;
+    are = t.are ∙ (ap (λ v. ws ++ v) waits ∙ sym (append_assoc ws (w ∷ []) new.waiting));
+  }
+
+-- none is reported yet
+pub no_lines_reported : (rules : List Rule) (id : ℕ) (list : MissList) → ArePrefixesReported rules id list.prefixes []
+    → list.waiting ≡ [] → AreLinesReported rules id list []
+no_lines_reported rules id list reported none = record { prefixes = []; reported = reported; are = sym none }
+
+-- .. and no prefix
+pub no_prefixes : (alphabet : Alphabet) (terminator limit : ℕ) (rules : List Rule) (id : ℕ)
+    → AreFirstPrefixes alphabet terminator limit rules id []
+no_prefixes alphabet terminator limit rules id = record {
+  are = λ k d lt. absurd (omega (arith, lt));
+  rise = λ i j d lt less. absurd (omega (arith, less));
+  rest = λ v line. inr (λ k d lt. absurd (omega (arith, lt)));
+}

@@ -1,0 +1,6 @@
+use Rattle.rulelines.specs.MissSearch.{found_states, IsExpandedTo}
+use Rattle.rulelines.proofs.miss.search.expand.Given as goal
+
+abbrev pub invariant-loop-symbol : goal.invariant-loop-symbol
+invariant-loop-symbol l =
+    IsExpandedTo l.samples l.symbol-index (found_states l.initial.search) (found_states l.search) l.at l.wrong

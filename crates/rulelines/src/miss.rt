@@ -1,0 +1,8 @@
+//! Lines that a rule does not derive, by the first prefix of each state.
+
+mod lines;
+mod prefixes;
+mod search;
+mod symbols;
+
+pub use lines::Misses;
