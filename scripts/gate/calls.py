@@ -38,12 +38,6 @@ PASSED = {
     "feed: Feed.find: discards", "linejudge: answer_lines: discards", "linejudge: next_line: discards",
     # Nothing is left to do if the error output fails.
     "toolrun: flush_err: discards",
-    # Its contract speaks of a grammar's text, of which the function below knows nothing.
-    "abnfexplain: explain_abnf_note: only forwards",
-    # It stands out of line, so that the machine's loop stays small.
-    "packrat: close_same: only forwards",
-    # It reads a private field.
-    "matchfailure: Desk.found: only forwards",
     # The contract of `into_reader` says what was taken from the reader.
     "pegrun: run_units: discards",
 }

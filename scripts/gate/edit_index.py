@@ -43,10 +43,8 @@ EXEMPT = (
     "cli: Input.read",
     # It passes on what `KeyLog::get` finds.
     "packrat: Packrat.found",
-    # It passes on what `diagnostics::explain_note` returns, whose clause equates.
-    "abnfexplain: notes.explain_abnf_note",
-    # It does so too, and adds the line that `first_loop` finds, which has an edit, or those of `push_steps`, whose
-    # clause equates.
+    # It passes on what `diagnostics::explain_note` returns, whose clause equates, and adds the line that `first_loop`
+    # finds, which has an edit, or those of `push_steps`, whose clause equates.
     "pegexplain: notes.explain_peg_note",
     # It passes on what its helpers return, whose clauses equate.
     "pegexplain: reported.peg_hints",

@@ -205,7 +205,7 @@ module _ (rules : List Rule) (given : Option (List ℕ)) (names : List (List ℕ
         )
 
 -- a grammar that is not rejected is sound
-id_most : (rules : List Rule) (name : List ℕ) → id_of rules name ≤ length rules
+pub id_most : (rules : List Rule) (name : List ℕ) → id_of rules name ≤ length rules
 id_most [] name = omega arith
 id_most (rule ∷ rules) name = step (same_name Fold name rule.name) (id_of rules name) (length rules)
     (id_most rules name)

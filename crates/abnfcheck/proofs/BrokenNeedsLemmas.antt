@@ -16,6 +16,8 @@ use Rattle.rulenames.specs.IdMarks.{AreMarks}
 use Rattle.rulenames.proofs.AreMarksLemmas.{marks-opposite}
 use Rattle.abnfread.specs.Element.{Rule, id_of}
 use Rattle.abnfcheck.specs.AbnfGrammar.{Reachable, judged_rule, by_name, IsSound}
+use Rattle.abnfcheck.specs.AbnfNotes.{AreOthersRefused, IsRefused, by_prose}
+use Rattle.abnfcheck.specs.AbnfNotes as n
 use Rattle.abnfcheck.specs.BrokenNeeds.{AreBrokenNeeds, AreBrokenNeedsTo, broken_demand}
 use Rattle.abnfcheck.specs.NameIds.{IsIdAt, IsGraph}
 use Rattle.abnfcheck.specs.ProseIn.{prose_in, prose_marks}
@@ -165,6 +167,15 @@ module _ (rules : List Rule) (given : Option (List ℕ)) (names : List (List ℕ
         (λ high. let below = sound.defined r.id r.reachable in let is = high.1 in omega (arith, below, is))
         r.is
 
+    comes_refused : Comes needs s → (file : List Rule) (again : List ℕ) → IsRefused file rules again s
+    comes_refused c file again =
+        let b = comes_reaches rows (prose_marks rules) needs are c in
+        let r = reached_from b.reaches in
+        ⊎_elim
+        (λ low. by_prose (subst (λ v. Reachable rules s v) low.1 r.reachable)
+        (marked_prose rules b.bad true low.0 b.broken))
+        (λ high. n.by_name (subst (λ v. Reachable rules s v) high.1 r.reachable)) r.is
+
     position_comes : (position : ℕ) → Reaches rows s position → position < length rows
         → slice_index_or (prose_marks rules) position true ≡ true → Comes needs s
     position_comes position r below is = reaches_comes rows (prose_marks rules) needs are r
@@ -209,27 +220,37 @@ set_not : (b : Bool) → (b ≡ true → ⊥) → not b ≡ true
 set_not true h = absurd (h refl)
 set_not false h = refl
 
-pub sound_marks : (rules : List Rule) (given : Option (List ℕ)) (names : List (List ℕ)) (rows : List (List ℕ))
-    (judged : ℕ) (graph : IsGraph rules given names rows judged) (needs : List Demand) (broken : List Bool) (n : ℕ)
-    → AreBrokenNeeds rows (prose_marks rules) needs → AreMarksOfThose needs broken → length broken ≡ length needs
-    → n ≡ length rules → AreMarks (IsSound rules) (length rules) (map not (take n broken))
-sound_marks rules given names rows judged graph needs broken n are marks count same = record {
-  count_is = length-map (take n broken) not ∙ count_of;
-  exact = λ id lt. (
-    (λ on. sound_unless_comes rules given names rows judged graph id lt needs are
-        (λ c. not_set (get_or broken id false) (sym (at id lt) ∙ on) ((marks id).1 c))),
-    (λ sound. at id lt ∙ set_not (get_or broken id false)
-        (λ on. comes_unsound rules given names rows judged graph id lt needs are ((marks id).0 on) sound)),
-  );
-}
-  where
-    count_of : length (take n broken) ≡ length rules
-    count_of =
-        let l = length-take n broken in
-        let k = are.count_is in
-        let long = rows_long rules given names rows judged graph in
-        omega (arith, l, k, long, count, same)
+unset : (b : Bool) → (not b ≡ true → ⊥) → b ≡ true
+unset true h = refl
+unset false h = absurd (h refl)
 
-    at : (id : ℕ) → id < length rules → get_or (map not (take n broken)) id false ≡ not (get_or broken id false)
-    at id lt = marks-opposite (take n broken) id (let l = count_of in omega (arith, lt, l))
-        ∙ ap not (get_or-take n broken id false (omega (arith, lt, same)))
+module _ (rules : List Rule) (given : Option (List ℕ)) (names : List (List ℕ)) (rows : List (List ℕ))
+    (judged : ℕ) (graph : IsGraph rules given names rows judged) (needs : List Demand) (broken : List Bool) (n : ℕ)
+    (are : AreBrokenNeeds rows (prose_marks rules) needs) (marks : AreMarksOfThose needs broken)
+    (count : length broken ≡ length needs) (same : n ≡ length rules) where
+  count_of : length (take n broken) ≡ length rules
+  count_of =
+      let l = length-take n broken in
+      let k = are.count_is in
+      let long = rows_long rules given names rows judged graph in
+      omega (arith, l, k, long, count, same)
+
+  at : (id : ℕ) → id < length rules → get_or (map not (take n broken)) id false ≡ not (get_or broken id false)
+  at id lt = marks-opposite (take n broken) id (let l = count_of in omega (arith, lt, l))
+      ∙ ap not (get_or-take n broken id false (omega (arith, lt, same)))
+
+  pub sound_marks : AreMarks (IsSound rules) (length rules) (map not (take n broken))
+  sound_marks = record {
+    count_is = length-map (take n broken) not ∙ count_of;
+    exact = λ id lt. (
+      (λ on. sound_unless_comes rules given names rows judged graph id lt needs are
+          (λ c. not_set (get_or broken id false) (sym (at id lt) ∙ on) ((marks id).1 c))),
+      (λ sound. at id lt ∙ set_not (get_or broken id false)
+          (λ on. comes_unsound rules given names rows judged graph id lt needs are ((marks id).0 on) sound)),
+    );
+  }
+
+  pub others_refused : AreOthersRefused rules (map not (take n broken))
+  others_refused id lt off file again =
+      let on = unset (get_or broken id false) (λ is. off (at id lt ∙ is)) in
+      comes_refused rules given names rows judged graph id lt needs are ((marks id).0 on) file again

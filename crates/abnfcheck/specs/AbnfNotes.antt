@@ -6,6 +6,7 @@ use Rattle.ruletable.specs.Notes.{Said, said}
 use Rattle.ruletable.specs.Rules as table
 use Rattle.ruletable.specs.declared.note.NoteKind.TheVariants as kind
 use Rattle.ruletable.specs.declared.table.NameCase.TheVariants.{Fold}
+use Rattle.fixpoint.specs.NumberMarks.{IsMarked}
 use Rattle.rulenames.specs.FirstUses.{news}
 use Rattle.abnfread.specs.AbnfViews.{rules_of}
 use Rattle.abnfread.specs.Element.{Rule, id_of}
@@ -58,6 +59,11 @@ module _ (file rules : List Rule) (again : List ℕ) (judged : ℕ) where
     by_redefinition : {id : ℕ} → id < length file → Contains again id → IsRefused
     by_name : Reachable rules judged (length rules) → IsRefused
     by_prose : {id : ℕ} → Reachable rules judged id → HoldsProse rules id → IsRefused
+
+-- each rule that is not marked is rejected where it is judged, whatever the file is and what it redefines
+abbrev pub AreOthersRefused : List Rule → List Bool → Type 0
+AreOthersRefused rules marks = (id : ℕ) → id < length rules → (IsMarked marks id → ⊥) → (file : List Rule)
+    → (again : List ℕ) → IsRefused file rules again id
 
 -- there is a grammar of all rules, with its judged rule, exactly where it is not rejected
 abbrev pub IsSoundUnlessRefused : List Rule → table.Rules Elem → List ℕ → Option (List ℕ) → Option Grammar → Type 0

@@ -5,6 +5,7 @@ ghost use Rattle.fixpoint.specs.StepRows.{rows_of};
 ghost use Rattle.rulenames.specs.IdMarks.{AreMarks};
 ghost use Rattle.abnfread.specs.AbnfViews.{rules_of};
 ghost use Rattle.abnfcheck.specs.AbnfGrammar.{IsSound};
+ghost use Rattle.abnfcheck.specs.AbnfNotes.{AreOthersRefused};
 ghost use Rattle.abnfcheck.specs.BrokenNeeds.{AreBrokenNeeds, broken_demand};
 ghost use Rattle.abnfcheck.specs.RuleMarks.{AreProductive};
 
@@ -56,13 +57,15 @@ fn broken_needs<'a>(
 }
 
 /// Returns a mark for each rule of a table, by id: whether lines could be judged by it. Then no name without a rule can
-/// be reached from it, and no prose. The time is linear in the rules and their elements.
+/// be reached from it, and no prose; from each other rule one can. The time is linear in the rules and their elements.
 ///
 /// # Errors
 /// `Memory` if an allocation fails.
 pub fn sound_rules(alloc: Global, rules: &RuleTable<Elem>) -> Result<Vec<bool>, Memory>
     requires { rules.now.names ≡ NameCase.Fold }
-    ensures { IfOk result (λ marks. AreMarks (IsSound (rules_of rules.now)) (length (rules_of rules.now)) marks.items) }
+    ensures sound { IfOk result (λ marks. AreMarks (IsSound (rules_of rules.now)) (length (rules_of rules.now))
+        marks.items) }
+    ensures others { IfOk result (λ marks. AreOthersRefused (rules_of rules.now) marks.items) }
 {
     let ids = name_ids(alloc, rules, None)?;
     let prose = rules_with_prose(alloc, rules)?;

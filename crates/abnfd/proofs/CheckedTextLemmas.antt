@@ -1,12 +1,15 @@
 -- The rules of a text that was read and checked.
 -- Serves: abnfd_main
-use Rattle.std.proofs.Common.{◌≡◌, ◌∙◌, ap, refl, sym, ℕ, ◌<◌, Bool, true, false, List, arith, length, map}
+use Rattle.std.proofs.Common.{◌≡◌, ◌∙◌, ap, refl, subst, sym, ℕ, ◌<◌, ⊎_elim, Bool, true, false, List, arith}
+use Rattle.std.proofs.Common.{length, map}
+use Rattle.std.proofs.lemmas.Bool.{cases_lt}
 use Rattle.std.proofs.lemmas.List.{length-map}
 use Rattle.std.proofs.lemmas.Simd.{map-map}
-use Rattle.std.specs.Prelude.{◌↔◌, Contains, None, Option, Some, option_map}
-use Rattle.abnfcheck.proofs.AbnfNotesLemmas.{sound_unless_refused}
-use Rattle.abnfcheck.specs.AbnfGrammar.{Grammar, IsSound}
-use Rattle.abnfcheck.specs.AbnfNotes.{IsRefused, judged_in}
+use Rattle.std.proofs.Common.{Global, Vec}
+use Rattle.std.specs.Prelude.{◌↔◌, Contains, Err, IfOk, None, Ok, Option, Result, Some, option_map}
+use Rattle.abnfcheck.proofs.AbnfNotesLemmas.{id_most}
+use Rattle.abnfcheck.specs.AbnfGrammar.{Grammar, IsSound, Reachable, judged_rule}
+use Rattle.abnfcheck.specs.AbnfNotes.{AreOthersRefused, IsRefused, judged_in}
 use Rattle.abnfcheck.specs.AbnfNotes as n
 use Rattle.abnfcheck.specs.WithCore.{with_core}
 use Rattle.abnfd.specs.ComparedSides.{IsMadeOf, IsReadText}
@@ -14,13 +17,14 @@ use Rattle.abnfd.specs.RulesByName.{AreAccepted, AreChecked}
 use Rattle.abnfd.specs.declared.by_name.CheckedRules.{CheckedRules}
 use Rattle.abnfprint.specs.AbnfReadBack.{file_rules}
 use Rattle.abnfread.specs.AbnfViews.{rule_of, rules_of}
-use Rattle.abnfread.specs.Element.{Rule}
+use Rattle.abnfread.specs.Element.{Rule, id_of}
 use Rattle.abnfread.specs.declared.elem.Elem.{Elem}
 use Rattle.abnfread.specs.declared.table.Abnf.{Abnf}
 use Rattle.abnfrun.proofs.AllRulesLemmas.{all_same}
 use Rattle.abnfrun.specs.AbnfNoted.{again_in, all_rules}
 use Rattle.fixpoint.proofs.IsMarkedLemmas.{marked_lt}
 use Rattle.fixpoint.specs.NumberMarks.{IsMarked}
+use Rattle.rulenames.specs.IdMarks.{AreMarks}
 use Rattle.ruletable.specs.Rules as table
 use Rattle.ruletable.specs.Rules.{names_of}
 use Rattle.ruletable.specs.declared.table.NameCase.TheVariants.{Fold}
@@ -41,23 +45,42 @@ module _ (file rules : List Rule) (again : List ℕ) where
   marked_passes marks none id sound (n.by_prose {id = other} r h) =
       sound.plain other h.body h.text r h.body_is h.within
 
-  accepted_marks : (redefined : Bool) (marks : List Bool)
-      → ((redefined ≡ true) ↔ ((id : ℕ) × (id < length file) × Contains again id)) → AreAccepted rules redefined marks
-      → (rule : List ℕ) → IsMarked marks (judged_in (Some rule) rules)
-      ↔ (IsRefused file rules again (judged_in (Some rule) rules) → ⊥)
-  accepted_marks true marks some are rule = (
-    (λ on. absurd (let lt = marked_lt marks (judged_in (Some rule) rules) on in let none = ap length are in
-        omega (arith, lt, none))),
-    (λ passes. let at = some.0 refl in absurd (passes (n.by_redefinition at.1 at.2))),
-  )
-  accepted_marks false marks some are rule =
-      let id = judged_in (Some rule) rules in
-      let below : IsMarked marks id → id < length rules = λ on.
-      let lt = marked_lt marks id on in let count = are.count_is in omega (arith, lt, count) in (
-        (λ on. marked_passes marks (λ at. let is = some.1 at in cc is) id ((are.exact id (below on)).0 on)),
-        (λ passes. let sound = sound_unless_refused file rules again (Some rule) passes in
-            (are.exact id sound.judged_is_rule).1 sound),
-      )
+  module _ (redefined : Bool) (marks : List Bool)
+      (some : (redefined ≡ true) ↔ ((id : ℕ) × (id < length file) × Contains again id)) where
+    accepted_marks : (is : Bool) → is ≡ redefined → AreAccepted rules is marks → (rule : List ℕ)
+        → IsMarked marks (judged_in (Some rule) rules) → IsRefused file rules again (judged_in (Some rule) rules) → ⊥
+    accepted_marks true same are rule on =
+        absurd (let lt = marked_lt marks (judged_in (Some rule) rules) on in let none = ap length are in
+        omega (arith, lt, none))
+    accepted_marks false same are rule on =
+        let id = judged_in (Some rule) rules in
+        let below : id < length rules = (let lt = marked_lt marks id on in let count = are.0.count_is in
+        omega (arith, lt, count)) in
+        marked_passes marks (λ at. let is = some.1 at in cc (is, same)) id ((are.0.exact id below).0 on)
+
+    unnamed_refused : (id : ℕ) → id ≡ length rules → IsRefused file rules again id
+    unnamed_refused id is = n.by_name (subst (λ (k : ℕ). Reachable rules id k) is judged_rule)
+
+    rejected_others : (is : Bool) → is ≡ redefined → AreAccepted rules is marks → (rule : List ℕ)
+        → (IsMarked marks (judged_in (Some rule) rules) → ⊥)
+        → IsRefused file rules again (judged_in (Some rule) rules)
+    rejected_others true same are rule off = let at = some.0 (sym same) in n.by_redefinition at.1 at.2
+    rejected_others false same are rule off =
+        ⊎_elim (λ lt. are.1 (id_of rules rule) lt off file again)
+        (λ le. unnamed_refused (id_of rules rule)
+        (let most = id_most rules rule in omega (arith, le, most)))
+        (cases_lt (id_of rules rule) (length rules))
+
+ok_both : {T E : Type 0} (result : Result T E) {P Q : T → Type 0} → IfOk result P → IfOk result Q
+    → IfOk result (λ x. P x × Q x)
+ok_both (Ok x) p q = (p, q)
+ok_both (Err e) p q = tt
+
+pub accepted_both : {E : Type 0} (result : Result (Vec Bool Global) E) (rules : List Rule)
+    → IfOk result (λ marks. AreMarks (IsSound rules) (length rules) marks.items)
+    → IfOk result (λ marks. AreOthersRefused rules marks.items)
+    → IfOk result (λ marks. AreAccepted rules false marks.items)
+accepted_both result rules sound others = ok_both result sound others
 
 pub text_is_checked : (text : List ℕ) (abnf : Abnf) (checked : CheckedRules) (redefined : Bool) → IsReadText text abnf
     → checked.names.names ≡ Fold → names_of checked.names ≡ names_of abnf.rules
@@ -75,6 +98,8 @@ text_is_checked text abnf checked redefined ((ds, reads, t), core) fold names is
           ∙ ap (map (λ (rule : Rule). rule.name)) t.kept);
       folds = ap (λ (r : table.Rules Elem). r.names) is ∙ t.names;
       kept = joined;
-      marks = accepted_marks (file_rules ds) (all_rules ds) (again_in ds) redefined checked.sound.items
-          (rw (size, t.kept, t.again) at again) (rw joined at accepted);
+      accepted = accepted_marks (file_rules ds) (all_rules ds) (again_in ds) redefined checked.sound.items
+          (rw (size, t.kept, t.again) at again) redefined refl (rw joined at accepted);
+      rejected = rejected_others (file_rules ds) (all_rules ds) (again_in ds) redefined checked.sound.items
+          (rw (size, t.kept, t.again) at again) redefined refl (rw joined at accepted);
     }

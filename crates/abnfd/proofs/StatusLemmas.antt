@@ -1,6 +1,6 @@
 -- How the comparison of the rules with one name ends.
 -- Serves: abnfd_main
-use Rattle.std.proofs.Common.{◌≡◌, ◌∙◌, ap, refl, sym, ℕ, List, subst}
+use Rattle.std.proofs.Common.{◌≡◌, ◌∙◌, ap, inl, inr, refl, sym, ℕ, List, subst}
 use Rattle.std.specs.Prelude.{Some, slice_get}
 use Rattle.abnfcheck.proofs.AbnfNotesLemmas.{sound_unless_refused}
 use Rattle.abnfcheck.specs.AbnfGrammar.{IsSound, IsSoundGrammar}
@@ -27,10 +27,11 @@ module _ (text : List ℕ) (checked : CheckedRules) (are : AreChecked text check
   judged_at = is ∙ ap (λ (rules : List Rule). id_of rules name) are.kept
 
   passes_marked : IsMarked checked.sound.items id → IsRefusedFor are.definitions (Some name) → ⊥
-  passes_marked on = (are.marks name).0 (subst (λ (k : ℕ). IsMarked checked.sound.items k) judged_at on)
+  passes_marked on = are.accepted name (subst (λ (k : ℕ). IsMarked checked.sound.items k) judged_at on)
 
-  marked_passes : (IsRefusedFor are.definitions (Some name) → ⊥) → IsMarked checked.sound.items id
-  marked_passes passes = subst (λ (k : ℕ). IsMarked checked.sound.items k) (sym judged_at) ((are.marks name).1 passes)
+  fails_unmarked : (IsMarked checked.sound.items id → ⊥) → IsRefusedFor are.definitions (Some name)
+  fails_unmarked off =
+      are.rejected name (λ on. off (subst (λ (k : ℕ). IsMarked checked.sound.items k) (sym judged_at) on))
 
   pub sound_at : IsMarked checked.sound.items id → IsSoundGrammar (record { rules = checked.rules; judged = id })
   sound_at on =
@@ -46,12 +47,12 @@ module _ (alphabet : Alphabet) (old new : List ℕ) (both : BothRules) (are : Ar
     (name : List ℕ) (id new_id : ℕ) (is : id ≡ id_of (rules_of both.old.rules) name) where
   pub old_rejected : (IsMarked both.old.sound.items id → ⊥) → EndsAs alphabet old new name Refused
   old_rejected off = is_rejected are.olds_are.reads are.news_are.reads
-      (λ passes other. off (marked_passes old both.old are.olds_are name id is passes))
+      (inl (fails_unmarked old both.old are.olds_are name id is off))
 
   module _ (new_is : new_id ≡ id_of (rules_of both.new.rules) name) where
     pub new_rejected : (IsMarked both.new.sound.items new_id → ⊥) → EndsAs alphabet old new name Refused
     new_rejected off = is_rejected are.olds_are.reads are.news_are.reads
-        (λ other passes. off (marked_passes new both.new are.news_are name new_id new_is passes))
+        (inr (fails_unmarked new both.new are.news_are name new_id new_is off))
 
     module _ (on : IsMarked both.old.sound.items id) (new_on : IsMarked both.new.sound.items new_id) where
       pub ends_found : (found : Comparison) (status : Status)

@@ -1,8 +1,9 @@
 -- What is reported of two texts whose rules are compared by name: those that both define, in the order of the old one.
-use Rattle.std.specs.Prelude.{◌≡◌, ◌≢◌, ◌↔◌, ℕ, List, [], ◌∷◌, ◌++◌, Bool, true, false, Option, None, Some, All}
+use Rattle.std.specs.Prelude.{◌≡◌, ◌≢◌, ◌⊎◌, ℕ, List, [], ◌∷◌, ◌++◌, Bool, true, false, Option, None, Some, All}
 use Rattle.std.specs.Prelude.{MatchOption, codes, length, map, max, not}
 use Rattle.std.specs.List.{filter, flat_map, list_any}
 use Rattle.abnfcheck.specs.AbnfGrammar.{Grammar, IsSound}
+use Rattle.abnfcheck.specs.AbnfNotes.{AreOthersRefused}
 use Rattle.abnfcheck.specs.AbnfUses.{rule_names}
 use Rattle.abnfd.specs.ComparedSides.{IsSideOf}
 use Rattle.abnfd.specs.ComparedTexts.{AreCompared, AreLinesKnown}
@@ -74,8 +75,8 @@ abbrev pub greatest_code : List RuleRow → ℕ
 greatest_code [] = 0
 greatest_code (row ∷ rows) = max (code_of row.status) (greatest_code rows)
 
--- The text defines these names, and these are its rules with the core rules. Exactly those rules are marked by which
--- lines can be judged: nothing rejects the grammar where they are.
+-- The text defines these names, and these are its rules with the core rules. Where a marked rule is judged, nothing
+-- rejects the grammar; where another one is, something does.
 pub record AreChecked (text : List ℕ) (checked : CheckedRules) : Type 0 where
   pub definitions : List Definition
   pub reads : Reads text definitions
@@ -83,8 +84,10 @@ pub record AreChecked (text : List ℕ) (checked : CheckedRules) : Type 0 where
   pub names_are : table.names_of checked.names ≡ defined_names definitions
   pub folds : checked.rules.names ≡ Fold
   pub kept : rules_of checked.rules ≡ all_rules definitions
-  pub marks : (rule : List ℕ) → IsMarked checked.sound.items (judged_of definitions (Some rule))
-      ↔ (IsRefusedFor definitions (Some rule) → ⊥)
+  pub accepted : (rule : List ℕ) → IsMarked checked.sound.items (judged_of definitions (Some rule))
+      → IsRefusedFor definitions (Some rule) → ⊥
+  pub rejected : (rule : List ℕ) → (IsMarked checked.sound.items (judged_of definitions (Some rule)) → ⊥)
+      → IsRefusedFor definitions (Some rule)
 
 -- the rules of two texts, with pairs of rules whose bodies are alike
 pub record AreBothChecked (old new : List ℕ) (both : BothRules) : Type 0 where
@@ -109,7 +112,7 @@ pub record IsTextRules (side text : List ℕ) (opened : TextRules) : Type 0 wher
 -- no rule is marked if one is defined again, else those are by which lines can be judged
 abbrev pub AreAccepted : List Rule → Bool → List Bool → Type 0
 AreAccepted rules true marks = marks ≡ []
-AreAccepted rules false marks = AreMarks (IsSound rules) (length rules) marks
+AreAccepted rules false marks = AreMarks (IsSound rules) (length rules) marks × AreOthersRefused rules marks
 
 module _ (alphabet : Alphabet) (old new : List ℕ) where
   -- The comparison of the rules with that name ends with that status: nothing rejects the grammars where they are
@@ -123,8 +126,7 @@ module _ (alphabet : Alphabet) (old new : List ℕ) where
         → EndsAs rule (verdict_status (verdict_between found.old_alone found.new_alone))
     is_rejected : {old_definitions new_definitions : List Definition} → Reads old old_definitions
         → Reads new new_definitions
-        → ((IsRefusedFor old_definitions (Some rule) → ⊥) → (IsRefusedFor new_definitions (Some rule) → ⊥) → ⊥)
-        → EndsAs rule Refused
+        → IsRefusedFor old_definitions (Some rule) ⊎ IsRefusedFor new_definitions (Some rule) → EndsAs rule Refused
 
   -- the rows of these names, in order
   pub record AreRows (names : List (List ℕ)) (rows : List RuleRow) : Type 0 where

@@ -1,6 +1,6 @@
 //! The comparison of all rules that two texts define, by name.
 ghost use Rattle.std.specs.Prelude.{◌≡◌, ◌↔◌, ℕ, ◌<◌, Bool, List, [], ◌∷◌, ◌++◌, IfOk, OnOk};
-ghost use Rattle.std.specs.Prelude.{Contains, None, max, option_copied, slice_index_or};
+ghost use Rattle.std.specs.Prelude.{Contains, None, option_copied, slice_index_or};
 ghost use Rattle.abnfcheck.specs.AbnfGrammar.{IsSoundGrammar};
 ghost use Rattle.abnfd.specs.ComparedSides.{IsReadText};
 ghost use Rattle.abnfd.specs.ComparedTexts.{AreLinesKnown};
@@ -14,7 +14,6 @@ ghost use Rattle.abnfread.specs.Element.{id_of};
 ghost use Rattle.rulelines.specs.declared.comparison.Comparison.{Comparison};
 ghost use Rattle.ruletable.specs.Faults.{fault_text};
 ghost use Rattle.ruletable.specs.Rules.{names_of};
-ghost use Rattle.toolrun.specs.Status.{code_of};
 
 use crate::alike::unchanged_pairs;
 use crate::answer::comparison_status;
@@ -26,6 +25,7 @@ use crate::files::Texts;
 use crate::side::{faulty_text, side_notes};
 use abnfcheck::{JudgedAbnf, SoundAbnf, judge_abnf, sound_rules};
 use abnfread::{Abnf, Elem, read_abnf};
+use cli::greater_status;
 use rulelines::compare;
 use rulenames::names_of_rules;
 use ruletable::{Memory, NameCase, ReadFault, RuleTable};
@@ -248,17 +248,6 @@ fn is_named(names: &RuleTable<()>, name: &[u8]) -> Result<bool, Memory>
     Ok(id.is_some())
 }
 
-// Returns the status with the greater code.
-fn greater(first: Status, second: Status) -> Status
-    ensures { code_of result ≡ max (code_of first) (code_of second) }
-{
-    if first.code() < second.code() {
-        second
-    } else {
-        first
-    }
-}
-
 // Compares the rules with that name if the new text defines it: adds their line, and returns its status, else `Done`.
 // `Memory` if an allocation fails.
 fn push_if_shared(
@@ -296,7 +285,7 @@ fn shared_rows(
     let mut most = Status::Done;
     for id in 0..both.old.names.len() {
         let status = push_if_shared(alloc, settings, both, both.old.names.name(id), &mut text)?;
-        most = greater(most, status);
+        most = greater_status(most, status);
     }
     Ok(ComparisonAnswer { text, status: most })
 }

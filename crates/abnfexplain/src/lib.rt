@@ -15,6 +15,5 @@ pub use abnf_explain::explain_abnf_fault;
 pub use chain_lines::{MAX_LAST, push_chain};
 pub use laws::{nothing_left_out_of_abnf, one_explanation_of_abnf};
 pub use notes::{
-    AbnfSigns, AbnfText, abnf_positions, explain_abnf_note, one_note_explanation_of_abnf,
-    read_abnf_text,
+    AbnfSigns, AbnfText, abnf_positions, one_note_explanation_of_abnf, read_abnf_text,
 };

@@ -1,15 +1,15 @@
 //! Explanations of notes.
-ghost use Rattle.std.specs.Prelude.{◌≡◌, ℕ, List, Option, IfErr, IfOk, option_copied};
-ghost use Rattle.ruletable.specs.Notes.{Said, said_of};
+ghost use Rattle.std.specs.Prelude.{◌≡◌, ℕ, List, Option, IfErr, IfOk};
+ghost use Rattle.ruletable.specs.Notes.{Said};
 ghost use Rattle.abnfread.specs.AbnfReading.{IsFaultOf, Reads};
 ghost use Rattle.abnfread.specs.AbnfTable.{IsCoreTable, IsTableOf};
 ghost use Rattle.abnfread.specs.Element.{Definition};
 ghost use Rattle.abnfexplain.specs.AbnfNoteLines.{AreAbnfPositions, ExplainsNote, sign_of as the_sign};
 
 use abnfread::{Abnf, AbnfKind, KeptAbnf, read_kept_abnf};
-use diagnostics::{Positions, Sign, Signs, explain_note, positions_by, positions_of};
+use diagnostics::{Positions, Sign, Signs, positions_by, positions_of};
 use lexer::one_list;
-use ruletable::{LineRule, Memory, NameCase, Note, ReadFault};
+use ruletable::{LineRule, Memory, NameCase, ReadFault};
 use std::alloc::Global;
 
 /// The roles of the tokens of ABNF in the definitions of a grammar.
@@ -66,27 +66,6 @@ pub fn read_abnf_text(alloc: Global, text: &[u8]) -> Result<AbnfText, ReadFault>
         Ok(positions) => Ok(AbnfText { abnf, positions }),
         Err(Memory) => Err(ReadFault::Memory),
     }
-}
-
-/// Returns the lines that explain a note on a grammar. A name may be given for the start rule.
-///
-/// - On a rule that is defined again: where it is first defined, and where it is defined again.
-/// - On a name that no rule has: its first use.
-/// - On a rule with prose: its first prose.
-/// - Notes of other kinds have no lines.
-///
-/// # Errors
-/// `Memory` if an allocation fails.
-pub fn explain_abnf_note(
-    alloc: Global,
-    positions: &Positions,
-    start: Option<&str>,
-    note: &Note,
-) -> Result<Vec<u8>, Memory>
-    ensures { IfOk result (λ why. (text : List ℕ) → AreAbnfPositions text positions.now
-        → ExplainsNote text (option_copied start.entry) (said_of note.now) why.items) }
-{
-    explain_note(alloc, positions, start, note)
 }
 
 /// Says that at most one text explains a note on the grammar of a text.

@@ -11,8 +11,8 @@ ghost use Rattle.abnfrun.specs.AbnfNoted.{all_rules};
 
 use crate::abnf_positions::AbnfPositions;
 use abnfcheck::{AllRules, NameChains, name_chains};
-use abnfexplain::{explain_abnf_note, push_chain};
-use diagnostics::Positions;
+use abnfexplain::push_chain;
+use diagnostics::{Positions, explain_note};
 use ruletable::{Memory, Note, NoteKind};
 use std::alloc::Global;
 
@@ -90,7 +90,7 @@ pub(crate) fn explain_reached(
     ensures { IfOk result (λ why. (text : List ℕ) → AreNotePositions text (option_copied start.entry) positions.now
         → ExplainsAbnfNote text (option_copied start.entry) (said_of note.now) why.items) }
 {
-    let mut why = explain_abnf_note(alloc, &positions.positions, start, note)?;
+    let mut why = explain_note(alloc, &positions.positions, start, note)?;
     push_after(alloc, &mut why, &positions.chains, note)?;
     Ok(why)
 }

@@ -90,10 +90,8 @@ pub(crate) fn report_no_memory<E: Sink>(err: &mut E) -> Status
     ensures reported { IsReportedText (message_of NoMemory) (passed E.contents E.failed err.old err.new) }
     ensures status { code_of result ≡ 5 }
 {
-    match write_whole(err, b"out of memory\n") {
-        Ok(()) => Status::NoMemory,
-        Err(_) => Status::NoMemory,
-    }
+    let _ = write_whole(err, b"out of memory\n");
+    Status::NoMemory
 }
 
 /// Writes messages with the name before each line that no space begins, after a run of that status. Returns the status,

@@ -118,8 +118,7 @@ fn run_input<P: Program, R: Files + AllocGlobal, S: Read + Drop, O: BufferedSink
 {
     let alloc = rt.alloc();
     match open_reader(rt, name, standard) {
-        Ok(reader) => {
-            let mut reader = reader;
+        Ok(mut reader) => {
             let run = run_held::<P, _, O>(
                 alloc,
                 job.text.as_slice(),
@@ -145,7 +144,7 @@ fn is_over<O: Sink, E: Sink>(most: Status, out: &O, err: &E) -> bool
     ensures over { result ≡ true → (4 ≤ code_of most) ⊎ ((O.failed out.now ≡ true) ⊎ (E.failed err.now ≡ true)) }
     ensures open { result ≡ false → (O.failed out.now ≡ false) × (E.failed err.now ≡ false) }
 {
-    most.code() >= 4 || out.has_failed() || err.has_failed()
+    most.code() >= Status::Fault.code() || out.has_failed() || err.has_failed()
 }
 
 // Runs a grammar on the inputs of these names, in order. It ends where a writer fails, or a status is 4 or 5. Returns

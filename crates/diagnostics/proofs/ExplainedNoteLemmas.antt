@@ -1,5 +1,5 @@
 -- What the positions of a text report explains a note, and only that.
--- Serves: explain_peg_note, explain_abnf_note, one_note_explanation, one_note_explanation_of_abnf
+-- Serves: explain_peg_note, one_note_explanation, one_note_explanation_of_abnf; abnfi_main of abnfi
 use Rattle.std.proofs.Common.{◌≡◌, ℕ, Bool, List, Option, None, length, map, sym, ap, ◌∙◌, subst}
 use Rattle.diagnostics.specs.BodyMentions.{MentionedAt, mentioned_at, mentions_in}
 use Rattle.lexer.specs.TokenLists.{Tok, AreTokens}

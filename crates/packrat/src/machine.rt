@@ -121,16 +121,19 @@ fn close(log: &mut KeyLog, task: MatchTask, key: bool, given: Given) -> Result<(
     Ok(())
 }
 
-// Ends a task that returns its first child's result, likewise. Few of these are keys, so it stands out of line.
+// Ends a task that returns its first child's result, likewise, and answers with that. Few of these are keys, so it
+// stands out of line.
 #[inline(never)]
-fn close_same(log: &mut KeyLog, task: MatchTask, key: bool, given: Given) -> Result<(), Memory>
+fn answer_same(log: &mut KeyLog, task: MatchTask, key: bool, given: Given) -> Result<Next, Memory>
     requires { row_of task < log.old.rows }
     ensures rows { log.new.rows ≡ log.old.rows }
     ensures closed { OnOk result ((peg : Grammar) (window : List ℕ) (more : Bool) (marks : Marks) (links : List Link) →
         key ≡ key_of marks task →
         IsClosed peg window more marks links task given log.old.stored log.new.stored) }
+    ensures answer { IfOk result (λ n. iteration_of n ≡ Answer given) }
 {
-    close(log, task, key, given)
+    close(log, task, key, given)?;
+    Ok(Next::Answer(given))
 }
 
 // Pushes a frame that awaits a task's last child, if it is a key or has events: with the head of its events.
@@ -596,10 +599,7 @@ impl Machine {
                 close(&mut self.log, task, key, own)?;
                 Ok(Next::Answer(own))
             }
-            Onward::Same => {
-                close_same(&mut self.log, task, key, given)?;
-                Ok(Next::Answer(given))
-            }
+            Onward::Same => Ok(answer_same(&mut self.log, task, key, given)?),
             Onward::Passes { node, position } => {
                 wait_last(&mut self.frames, task, key, given.events)?;
                 Ok(Next::Ask { node, position })

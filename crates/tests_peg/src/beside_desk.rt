@@ -4,7 +4,7 @@ use crate::desk_steps::evaluated;
 use crate::nodes::sound;
 use gramcheck::SoundPeg;
 use matchfailure::Desk;
-use memo::MatchTask;
+use memo::{Found, MatchTask};
 use packrat::Packrat;
 use pegmatch::{Matcher, Unit};
 use ruletable::Memory;
@@ -30,8 +30,14 @@ fn is_key_alike(
     if !peg.is_key_node(node) {
         return Ok(true);
     }
-    let found = machines.packrat.found(MatchTask::Eval { node, position })?;
-    Ok(found == machines.desk.found(node, position))
+    let desk = &machines.desk;
+    Ok(
+        match machines.packrat.found(MatchTask::Eval { node, position })? {
+            Some(Found::Took(end)) => desk.end_at(node, position) == Some(end),
+            Some(Found::Failed) => desk.fails_at(node, position),
+            None => desk.end_at(node, position).is_none() && !desk.fails_at(node, position),
+        },
+    )
 }
 
 // Whether each node that is a key has at each position just the cell that the plain machine has, and as many cells were

@@ -1,6 +1,6 @@
 //! The machine that evaluates each node at each position at most once.
-ghost use Rattle.std.specs.Prelude.{◌≡◌, ℕ, ◌<◌, Bool, List, [], ◌∷◌, length, true, slice_get, Some};
-ghost use Rattle.std.specs.Prelude.{IfOk, OnOk, OnErr};
+ghost use Rattle.std.specs.Prelude.{◌≡◌, ◌↔◌, ℕ, ◌<◌, Bool, List, [], ◌∷◌, length, true, slice_get, Some};
+ghost use Rattle.std.specs.Prelude.{IfNone, IfOk, IfSome, OnOk, OnErr};
 ghost use Rattle.gramcheck.specs.Grammar.{IsNumbered, IsSoundGrammar};
 ghost use Rattle.memo.specs.Entries.{found_at};
 ghost use Rattle.matchfailure.specs.declared.desk.frame.FailureFrame.{FailureFrame};
@@ -106,11 +106,27 @@ impl Desk {
         self.cells.len()
     }
 
-    /// Returns the outcome of the node at the position, if it has a cell there.
-    pub fn found(&self, node: usize, position: usize) -> Option<Found>
-        ensures { result ≡ found_at self.now.cells node position }
+    /// Returns where the node ends at the position, if its cell there holds a success.
+    pub fn end_at(&self, node: usize, position: usize) -> Option<usize>
+        ensures some { IfSome result (λ end. found_at self.now.cells node position ≡ Some (Found.Took end)) }
+        ensures none { IfNone result ((end : ℕ) → found_at self.now.cells node position ≡ Some (Found.Took end) → ⊥) }
     {
-        self.cells.get(node, position)
+        match self.cells.get(node, position) {
+            Some(Found::Took(end)) => Some(end),
+            Some(Found::Failed) => None,
+            None => None,
+        }
+    }
+
+    /// Returns whether the node's cell at the position holds a failure.
+    pub fn fails_at(&self, node: usize, position: usize) -> bool
+        ensures { (result ≡ true) ↔ (found_at self.now.cells node position ≡ Some Found.Failed) }
+    {
+        match self.cells.get(node, position) {
+            Some(Found::Failed) => true,
+            Some(Found::Took(_)) => false,
+            None => false,
+        }
     }
 
     /// Empties it, and takes no memory.

@@ -1,39 +1,16 @@
 //! The children that an evaluation asks for, by the cells of all that was evaluated.
-ghost use Rattle.std.specs.Prelude.{◌≡◌, ◌⊎◌, ◌↔◌, ℕ, ◌<◌, true, length, Some, OnOk, IfSome, IfNone};
+ghost use Rattle.std.specs.Prelude.{◌≡◌, ◌⊎◌, ℕ, ◌<◌, length, Some, OnOk};
 ghost use Rattle.pegnodes.specs.Nodes.{shape_of, Name};
 ghost use Rattle.memo.specs.Entries.{found_at};
+ghost use Rattle.memo.specs.declared.found.Found.TheVariants.{Took};
 ghost use Rattle.matchfailure.specs.CellAsks.{WalksTo, TriesTo, CellAsksBy};
 ghost use Rattle.matchfailure.specs.VisitLists.{AddsVisits};
 
 use crate::desk::Desk;
 use crate::farthest::visit::{Visit, VisitList};
 use gramcheck::SoundPeg;
-use memo::Found;
 use pegnodes::Node;
 use ruletable::Memory;
-
-// Returns where the node ends at the position, if its cell there holds a success.
-fn end_at(desk: &Desk, node: usize, position: usize) -> Option<usize>
-    ensures some { IfSome result (λ end. found_at desk.now.cells node position ≡ Some (Found.Took end)) }
-    ensures none { IfNone result ((end : ℕ) → found_at desk.now.cells node position ≡ Some (Found.Took end) → ⊥) }
-{
-    match desk.found(node, position) {
-        Some(Found::Took(end)) => Some(end),
-        Some(Found::Failed) => None,
-        None => None,
-    }
-}
-
-// Returns whether the node's cell at the position holds a failure.
-fn fails_at(desk: &Desk, node: usize, position: usize) -> bool
-    ensures { (result ≡ true) ↔ (found_at desk.now.cells node position ≡ Some Found.Failed) }
-{
-    match desk.found(node, position) {
-        Some(Found::Failed) => true,
-        Some(Found::Took(_)) => false,
-        None => false,
-    }
-}
 
 // Adds the members of a sequence that are asked for: the first at its position, and each later one where those before
 // it end.
@@ -48,7 +25,7 @@ fn add_members(
     let mut end = position;
     for member in members {
         seen.add(*member, end)?;
-        match end_at(desk, *member, end) {
+        match desk.end_at(*member, end) {
             Some(after) => end = after,
             None => return Ok(()),
         }
@@ -68,7 +45,7 @@ fn add_alternatives(
 {
     for alternative in alternatives {
         seen.add(*alternative, position)?;
-        if !fails_at(desk, *alternative, position) {
+        if !desk.fails_at(*alternative, position) {
             return Ok(());
         }
     }
@@ -84,10 +61,10 @@ fn add_steps(
     seen: &mut VisitList,
 ) -> Result<(), Memory>
     ensures { OnOk result (AddsVisits (λ m q. ((m ≡ operand) × (q ≡ position)) ⊎ ((m ≡ again)
-        × (found_at desk.now.cells operand position ≡ Some (Found.Took q)))) seen.old seen.new) }
+        × (found_at desk.now.cells operand position ≡ Some (Took q)))) seen.old seen.new) }
 {
     seen.add(operand, position)?;
-    match end_at(desk, operand, position) {
+    match desk.end_at(operand, position) {
         Some(end) => seen.add(again, end),
         None => Ok(()),
     }

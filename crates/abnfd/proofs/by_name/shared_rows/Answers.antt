@@ -15,9 +15,10 @@ loop-id-preserved c = λ old new are.
     let names = names_of both.old.names in
     let next = c.in_ok-status.ensures in
     rw (next.2) (subst (λ (ns : List (List ℕ)). HasRows c.args.settings.now.letters old new ns
-    (c.loop-id.text.items ++ next.0) c.greater-most.result)
+    (c.loop-id.text.items ++ next.0) c.greater_status-most.result)
     (sym (next_passes (is_named (names_of both.new.names)) names c.loop-id.id c.name.result.now c.name.ensures))
-    (more_rows _ _ _ _ _ _ _ _ _ _ (c.loop-id.invariant old new are) (next.1 old new are) c.greater-most.ensures))
+    (more_rows _ _ _ _ _ _ _ _ _ _ (c.loop-id.invariant old new are) (next.1 old new are)
+    c.greater_status-most.ensures))
 
 pub returns : goal.returns
 returns c = λ old new are.
