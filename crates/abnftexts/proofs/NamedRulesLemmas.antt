@@ -25,7 +25,9 @@ use Rattle.abnftexts.specs.declared.join.given.GivenRule.{GivenRule}
 use Rattle.abnftexts.proofs.ListNamesLemmas.{any-listed}
 use Rattle.abnftexts.proofs.RulesTakenLemmas.{one-after}
 use Rattle.std.specs.Char.{is_ascii_alphabetic}
-use Rattle.std.specs.Prelude.{slice_get}
+use Rattle.std.specs.Prelude.{slice_get, unwrap_or}
+use Rattle.std.specs.Option.{option_copied}
+use Rattle.std.specs.Borrow.{Bor}
 use Rattle.abnfread.specs.AbnfReading.{Reads}
 use Rattle.abnfread.specs.Element.{Definition}
 use Rattle.abnfread.proofs.AbnfFaultLemmas.{one-reading}
@@ -68,6 +70,17 @@ pub tokens-all : (known : List ℕ → Bool) (own line : List ℕ) (at : ℕ) (t
     ≡ tokens_named known own line 0 (ts ++ items)) → new ≡ tokens_named known own line 0 ts
 tokens-all known own line at ts new so =
     sym (append-nil new) ∙ so [] ∙ ap (λ (us : List (Tok AbnfKind)). tokens_named known own line 0 us) (append-nil ts)
+
+-- the first of the sources, or else the line
+pub source-first : (sources : List TextLine) (line : Bor TextLine) (first : Option (Bor TextLine))
+    → option_copied first ≡ slice_get sources 0
+    → numbered (unwrap_or first line).now ≡ source_of (map numbered sources) (numbered line.now)
+source-first [] line None e = refl
+source-first [] line (Some x) e = cc
+source-first (s ∷ sources) line None e = cc
+source-first (s ∷ sources) line (Some x) e =
+    let same : x.now ≡ s = cc in
+    ap numbered same
 
 -- one line more; the sources are what is left of them
 pub line-more : (known : List ℕ → Bool) (own : List ℕ) (m : ℕ) (sources left : List NumberedLine)

@@ -21,8 +21,8 @@ Output:
   -l, --list       List the rules, and what becomes of each
 
 Lists of RFC 9110 (#element):
-      --expand       Write them out as recipients accept them
-      --expand-send  Write them out as senders write them
+      --expand       Write lists out as recipients accept them
+      --expand-send  Write lists out as senders write them
 
 Other options:
   -h, --help     Print this help
