@@ -5,7 +5,6 @@ use Rattle.std.proofs.Common.{Option, inl, inr, refl, sym, subst, arith}
 use Rattle.std.proofs.lemmas.Bool.{cases_Bool}
 use Rattle.std.specs.List.{prefix_len}
 use Rattle.std.specs.Prelude.{bytes_eq}
-use native.Mathlib.Numerals.{unary_clauses}
 use Rattle.abnfblocks.specs.TextLines.{NumberedLine}
 use Rattle.abnfread.specs.AbnfSlices.{is_inside}
 use Rattle.rfcforms.specs.Lists.{CutsLines, first_size, next_line, no_lines}
@@ -14,12 +13,19 @@ use Rattle.abnftexts.specs.WrittenLists.{AreExpanded, as_they_are, lines_written
 use Rattle.abnftexts.proofs.ClearLinesLemmas.{AreInside, IsClear}
 use Rattle.abnftexts.proofs.EachLemmas.{Each, each_none, each_next}
 
+-- one byte more
+front-inside : (n b : ℕ) (bytes : List ℕ) → is_inside b ≡ true → AreInside (take n bytes)
+    → AreInside (take (1 + n) (b ∷ bytes))
+front-inside n b bytes p h =
+    let next : suc n ≡ 1 + n = omega arith in
+    subst (λ (k : ℕ). AreInside (take k (b ∷ bytes))) next (each_next p h)
+
 -- what stands before the first LF holds none
 prefix-inside : (bytes : List ℕ) → AreInside (take (prefix_len (λ b. not (b == 10)) bytes) bytes)
 prefix-inside [] = each_none
 prefix-inside (b ∷ bytes) = elim (cases_Bool (b == 10)) [
   | inl e ↦ rw e each_none
-  | inr e ↦ rw e (simp unary_clauses (each_next {x = b} (rw e refl) (prefix-inside bytes)))
+  | inr e ↦ rw e (front-inside (prefix_len (λ b. not (b == 10)) bytes) b bytes (rw e refl) (prefix-inside bytes))
 ]
 
 cuts-inside : {text : List ℕ} {parts : List (List ℕ)} → CutsLines text parts → Each AreInside parts

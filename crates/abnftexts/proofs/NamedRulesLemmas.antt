@@ -72,15 +72,15 @@ tokens-all known own line at ts new so =
     sym (append-nil new) ∙ so [] ∙ ap (λ (us : List (Tok AbnfKind)). tokens_named known own line 0 us) (append-nil ts)
 
 -- the first of the sources, or else the line
-pub source-first : (sources : List TextLine) (line : Bor TextLine) (first : Option (Bor TextLine))
-    → option_copied first ≡ slice_get sources 0
-    → numbered (unwrap_or first line).now ≡ source_of (map numbered sources) (numbered line.now)
-source-first [] line None e = refl
-source-first [] line (Some x) e = cc
-source-first (s ∷ sources) line None e = cc
-source-first (s ∷ sources) line (Some x) e =
+pub source-first : (sources : List TextLine) (line source : Bor TextLine) (first : Option (Bor TextLine))
+    → option_copied first ≡ slice_get sources 0 → source ≡ unwrap_or first line
+    → numbered source.now ≡ source_of (map numbered sources) (numbered line.now)
+source-first [] line source None e is = ap (λ (s : Bor TextLine). numbered s.now) is
+source-first [] line source (Some x) e is = cc
+source-first (s ∷ sources) line source None e is = cc
+source-first (s ∷ sources) line source (Some x) e is =
     let same : x.now ≡ s = cc in
-    ap numbered same
+    ap (λ (y : Bor TextLine). numbered y.now) is ∙ ap numbered same
 
 -- one line more; the sources are what is left of them
 pub line-more : (known : List ℕ → Bool) (own : List ℕ) (m : ℕ) (sources left : List NumberedLine)

@@ -32,9 +32,9 @@ loop-it-preserved c = λ text lists keeps written are end more.
           w.in-NotAbnf.first w.in-NotAbnf.count w.in-NotAbnf.fault (map numbered w.items_before-lines.result.now)
           (rules_gathered c.loop-it.gathered) w.push_no_rule.new.reported.items end c.loop-it-test.true
           w.in-NotAbnf.is
-          (lines-taken lines w.items_after-in-NotAbnf.result.now w.items_before-lines.result.now
+          (lines-taken lines w.items_after.result.now w.items_before-lines.result.now
           w.in-NotAbnf.first w.in-NotAbnf.count
-          (rw w.deref-in-NotAbnf.ensures.value at w.items_after-in-NotAbnf.ensures) w.items_before-lines.ensures)
+          (rw w.deref-in-NotAbnf.ensures.value at w.items_after.ensures) w.items_before-lines.ensures)
           w.in_ok-push_no_rule-in-NotAbnf.ensures (rw w.gathered-is at more))
     ]
 

@@ -8,7 +8,7 @@ returns-in_ok-lines-in-Some c = record {
   name = refl;
   kept_are = refl;
   lists_are = rows-with c.one_masking.ensures (ap (option_map (λ v. v.items)) c.in-Some.is)
-      (rw (c.deref-in-Some.ensures.value, c.deref-2.ensures.value) at c.in_ok-lines-in-Some.ensures);
+      (rw (c.deref.ensures.value, c.deref-in-Some.ensures.value) at c.in_ok-lines-in-Some.ensures);
 }
 
 pub returns-in_ok-lines-in-None : goal.returns-in_ok-lines-in-None
