@@ -1,6 +1,6 @@
 -- Lines with their lists written out hold no LF, and those that look blank hold blanks alone.
 -- Serves: joined_reading
-use Rattle.std.proofs.Common.{◌≡◌, ℕ, zero, suc, ◌+◌, ◌-◌, ◌==◌, Bool, true, false, not, List, [], ◌∷◌, take, drop}
+use Rattle.std.proofs.Common.{◌≡◌, ℕ, suc, ◌+◌, ◌-◌, ◌==◌, true, not, List, [], ◌∷◌, take}
 use Rattle.std.proofs.Common.{Option, inl, inr, refl, sym, subst, arith}
 use Rattle.std.proofs.lemmas.Bool.{cases_Bool}
 use Rattle.std.specs.List.{prefix_len}

@@ -1,6 +1,6 @@
 -- What texts give is one list of rules, and one text of reports; and the names that rules use are one list.
 -- Serves: one_joining
-use Rattle.std.proofs.Common.{◌≡◌, ◌≢◌, ℕ, suc, Bool, true, List, [], ◌∷◌, ◌++◌, Option, None, Some, take, drop, map}
+use Rattle.std.proofs.Common.{◌≡◌, ◌≢◌, ℕ, suc, Bool, List, [], ◌∷◌, ◌++◌, Option, None, Some, drop, map}
 use Rattle.std.proofs.Common.{refl, sym, ap, ◌∙◌, subst}
 use Rattle.std.specs.List.{flat_map}
 use Rattle.lexer.specs.TokenLists.{Tok}

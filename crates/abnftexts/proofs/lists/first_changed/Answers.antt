@@ -1,4 +1,4 @@
-use Rattle.std.proofs.Common.{◌≡◌, ◌≤◌, ◌<◌, ◌∙◌, ℕ, zero, suc, ◌+◌, min, Bool, true, false, List, [], ◌∷◌, length}
+use Rattle.std.proofs.Common.{◌≡◌, ◌≤◌, ◌<◌, ◌∙◌, ℕ, zero, suc, ◌+◌, min, true, false, List, [], ◌∷◌, length}
 use Rattle.std.proofs.Common.{get_or, map, drop, ap, refl, sym, arith}
 use Rattle.std.specs.Prelude.{bytes_eq}
 use Rattle.abnfblocks.specs.TextLines.{NumberedLine, numbered}

@@ -1,4 +1,4 @@
-use Rattle.std.proofs.Common.{None, Some, ap, map, refl, option_map}
+use Rattle.std.proofs.Common.{ap, map, refl, option_map}
 use Rattle.abnfblocks.specs.TextLines.{numbered}
 use Rattle.abnftexts.proofs.RulesTakenLemmas.{rows-with, rows-without}
 use Rattle.abnftexts.proofs.taken.with_lines.Goals as goal
