@@ -1,2 +1,3 @@
+mod FlagWordsLemmas
 mod JoinRunLemmas
 mod TextsReadLemmas
