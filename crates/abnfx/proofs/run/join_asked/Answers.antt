@@ -23,8 +23,8 @@ returns-in_default g c =
           c.end_clash.ensures.right;
     }
 
-pub returns-in-Some : goal.returns-in-Some
-returns-in-Some g c =
+pub returns-in-Some-lists_of : goal.returns-in-Some-lists_of
+returns-in-Some-lists_of g c =
     let rows = rows_of (found_of c.args.matches.now) in
     record {
       right = comes_as (FilesJoined (paths_asked rows) c.in-Some-lists_of.lists c.in-Some.form) (JoinAnswers rows)
