@@ -95,6 +95,8 @@ PROGRAMS = (
     Program("abnfx", (
         Option("c", "canonical", "", (), "Write the canonical text of the grammar"),
         Option("l", "list", "", (), "List the rules, and what becomes of each"),
+        Option("", "expand", "", (), "Write lists out as recipients accept them"),
+        Option("", "expand-send", "", (), "Write lists out as senders write them"),
         HELP,
         VERSION,
     ), "", "The texts of RFCs, each at most 16777216 bytes"),

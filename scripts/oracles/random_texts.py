@@ -23,11 +23,17 @@ ABNFX, ABNFI = BIN / "abnfx", BIN / "abnfi"
 # The message on both flags together.
 BOTH = (b"error: the argument '-l' cannot be used with '-c'\n\nUsage: abnfx [OPTIONS] <TEXT>...\n\n"
         b"For more information, try '--help'.\n")
+BOTH_LISTS = (b"error: the argument '--expand' cannot be used with '--expand-send'\n\n"
+              b"Usage: abnfx [OPTIONS] <TEXT>...\n\nFor more information, try '--help'.\n")
+# The options that write lists out, by the form.
+EXPAND = {None: [], "receive": ["--expand"], "send": ["--expand-send"]}
 # Two texts that read, whose grammar has more than 1048576 bytes.
 LONG = [(f"{name}.txt", f'{name} = "x" ;'.encode() + b"c" * 600000) for name in ("a", "b")]
 NAMES = ("a", "B", "b", "c-1", "Date", "date")
 PARTS = ("a", "b", "DIGIT", "2*3date", '"x"', '"Y z"', "%x41-5A", "%d13.10", "*c-1", "[ b ]", "<the other text>",
          "<a>", "2<DIGIT>", "(<Date>)", "<B>", '"<a>"')
+LISTS = ("#a", "1#b", "2#3<a>", "1#( b / c-1 )", "#3DIGIT", "0#0b", '1#1"x"', "#( 1#a )", "3#2b", "*2#a", "1#[ b",
+         "# a")
 PROSE = (
     "Prose of a text.", "Where a = b, c it is so:", "2.  Rules", "a = ", "The date May 2001", "x = ( y", "; a comment",
     "/ c-1", "    / c-1", "| b", ") / a", "       Deeper prose, of two.", "a = b | c", "date =/ 1*\"x\" ]"
@@ -46,7 +52,8 @@ def rule(made, size):
     if made.random() < 0.15:
         body = [made.choice(("<see the other text>", "<b>", "1*<date>"))]
     else:
-        body = [made.choice(PARTS) for _ in range(made.choice((1, 1, 2, 3)))]
+        parts = PARTS if made.random() < 0.8 else LISTS
+        body = [made.choice(parts) for _ in range(made.choice((1, 1, 2, 3)))]
     sign = made.choice(("=", "=", "=", " =", "=/"))
     head = " " * size + made.choice(NAMES) + sign + " " + body[0]
     found = [head + (" ; of it" if made.random() < 0.1 else "")]
@@ -168,6 +175,7 @@ class Trials:
         self.put([text, long_text])
         for option in (["-c", "-l"], ["-l", "-c"], ["-lc"]):
             self.expect([text], option, b"", BOTH, 2)
+        self.expect([text], ["--expand-send", "--expand"], b"", BOTH_LISTS, 2)
         self.expect([text, none, long_text], [], b"", b"cannot read none.txt\n", 4)
         self.expect([text, long_text, none], ["-l"], b"", b"long.txt longer than 16777216 bytes\n", 3)
         (self.folder / "long.txt").write_bytes(text[1] + b" " * (16777216 - len(text[1])))
@@ -187,11 +195,12 @@ def main():
         for _ in range(words.n):
             texts = [(f"t{it}.txt", made.choice((text, text, xml))(made)) for it in range(made.choice((1, 1, 2, 3)))]
             trials.put(texts)
-            grammar, listed, reported, status = slow_abnfx.joined(texts)
-            trials.expect(texts, [], grammar, reported.encode(), status)
-            trials.expect(texts, ["-l"], listed.encode(), reported.encode(), status)
+            form = made.choice((None, None, "receive", "send"))
+            grammar, listed, reported, status = slow_abnfx.joined(texts, form)
+            trials.expect(texts, EXPAND[form], grammar, reported.encode(), status)
+            trials.expect(texts, ["-l", *EXPAND[form]], listed.encode(), reported.encode(), status)
             if ABNFI.exists():
-                trials.expect(texts, ["-c"], trials.canonical(grammar), reported.encode(), status)
+                trials.expect(texts, ["-c", *EXPAND[form]], trials.canonical(grammar), reported.encode(), status)
     print(f"texts: {words.n} cases, {trials.wrong} wrong")
     return 1 if trials.wrong else 0
 

@@ -259,8 +259,9 @@ BRACKETS = re.compile(rb'"[^"]*"|;.*|<([^>]*)>')
 class Rule:
     """A rule as a text gives it: the name of the text, its lines without the margin, and what it says."""
 
-    def __init__(self, name, some, blanks):
+    def __init__(self, name, some, blanks, sources):
         size = margin(some[0][1])
+        self.sources = [line[min(size, margin(line)):] for _, line, _ in sources]
         self.text, self.first, self.last, self.blanks = name, some[0][0], some[-1][0], blanks
         self.rows = [(number, line[min(size, margin(line)):]) for number, line, _ in some]
         self.say()
@@ -283,7 +284,7 @@ class Rule:
             return it[1] if it[1] and it[1].lower() in known - {self.key} else it[0]
 
         new = [(number, BRACKETS.sub(bare, line)) for number, line in self.rows]
-        self.comments = b"".join(b"; from: " + old[1] + b"\n" for old, it in zip(self.rows, new) if old != it)
+        self.comments = b"".join(b"; from: " + old + b"\n" for old, it in zip(self.sources, new) if old != it[1])
         self.rows = new
         self.say()
 
@@ -299,13 +300,83 @@ class Rule:
         return self.key == other.key and not other.adds and self.is_prose and not other.is_prose
 
 
+NUMBERS = b"|".join(rb"%%[%c%c][%b]+(?:(?:\.[%b]+)+|-[%b]+)?" % (it, it - 32, digits, digits, digits)
+                    for it, digits in zip(b"bdx", (b"01", b"0-9", b"0-9A-Fa-f")))
+# What may stand in a grammar (RFC 5234, section 4): white space, an element of one token, brackets, `=`, and the rest.
+PIECE = re.compile(rb"([ \t\n]+|;[^\n]*)|([A-Za-z][A-Za-z0-9-]*|(?:%[sSiI])?\"[ !#-~]*\"|" + NUMBERS
+                   + rb"|<[ -=?-~]*>)|([(\[])|([)\]])|(=/?)|([0-9]*\*[0-9]*|[0-9]+|/)")
+LIST = re.compile(rb"#([0-9]*)")
+
+
+def element_end(text, place):
+    """Returns where the element ends that begins there, or None."""
+    depth = 0
+    while it := PIECE.match(text, place):
+        place = it.end()
+        if it[5] or depth == 0 and not (it[2] or it[3]):
+            return None
+        depth += bool(it[3]) - bool(it[4])
+        if depth > 200:
+            return None
+        if depth == 0:
+            return place
+    return None
+
+
+def list_text(form, least, most, element):
+    """Returns what is written for a list of an element (RFC 9110, sections 5.6.1.1 and 5.6.1.2)."""
+    copy = b"".join(b" " if it[1] else it[0] for it in PIECE.finditer(element))
+    copy = re.sub(rb" +(?=(?:[^\"<]|\"[^\"]*\"|<[^>]*>)*\Z)", b" ", copy)
+    if form == "receive":
+        return b"[ " + element + b' ] *( OWS "," OWS [ ' + copy + b" ] )"
+    if least == 0:
+        return b"[ " + list_text(form, 1, most, element) + b" ]"
+    if most == 1:
+        return element
+    counts = [b"" if it is None or it < 1 else b"%d" % it for it in (least - 1, most and most - 1)]
+    return element + b" " + counts[0] + b"*" + counts[1] + b'( OWS "," OWS ' + copy + b" )"
+
+
+def expanded(text, form):
+    """Returns a text with its lists written out."""
+    new, start, place, count = b"", 0, 0, 0
+    while place < len(text):
+        it = PIECE.match(text, place)
+        if it:
+            count, place = place if it[6] and it[0] != b"/" else it.end(), it.end()
+            continue
+        sign = LIST.match(text, place)
+        digits = text[count:place]
+        end = sign and element_end(text, sign.end())
+        least, most = int(digits) if digits.isdigit() else 0, int(sign[1]) if sign and sign[1] else None
+        if not end or digits.strip(b"0123456789") or most is not None and (most < 1 or least > most):
+            place = count = (text.find(b"\n", place) + 1) or len(text)
+            continue
+        new += text[start:count] + list_text(form, least, most, text[sign.end():end])
+        start = place = count = end
+    return new + text[start:]
+
+
+def with_lists(rows, form):
+    """Returns lines with their lists written out."""
+    new = expanded(b"".join(line + b"\n" for _, line, _ in rows), form).split(b"\n")
+    return [row if row[1] == it else (row[0], it, "other") for row, it in zip(rows, new)]
+
+
 def in_text(why, some):
     """Returns a fault of these lines with the number that its line has in the text."""
     at = re.match(r"line (\d+)(.*)", why, re.S)
     return f"line {some[min(int(at[1]), len(some)) - 1][0]}{at[2]}" if at else why
 
 
-def found(name, text):
+def list_line(some):
+    """Returns the number of the first of these lines with a list, if the rule that they begin reads with its lists."""
+    new = with_lists(some, "receive")
+    changed = [old[0] for old, it in zip(some, new) if old != it]
+    return changed[0] if changed and any(fault(new[:it]) is None for it in cuts(new)) else None
+
+
+def found(name, text, form=None):
     """Returns for each line of a text that begins a rule the rule, or its number and the fault."""
     bare, reported = text.removeprefix(b"\xEF\xBB\xBF"), []
     if is_xml(bare):
@@ -313,6 +384,7 @@ def found(name, text):
         rest = without(shown, [it.span() for it in TAG.finditer(text_of(shown))])
     else:
         rest = masked(kept(lines(text)))
+    sources, rest = rest, with_lists(rest, form) if form else rest
     for place, (number, line, _) in enumerate(rest):
         if opens(line):
             some = rest[place:place + size_of(rest[place:])]
@@ -320,16 +392,18 @@ def found(name, text):
             if read:
                 after = rest[place + read[-1]:]
                 blanks = next((it for it, row in enumerate(after) if row[2] != "blank"), len(after))
-                reported.append(Rule(name, some[:read[-1]], blanks))
+                reported.append(Rule(name, some[:read[-1]], blanks, sources[place:place + read[-1]]))
             else:
                 whole = some[:cuts(some)[-1]]
-                reported.append((number, in_text(fault(whole), whole)))
+                listed = None if form else list_line(whole)
+                told = f"line {listed}: list of RFC 9110: use --expand" if listed else in_text(fault(whole), whole)
+                reported.append((number, told))
     return reported
 
 
-def given(name, text):
+def given(name, text, form):
     """Returns the rules of a text, and the reports on it."""
-    all_found = found(name, text)
+    all_found = found(name, text, form)
     rules = [it for it in all_found if isinstance(it, Rule)]
     return rules, "".join(f"{name}:{it[0]}: not ABNF: {it[1]}\n" for it in all_found if not isinstance(it, Rule))
 
@@ -345,11 +419,11 @@ def fates(rules):
     return found
 
 
-def joined(texts):
+def joined(texts, form=None):
     """Returns the grammar that texts make up, the list of their rules, the messages, and the status."""
     rules, reported = [], ""
     for name, text in texts:
-        more, said = given(name, text)
+        more, said = given(name, text, form)
         rules, reported = rules + more, reported + said
     is_faulty = reported != ""
     known = {it.key for it in rules} | set(CORE)

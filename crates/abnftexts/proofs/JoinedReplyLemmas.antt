@@ -1,10 +1,11 @@
 -- Texts have one joined grammar, and a run that joins them has one reply.
 -- Serves: one_joining
-use Rattle.std.proofs.Common.{◌≡◌, ◌≢◌, ℕ, List, [], refl, sym, ap, ◌∙◌, subst}
+use Rattle.std.proofs.Common.{◌≡◌, ◌≢◌, ℕ, List, [], Option, refl, sym, ap, ◌∙◌, subst}
 use Rattle.ruletable.specs.declared.fault.ReadFault.{ReadFault}
 use Rattle.ruletable.specs.declared.fault.ReadFault.TheVariants as faults
 use Rattle.abnfread.specs.AbnfReading.{IsFaultOf}
 use Rattle.abnfread.specs.Element.{Definition}
+use Rattle.rfcforms.specs.declared.lists.written.ListForm.{ListForm}
 use Rattle.toolrun.specs.Input.{Input}
 use Rattle.toolrun.specs.Reply.{Reply}
 use Rattle.abnftexts.specs.JoinRun.{IsWrittenAs, JoinStates, JoinedReply, a_list, as_it_is, canonical, canonical_of}
@@ -15,15 +16,15 @@ use Rattle.abnftexts.specs.JoinedGrammar.{standing_rules}
 use Rattle.abnftexts.specs.NamedRules.{AreRenamed}
 use Rattle.abnftexts.specs.RulesGathered.{NamedText, RulesGathered}
 use Rattle.abnftexts.specs.UsedNames.{UsedName}
-use Rattle.abnftexts.specs.declared.run.JoinForm.{JoinForm}
-use Rattle.abnftexts.specs.declared.run.JoinForm.TheVariants.{Listed}
+use Rattle.abnftexts.specs.declared.joined.JoinForm.{JoinForm}
+use Rattle.abnftexts.specs.declared.joined.JoinForm.TheVariants.{Listed}
 use Rattle.abnftexts.proofs.OneRenameLemmas.{naming-same}
 use Rattle.abnftexts.proofs.TextRulesLemmas.{OneReading, texts-same, uses-same}
 
 module _ (one : OneReading) where
-  pub joined-same : (texts : List NamedText) (a b : GrammarJoined) → AreTextsJoined texts a → AreTextsJoined texts b
-      → a ≡ b
-  joined-same texts a b x y =
+  pub joined-same : (lists : Option ListForm) (texts : List NamedText) (a b : GrammarJoined)
+      → AreTextsJoined lists texts a → AreTextsJoined lists texts b → a ≡ b
+  joined-same lists texts a b x y =
       let given : x.given ≡ y.given = texts-same one x.gives y.gives in
       let named : AreRenamed y.given x.gathered =
       subst (λ (g : RulesGathered). AreRenamed g x.gathered) given x.names in
@@ -72,12 +73,12 @@ module _ (one : OneReading) where
     reply-same (too_long l s f) no_memory p q = absurd (q refl)
     reply-same no_memory r p q = absurd (p refl)
 
-  pub stated-same : (texts : List NamedText) {form : JoinForm} {input : Input} {notes others : List ℕ} {a b : Reply}
-      → JoinStates texts form input notes a → JoinStates texts form input others b → a.status ≢ 5 → b.status ≢ 5
-      → (notes ≡ others) × (a ≡ b)
-  stated-same texts {form} (joins {j} {reply} x r) (joins {j = k} {reply = other} y s) p q =
-      let same : j ≡ k = joined-same texts j k x y in
+  pub stated-same : (lists : Option ListForm) (texts : List NamedText) {form : JoinForm} {input : Input}
+      {notes others : List ℕ} {a b : Reply} → JoinStates texts lists form input notes a
+      → JoinStates texts lists form input others b → a.status ≢ 5 → b.status ≢ 5 → (notes ≡ others) × (a ≡ b)
+  stated-same lists texts {form} (joins {j} {reply} x r) (joins {j = k} {reply = other} y s) p q =
+      let same : j ≡ k = joined-same lists texts j k x y in
       let here : JoinedReply form k reply = subst (λ (g : GrammarJoined). JoinedReply form g reply) same r in
       (ap (λ (g : GrammarJoined). g.reported) same, reply-same k here s p q)
-  stated-same texts (joins x r) no_room p q = absurd (q refl)
-  stated-same texts no_room s p q = absurd (p refl)
+  stated-same lists texts (joins x r) no_room p q = absurd (q refl)
+  stated-same lists texts no_room s p q = absurd (p refl)

@@ -1,6 +1,6 @@
 pub mod ClearLinesLemmas
 pub mod EachLemmas
-pub mod JoinRunLemmas
+pub mod ExpandedLinesLemmas
 pub mod JoinedGrammarLemmas
 pub mod JoinedReplyLemmas
 pub mod OneDefinitionLemmas

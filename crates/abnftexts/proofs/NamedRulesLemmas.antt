@@ -1,6 +1,6 @@
 -- Names lose angle brackets step by step.
 -- Serves: join_texts
-use Rattle.std.proofs.Common.{◌≡◌, ℕ, ◌+◌, ◌<◌, ◌≤◌, ◌||◌, Bool, List, [], ◌∷◌, ◌++◌, codes, length, get_or, map}
+use Rattle.std.proofs.Common.{◌≡◌, ◌≢◌, ℕ, ◌+◌, ◌<◌, ◌≤◌, ◌||◌, Bool, List, [], ◌∷◌, ◌++◌, codes, length, get_or, map}
 use Rattle.std.proofs.Common.{take, drop, sym, ap, ◌∙◌, subst, append_assoc, append-nil, Global, Vec, true, false}
 use Rattle.std.proofs.Common.{Option, None, Some, refl, option_map}
 use Rattle.std.proofs.Math.Path.{fun_ext}
@@ -19,13 +19,15 @@ use Rattle.abnftexts.specs.CodeUses.{is_defined}
 use Rattle.abnftexts.specs.GivenRules.{text_rule, RuleGiven, is_same_rule}
 use Rattle.abnftexts.specs.ListedRules.{ListNames, is_listed_for}
 use Rattle.abnftexts.specs.NamedRules.{AreLinesNamed, IsLineNamed, bare_line, comment_of, next_line, no_lines}
-use Rattle.abnftexts.specs.NamedRules.{token_named, tokens_named, SpellsNamed}
+use Rattle.abnftexts.specs.NamedRules.{token_named, tokens_named, SpellsNamed, source_of}
 use Rattle.abnftexts.specs.UsedNames.{is_known_name}
 use Rattle.abnftexts.specs.declared.join.given.GivenRule.{GivenRule}
 use Rattle.abnftexts.proofs.ListNamesLemmas.{any-listed}
 use Rattle.abnftexts.proofs.RulesTakenLemmas.{one-after}
 use Rattle.std.specs.Char.{is_ascii_alphabetic}
-use Rattle.std.specs.Prelude.{slice_get}
+use Rattle.std.specs.Prelude.{slice_get, unwrap_or}
+use Rattle.std.specs.Option.{option_copied}
+use Rattle.std.specs.Borrow.{Bor}
 use Rattle.abnfread.specs.AbnfReading.{Reads}
 use Rattle.abnfread.specs.Element.{Definition}
 use Rattle.abnfread.proofs.AbnfFaultLemmas.{one-reading}
@@ -40,6 +42,9 @@ pub names-known : (rules : List GivenRule) (names : Rules (Vec ℕ Global)) → 
 names-known rules names listed = fun_ext (λ (name : List ℕ).
     ap (λ (t : Bool). t || list_any (same_name Fold name) core_names)
     (any-listed (is_listed_for kinds.Rules) rules name (numbers_for names name) (listed.1 name)))
+
+pub some-text : (text : List ℕ) → length text ≢ 0 → text ≢ []
+some-text text some e = some (ap length e)
 
 -- one token more
 pub token-more : (known : List ℕ → Bool) (own line : List ℕ) (at : ℕ) (done : List (Token AbnfKind))
@@ -66,43 +71,60 @@ pub tokens-all : (known : List ℕ → Bool) (own line : List ℕ) (at : ℕ) (t
 tokens-all known own line at ts new so =
     sym (append-nil new) ∙ so [] ∙ ap (λ (us : List (Tok AbnfKind)). tokens_named known own line 0 us) (append-nil ts)
 
--- one line more
-pub line-more : (known : List ℕ → Bool) (own : List ℕ) (m : ℕ) (lines : List TextLine) (i : ℕ) (d : TextLine)
-    (bare new c t d1 u more others : List ℕ) → i < length lines → bare ≡ bare_line m (numbered (get_or lines i d))
-    → IsLineNamed known own bare new → d1 ≡ c ++ comment_of bare new → u ≡ t ++ (new ++ codes "\n")
-    → ((x y : List ℕ) → AreLinesNamed known own m (map numbered (drop i lines)) x y
-    → AreLinesNamed known own m (map numbered lines) (c ++ x) (t ++ y))
-    → AreLinesNamed known own m (map numbered (drop (i + 1) lines)) more others
-    → AreLinesNamed known own m (map numbered lines) (d1 ++ more) (u ++ others)
-line-more known own m lines i d bare new c t d1 u more others lt bare_is named comments text so rest =
+-- the first of the sources, or else the line
+pub source-first : (sources : List TextLine) (line source : Bor TextLine) (first : Option (Bor TextLine))
+    → option_copied first ≡ slice_get sources 0 → source ≡ unwrap_or first line
+    → numbered source.now ≡ source_of (map numbered sources) (numbered line.now)
+source-first [] line source None e is = ap (λ (s : Bor TextLine). numbered s.now) is
+source-first [] line source (Some x) e is = cc
+source-first (s ∷ sources) line source None e is = cc
+source-first (s ∷ sources) line source (Some x) e is =
+    let same : x.now ≡ s = cc in
+    ap (λ (y : Bor TextLine). numbered y.now) is ∙ ap numbered same
+
+-- one line more; the sources are what is left of them
+pub line-more : (known : List ℕ → Bool) (own : List ℕ) (m : ℕ) (sources left : List NumberedLine)
+    (lines : List TextLine) (i : ℕ) (d : TextLine) (bare new source c t d1 u more others : List ℕ) → i < length lines
+    → bare ≡ bare_line m (numbered (get_or lines i d))
+    → source ≡ bare_line m (source_of left (numbered (get_or lines i d)))
+    → IsLineNamed known own bare new → d1 ≡ c ++ comment_of source new → u ≡ t ++ (new ++ codes "\n")
+    → ((x y : List ℕ) → AreLinesNamed known own m left (map numbered (drop i lines)) x y
+    → AreLinesNamed known own m sources (map numbered lines) (c ++ x) (t ++ y))
+    → AreLinesNamed known own m (drop 1 left) (map numbered (drop (i + 1) lines)) more others
+    → AreLinesNamed known own m sources (map numbered lines) (d1 ++ more) (u ++ others)
+line-more known own m sources left lines i d bare new source c t d1 u more others lt bare_is from named comments text
+    so rest =
     let row = numbered (get_or lines i d) in
+    let line = bare_line m (source_of left row) in
     let here : map numbered (drop i lines) ≡ row ∷ map numbered (drop (i + 1) lines) =
     ap (λ (xs : List TextLine). map numbered xs) (one-after lines i d lt) in
     let one : IsLineNamed known own (bare_line m row) new =
     subst (λ (b : List ℕ). IsLineNamed known own b new) bare_is named in
-    let whole = so (comment_of (bare_line m row) new ++ more) (new ++ (codes "\n" ++ others))
-    (subst (λ (rows : List NumberedLine). AreLinesNamed known own m rows (comment_of (bare_line m row) new ++ more)
+    let whole = so (comment_of line new ++ more) (new ++ (codes "\n" ++ others))
+    (subst (λ (rows : List NumberedLine). AreLinesNamed known own m left rows (comment_of line new ++ more)
     (new ++ (codes "\n" ++ others))) (sym here) (next_line one rest)) in
-    let first : c ++ (comment_of (bare_line m row) new ++ more) ≡ d1 ++ more =
-    ap (λ (b : List ℕ). c ++ (comment_of b new ++ more)) (sym bare_is)
-    ∙ sym (append_assoc c (comment_of bare new) more) ∙ ap (λ (z : List ℕ). z ++ more) (sym comments) in
+    let first : c ++ (comment_of line new ++ more) ≡ d1 ++ more =
+    ap (λ (b : List ℕ). c ++ (comment_of b new ++ more)) (sym from)
+    ∙ sym (append_assoc c (comment_of source new) more) ∙ ap (λ (z : List ℕ). z ++ more) (sym comments) in
     let second : t ++ (new ++ (codes "\n" ++ others)) ≡ u ++ others =
     ap (λ (z : List ℕ). t ++ z) (sym (append_assoc new (codes "\n") others))
     ∙ sym (append_assoc t (new ++ codes "\n") others) ∙ ap (λ (z : List ℕ). z ++ others) (sym text) in
-    subst (λ (z : List ℕ). AreLinesNamed known own m (map numbered lines) (d1 ++ more) z) second
-    (subst (λ (z : List ℕ). AreLinesNamed known own m (map numbered lines) z
+    subst (λ (z : List ℕ). AreLinesNamed known own m sources (map numbered lines) (d1 ++ more) z) second
+    (subst (λ (z : List ℕ). AreLinesNamed known own m sources (map numbered lines) z
     (t ++ (new ++ (codes "\n" ++ others)))) first whole)
 
-pub lines-all : (known : List ℕ → Bool) (own : List ℕ) (m : ℕ) (lines : List TextLine) (i : ℕ) (c t : List ℕ)
-    → length lines ≤ i → ((x y : List ℕ) → AreLinesNamed known own m (map numbered (drop i lines)) x y
-    → AreLinesNamed known own m (map numbered lines) (c ++ x) (t ++ y))
-    → AreLinesNamed known own m (map numbered lines) c t
-lines-all known own m lines i c t le so =
-    let none : AreLinesNamed known own m (map numbered (drop i lines)) [] [] =
-    subst (λ (xs : List TextLine). AreLinesNamed known own m (map numbered xs) [] [])
+pub lines-all : (known : List ℕ → Bool) (own : List ℕ) (m : ℕ) (sources left : List NumberedLine)
+    (lines : List TextLine) (i : ℕ) (c t : List ℕ) → length lines ≤ i
+    → ((x y : List ℕ) → AreLinesNamed known own m left (map numbered (drop i lines)) x y
+    → AreLinesNamed known own m sources (map numbered lines) (c ++ x) (t ++ y))
+    → AreLinesNamed known own m sources (map numbered lines) c t
+lines-all known own m sources left lines i c t le so =
+    let none : AreLinesNamed known own m left (map numbered (drop i lines)) [] [] =
+    subst (λ (xs : List TextLine). AreLinesNamed known own m left (map numbered xs) [] [])
     (sym (at_drop_all (λ xs. xs) lines i le)) no_lines in
-    subst (λ (z : List ℕ). AreLinesNamed known own m (map numbered lines) c z) (append-nil t)
-    (subst (λ (z : List ℕ). AreLinesNamed known own m (map numbered lines) z (t ++ [])) (append-nil c) (so [] [] none))
+    subst (λ (z : List ℕ). AreLinesNamed known own m sources (map numbered lines) c z) (append-nil t)
+    (subst (λ (z : List ℕ). AreLinesNamed known own m sources (map numbered lines) z (t ++ [])) (append-nil c)
+    (so [] [] none))
 
 -- rows of two lists give those of a third, pair by pair
 module _ {A B C X Y Z : Type 0} (f : A → X) (g : B → Y) (h : C → Z) (Pairs : List X → List Y → List Z → Type 0)

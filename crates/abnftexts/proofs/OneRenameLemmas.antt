@@ -7,6 +7,7 @@ use Rattle.abnfblocks.specs.TextLines.{NumberedLine}
 use Rattle.abnftexts.specs.GivenRules.{RuleGiven}
 use Rattle.abnftexts.specs.NamedRules.{AreLinesNamed, AreRenamed, ArePositionsNamed, AreRulesNamed, IsLineNamed}
 use Rattle.abnftexts.specs.NamedRules.{IsPositionNamed, IsRuleNamed, SpellsNamed, bare_line, comment_of, is_named}
+use Rattle.abnftexts.specs.NamedRules.{source_of}
 use Rattle.abnftexts.specs.NamedRules.{next_line, no_lines, no_more_positions, no_more_rules, one_position, one_rule}
 use Rattle.abnftexts.specs.NamedRules.{positions_end, read_again}
 use Rattle.abnftexts.specs.NamedRules.{rules_end, same_rule, stays, tokens_named, with_prose}
@@ -28,14 +29,14 @@ module _ (one : OneReading) where
         x.is ∙ ap (λ (ts : List (Tok AbnfKind)). tokens_named known own line 0 ts)
         (one.tokens line x.tokens y.tokens x.are_tokens y.are_tokens) ∙ sym y.is
 
-    lines-same : {own : List ℕ} {m : ℕ} {lines : List NumberedLine} {c d t u : List ℕ}
-        → AreLinesNamed known own m lines c t → AreLinesNamed known own m lines d u → (c ≡ d) × (t ≡ u)
+    lines-same : {own : List ℕ} {m : ℕ} {sources lines : List NumberedLine} {c d t u : List ℕ}
+        → AreLinesNamed known own m sources lines c t → AreLinesNamed known own m sources lines d u → (c ≡ d) × (t ≡ u)
     lines-same no_lines no_lines = (refl, refl)
-    lines-same {own} {m} (next_line {line} {new = a} {comments = c} {text = t} x h)
+    lines-same {own} {m} {sources} (next_line {line} {new = a} {comments = c} {text = t} x h)
         (next_line {new = b} {comments = d} {text = u} y k) =
         let rest = lines-same h k in
         let same : a ≡ b = line-same own (bare_line m line) a b x y in (
-          ap₂ (λ (n r : List ℕ). comment_of (bare_line m line) n ++ r) same rest.0,
+          ap₂ (λ (n r : List ℕ). comment_of (bare_line m (source_of sources line)) n ++ r) same rest.0,
           ap₂ (λ (n r : List ℕ). n ++ (codes "\n" ++ r)) same rest.1,
         )
 
@@ -46,6 +47,7 @@ module _ (one : OneReading) where
         ap₂ (λ (comments text : List ℕ). record {
           name = position.name;
           margin = position.margin;
+          sources = position.sources;
           lines = position.lines;
           blanks = position.blanks;
           comments = comments;

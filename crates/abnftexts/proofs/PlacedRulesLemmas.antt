@@ -1,6 +1,6 @@
 -- Each rule that texts give has lines of its own, which alone spell it.
 -- Serves: join_texts, joined_reading
-use Rattle.std.proofs.Common.{◌≡◌, ℕ, true, List, [], ◌∷◌, ◌++◌, take, drop, refl, sym, ap, ◌∙◌, subst}
+use Rattle.std.proofs.Common.{◌≡◌, ℕ, Bool, Option, true, List, [], ◌∷◌, ◌++◌, take, drop, refl, sym, ap, ◌∙◌, subst}
 use Rattle.std.proofs.lemmas.List.{drop-drop}
 use Rattle.abnfread.specs.AbnfReading.{Reads}
 use Rattle.abnfread.specs.Element.{Definition}
@@ -16,13 +16,16 @@ use Rattle.abnftexts.specs.RulesGathered.{NamedText, RuleLines, RulesGathered}
 use Rattle.abnftexts.specs.TextRules.{GivesFound, GivesText, GiveTexts, SpellRule}
 use Rattle.abnftexts.specs.TextRules.{next_rule, next_text, no_rule, no_texts, none_found}
 use Rattle.abnftexts.proofs.ClearLinesLemmas.{IsClear, kept-clear}
-use Rattle.abnftexts.proofs.EachLemmas.{Each, each_none, each_next, each-drop}
+use Rattle.abnftexts.proofs.EachLemmas.{Each, each_none, each_next, each-drop, each-take}
+use Rattle.abnftexts.proofs.ExpandedLinesLemmas.{expanded-clear}
+use Rattle.rfcforms.specs.declared.lists.written.ListForm.{ListForm}
 use Rattle.abnftexts.proofs.OwnLinesLemmas.{OwnLines, cut-lines, first-margin, own-lines}
 use Rattle.abnftexts.proofs.RuleTextLemmas.{rule-one, rule-text, text-spells}
 
 -- a rule with its lines, as texts give it: they are written without the margin
 pub record IsPlaced (position : RuleLines) (given : RuleGiven) : Type 0 where
   pub own : OwnLines position.margin position.lines
+  pub sources : Each IsClear position.sources
   pub none : position.comments ≡ []
   pub text : position.text ≡ lines_text position.margin position.lines
   pub spells : SpellRule position.text given
@@ -89,17 +92,26 @@ found-alone {kept} {i = i} clear (a_rule {line} {lines} opens is more) e =
     subst (λ (xs : List NumberedLine). Each IsClear xs) (sym e) (each-drop i clear) in
     each_next (it-alone kept line lines opens e there is) (found-alone clear more (ap (drop 1) e ∙ drop-drop 1 i kept))
 
-found-placed : {name : List ℕ} {kept : List NumberedLine} {all : List RuleSearch} {g : RulesGathered}
-    → GivesFound name kept all g → Each (IsReadAlone kept) all → Placed g
-found-placed none_found e = none_placed
-found-placed (next_rule spells h) (each_next r e) =
-    next_placed (record { own = r.own; none = refl; text = refl; spells = spells }) (found-placed h e)
-found-placed (no_rule h) (each_next r e) = found-placed h e
+found-placed : {asks : Bool} {name : List ℕ} {kept lines : List NumberedLine} {all : List RuleSearch}
+    {g : RulesGathered} → Each IsClear kept → GivesFound asks name kept lines all g → Each (IsReadAlone lines) all
+    → Placed g
+found-placed clear none_found e = none_placed
+found-placed clear (next_rule {first} {count} spells h) (each_next r e) =
+    next_placed (record {
+      own = r.own;
+      sources = each-take count (each-drop first clear);
+      none = refl;
+      text = refl;
+      spells = spells;
+    }) (found-placed clear h e)
+found-placed clear (no_rule r h) (each_next s e) = found-placed clear h e
 
-text-placed : (text : NamedText) {g : RulesGathered} → GivesText text g → Placed g
+text-placed : {lists : Option ListForm} (text : NamedText) {g : RulesGathered} → GivesText lists text g → Placed g
 text-placed text x =
-    found-placed x.gives (found-alone (kept-clear (after_mark text.bytes) x.keeps) x.are_found refl)
+    let clear = kept-clear (after_mark text.bytes) x.keeps in
+    found-placed clear x.gives (found-alone (expanded-clear clear x.written) x.are_found refl)
 
-pub texts-placed : {texts : List NamedText} {g : RulesGathered} → GiveTexts texts g → ArePlaced g.positions g.rules
+pub texts-placed : {lists : Option ListForm} {texts : List NamedText} {g : RulesGathered} → GiveTexts lists texts g
+    → ArePlaced g.positions g.rules
 texts-placed no_texts = none_placed
 texts-placed (next_text {text} x h) = placed-both (text-placed text x) (texts-placed h)

@@ -18,6 +18,7 @@ use Rattle.abnfread.specs.Element.{Definition}
 use Rattle.abnfread.proofs.AbnfFaultLemmas.{long-fault, no-fault, one-reading}
 use Rattle.abnftexts.specs.GivenRules.{RuleGiven, fates_of}
 use Rattle.abnftexts.specs.JoinedRules.{joined_order}
+use Rattle.rfcforms.specs.declared.lists.written.ListForm.{ListForm}
 use Rattle.abnftexts.specs.JoinedGrammar.{AreTextsJoined, GrammarJoined, comment_before, first_number, gap_before}
 use Rattle.abnftexts.specs.JoinedGrammar.{goes_after_it, printed_after, rule_printed, standing_rules}
 use Rattle.abnfblocks.specs.LinkedLines.{EndsLine, lf, after_byte}
@@ -202,7 +203,8 @@ rows-spell before position (next_written {given} is (next_written {position = ne
     }
 
 -- what is written for the rules that are printed
-joined-written : {texts : List NamedText} {j : GrammarJoined} (a : AreTextsJoined texts j)
+joined-written : {lists : Option ListForm} {texts : List NamedText} {j : GrammarJoined}
+    (a : AreTextsJoined lists texts j)
     → AreWritten (joined_positions a.gathered) (joined_rules a.gathered)
 joined-written a =
     let g = a.gathered in
@@ -241,18 +243,21 @@ text-alone {positions} {definitions = definitions} (rows r) e h =
     let unplaced_same = ap (map unplaced) same ∙ like.same in
     (r.alone, r.are, unplaced_same, all-given definitions r.alone unplaced_same ∙ r.given)
 
-pub joined-reads : {texts : List NamedText} {j : GrammarJoined} → AreTextsJoined texts j → j.grammar ≢ []
+pub joined-reads : {lists : Option ListForm} {texts : List NamedText} {j : GrammarJoined}
+    → AreTextsJoined lists texts j → j.grammar ≢ []
     → length j.grammar ≤ MAX_GRAMMAR → (definitions : List Definition) × Reads j.grammar definitions
 joined-reads a some le =
     some-reads (printed-spells (joined-written a)) (ap (λ (x : GrammarJoined). x.grammar) a.is) some le
 
-pub joined-alone : {texts : List NamedText} {j : GrammarJoined} {definitions : List Definition}
-    (a : AreTextsJoined texts j) → Reads j.grammar definitions
+pub joined-alone : {lists : Option ListForm} {texts : List NamedText} {j : GrammarJoined}
+    {definitions : List Definition}
+    (a : AreTextsJoined lists texts j) → Reads j.grammar definitions
     → (alone : List Definition) × AreSpelled (joined_positions a.gathered) (joined_rules a.gathered) alone
     × SameUnplaced definitions alone × (map given_by definitions ≡ map as_written (joined_rules a.gathered))
 joined-alone a h = text-alone (printed-spells (joined-written a)) (ap (λ (x : GrammarJoined). x.grammar) a.is) h
 
-pub joined-long : {texts : List NamedText} {j : GrammarJoined} (fault : ReadFault) → AreTextsJoined texts j
+pub joined-long : {lists : Option ListForm} {texts : List NamedText} {j : GrammarJoined} (fault : ReadFault)
+    → AreTextsJoined lists texts j
     → j.grammar ≢ [] → IsFaultOf j.grammar fault → fault ≢ faults.Memory → fault ≡ faults.TooLong
 joined-long {j = j} fault a some h n =
     long-fault j.grammar (λ le. let r = joined-reads a some le in n (no-fault j.grammar r.0 fault r.1 h)) fault h

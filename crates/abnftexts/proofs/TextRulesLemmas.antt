@@ -1,6 +1,7 @@
 -- What texts give is one list of rules, and one text of reports; and the names that rules use are one list.
 -- Serves: one_joining
-use Rattle.std.proofs.Common.{◌≡◌, ◌≢◌, ℕ, List, [], ◌∷◌, ◌++◌, None, take, drop, map, refl, sym, ap, ◌∙◌, subst}
+use Rattle.std.proofs.Common.{◌≡◌, ◌≢◌, ℕ, suc, Bool, List, [], ◌∷◌, ◌++◌, Option, None, Some, drop, map}
+use Rattle.std.proofs.Common.{refl, sym, ap, ◌∙◌, subst}
 use Rattle.std.specs.List.{flat_map}
 use Rattle.lexer.specs.TokenLists.{Tok}
 use Rattle.diagnostics.specs.BodyMentions.{mentions_in}
@@ -19,9 +20,15 @@ use Rattle.abnfblocks.specs.TextLines.{NumberedLine}
 use Rattle.abnfblocks.specs.FoundRules.{AreFound}
 use Rattle.abnfblocks.specs.declared.found.RuleSearch.{RuleSearch}
 use Rattle.abnftexts.specs.RulesGathered.{NamedText, RuleLines, RulesGathered, both_given, one_rule, reported_alone}
-use Rattle.abnftexts.specs.TextPositions.{not_abnf_reported}
+use Rattle.abnfblocks.specs.RuleCuts.{lines_text}
+use Rattle.rfcforms.specs.Lists.{CutsLines, Expands}
+use Rattle.rfcforms.specs.declared.lists.written.ListForm.{ListForm}
+use Rattle.abnftexts.specs.TextPositions.{list_reported}
+use Rattle.abnftexts.specs.WrittenLists.{AreExpanded, IsFirstList, WritesLists, as_they_are, lines_alike}
+use Rattle.abnftexts.specs.WrittenLists.{lines_written, with_lists}
 use Rattle.abnftexts.specs.TextRules.{GivesFound, GivesText, GiveTexts, given_by, next_rule, next_text, no_rule}
-use Rattle.abnftexts.specs.TextRules.{no_texts, none_found, position_in}
+use Rattle.abnftexts.specs.TextRules.{IsRuleReported, asks_lists, for_fault, for_list, no_texts, none_found}
+use Rattle.abnftexts.specs.TextRules.{position_in}
 use Rattle.abnftexts.specs.UsedNames.{AreRuleUses, AreNameUses, UsedName, next_uses, no_rules, used_at}
 
 both-same : (a b c d : RulesGathered) → a ≡ b → c ≡ d → both_given a c ≡ both_given b d
@@ -38,38 +45,76 @@ pub record OneReading : Type 0 where
   pub found : (i : ℕ) (lines : List NumberedLine) (a b : List RuleSearch) → AreFound i lines a → AreFound i lines b
       → a ≡ b
   pub tokens : (text : List ℕ) (a b : List (Tok AbnfKind)) → AreTokens text a → AreTokens text b → a ≡ b
+  pub expanded : (form : ListForm) (text a b : List ℕ) → Expands form text a → Expands form text b → a ≡ b
+  pub lines : (text : List ℕ) (a b : List (List ℕ)) → CutsLines text a → CutsLines text b → a ≡ b
 
 module _ (one : OneReading) where
-  module _ (name : List ℕ) where
-    found-same : {kept : List NumberedLine} {all : List RuleSearch} {a b : RulesGathered} → GivesFound name kept all a
-        → GivesFound name kept all b → a ≡ b
+  -- lines are written in one way
+  written-same : {form : ListForm} {lines a b : List NumberedLine} {t u : List ℕ} → WritesLists form lines t a
+      → WritesLists form lines u b → (t ≡ u) × (a ≡ b)
+  written-same {form} {lines} {t = t} {u} x y =
+      let texts : t ≡ u = one.expanded form (lines_text 0 lines) t u x.expands y.expands in
+      let here : CutsLines u x.parts = subst (λ (text : List ℕ). CutsLines text x.parts) texts x.cuts in
+      let parts : x.parts ≡ y.parts = one.lines u x.parts y.parts here y.cuts in
+      (texts, x.is ∙ ap (λ (p : List (List ℕ)). lines_written lines p) parts ∙ sym y.is)
+
+  expanded-same : {lists : Option ListForm} {kept a b : List NumberedLine} → AreExpanded lists kept a
+      → AreExpanded lists kept b → a ≡ b
+  expanded-same as_they_are as_they_are = refl
+  expanded-same (with_lists x) (with_lists y) = (written-same x y).1
+
+  -- one line is the first with a list
+  list-same : {lines : List NumberedLine} {n m : ℕ} → IsFirstList lines (Some n) → IsFirstList lines (Some m) → n ≡ m
+  list-same {lines} x y =
+      let same = (written-same x.1.writes y.1.writes).1 in
+      x.2 ∙ ap (λ (written : List NumberedLine). suc (lines_alike lines written)) same ∙ sym y.2
+
+  reported-same : {asks : Bool} {name : List ℕ} {lines : List NumberedLine} {fault : ReadFault} {a b : List ℕ}
+      → IsRuleReported asks name lines fault a → IsRuleReported asks name lines fault b → a ≡ b
+  reported-same {name = name} {lines} (for_list e x) (for_list f y) =
+      ap (λ (n : ℕ). list_reported name lines n) (list-same x y)
+  reported-same (for_list e x) (for_fault none) = absurd (none e x.0 x.1)
+  reported-same (for_fault none) (for_list e x) = absurd (none e x.0 x.1)
+  reported-same (for_fault none) (for_fault others) = refl
+
+  module _ (asks : Bool) (name : List ℕ) where
+    found-same : {kept lines : List NumberedLine} {all : List RuleSearch} {a b : RulesGathered}
+        → GivesFound asks name kept lines all a → GivesFound asks name kept lines all b → a ≡ b
     found-same none_found none_found = refl
-    found-same {kept} (next_rule {first} {count} {given = r} x h) (next_rule {given = s} y k) =
+    found-same {kept} {lines} (next_rule {first} {count} {given = r} x h) (next_rule {given = s} y k) =
         let all : x.definition ∷ [] ≡ y.definition ∷ [] =
         one.definitions _ (x.definition ∷ []) (y.definition ∷ []) x.reads y.reads in
         let same : x.definition ≡ y.definition = cc in
         let rules : r ≡ s = x.is ∙ ap given_by same ∙ sym y.is in
-        both-same _ _ _ _ (ap (λ (g : RuleGiven). one_rule (position_in name (drop first kept) count) g) rules)
+        both-same _ _ _ _ (ap (λ (g : RuleGiven).
+        one_rule (position_in name (drop first kept) (drop first lines) count) g)
+        rules)
         (found-same h k)
-    found-same {kept} (no_rule {first} {count} {fault} h) (no_rule k) =
-        ap (λ (x : RulesGathered). both_given (reported_alone (not_abnf_reported name
-        (take count (drop first kept)) fault)) x)
-        (found-same h k)
+    found-same (no_rule x h) (no_rule y k) =
+        both-same _ _ _ _ (ap (λ (r : List ℕ). reported_alone r) (reported-same x y)) (found-same h k)
 
-  text-same : (text : NamedText) (a b : RulesGathered) → GivesText text a → GivesText text b → a ≡ b
-  text-same text a b x y =
+  text-same : (lists : Option ListForm) (text : NamedText) (a b : RulesGathered) → GivesText lists text a
+      → GivesText lists text b → a ≡ b
+  text-same lists text a b x y =
+      let asks : Bool = asks_lists lists in
       let kept : x.kept ≡ y.kept = one.kept _ x.kept y.kept x.keeps y.keeps in
-      let here : AreFound 0 y.kept x.all_found =
-      subst (λ (lines : List NumberedLine). AreFound 0 lines x.all_found) kept x.are_found in
-      let all : x.all_found ≡ y.all_found = one.found 0 y.kept x.all_found y.all_found here y.are_found in
-      let gives : GivesFound text.name y.kept x.all_found a =
-      subst (λ (lines : List NumberedLine). GivesFound text.name lines x.all_found a) kept x.gives in
-      found-same text.name
-      (subst (λ (found : List RuleSearch). GivesFound text.name y.kept found a) all gives) y.gives
+      let written : AreExpanded lists y.kept x.lines =
+      subst (λ (rows : List NumberedLine). AreExpanded lists rows x.lines) kept x.written in
+      let lines : x.lines ≡ y.lines = expanded-same written y.written in
+      let here : AreFound 0 y.lines x.all_found =
+      subst (λ (rows : List NumberedLine). AreFound 0 rows x.all_found) lines x.are_found in
+      let all : x.all_found ≡ y.all_found = one.found 0 y.lines x.all_found y.all_found here y.are_found in
+      let gives : GivesFound asks text.name y.kept x.lines x.all_found a =
+      subst (λ (rows : List NumberedLine). GivesFound asks text.name rows x.lines x.all_found a) kept x.gives in
+      let there : GivesFound asks text.name y.kept y.lines x.all_found a =
+      subst (λ (rows : List NumberedLine). GivesFound asks text.name y.kept rows x.all_found a) lines gives in
+      found-same asks text.name
+      (subst (λ (found : List RuleSearch). GivesFound asks text.name y.kept y.lines found a) all there) y.gives
 
-  pub texts-same : {texts : List NamedText} {a b : RulesGathered} → GiveTexts texts a → GiveTexts texts b → a ≡ b
+  pub texts-same : {lists : Option ListForm} {texts : List NamedText} {a b : RulesGathered} → GiveTexts lists texts a
+      → GiveTexts lists texts b → a ≡ b
   texts-same no_texts no_texts = refl
-  texts-same (next_text x h) (next_text y k) = both-same _ _ _ _ (text-same _ _ _ x y) (texts-same h k)
+  texts-same (next_text x h) (next_text y k) = both-same _ _ _ _ (text-same _ _ _ _ x y) (texts-same h k)
 
   rule-uses : (position : RuleLines) (a b : List UsedName) → AreRuleUses position a → AreRuleUses position b → a ≡ b
   rule-uses position a b x y =

@@ -10,6 +10,7 @@ use Rattle.abnfblocks.specs.TextLines.{NumberedLine}
 use Rattle.abnftexts.specs.GivenRules.{RuleGiven}
 use Rattle.abnftexts.specs.JoinedGrammar.{has_stayed, standing}
 use Rattle.abnfblocks.specs.LinkedLines.{EndsLine, lf, after_byte}
+use Rattle.abnftexts.specs.NamedRules.{source_of}
 use Rattle.abnftexts.specs.NamedRules.{AreLinesNamed, no_lines, next_line, ArePositionsNamed, rules_end, positions_end}
 use Rattle.abnftexts.specs.NamedRules.{one_position, IsPositionNamed, is_named, stays, IsRuleNamed, same_rule}
 use Rattle.abnftexts.specs.NamedRules.{read_again}
@@ -19,6 +20,7 @@ use Rattle.abnftexts.specs.SpelledRules.{as_written}
 use Rattle.abnftexts.specs.TextRules.{SpellRule}
 use Rattle.abnftexts.specs.declared.join.fate.Fate.{Fate}
 use Rattle.abnftexts.proofs.ClearLinesLemmas.{AreInside, IsClear}
+use Rattle.std.proofs.Common.{drop}
 use Rattle.abnftexts.proofs.EachLemmas.{Each, each_none, each_next, each-both, each-drop}
 use Rattle.abnftexts.proofs.PlacedRulesLemmas.{ArePlaced, IsPlaced, none_placed, next_placed}
 use Rattle.abnftexts.proofs.RuleTextLemmas.{LetterFirst, letter-first, line-after, rule-text}
@@ -59,24 +61,33 @@ placed-written {position} {given} is =
       spells = spells-written given is.spells refl;
     }
 
-module _ {known : List ℕ → Bool} {own : List ℕ} {m : ℕ} where
-  named-end : {line : NumberedLine} {lines : List NumberedLine} {comments text : List ℕ}
-      → AreLinesNamed known own m (line ∷ lines) comments text → EndsLine text
-  named-end (next_line {new} h no_lines) = line-after new lf
-  named-end (next_line {new} h (next_line {line} {lines} k more)) =
-      line-after new (after_byte (named-end {line = line} {lines = lines} (next_line {line = line} k more)))
+-- a line as its text has it is clear
+source-clear : {sources : List NumberedLine} {line : NumberedLine} → Each IsClear sources → IsClear line
+    → IsClear (source_of sources line)
+source-clear each_none c = c
+source-clear (each_next d clear) c = d
 
-  named-comments : {lines : List NumberedLine} {comments text : List ℕ} → Each IsClear lines
-      → AreLinesNamed known own m lines comments text → AreComments comments
-  named-comments clear no_lines = no_comments
-  named-comments (each_next {x = line} c clear) (next_line {new} h more) =
-      let bare = bare_line m line in
-      let rest = named-comments clear more in
+module _ {known : List ℕ → Bool} {own : List ℕ} {m : ℕ} where
+  named-end : {sources : List NumberedLine} {line : NumberedLine} {lines : List NumberedLine} {comments text : List ℕ}
+      → AreLinesNamed known own m sources (line ∷ lines) comments text → EndsLine text
+  named-end (next_line {new} h no_lines) = line-after new lf
+  named-end {sources} (next_line {new} h (next_line {line} {lines} k more)) =
+      line-after new (after_byte (named-end {sources = drop 1 sources} {line = line} {lines = lines}
+      (next_line {line = line} k more)))
+
+  named-comments : {sources lines : List NumberedLine} {comments text : List ℕ} → Each IsClear sources
+      → Each IsClear lines → AreLinesNamed known own m sources lines comments text → AreComments comments
+  named-comments sources clear no_lines = no_comments
+  named-comments {sources = others} sources (each_next {x = line} c clear) (next_line {new} h more) =
+      let bare = bare_line m (source_of others line) in
+      let rest = named-comments (each-drop 1 sources) clear more in
+      let own = source-clear sources c in
       elim (cases_Bool (bytes_eq bare new)) [
         | inl e ↦ rw e rest
         | inr e ↦ rw e (a_comment (32 ∷ 102 ∷ 114 ∷ 111 ∷ 109 ∷ 58 ∷ 32 ∷ bare)
             (each-both (each_next refl (each_next refl (each_next refl (each_next refl (each_next refl (each_next refl
-            (each_next refl each_none))))))) (each-drop (min m (margin_of line.bytes)) c.inside)) rest)
+            (each_next refl each_none)))))))
+            (each-drop (min m (margin_of (source_of others line).bytes)) own.inside)) rest)
       ]
 
 -- a rule with its names is written so
@@ -89,7 +100,7 @@ rule-written {rule = rule} is (is_named {comments} {text} lines some named) (rea
     let own = is.own in
     let rows = own.whole in
     record {
-      comments = named-comments own.clear lines;
+      comments = named-comments is.sources own.clear lines;
       first = letter-first text named.letter;
       line = (let here = rw rows at lines in named-end here);
       spells = spells-written (with_prose rule.is_prose given) spells refl;

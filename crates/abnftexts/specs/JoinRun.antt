@@ -1,5 +1,5 @@
 -- What a run states that joins texts.
-use Rattle.std.specs.Prelude.{◌≡◌, ◌≢◌, ℕ, ◌==◌, ◌||◌, Bool, List, [], length, if◌then◌else◌}
+use Rattle.std.specs.Prelude.{◌≡◌, ◌≢◌, ℕ, ◌==◌, ◌||◌, Bool, List, Option, [], length, if◌then◌else◌}
 use Rattle.ruletable.specs.declared.fault.ReadFault.{ReadFault}
 use Rattle.ruletable.specs.declared.fault.ReadFault.TheVariants as faults
 use Rattle.abnfread.specs.AbnfReading.{Reads, IsFaultOf}
@@ -15,9 +15,10 @@ use Rattle.toolrun.specs.declared.status.Status.{Status}
 use Rattle.toolrun.specs.declared.status.Status.TheVariants as status
 use Rattle.toolrun.specs.declared.stop.Stop.TheVariants.{NoMemory, Refused}
 use Rattle.abnftexts.specs.JoinedGrammar.{AreTextsJoined, GrammarJoined}
+use Rattle.rfcforms.specs.declared.lists.written.ListForm.{ListForm}
 use Rattle.abnftexts.specs.RulesGathered.{NamedText}
-use Rattle.abnftexts.specs.declared.run.JoinForm.{JoinForm}
-use Rattle.abnftexts.specs.declared.run.JoinForm.TheVariants.{Plain, Canonical, Listed}
+use Rattle.abnftexts.specs.declared.joined.JoinForm.{JoinForm}
+use Rattle.abnftexts.specs.declared.joined.JoinForm.TheVariants.{Plain, Canonical, Listed}
 
 -- the canonical text of a grammar's definitions
 abbrev pub canonical_of : List Definition → List ℕ
@@ -57,8 +58,10 @@ pub data TriedReply (form : JoinForm) (j : GrammarJoined) : Reply → Type 0 whe
   refused : {fault : ReadFault} → form ≢ Listed → j.grammar ≢ [] → IsFaultOf j.grammar fault → fault ≢ faults.Memory
       → TriedReply form j (stopped (Refused fault))
 
--- What is stated for texts and a form: the reports on the texts first, and the reply. There is no input.
-pub data JoinStates (texts : List NamedText) (form : JoinForm) (input : Input) : List ℕ → Reply → Type 0 where
-  joins : {j : GrammarJoined} {reply : Reply} → AreTextsJoined texts j → JoinedReply form j reply
-      → JoinStates texts form input j.reported reply
-  no_room : JoinStates texts form input [] (stopped NoMemory)
+-- What is stated for texts, a form of lists, and a form: the reports on the texts first, and the reply. There is no
+-- input.
+pub data JoinStates (texts : List NamedText) (lists : Option ListForm) (form : JoinForm) (input : Input)
+    : List ℕ → Reply → Type 0 where
+  joins : {j : GrammarJoined} {reply : Reply} → AreTextsJoined lists texts j → JoinedReply form j reply
+      → JoinStates texts lists form input j.reported reply
+  no_room : JoinStates texts lists form input [] (stopped NoMemory)

@@ -9,6 +9,7 @@ use Rattle.abnftexts.specs.declared.join.fate.Fate.{Fate}
 use Rattle.abnftexts.specs.declared.join.fate.Fate.TheVariants.{Stands, Again, Yields}
 use Rattle.abnftexts.specs.declared.join.order.Clash.{Clash}
 use Rattle.abnftexts.specs.RulesGathered.{NamedText, RuleLines, RulesGathered}
+use Rattle.rfcforms.specs.declared.lists.written.ListForm.{ListForm}
 use Rattle.abnftexts.specs.NamedRules.{AreRenamed}
 use Rattle.abnftexts.specs.TextRules.{GiveTexts}
 use Rattle.abnftexts.specs.UsedNames.{AreNameUses, UsedName, undefined_reported}
@@ -136,10 +137,10 @@ abbrev pub gathered_joined : RulesGathered → List UsedName → GrammarJoined
 gathered_joined g uses = joined_of (standing_positions g) (standing_rules g) uses g.reported
     (rules_listed g.positions g.rules (fates_of g.rules))
 
--- that of all texts: what they give, where names lose angle brackets
-pub record AreTextsJoined (texts : List NamedText) (joined : GrammarJoined) : Type 0 where
+-- that of all texts: what they give, with lists in that form, where names lose angle brackets
+pub record AreTextsJoined (lists : Option ListForm) (texts : List NamedText) (joined : GrammarJoined) : Type 0 where
   pub given : RulesGathered
-  pub gives : GiveTexts texts given
+  pub gives : GiveTexts lists texts given
   pub gathered : RulesGathered
   pub names : AreRenamed given gathered
   pub uses : List UsedName

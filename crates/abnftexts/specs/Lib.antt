@@ -9,6 +9,7 @@ pub mod TakenRules
 pub mod TextPositions
 pub mod TextRules
 pub mod UsedNames
+pub mod WrittenLists
 pub mod ListedRules
 pub mod RuleKeys
 pub mod GivenRules

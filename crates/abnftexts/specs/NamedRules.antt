@@ -50,14 +50,21 @@ comment_of line new = if bytes_eq line new then [] else codes "; from: " ++ (lin
 abbrev pub bare_line : ℕ → NumberedLine → List ℕ
 bare_line margin line = drop (min margin (margin_of line.bytes)) line.bytes
 
--- the comments on lines, and the text that is written for them
-pub data AreLinesNamed (known : List ℕ → Bool) (own : List ℕ) (margin : ℕ) : List NumberedLine → List ℕ → List ℕ
-    → Type 0 where
-  no_lines : AreLinesNamed known own margin [] [] []
-  next_line : {line : NumberedLine} {lines : List NumberedLine} {new comments text : List ℕ}
-      → IsLineNamed known own (bare_line margin line) new → AreLinesNamed known own margin lines comments text
-      → AreLinesNamed known own margin (line ∷ lines) (comment_of (bare_line margin line) new ++ comments)
-      (new ++ (codes "\n" ++ text))
+-- the first of the lines as their text has them, or else that one
+abbrev pub source_of : List NumberedLine → NumberedLine → NumberedLine
+source_of [] line = line
+source_of (source ∷ sources) line = source
+
+-- The comments on lines, and the text that is written for them. The first lines are these as their text has them.
+pub data AreLinesNamed (known : List ℕ → Bool) (own : List ℕ) (margin : ℕ)
+    : List NumberedLine → List NumberedLine → List ℕ → List ℕ → Type 0 where
+  no_lines : {sources : List NumberedLine} → AreLinesNamed known own margin sources [] [] []
+  next_line : {sources : List NumberedLine} {line : NumberedLine} {lines : List NumberedLine}
+      {new comments text : List ℕ}
+      → IsLineNamed known own (bare_line margin line) new
+      → AreLinesNamed known own margin (drop 1 sources) lines comments text
+      → AreLinesNamed known own margin sources (line ∷ lines)
+      (comment_of (bare_line margin (source_of sources line)) new ++ comments) (new ++ (codes "\n" ++ text))
 
 -- The text is not indented, and spells the rule, but that names may stand for prose.
 pub record SpellsNamed (rule : RuleGiven) (text : List ℕ) : Type 0 where
@@ -68,17 +75,20 @@ pub record SpellsNamed (rule : RuleGiven) (text : List ℕ) : Type 0 where
 
 -- where a rule stands with its names: some line is written otherwise, or none is
 pub data IsPositionNamed (known : List ℕ → Bool) (rule : RuleGiven) (position : RuleLines) : RuleLines → Type 0 where
-  is_named : {comments text : List ℕ} → AreLinesNamed known rule.name position.margin position.lines comments text
+  is_named : {comments text : List ℕ} → AreLinesNamed known rule.name position.margin position.sources
+      position.lines comments text
       → comments ≢ [] → SpellsNamed rule text
       → IsPositionNamed known rule position (record {
         name = position.name;
         margin = position.margin;
+        sources = position.sources;
         lines = position.lines;
         blanks = position.blanks;
         comments = comments;
         text = text;
       })
-  stays : {comments text : List ℕ} → AreLinesNamed known rule.name position.margin position.lines comments text
+  stays : {comments text : List ℕ} → AreLinesNamed known rule.name position.margin position.sources
+      position.lines comments text
       → (comments ≢ [] → SpellsNamed rule text → ⊥) → IsPositionNamed known rule position position
 
 -- the rules with their positions, and these positions with names

@@ -11,11 +11,12 @@ pub record NamedText : Type 0 where
   pub name : List ℕ
   pub bytes : List ℕ
 
--- where a rule stands: the name of its text, its lines, the margin that is cut from them, how many blank lines follow
--- them, and what is written for them: comments, and the rule
+-- where a rule stands: the name of its text, the lines there, the same with lists written out, the margin that is cut
+-- from them, how many blank lines follow them, and what is written for them: comments, and the rule
 pub record RuleLines : Type 0 where
   pub name : List ℕ
   pub margin : ℕ
+  pub sources : List NumberedLine
   pub lines : List NumberedLine
   pub blanks : ℕ
   pub comments : List ℕ
@@ -35,6 +36,7 @@ abbrev pub lines_placed : RulePosition → RuleLines
 lines_placed position = record {
   name = position.name.now;
   margin = position.margin;
+  sources = map numbered position.sources.items;
   lines = map numbered position.lines.items;
   blanks = position.blanks;
   comments = position.comments.items;

@@ -1,16 +1,38 @@
 -- What stands after what was gathered so far. It serves private helpers alone.
-use Rattle.std.specs.Prelude.{◌≡◌, ℕ, Bool, true, false, Option, None, Some, List, [], ◌∷◌, take}
+use Rattle.std.specs.Prelude.{◌≡◌, ℕ, Bool, true, false, Option, None, Some, List, [], ◌∷◌, ◌++◌, map, take}
 use Rattle.abnfread.specs.AbnfReading.{Reads}
 use Rattle.abnfread.specs.Element.{Definition}
-use Rattle.abnfblocks.specs.MaskedLines.{AreRead}
+use Rattle.abnfblocks.specs.MaskedLines.{AreRead, ReadsLines}
 use Rattle.abnfblocks.specs.FoundRules.{AreFound}
-use Rattle.abnfblocks.specs.TextLines.{NumberedLine}
+use Rattle.abnfblocks.specs.TextLines.{NumberedLine, numbered}
 use Rattle.abnfblocks.specs.RuleCuts.{lines_text, margin_at}
 use Rattle.abnfblocks.specs.declared.found.RuleSearch.{RuleSearch}
 use Rattle.abnftexts.specs.GivenRules.{RuleGiven}
 use Rattle.abnftexts.specs.NamedRules.{SpellsNamed}
-use Rattle.abnftexts.specs.RulesGathered.{RulesGathered, both_given, one_rule}
-use Rattle.abnftexts.specs.TextRules.{GivesFound, SpellRule, given_by, position_in}
+use Rattle.abnftexts.specs.RulesGathered.{NamedText, RulesGathered, both_given, one_rule}
+use Rattle.abnftexts.specs.WrittenLists.{AreExpanded}
+use Rattle.ruletable.specs.declared.fault.ReadFault.{ReadFault}
+use Rattle.abnftexts.specs.ShownTexts.{IsShown}
+use Rattle.abnftexts.specs.declared.gathered.ShownText.{ShownText}
+use Rattle.abnftexts.specs.declared.gathered.WrittenText.{WrittenText}
+use Rattle.rfcforms.specs.declared.lists.written.ListForm.{ListForm}
+use Rattle.abnftexts.specs.TextRules.{GivesFound, IsRuleReported, SpellRule, asks_lists, given_by, position_in}
+
+-- a text: its name, its lines, the same with lists written out, and whether lists are looked for
+pub record TextRows : Type 0 where
+  pub name : List ℕ
+  pub kept : List NumberedLine
+  pub lines : List NumberedLine
+  pub asks : Bool
+
+-- what the code's text stands for
+abbrev pub text_rows : WrittenText → TextRows
+text_rows text = record {
+  name = text.name.now;
+  kept = map numbered text.kept.items;
+  lines = map numbered text.lines.items;
+  asks = text.asks;
+}
 
 -- what is given for which that holds stands after what was gathered
 abbrev pub TakesMore : (RulesGathered → Type 0) → RulesGathered → RulesGathered → Type 0
@@ -27,13 +49,26 @@ IsNamedOutcome rule text true = SpellsNamed rule text
 IsNamedOutcome rule text false = SpellsNamed rule text → ⊥
 
 -- where so many of these lines alone spell one definition, that rule stands there
-abbrev pub TakesRule : List ℕ → List NumberedLine → ℕ → RulesGathered → RulesGathered → Type 0
-TakesRule name rest count old new = (d : Definition)
+abbrev pub TakesRule : List ℕ → List NumberedLine → List NumberedLine → ℕ → RulesGathered → RulesGathered → Type 0
+TakesRule name sources rest count old new = (d : Definition)
     → Reads (lines_text (margin_at (take count rest)) (take count rest)) (d ∷ [])
-    → new ≡ both_given old (one_rule (position_in name rest count) (given_by d))
+    → new ≡ both_given old (one_rule (position_in name sources rest count) (given_by d))
 
--- where the lines are read of a text and that is found, what these give stands there
-abbrev pub TakesFound : List ℕ → List NumberedLine → List RuleSearch → RulesGathered → RulesGathered → Type 0
-TakesFound name kept found old new =
-    (text : List ℕ) → AreRead text kept → AreFound 0 kept found
-    → TakesMore (GivesFound name kept found) old new
+-- where the lines are read of a text, others are written for them, and that is found, what these give stands there
+abbrev pub TakesFound : TextRows → List RuleSearch → RulesGathered → RulesGathered → Type 0
+TakesFound rows found old new =
+    (text : List ℕ) (lists : Option ListForm) → AreRead text rows.kept → AreExpanded lists rows.kept rows.lines
+    → AreFound 0 rows.lines found → TakesMore (GivesFound rows.asks rows.name rows.kept rows.lines found) old new
+
+-- the report of a rule that is no ABNF follows
+abbrev pub AddsReport : Bool → List ℕ → List NumberedLine → ReadFault → List ℕ → List ℕ → Type 0
+AddsReport asks name lines fault old new =
+    (more : List ℕ) × IsRuleReported asks name lines fault more × (new ≡ old ++ more)
+
+-- a text with these lines has what is written for them, in the form that it is shown in
+pub record AreTextRows (shown : ShownText) (kept : List NumberedLine) (rows : TextRows) : Type 0 where
+  pub name : rows.name ≡ shown.name.now
+  pub kept_are : rows.kept ≡ kept
+  pub lists_are : (lists : Option ListForm) (text : NamedText) → IsShown lists text shown
+      → ReadsLines shown.of_xml shown.bytes.items kept
+      → AreExpanded lists kept rows.lines × (rows.asks ≡ asks_lists lists)

@@ -2,7 +2,7 @@
 use Rattle.std.specs.Prelude.{ℕ, ◌-◌, min, List, ◌++◌, length, map, codes, decimal, slice_index}
 use Rattle.diagnostics.specs.ShownBytes.{shown}
 use Rattle.abnfblocks.specs.TextLines.{NumberedLine}
-use Rattle.ruletable.specs.Faults.{fault_text}
+use Rattle.ruletable.specs.Faults.{at_line, fault_text}
 use Rattle.ruletable.specs.declared.fault.ReadFault.{ReadFault}
 use Rattle.ruletable.specs.declared.fault.ReadFault.TheVariants.{Syntax, Depth, CodePredicate, TooLong, Memory}
 use Rattle.ruletable.specs.declared.fault.ReadFault.TheVariants.{NumberTooLarge}
@@ -28,3 +28,8 @@ fault_in lines (NumberTooLarge line) = NumberTooLarge (number_at lines line)
 abbrev pub not_abnf_reported : List ℕ → List NumberedLine → ReadFault → List ℕ
 not_abnf_reported name lines fault = position_shown name (number_at lines 1) ++ (codes ": not ABNF: "
     ++ fault_text (fault_in lines fault))
+
+-- the report of a rule that has these lines and reads only with its lists, of which that line has the first
+abbrev pub list_reported : List ℕ → List NumberedLine → ℕ → List ℕ
+list_reported name lines n = position_shown name (number_at lines 1) ++ (codes ": not ABNF: "
+    ++ at_line (number_at lines n) (codes "list of RFC 9110: use --expand"))

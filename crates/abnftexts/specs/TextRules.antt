@@ -1,5 +1,6 @@
 -- Which rules texts give, each with its own lines; and the reports of lines that begin a rule and are no ABNF.
-use Rattle.std.specs.Prelude.{◌≡◌, ℕ, ◌&&◌, not, List, [], ◌∷◌, take, drop}
+use Rattle.std.specs.Prelude.{◌≡◌, ℕ, ◌&&◌, not, Bool, true, false, Option, None, Some, List, [], ◌∷◌}
+use Rattle.std.specs.Prelude.{take, drop}
 use Rattle.ruletable.specs.declared.fault.ReadFault.{ReadFault}
 use Rattle.abnfread.specs.AbnfReading.{Reads}
 use Rattle.abnfread.specs.AbnfTable.{first_body}
@@ -15,7 +16,9 @@ use Rattle.abnfblocks.specs.declared.found.RuleSearch.{RuleSearch}
 use Rattle.abnfblocks.specs.declared.found.RuleSearch.TheVariants as found
 use Rattle.abnftexts.specs.RulesGathered.{NamedText, RuleLines, RulesGathered, both_given, none_given, one_rule}
 use Rattle.abnftexts.specs.RulesGathered.{reported_alone}
-use Rattle.abnftexts.specs.TextPositions.{not_abnf_reported}
+use Rattle.abnftexts.specs.TextPositions.{list_reported, not_abnf_reported}
+use Rattle.abnftexts.specs.WrittenLists.{AreExpanded, IsFirstList}
+use Rattle.rfcforms.specs.declared.lists.written.ListForm.{ListForm}
 
 -- The rule that a definition is, wherever its name stands: what adds to a core rule (RFC 5234, appendix B.1) has that
 -- rule's alternatives before its own.
@@ -33,41 +36,61 @@ pub record SpellRule (text : List ℕ) (given : RuleGiven) : Type 0 where
   pub reads : Reads text (definition ∷ [])
   pub is : given ≡ given_by definition
 
--- where the rule stands that has so many of these lines; they are written without the margin
-abbrev pub position_in : List ℕ → List NumberedLine → ℕ → RuleLines
-position_in name rest count = record {
+-- where the rule stands that has so many of these lines, with lists written out; they are written without the margin
+abbrev pub position_in : List ℕ → List NumberedLine → List NumberedLine → ℕ → RuleLines
+position_in name sources rest count = record {
   name = name;
   margin = margin_at (take count rest);
+  sources = take count sources;
   lines = take count rest;
   blanks = blanks_first (drop count rest);
   comments = [];
   text = lines_text (margin_at (take count rest)) (take count rest);
 }
 
--- What is found in a text of which these lines are read gives that: each rule what its lines alone spell, and each line
--- that begins no ABNF a report.
-pub data GivesFound (name : List ℕ) (kept : List NumberedLine) : List RuleSearch → RulesGathered → Type 0 where
-  none_found : GivesFound name kept [] none_given
-  next_rule : {first count : ℕ} {others : List RuleSearch} {given : RuleGiven} {after : RulesGathered}
-      → SpellRule (lines_text (margin_at (take count (drop first kept))) (take count (drop first kept))) given
-      → GivesFound name kept others after
-      → GivesFound name kept (found.Rule first count ∷ others)
-      (both_given (one_rule (position_in name (drop first kept) count) given) after)
-  no_rule : {first count : ℕ} {fault : ReadFault} {others : List RuleSearch} {after : RulesGathered}
-      → GivesFound name kept others after
-      → GivesFound name kept (found.NotAbnf first count fault ∷ others)
-      (both_given (reported_alone (not_abnf_reported name (take count (drop first kept)) fault)) after)
+-- The report of a rule that is no ABNF, by its lines and their fault. Where that is asked for, a rule that reads with
+-- its lists (RFC 9110, section 5.6.1) is reported for the first of them.
+pub data IsRuleReported (asks : Bool) (name : List ℕ) (lines : List NumberedLine) (fault : ReadFault)
+    : List ℕ → Type 0 where
+  for_list : {n : ℕ} → asks ≡ true → IsFirstList lines (Some n)
+      → IsRuleReported asks name lines fault (list_reported name lines n)
+  for_fault : (asks ≡ true → IsFirstList lines None)
+      → IsRuleReported asks name lines fault (not_abnf_reported name lines fault)
 
--- what a text gives
-pub record GivesText (text : NamedText) (given : RulesGathered) : Type 0 where
+-- What is found gives that, where the first lines are those that are read of a text, and these are as they are written:
+-- each rule what its lines alone spell, and each line that begins no ABNF a report.
+pub data GivesFound (asks : Bool) (name : List ℕ) (kept lines : List NumberedLine)
+    : List RuleSearch → RulesGathered → Type 0 where
+  none_found : GivesFound asks name kept lines [] none_given
+  next_rule : {first count : ℕ} {others : List RuleSearch} {given : RuleGiven} {after : RulesGathered}
+      → SpellRule (lines_text (margin_at (take count (drop first lines))) (take count (drop first lines))) given
+      → GivesFound asks name kept lines others after
+      → GivesFound asks name kept lines (found.Rule first count ∷ others)
+      (both_given (one_rule (position_in name (drop first kept) (drop first lines) count) given) after)
+  no_rule : {first count : ℕ} {fault : ReadFault} {others : List RuleSearch} {reported : List ℕ}
+      {after : RulesGathered}
+      → IsRuleReported asks name (take count (drop first lines)) fault reported
+      → GivesFound asks name kept lines others after
+      → GivesFound asks name kept lines (found.NotAbnf first count fault ∷ others)
+      (both_given (reported_alone reported) after)
+
+-- lists are looked for where none is written out
+abbrev pub asks_lists : Option ListForm → Bool
+asks_lists None = true
+asks_lists (Some form) = false
+
+-- what a text gives, with its lists written out in that form, if there is one
+pub record GivesText (lists : Option ListForm) (text : NamedText) (given : RulesGathered) : Type 0 where
   pub kept : List NumberedLine
   pub keeps : AreRead (after_mark text.bytes) kept
+  pub lines : List NumberedLine
+  pub written : AreExpanded lists kept lines
   pub all_found : List RuleSearch
-  pub are_found : AreFound 0 kept all_found
-  pub gives : GivesFound text.name kept all_found given
+  pub are_found : AreFound 0 lines all_found
+  pub gives : GivesFound (asks_lists lists) text.name kept lines all_found given
 
 -- what texts give, one after another
-pub data GiveTexts : List NamedText → RulesGathered → Type 0 where
-  no_texts : GiveTexts [] none_given
-  next_text : {text : NamedText} {texts : List NamedText} {here after : RulesGathered} → GivesText text here
-      → GiveTexts texts after → GiveTexts (text ∷ texts) (both_given here after)
+pub data GiveTexts (lists : Option ListForm) : List NamedText → RulesGathered → Type 0 where
+  no_texts : GiveTexts lists [] none_given
+  next_text : {text : NamedText} {texts : List NamedText} {here after : RulesGathered} → GivesText lists text here
+      → GiveTexts lists texts after → GiveTexts lists (text ∷ texts) (both_given here after)

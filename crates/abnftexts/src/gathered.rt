@@ -21,6 +21,21 @@ pub(crate) struct ShownText<'a> {
     pub(crate) bytes: Vec<u8>,
     /// Whether they are the contents of an XML text.
     pub(crate) of_xml: bool,
+    /// The lines with lists written out, where that is asked for.
+    pub(crate) written: Option<Vec<u8>>,
+}
+
+/// A text with its lines.
+#[derive(Drop)]
+pub(crate) struct WrittenText<'a> {
+    /// The name in reports of positions.
+    pub(crate) name: &'a [u8],
+    /// The lines that are read.
+    pub(crate) kept: Vec<TextLine<'a>>,
+    /// The same with lists written out, where that is asked for.
+    pub(crate) lines: Vec<TextLine<'a>>,
+    /// Whether lists are looked for in rules that are no ABNF.
+    pub(crate) asks: bool,
 }
 
 /// The position of a rule in a text.
@@ -30,7 +45,9 @@ pub(crate) struct RulePosition<'a> {
     pub(crate) name: &'a [u8],
     /// The margin that is cut off, in bytes.
     pub(crate) margin: usize,
-    /// The lines of the rule.
+    /// The lines of the rule, as the text has them.
+    pub(crate) sources: Vec<TextLine<'a>>,
+    /// The same with lists written out.
     pub(crate) lines: Vec<TextLine<'a>>,
     /// How many blank lines follow them.
     pub(crate) blanks: usize,

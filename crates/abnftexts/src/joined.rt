@@ -15,8 +15,20 @@ use crate::stands::kept_standing;
 use crate::taken::take_texts;
 use crate::undefined::push_undefined;
 use crate::uses::uses_in;
+use rfcforms::ListForm;
 use ruletable::Memory;
 use std::alloc::Global;
+
+/// The form in which a joined grammar is written.
+#[derive(Clone, Copy)]
+pub enum JoinForm {
+    /// Its rules as their texts have them.
+    Plain,
+    /// Its canonical text.
+    Canonical,
+    /// A line for each rule that the texts give, with what becomes of it.
+    Listed,
+}
 
 /// The grammar that several texts make up.
 #[derive(Drop)]
@@ -84,24 +96,29 @@ fn join_gathered(alloc: Global, gathered: Gathered<'_>) -> Result<JoinedTexts, M
 /// Returns the grammar that texts make up, one after another, and the reports on them.
 ///
 /// The rules are those that `find_rules` finds, each read alone. A byte order mark in front of a text is skipped. Of an
-/// XML text the contents of `<sourcecode>` and `<artwork>` are read, as `source_text` says. A name in angle brackets is
-/// written without these, if it is that of a core rule or of a rule of some text, and not of the rule in which it
-/// stands. Comments before the rule then have the lines as they were: `; from: LINE`. A rule that is the same as one
-/// before it is left out, and so is one of prose alone where a definition of that name has elements. What adds to a
-/// name follows its definition. The rules are printed as their texts have them, without the margin. Where only blank
-/// lines stand between a rule and the one printed before it, as many empty lines stand there. A comment names the
-/// position of each other rule: `; NAME:LINE`.
+/// XML text the contents of `<sourcecode>` and `<artwork>` are read, as `source_text` says. Lists are written out
+/// first, as `expanded_text` says, if a form is asked for. A name in angle brackets is written without these, if it is
+/// that of a core rule or of a rule of some text, and not of the rule in which it stands. Comments before the rule then
+/// have the lines as they were: `; from: LINE`. A rule that is the same as one before it is left out, and so is one of
+/// prose alone where a definition of that name has elements. What adds to a name follows its definition. The rules are
+/// printed as their texts have them, without the margin. Where only blank lines stand between a rule and the one
+/// printed before it, as many empty lines stand there. A comment names the position of each other rule: `; NAME:LINE`.
 ///
-/// The reports name each line that begins a rule and is no ABNF, and two different definitions of a name, which both
-/// stand. They name the first use of each name that neither a rule nor a core rule (RFC 5234, appendix B.1) has. They
-/// say if there is no rule.
+/// The reports name each line that begins a rule and is no ABNF. Where no form of lists is asked for, they say which of
+/// these rules read with their lists. They name two different definitions of a name, which both stand. They name the
+/// first use of each name that neither a rule nor a core rule (RFC 5234, appendix B.1) has. They say if there is no
+/// rule.
 ///
 /// # Errors
 /// `Memory` if an allocation fails.
-pub fn join_texts(alloc: Global, texts: &[SourceText<'_>]) -> Result<JoinedTexts, Memory>
-    ensures { IfOk result (λ joined. AreTextsJoined (map named_text texts.now) (grammar_joined joined)) }
+pub fn join_texts(
+    alloc: Global,
+    texts: &[SourceText<'_>],
+    lists: Option<ListForm>,
+) -> Result<JoinedTexts, Memory>
+    ensures { IfOk result (λ joined. AreTextsJoined lists (map named_text texts.now) (grammar_joined joined)) }
 {
-    let shown = shown_texts(alloc, texts)?;
+    let shown = shown_texts(alloc, texts, lists)?;
     let given = take_texts(alloc, &shown)?;
     let gathered = name_rules(alloc, given)?;
     join_gathered(alloc, gathered)

@@ -1,5 +1,5 @@
 //! Laws of what is stated for texts: there is at most one joined grammar, and one reply; and what the grammar reads as.
-ghost use Rattle.std.specs.Prelude.{◌≡◌, ◌≢◌, ◌≤◌, ℕ, List, [], length, map};
+ghost use Rattle.std.specs.Prelude.{◌≡◌, ◌≢◌, ◌≤◌, ℕ, List, [], Option, length, map};
 ghost use Rattle.abnfread.specs.AbnfReading.{IsFaultOf, Reads};
 ghost use Rattle.abnfread.specs.Element.{Definition};
 ghost use Rattle.lexer.specs.GrammarLimits.{max_grammar};
@@ -11,40 +11,45 @@ ghost use Rattle.abnftexts.specs.TextRules.{given_by};
 ghost use Rattle.toolrun.specs.Input.{Input};
 ghost use Rattle.toolrun.specs.Reply.{Reply};
 
-use crate::run::JoinForm;
+use crate::joined::JoinForm;
 use abnfblocks::{one_finding, one_masking};
 use abnfread::{AbnfKind, one_reading};
 use lexer::one_list;
+use rfcforms::{ListForm, one_expansion};
 use ruletable::ReadFault;
 
 /// Says that texts make up at most one joined grammar. The reports on them and the reply of a run that joins them in a
 /// form are one too, but for those that report `out of memory`, status 5.
 pub fn one_joining()
-    ensures joined { (texts : List NamedText) (a b : GrammarJoined) → AreTextsJoined texts a → AreTextsJoined texts b
-        → a ≡ b }
-    ensures stated { (texts : List NamedText) (form : JoinForm) (input : Input) (notes others : List ℕ) (a b : Reply)
-        → JoinStates texts form input notes a → JoinStates texts form input others b → a.status ≢ 5 → b.status ≢ 5
-        → (notes ≡ others) × (a ≡ b) }
+    ensures joined { (lists : Option ListForm) (texts : List NamedText) (a b : GrammarJoined)
+        → AreTextsJoined lists texts a → AreTextsJoined lists texts b → a ≡ b }
+    ensures stated { (texts : List NamedText) (lists : Option ListForm) (form : JoinForm) (input : Input)
+        (notes others : List ℕ) (a b : Reply) → JoinStates texts lists form input notes a
+        → JoinStates texts lists form input others b → a.status ≢ 5 → b.status ≢ 5 → (notes ≡ others) × (a ≡ b) }
 {
     one_reading();
     one_masking();
     one_finding();
     one_list::<AbnfKind>();
+    one_expansion();
 }
 
 /// Says what the joined grammar of texts is read as: a definition for each rule that is printed, in that order, with
 /// its name, its elements, and `=` or `=/`. They are the definitions that the texts of the rules are each read as, but
 /// for where their names stand. A grammar that has some rule is read unless it is too long, and has no other fault.
 pub fn joined_reading()
-    ensures reads { (texts : List NamedText) (j : GrammarJoined) → AreTextsJoined texts j → j.grammar ≢ []
-        → length j.grammar ≤ max_grammar → (definitions : List Definition) × Reads j.grammar definitions }
-    ensures long { (texts : List NamedText) (j : GrammarJoined) (fault : ReadFault) → AreTextsJoined texts j
-        → j.grammar ≢ [] → IsFaultOf j.grammar fault → fault ≢ ReadFault.Memory → fault ≡ ReadFault.TooLong }
-    ensures rules { (texts : List NamedText) (j : GrammarJoined) (definitions : List Definition)
-        (a : AreTextsJoined texts j) → Reads j.grammar definitions
+    ensures reads { (lists : Option ListForm) (texts : List NamedText) (j : GrammarJoined)
+        → AreTextsJoined lists texts j → j.grammar ≢ [] → length j.grammar ≤ max_grammar
+        → (definitions : List Definition) × Reads j.grammar definitions }
+    ensures long { (lists : Option ListForm) (texts : List NamedText) (j : GrammarJoined) (fault : ReadFault)
+        → AreTextsJoined lists texts j → j.grammar ≢ [] → IsFaultOf j.grammar fault → fault ≢ ReadFault.Memory
+        → fault ≡ ReadFault.TooLong }
+    ensures rules { (lists : Option ListForm) (texts : List NamedText) (j : GrammarJoined)
+        (definitions : List Definition) (a : AreTextsJoined lists texts j) → Reads j.grammar definitions
         → map given_by definitions ≡ map as_written (joined_rules a.gathered) }
-    ensures spelled { (texts : List NamedText) (j : GrammarJoined) (definitions : List Definition)
-        (a : AreTextsJoined texts j) → Reads j.grammar definitions → (alone : List Definition)
+    ensures spelled { (lists : Option ListForm) (texts : List NamedText) (j : GrammarJoined)
+        (definitions : List Definition) (a : AreTextsJoined lists texts j) → Reads j.grammar definitions
+        → (alone : List Definition)
         × AreSpelled (joined_positions a.gathered) (joined_rules a.gathered) alone
         × (map unplaced definitions ≡ map unplaced alone) }
 {}

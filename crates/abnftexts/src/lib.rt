@@ -6,12 +6,12 @@ mod join;
 mod joined;
 mod laws;
 mod listed;
+mod lists;
 mod named;
 mod own;
 mod printed;
 mod renamed;
 mod reported;
-mod run;
 mod shown;
 mod stands;
 mod taken;
@@ -23,6 +23,6 @@ pub use join::{
     Clash, Fate, GivenRule, find_clashes, find_fates, find_order, is_only_prose, is_same_element,
     linked_reading,
 };
-pub use joined::{JoinedTexts, join_texts};
+pub use joined::{JoinForm, JoinedTexts, join_texts};
 pub use laws::{joined_reading, one_joining};
-pub use run::{JoinForm, run_join};
+pub use rfcforms::ListForm;

@@ -4,12 +4,13 @@ ghost use Rattle.lexer.specs.TokenLists.{tok_of};
 ghost use Rattle.abnfblocks.specs.TextLines.{numbered};
 ghost use Rattle.abnfread.specs.AbnfTable.{IsCoreTable};
 ghost use Rattle.abnftexts.specs.CodeUses.{is_defined as knows};
-ghost use Rattle.abnftexts.specs.NamedRules.{AreLinesNamed, IsLineNamed, comment_of, token_named};
+ghost use Rattle.abnftexts.specs.NamedRules.{AreLinesNamed, IsLineNamed, bare_line as line_without, comment_of};
+ghost use Rattle.abnftexts.specs.NamedRules.{token_named};
 
 use crate::gathered::RulePosition;
 use crate::join::is_same_folded;
 use crate::undefined::is_known;
-use abnfblocks::margin;
+use abnfblocks::{TextLine, margin};
 use abnfread::{AbnfKind, Elem};
 use lexer::{Token, tokens};
 use rfcforms::{items_after, items_before};
@@ -85,6 +86,13 @@ fn push_line(lines: &mut NamedLines, line: &[u8], new: &[u8]) -> Result<(), Memo
     Ok(())
 }
 
+// A line without that margin, or without its own where that is smaller.
+fn bare_line<'a>(margin_size: usize, line: &TextLine<'a>) -> &'a [u8]
+    ensures { result.now ≡ line_without margin_size (numbered line.now) }
+{
+    items_after(line.bytes, margin_size.min(margin(line.bytes)))
+}
+
 /// Returns the lines of the rule of that name as they are written. The names that lose brackets are those that are
 /// listed, and those of core rules, but its own.
 ///
@@ -99,16 +107,19 @@ pub(crate) fn named_lines(
 ) -> Result<NamedLines, Memory>
     requires { IsCoreTable core.now }
     ensures { IfOk result (λ lines. AreLinesNamed (knows names.now) own.now position.now.margin
-        (map numbered position.now.lines.items) lines.comments.items lines.text.items) }
+        (map numbered position.now.sources.items) (map numbered position.now.lines.items)
+        lines.comments.items lines.text.items) }
 {
     let mut lines = NamedLines {
         comments: Vec::new(alloc),
         text: Vec::new(alloc),
     };
+    let mut sources = position.sources.as_slice();
     for line in &position.lines {
-        let bare = items_after(line.bytes, position.margin.min(margin(line.bytes)));
-        let new = named_line(alloc, core, names, own, bare)?;
-        push_line(&mut lines, bare, &new)?;
+        let new = named_line(alloc, core, names, own, bare_line(position.margin, line))?;
+        let source = sources.first().unwrap_or(line);
+        push_line(&mut lines, bare_line(position.margin, source), &new)?;
+        sources = items_after(sources, 1);
     }
     Ok(lines)
 }

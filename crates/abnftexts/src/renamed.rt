@@ -53,6 +53,7 @@ fn named_position<'a>(
     Ok(RulePosition {
         name: position.name,
         margin: position.margin,
+        sources: position.sources,
         lines: position.lines,
         blanks: position.blanks,
         comments: lines.comments,

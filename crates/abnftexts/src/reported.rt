@@ -3,7 +3,7 @@ ghost use Rattle.std.specs.Prelude.{◌≡◌, ◌++◌, ◌-◌, codes, decimal
 ghost use Rattle.abnfblocks.specs.TextLines.{numbered};
 ghost use Rattle.ruletable.specs.Faults.{at_line, fault_text};
 ghost use Rattle.abnftexts.specs.TextPositions.{number_at as number_there, fault_in as fault_there, position_shown};
-ghost use Rattle.abnftexts.specs.TextPositions.{not_abnf_reported};
+ghost use Rattle.abnftexts.specs.TextPositions.{list_reported, not_abnf_reported};
 
 use abnfblocks::TextLine;
 use diagnostics::{push_number, push_shown};
@@ -76,6 +76,21 @@ fn push_fault(out: &mut Vec<u8>, fault: ReadFault) -> Result<(), Memory>
         ReadFault::TooLong => Ok(out.extend_from_slice(b"grammar too long\n")?),
         ReadFault::Memory => Ok(out.extend_from_slice(b"out of memory\n")?),
     }
+}
+
+/// Adds the report of a rule that has these lines and reads only with its lists, of which that line has the first.
+pub(crate) fn push_list(
+    out: &mut Vec<u8>,
+    name: &[u8],
+    lines: &[TextLine<'_>],
+    n: usize,
+) -> Result<(), Memory>
+    ensures { OnOk result (out.new.items ≡ out.old.items ++ list_reported name.now (map numbered lines.now) n) }
+{
+    push_position(out, name, number_at(lines, 1))?;
+    out.extend_from_slice(b": not ABNF: ")?;
+    push_at_line(out, number_at(lines, n), b"list of RFC 9110: use --expand")?;
+    Ok(())
 }
 
 /// Adds the report of a rule that is no ABNF, where it has these lines and they have that fault.

@@ -1,20 +1,23 @@
 //! The rules that texts give.
-ghost use Rattle.std.specs.Prelude.{◌≡◌, List, map, IfOk, OnOk};
+ghost use Rattle.std.specs.Prelude.{◌≡◌, List, Option, map, IfOk, OnOk};
 ghost use Rattle.abnfblocks.specs.RuleCuts.{margin_at};
 ghost use Rattle.abnftexts.specs.GivenRules.{text_rule};
 ghost use Rattle.abnfblocks.specs.TextLines.{numbered};
 ghost use Rattle.abnftexts.specs.RulesGathered.{NamedText, both_given, lines_placed, one_rule, rules_gathered};
 ghost use Rattle.abnftexts.specs.ShownTexts.{AreShown, IsShown};
-ghost use Rattle.abnftexts.specs.TakenRules.{TakesFound, TakesMore, TakesRule};
+ghost use Rattle.abnftexts.specs.TakenRules.{AddsReport, AreTextRows, TakesFound, TakesMore, TakesRule, text_rows};
 ghost use Rattle.abnftexts.specs.TextRules.{GivesText, GiveTexts, position_in};
 
-use crate::gathered::{Gathered, RulePosition, ShownText};
+use crate::gathered::{Gathered, RulePosition, ShownText, WrittenText};
 use crate::join::GivenRule;
+use crate::lists::{first_list, written_lines};
 use crate::own::read_rule;
-use crate::reported::push_not_abnf;
-use abnfblocks::{RuleSearch, TextLine, blank_count, find_rules, joined_text, margin, read_lines};
-use rfcforms::{items_after, items_before};
-use ruletable::Memory;
+use crate::reported::{push_list, push_not_abnf};
+use abnfblocks::{
+    RuleSearch, TextLine, blank_count, find_rules, joined_text, margin, one_masking, read_lines,
+};
+use rfcforms::{ListForm, items_after, items_before};
+use ruletable::{Memory, ReadFault};
 use std::alloc::Global;
 
 // Adds a rule.
@@ -41,22 +44,26 @@ fn margin_in(lines: &[TextLine<'_>]) -> usize
     }
 }
 
-// Where the rule stands that has so many of these lines.
+// Where the rule stands that has so many of these lines, the first ones as their text has them.
 fn position_of<'a>(
     alloc: Global,
     name: &'a [u8],
+    sources: &[TextLine<'a>],
     rest: &[TextLine<'a>],
     count: usize,
 ) -> Result<RulePosition<'a>, Memory>
-    ensures { IfOk result (λ position. lines_placed position ≡ position_in name.now (map numbered rest.now) count) }
+    ensures { IfOk result (λ position. lines_placed position
+        ≡ position_in name.now (map numbered sources.now) (map numbered rest.now) count) }
 {
     let own = items_before(rest, count);
     let lines = Vec::from_slice(alloc, own)?;
+    let sources = Vec::from_slice(alloc, items_before(sources, count))?;
     let margin = margin_in(own);
     let text = joined_text(alloc, margin, own)?;
     Ok(RulePosition {
         name,
         margin,
+        sources,
         lines,
         blanks: blank_count(items_after(rest, count)),
         comments: Vec::new(alloc),
@@ -64,18 +71,19 @@ fn position_of<'a>(
     })
 }
 
-// Takes the rule that so many of these lines alone spell.
+// Takes the rule that so many of these lines alone spell, the first ones as their text has them.
 fn take_rule<'a>(
     alloc: Global,
     gathered: &mut Gathered<'a>,
     name: &'a [u8],
+    sources: &[TextLine<'a>],
     rest: &[TextLine<'a>],
     count: usize,
 ) -> Result<(), Memory>
-    ensures { OnOk result (TakesRule name.now (map numbered rest.now) count
+    ensures { OnOk result (TakesRule name.now (map numbered sources.now) (map numbered rest.now) count
         (rules_gathered gathered.old) (rules_gathered gathered.new)) }
 {
-    let position = position_of(alloc, name, rest, count)?;
+    let position = position_of(alloc, name, sources, rest, count)?;
     // Lines that spell a definition have no fault but `Memory`.
     let Some(rule) = read_rule(alloc, &position.text)? else {
         return Err(Memory);
@@ -84,33 +92,85 @@ fn take_rule<'a>(
     Ok(())
 }
 
-// Takes what is found there among the lines that are kept of a text.
+// Adds the report of a rule that is no ABNF, where it has these lines and they have that fault. If that is asked, it is
+// looked for lists.
+fn push_no_rule(
+    alloc: Global,
+    reported: &mut Vec<u8>,
+    asks: bool,
+    name: &[u8],
+    lines: &[TextLine<'_>],
+    fault: ReadFault,
+) -> Result<(), Memory>
+    ensures { OnOk result (AddsReport asks name.now (map numbered lines.now) fault
+        reported.old.items reported.new.items) }
+{
+    match first_list(alloc, asks, lines)? {
+        Some(n) => push_list(reported, name, lines, n),
+        None => push_not_abnf(reported, name, lines, fault),
+    }
+}
+
+// Takes what is found there among the lines of a text.
 fn take_found<'a>(
     alloc: Global,
     gathered: &mut Gathered<'a>,
-    name: &'a [u8],
-    kept: &[TextLine<'a>],
+    text: &WrittenText<'a>,
     found: &[RuleSearch],
 ) -> Result<(), Memory>
-    ensures { OnOk result (TakesFound name.now (map numbered kept.now) found.now
+    ensures { OnOk result (TakesFound (text_rows text.now) found.now
         (rules_gathered gathered.old) (rules_gathered gathered.new)) }
 {
     for it in found {
         match *it {
             RuleSearch::Rule { first, count } => {
-                take_rule(alloc, gathered, name, items_after(kept, first), count)?;
+                let sources = items_after(&text.kept, first);
+                let rest = items_after(&text.lines, first);
+                take_rule(alloc, gathered, text.name, sources, rest, count)?;
             }
             RuleSearch::NotAbnf {
                 first,
                 count,
                 fault,
             } => {
-                let lines = items_before(items_after(kept, first), count);
-                push_not_abnf(&mut gathered.reported, name, lines, fault)?;
+                let lines = items_before(items_after(&text.lines, first), count);
+                let reported = &mut gathered.reported;
+                push_no_rule(alloc, reported, text.asks, text.name, lines, fault)?;
             }
         }
     }
     Ok(())
+}
+
+// A text with its lines, which are these.
+fn with_lines<'a>(
+    alloc: Global,
+    text: &'a ShownText<'_>,
+    kept: Vec<TextLine<'a>>,
+) -> Result<WrittenText<'a>, Memory>
+    ensures { IfOk result (λ rows. AreTextRows text.now (map numbered kept.entry.items) (text_rows rows)) }
+{
+    one_masking();
+    match &text.written {
+        Some(written) => {
+            let lines = written_lines(alloc, &kept, written)?;
+            Ok(WrittenText {
+                name: text.name,
+                kept,
+                lines,
+                asks: false,
+            })
+        }
+        None => {
+            let lines = Vec::from_slice(alloc, &kept)?;
+            Ok(WrittenText {
+                name: text.name,
+                kept,
+                lines,
+                asks: true,
+            })
+        }
+    }
 }
 
 // Takes a text.
@@ -119,13 +179,13 @@ fn take_text<'a>(
     gathered: &mut Gathered<'a>,
     text: &'a ShownText<'_>,
 ) -> Result<(), Memory>
-    ensures { OnOk result ((named : NamedText) → IsShown named text.now → TakesMore (GivesText named)
-        (rules_gathered gathered.old) (rules_gathered gathered.new)) }
+    ensures { OnOk result ((lists : Option ListForm) (named : NamedText) → IsShown lists named text.now
+        → TakesMore (GivesText lists named) (rules_gathered gathered.old) (rules_gathered gathered.new)) }
 {
     let kept = read_lines(alloc, &text.bytes, text.of_xml)?;
-    let found = find_rules(alloc, &kept)?;
-    take_found(alloc, gathered, text.name, &kept, &found)?;
-    Ok(())
+    let rows = with_lines(alloc, text, kept)?;
+    let found = find_rules(alloc, &rows.lines)?;
+    take_found(alloc, gathered, &rows, &found)
 }
 
 /// Takes the rules of texts, one text after another.
@@ -136,8 +196,8 @@ pub(crate) fn take_texts<'a>(
     alloc: Global,
     texts: &'a [ShownText<'_>],
 ) -> Result<Gathered<'a>, Memory>
-    ensures { IfOk result (λ gathered. (named : List NamedText) → AreShown named texts.now
-        → GiveTexts named (rules_gathered gathered)) }
+    ensures { IfOk result (λ gathered. (lists : Option ListForm) (named : List NamedText)
+        → AreShown lists named texts.now → GiveTexts lists named (rules_gathered gathered)) }
 {
     let mut gathered = Gathered {
         positions: Vec::new(alloc),

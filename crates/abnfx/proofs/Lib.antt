@@ -1,1 +1,3 @@
+mod FlagWordsLemmas
+mod JoinRunLemmas
 mod TextsReadLemmas

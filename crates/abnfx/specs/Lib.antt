@@ -1,3 +1,4 @@
+pub mod FlagWords
 pub mod JoinAnswers
 pub mod JoinWords
 pub mod TextsRead

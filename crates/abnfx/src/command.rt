@@ -1,9 +1,9 @@
 //! The command line.
 ghost use Rattle.std.specs.Prelude.{◌≡◌, IfOk};
-ghost use Rattle.abnfx.specs.JoinWords.{abnfx_app, form_asked};
+ghost use Rattle.abnfx.specs.JoinWords.{abnfx_app, form_asked, lists_asked};
 ghost use Rattle.clap.specs.Words.{app_of, found_of, rows_of};
 
-use abnftexts::JoinForm;
+use abnftexts::{JoinForm, ListForm};
 use clap::{ArgMatches, Command};
 use cli::{Parameter, is_given, program_command};
 use std::alloc::{AllocError, Global};
@@ -19,6 +19,10 @@ Arguments:
 Output:
   -c, --canonical  Write the canonical text of the grammar
   -l, --list       List the rules, and what becomes of each
+
+Lists of RFC 9110 (#element):
+      --expand       Write lists out as recipients accept them
+      --expand-send  Write lists out as senders write them
 
 Other options:
   -h, --help     Print this help
@@ -36,13 +40,15 @@ Example:
   abnfx rfc3339.txt > date.abnf";
 
 /// The options and operands.
-static PARAMETERS: [Parameter; 3] = [
+static PARAMETERS: [Parameter; 5] = [
     Parameter::Flag("canonical", 'c'),
     Parameter::Flag("list", 'l'),
+    Parameter::LongFlag("expand"),
+    Parameter::LongFlag("expand-send"),
     Parameter::Operands("text", "TEXT", true),
 ];
 
-/// Returns the command `abnfx [-c | -l] TEXT..`, or an error if an allocation fails.
+/// Returns the command `abnfx [-c | -l] [--expand | --expand-send] TEXT..`, or an error if an allocation fails.
 pub(crate) fn abnfx_command<'a>(alloc: Global) -> Result<Command<'a>, AllocError>
     ensures app { IfOk result (λ c. app_of c ≡ abnfx_app) }
 {
@@ -65,5 +71,24 @@ pub(crate) fn form_of(matches: &ArgMatches<'_>) -> Option<JoinForm>
         JoinForm::Canonical
     } else {
         JoinForm::Plain
+    })
+}
+
+/// Returns the form of lists that the words ask for, or none; `None` where they ask for two.
+pub(crate) fn lists_of(matches: &ArgMatches<'_>) -> Option<Option<ListForm>>
+    ensures { result ≡ lists_asked (rows_of (found_of matches.now)) }
+{
+    let receives = is_given(matches, "expand");
+    if is_given(matches, "expand-send") {
+        return if receives {
+            None
+        } else {
+            Some(Some(ListForm::Send))
+        };
+    }
+    Some(if receives {
+        Some(ListForm::Receive)
+    } else {
+        None
     })
 }

@@ -2,12 +2,15 @@
 #![tactic(auto)]
 
 mod command;
+mod flags;
+mod join;
 mod run;
 mod texts;
 
 use crate::command::abnfx_command;
+use crate::flags::flag_words;
 use crate::run::abnfx_main;
-use cli::start_program;
+use cli::{end_without_memory, start_program};
 use std::process::ExitCode;
 
 fn main(rt: HostRuntime) -> ExitCode {
@@ -16,6 +19,11 @@ fn main(rt: HostRuntime) -> ExitCode {
         rt.stdout(),
         rt.stderr(),
         abnfx_command,
-        |words, out, err| ExitCode::from(abnfx_main(&rt, words, out, err).code()),
+        |words, out, err| {
+            let Ok(words) = flag_words(rt.alloc(), words) else {
+                return end_without_memory(&rt);
+            };
+            ExitCode::from(abnfx_main(&rt, words.as_slice(), out, err).code())
+        },
     )
 }

@@ -1,7 +1,7 @@
 //! The run of the program.
 ghost use Rattle.std.specs.Prelude.{◌≡◌, ◌≢◌, [], false, map, string_bytes};
 ghost use Rattle.std.specs.List.{flat_map};
-ghost use Rattle.abnfx.specs.JoinAnswers.{FilesJoined, JoinAnswers, both_forms, unread_stop, unread_text};
+ghost use Rattle.abnfx.specs.JoinAnswers.{FilesJoined, JoinAnswers, both_forms, both_lists, unread_stop, unread_text};
 ghost use Rattle.abnfx.specs.JoinWords.{abnfx_app, paths_asked};
 ghost use Rattle.clap.specs.Words.{fault_of, found_of, matches_of, rows_of};
 ghost use Rattle.cli.specs.Parsing.{WordsState};
@@ -10,14 +10,24 @@ ghost use Rattle.toolrun.specs.Right.{RunIsRight};
 ghost use Rattle.toolrun.specs.Status.{code_of};
 ghost use Rattle.toolrun.specs.Stream.{no_input, passed};
 
-use crate::command::{abnfx_command, form_of};
+use crate::command::{abnfx_command, form_of, lists_of};
+use crate::join::run_join;
 use crate::texts::{Unread, read_texts, sources_of};
-use abnftexts::{JoinForm, run_join};
+use abnftexts::{JoinForm, ListForm};
 use clap::ArgMatches;
 use cli::{Unready, end_unready, parse_words};
 use ruletable::{Sink, write_pieces};
 use std::rt::Files;
 use toolrun::{Status, Stop, close_run, end_run};
+
+/// What the words ask for.
+#[derive(Clone, Copy)]
+pub(crate) struct FormsAsked {
+    /// The form of the grammar.
+    pub(crate) form: JoinForm,
+    /// The form of its lists.
+    pub(crate) lists: Option<ListForm>,
+}
 
 // Reports why nothing is joined, and ends.
 fn end_reported<O: Sink, E: Sink>(
@@ -65,13 +75,13 @@ fn end_unread<O: Sink, E: Sink>(why: &Unread<'_>, out: &mut O, err: &mut E) -> S
 fn join_files<R: Files + AllocGlobal, O: Sink, E: Sink>(
     rt: &R,
     paths: &[&str],
-    form: JoinForm,
+    asked: FormsAsked,
     out: &mut O,
     err: &mut E,
 ) -> Status
     requires out_is_fresh { O.failed out.old ≡ false }
     requires err_is_fresh { E.failed err.old ≡ false }
-    ensures right { RunIsRight (FilesJoined (map (λ p. p.now) paths.now) form) no_input
+    ensures right { RunIsRight (FilesJoined (map (λ p. p.now) paths.now) asked.lists asked.form) no_input
         (passed O.contents O.failed out.old out.new) (passed E.contents E.failed err.old err.new) (code_of result) }
 {
     let texts = match read_texts(rt, paths) {
@@ -79,7 +89,7 @@ fn join_files<R: Files + AllocGlobal, O: Sink, E: Sink>(
         Err(why) => return end_unread(&why, out, err),
     };
     match sources_of(rt.alloc(), &texts) {
-        Ok(sources) => run_join(rt.alloc(), &sources, form, out, err),
+        Ok(sources) => run_join(rt.alloc(), &sources, asked.lists, asked.form, out, err),
         Err(_) => end_run(Ok(Stop::NoMemory), out, err),
     }
 }
@@ -98,22 +108,37 @@ fn end_clash<O: Sink, E: Sink>(out: &mut O, err: &mut E) -> Status
     end_reported(&reported, Status::Refused, out, err)
 }
 
+// Reports that two forms of lists exclude each other, and ends.
+fn end_lists<O: Sink, E: Sink>(out: &mut O, err: &mut E) -> Status
+    requires out_is_fresh { O.failed out.old ≡ false }
+    requires err_is_fresh { E.failed err.old ≡ false }
+    ensures right { RunIsRight (IsReportedAnd both_lists (Stop.Quiet Status.Refused)) no_input
+        (passed O.contents O.failed out.old out.new) (passed E.contents E.failed err.old err.new) (code_of result) }
+{
+    let reported: [&[u8]; 2] = [
+        b"error: the argument '--expand' cannot be used with '--expand-send'\n\n",
+        b"Usage: abnfx [OPTIONS] <TEXT>...\n\nFor more information, try '--help'.\n",
+    ];
+    end_reported(&reported, Status::Refused, out, err)
+}
+
 // Joins the texts that the words name, in that form.
 fn join_named<R: Files + AllocGlobal, O: Sink, E: Sink>(
     rt: &R,
     matches: &ArgMatches<'_>,
-    form: JoinForm,
+    asked: FormsAsked,
     out: &mut O,
     err: &mut E,
 ) -> Status
     requires out_is_fresh { O.failed out.old ≡ false }
     requires err_is_fresh { E.failed err.old ≡ false }
-    ensures right { RunIsRight (FilesJoined (paths_asked (rows_of (found_of matches.now))) form) no_input
+    ensures right { RunIsRight (FilesJoined (paths_asked (rows_of (found_of matches.now))) asked.lists asked.form)
+        no_input
         (passed O.contents O.failed out.old out.new) (passed E.contents E.failed err.old err.new) (code_of result) }
 {
     match matches.get_strs("text") {
-        Some(paths) => join_files(rt, paths, form, out, err),
-        None => join_files(rt, &[], form, out, err),
+        Some(paths) => join_files(rt, paths, asked, out, err),
+        None => join_files(rt, &[], asked, out, err),
     }
 }
 
@@ -129,17 +154,21 @@ fn join_asked<R: Files + AllocGlobal, O: Sink, E: Sink>(
     ensures right { RunIsRight (JoinAnswers (rows_of (found_of matches.now))) no_input
         (passed O.contents O.failed out.old out.new) (passed E.contents E.failed err.old err.new) (code_of result) }
 {
-    match form_of(matches) {
-        Some(form) => join_named(rt, matches, form, out, err),
-        None => end_clash(out, err),
+    let Some(form) = form_of(matches) else {
+        return end_clash(out, err);
+    };
+    match lists_of(matches) {
+        Some(lists) => join_named(rt, matches, FormsAsked { form, lists }, out, err),
+        None => end_lists(out, err),
     }
 }
 
-/// Runs the program, whose words are its own name and `[-c | -l] TEXT..`: it joins the texts of these files, as
-/// `run_join` says, in the form that the words ask for.
+/// Runs the program, whose words are its own name and `[-c | -l] [--expand | --expand-send] TEXT..`: it joins the texts
+/// of these files, as `run_join` says, in the forms that the words ask for.
 ///
 /// - `-h`: the help on `out`, `Done`.
-/// - Other words, or both flags: what is wrong with them on `err`, `Refused`, and nothing is read.
+/// - Other words, or two flags that exclude each other: what is wrong with them on `err`, `Refused`, and nothing is
+///   read.
 /// - The first text that cannot be read: `cannot read` and its path, `Fault`; that is too long: its path and
 ///   `longer than 16777216 bytes`, `Overlong`. Nothing is joined.
 /// - If an allocation fails: `out of memory`, `NoMemory`.

@@ -8,11 +8,12 @@ use Rattle.abnftexts.proofs.joined.join_texts.Goals as goal
 pub returns : goal.returns
 returns c =
     let named = map named_text c.args.texts.now in
+    let lists = c.args.lists in
     let takes = rw c.deref.ensures.value at c.in_ok-given.ensures in
     ok-more (λ j. IsGatheredJoined (rules_gathered c.in_ok-gathered.gathered) (grammar_joined j))
-    (λ j. AreTextsJoined named (grammar_joined j)) c.join_gathered.result (λ j h. record {
+    (λ j. AreTextsJoined lists named (grammar_joined j)) c.join_gathered.result (λ j h. record {
       given = rules_gathered c.in_ok-given.given;
-      gives = takes named c.in_ok-shown.ensures;
+      gives = takes lists named c.in_ok-shown.ensures;
       gathered = rules_gathered c.in_ok-gathered.gathered;
       names = c.in_ok-gathered.ensures;
       uses = h.0;

@@ -3,7 +3,7 @@ use Rattle.abnftexts.proofs.TextRulesLemmas.{OneReading}
 use Rattle.abnftexts.proofs.laws.one_joining.Goals as goal
 
 pub returns-clause-joined : goal.returns-clause-joined
-returns-clause-joined c = λ texts a b x y.
+returns-clause-joined c = λ lists texts a b x y.
     let one : OneReading = record {
       definitions = c.one_reading.ensures.definitions;
       no_fault = c.one_reading.ensures.no_fault;
@@ -11,11 +11,13 @@ returns-clause-joined c = λ texts a b x y.
       kept = c.one_masking.ensures;
       found = c.one_finding.ensures.one;
       tokens = c.one_list.ensures;
+      expanded = c.one_expansion.ensures.expanded;
+      lines = c.one_expansion.ensures.lines;
     } in
-    joined-same one texts a b x y
+    joined-same one lists texts a b x y
 
 pub returns-clause-stated : goal.returns-clause-stated
-returns-clause-stated c = λ texts form input notes others a b x y p q.
+returns-clause-stated c = λ texts lists form input notes others a b x y p q.
     let one : OneReading = record {
       definitions = c.one_reading.ensures.definitions;
       no_fault = c.one_reading.ensures.no_fault;
@@ -23,5 +25,7 @@ returns-clause-stated c = λ texts form input notes others a b x y p q.
       kept = c.one_masking.ensures;
       found = c.one_finding.ensures.one;
       tokens = c.one_list.ensures;
+      expanded = c.one_expansion.ensures.expanded;
+      lines = c.one_expansion.ensures.lines;
     } in
-    stated-same one texts x y p q
+    stated-same one lists texts x y p q

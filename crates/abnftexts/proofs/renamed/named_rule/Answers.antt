@@ -1,8 +1,7 @@
 use Rattle.std.proofs.Common.{◌≡◌, ◌≢◌, length, arith}
 use Rattle.std.proofs.lemmas.Bool.Decides.{nat_tests}
 use Rattle.abnftexts.specs.NamedRules.{read_again, same_rule}
-use Rattle.abnftexts.proofs.JoinRunLemmas.{some-text}
-use Rattle.abnftexts.proofs.NamedRulesLemmas.{no-items, rule-of}
+use Rattle.abnftexts.proofs.NamedRulesLemmas.{no-items, rule-of, some-text}
 use Rattle.abnftexts.proofs.renamed.named_rule.Goals as goal
 
 pub returns-then-is_empty : goal.returns-then-is_empty

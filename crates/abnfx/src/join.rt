@@ -5,31 +5,19 @@ ghost use Rattle.abnfprint.specs.CanonicalAbnf.{grammar_text};
 ghost use Rattle.abnftexts.specs.JoinRun.{IsWrittenAs, JoinStates, TriedReply, grammar_form, joined_status};
 ghost use Rattle.abnftexts.specs.JoinedViews.{grammar_joined};
 ghost use Rattle.abnftexts.specs.RulesGathered.{named_text};
-ghost use Rattle.abnftexts.specs.declared.run.JoinForm.{JoinForm as join_form};
+ghost use Rattle.abnftexts.specs.declared.joined.JoinForm.{JoinForm as join_form};
 ghost use Rattle.toolrun.specs.Right.{RunIsRight};
 ghost use Rattle.toolrun.specs.Status.{code_of};
 ghost use Rattle.toolrun.specs.Stop.{unread};
 ghost use Rattle.toolrun.specs.Stopped.{Performs};
 ghost use Rattle.toolrun.specs.Stream.{no_input, passed};
 
-use crate::gathered::SourceText;
-use crate::joined::{JoinedTexts, join_texts};
 use abnfprint::print_abnf;
 use abnfread::{Abnf, read_abnf};
+use abnftexts::{JoinForm, JoinedTexts, ListForm, SourceText, join_texts};
 use ruletable::{ReadFault, Sink, WriteFault, write_whole};
 use std::alloc::Global;
 use toolrun::{Status, Stop, close_run, end_run};
-
-/// The form in which a joined grammar is written.
-#[derive(Clone, Copy)]
-pub enum JoinForm {
-    /// Its rules as their texts have them.
-    Plain,
-    /// Its canonical text.
-    Canonical,
-    /// A line for each rule that the texts give, with what becomes of it.
-    Listed,
-}
 
 // The status of a run whose text was written.
 fn status_of(joined: &JoinedTexts) -> Status
@@ -153,19 +141,20 @@ fn write_joined<O: Sink>(
 /// - Where a writer fails, nothing more is written to it, and the status is at least `Fault`. Writers that have not
 ///   failed are flushed at the end, `out` first; no clause sees a flush.
 /// - If an allocation fails: `out of memory`, `NoMemory`.
-pub fn run_join<O: Sink, E: Sink>(
+pub(crate) fn run_join<O: Sink, E: Sink>(
     alloc: Global,
     texts: &[SourceText<'_>],
+    lists: Option<ListForm>,
     form: JoinForm,
     out: &mut O,
     err: &mut E,
 ) -> Status
     requires out_is_fresh { O.failed out.old ≡ false }
     requires err_is_fresh { E.failed err.old ≡ false }
-    ensures right { RunIsRight (JoinStates (map named_text texts.now) form) no_input
+    ensures right { RunIsRight (JoinStates (map named_text texts.now) lists form) no_input
         (passed O.contents O.failed out.old out.new) (passed E.contents E.failed err.old err.new) (code_of result) }
 {
-    let joined = match join_texts(alloc, texts) {
+    let joined = match join_texts(alloc, texts, lists) {
         Ok(joined) => joined,
         Err(_) => return end_run(Ok(Stop::NoMemory), out, err),
     };

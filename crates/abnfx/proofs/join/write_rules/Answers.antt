@@ -2,8 +2,9 @@ use Rattle.std.proofs.Common.{◌≡◌, ◌≢◌, length, arith}
 use Rattle.std.proofs.lemmas.Bool.Decides.{nat_tests}
 use Rattle.abnftexts.specs.JoinRun.{grammar_form}
 use Rattle.abnftexts.specs.JoinedViews.{grammar_joined}
-use Rattle.abnftexts.proofs.JoinRunLemmas.{grammar-no_list, nothing-written, some-text}
-use Rattle.abnftexts.proofs.run.write_rules.Goals as goal
+use Rattle.abnftexts.proofs.NamedRulesLemmas.{some-text}
+use Rattle.abnfx.proofs.JoinRunLemmas.{grammar-no_list, nothing-written}
+use Rattle.abnfx.proofs.join.write_rules.Goals as goal
 
 pub returns-then-is_empty : goal.returns-then-is_empty
 returns-then-is_empty g c =

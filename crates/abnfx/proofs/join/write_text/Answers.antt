@@ -1,6 +1,6 @@
 use Rattle.abnftexts.specs.JoinedViews.{grammar_joined}
-use Rattle.abnftexts.proofs.JoinRunLemmas.{all-written, part-written}
-use Rattle.abnftexts.proofs.run.write_text.Goals as goal
+use Rattle.abnfx.proofs.JoinRunLemmas.{all-written, part-written}
+use Rattle.abnfx.proofs.join.write_text.Goals as goal
 
 pub returns-in-Ok : goal.returns-in-Ok
 returns-in-Ok g c form is = all-written form (grammar_joined c.args.joined.now) c.args.text.now c.status_of.result

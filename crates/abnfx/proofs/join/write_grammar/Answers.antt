@@ -1,9 +1,9 @@
 use Rattle.abnfread.specs.AbnfViews.{rules_of}
 use Rattle.abnftexts.specs.JoinRun.{grammar_form}
 use Rattle.abnftexts.specs.JoinedViews.{grammar_joined}
-use Rattle.abnftexts.specs.declared.run.JoinForm.TheVariants.{Plain}
-use Rattle.abnftexts.proofs.JoinRunLemmas.{canonical-written, fault-stops, grammar-no_list, plain-written}
-use Rattle.abnftexts.proofs.run.write_grammar.Goals as goal
+use Rattle.abnftexts.specs.declared.joined.JoinForm.TheVariants.{Plain}
+use Rattle.abnfx.proofs.JoinRunLemmas.{canonical-written, fault-stops, grammar-no_list, plain-written}
+use Rattle.abnfx.proofs.join.write_grammar.Goals as goal
 
 pub write_canonical-requires-clause-text : goal.write_canonical-requires-clause-text
 write_canonical-requires-clause-text g c =

@@ -1,9 +1,9 @@
 use Rattle.abnfread.specs.AbnfViews.{rules_of}
 use Rattle.abnfprint.specs.CanonicalAbnf.{grammar_text}
 use Rattle.abnftexts.specs.JoinedViews.{grammar_joined}
-use Rattle.abnftexts.specs.declared.run.JoinForm.TheVariants.{Canonical}
-use Rattle.abnftexts.proofs.JoinRunLemmas.{all-written, part-written}
-use Rattle.abnftexts.proofs.run.write_canonical.Goals as goal
+use Rattle.abnftexts.specs.declared.joined.JoinForm.TheVariants.{Canonical}
+use Rattle.abnfx.proofs.JoinRunLemmas.{all-written, part-written}
+use Rattle.abnfx.proofs.join.write_canonical.Goals as goal
 
 pub returns-in-Ok : goal.returns-in-Ok
 returns-in-Ok g c = all-written Canonical (grammar_joined c.args.joined.now)

@@ -29,10 +29,11 @@ use Rattle.abnftexts.specs.JoinRun.{IsWrittenAs, JoinStates, JoinedReply, TriedR
 use Rattle.abnftexts.specs.JoinRun.{text_written, too_long, tries}
 use Rattle.abnftexts.specs.JoinRun.{as_it_is, canonical, joins, no_room, nothing, refused, writes}
 use Rattle.abnftexts.specs.JoinRun as run
+use Rattle.rfcforms.specs.declared.lists.written.ListForm.{ListForm}
 use Rattle.abnftexts.specs.JoinedGrammar.{AreTextsJoined, GrammarJoined}
 use Rattle.abnftexts.specs.RulesGathered.{NamedText}
-use Rattle.abnftexts.specs.declared.run.JoinForm.{JoinForm}
-use Rattle.abnftexts.specs.declared.run.JoinForm.TheVariants.{Plain, Canonical, Listed}
+use Rattle.abnftexts.specs.declared.joined.JoinForm.{JoinForm}
+use Rattle.abnftexts.specs.declared.joined.JoinForm.TheVariants.{Plain, Canonical, Listed}
 use Rattle.abnftexts.proofs.SpelledRulesLemmas.{joined-long}
 
 -- it is not out of memory
@@ -151,9 +152,6 @@ pub grammar-no_list : (is_canonical : Bool) → grammar_form is_canonical ≢ Li
 grammar-no_list true = no_list-form Canonical tt
 grammar-no_list false = no_list-form Plain tt
 
-pub some-text : (text : List ℕ) → length text ≢ 0 → text ≢ []
-some-text text some e = some (ap length e)
-
 module _ (j : GrammarJoined) where
   pub plain-written : (read text : List ℕ) (definitions : List Definition) → j.grammar ≢ [] → read ≡ j.grammar
       → Reads read definitions → text ≡ j.grammar → IsWrittenAs j Plain text
@@ -168,9 +166,9 @@ module _ (j : GrammarJoined) where
       subst (λ (rs : List Rule). IsWrittenAs j Canonical (grammar_text rs)) (sym is)
       (canonical some (subst (λ (t : List ℕ). Reads t definitions) same reads))
 
-module _ (texts : List NamedText) (form : JoinForm) where
+module _ (texts : List NamedText) (lists : Option ListForm) (form : JoinForm) where
   -- a joined grammar has no fault but its length
-  tried-joined : {j : GrammarJoined} {reply : Reply} → AreTextsJoined texts j → TriedReply form j reply
+  tried-joined : {j : GrammarJoined} {reply : Reply} → AreTextsJoined lists texts j → TriedReply form j reply
       → JoinedReply form j reply
   tried-joined are (tries is) = is
   tried-joined {j = j} are (refused {fault = fault} no_list some f n) =
@@ -178,8 +176,8 @@ module _ (texts : List NamedText) (form : JoinForm) where
       subst (λ (w : ReadFault). JoinedReply form j (stopped (Refused w))) (sym long)
       (too_long no_list some (subst (λ (w : ReadFault). IsFaultOf j.grammar w) long f))
 
-  pub joined-planned : (j : GrammarJoined) → AreTextsJoined texts j
-      → IsPlan (JoinStates texts form) j.reported (DoesJoin form j)
+  pub joined-planned : (j : GrammarJoined) → AreTextsJoined lists texts j
+      → IsPlan (JoinStates texts lists form) j.reported (DoesJoin form j)
   joined-planned j are = record {
     stated = λ input reply is. joins are (tried-joined are is);
     some = λ input. (stopped NoMemory, tries run.no_memory);
@@ -188,7 +186,7 @@ module _ (texts : List NamedText) (form : JoinForm) where
   abbrev pub StopsEarly : Input → Reply → Type 0
   StopsEarly input reply = reply ≡ stopped NoMemory
 
-  pub early-planned : IsPlan (JoinStates texts form) [] StopsEarly
+  pub early-planned : IsPlan (JoinStates texts lists form) [] StopsEarly
   early-planned = record {
     stated = λ input reply is. rw is no_room;
     some = λ input. (stopped NoMemory, refl);
