@@ -220,9 +220,9 @@ set_not : (b : Bool) → (b ≡ true → ⊥) → not b ≡ true
 set_not true h = absurd (h refl)
 set_not false h = refl
 
-unset : (b : Bool) → (not b ≡ true → ⊥) → b ≡ true
-unset true h = refl
-unset false h = absurd (h refl)
+not_unset : (b : Bool) → (not b ≡ true → ⊥) → b ≡ true
+not_unset true h = refl
+not_unset false h = absurd (h refl)
 
 module _ (rules : List Rule) (given : Option (List ℕ)) (names : List (List ℕ)) (rows : List (List ℕ))
     (judged : ℕ) (graph : IsGraph rules given names rows judged) (needs : List Demand) (broken : List Bool) (n : ℕ)
@@ -235,8 +235,8 @@ module _ (rules : List Rule) (given : Option (List ℕ)) (names : List (List ℕ
       let long = rows_long rules given names rows judged graph in
       omega (arith, l, k, long, count, same)
 
-  at : (id : ℕ) → id < length rules → get_or (map not (take n broken)) id false ≡ not (get_or broken id false)
-  at id lt = marks-opposite (take n broken) id (let l = count_of in omega (arith, lt, l))
+  mark_at : (id : ℕ) → id < length rules → get_or (map not (take n broken)) id false ≡ not (get_or broken id false)
+  mark_at id lt = marks-opposite (take n broken) id (let l = count_of in omega (arith, lt, l))
       ∙ ap not (get_or-take n broken id false (omega (arith, lt, same)))
 
   pub sound_marks : AreMarks (IsSound rules) (length rules) (map not (take n broken))
@@ -244,13 +244,13 @@ module _ (rules : List Rule) (given : Option (List ℕ)) (names : List (List ℕ
     count_is = length-map (take n broken) not ∙ count_of;
     exact = λ id lt. (
       (λ on. sound_unless_comes rules given names rows judged graph id lt needs are
-          (λ c. not_set (get_or broken id false) (sym (at id lt) ∙ on) ((marks id).1 c))),
-      (λ sound. at id lt ∙ set_not (get_or broken id false)
+          (λ c. not_set (get_or broken id false) (sym (mark_at id lt) ∙ on) ((marks id).1 c))),
+      (λ sound. mark_at id lt ∙ set_not (get_or broken id false)
           (λ on. comes_unsound rules given names rows judged graph id lt needs are ((marks id).0 on) sound)),
     );
   }
 
   pub others_refused : AreOthersRefused rules (map not (take n broken))
   others_refused id lt off file again =
-      let on = unset (get_or broken id false) (λ is. off (at id lt ∙ is)) in
+      let on = not_unset (get_or broken id false) (λ is. off (mark_at id lt ∙ is)) in
       comes_refused rules given names rows judged graph id lt needs are ((marks id).0 on) file again
