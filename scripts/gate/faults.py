@@ -240,7 +240,8 @@ def may_go_on(run, number):
     """Returns whether a run may go on without that growth. If an allocation of the automaton fails, Earley's sets
     answer. If one for the copy of a line fails, the window joins its two pieces. If one for the lines of notes fails,
     they are written by pieces. A unit that is kept may not be asked for."""
-    has_automaton = run.program == "abnfi" and "-m" not in run.words and run.name not in NO_AUTOMATON
+    judges = run.program == "abnfi" and "-m" not in run.words or run.program == "abnfd" and "-x" in run.words
+    has_automaton = judges and run.name not in NO_AUTOMATON
     has_notes = bool(run.reported) and "-x" not in run.words and run.program != "abnfx"
     explains = run.program == "pegi" and "-x" in run.words and run.status == 0
     keeps_units = explains or run.name in UNITS_OF_A_BYTE
