@@ -11,7 +11,7 @@ use Rattle.letters.specs.Letters.{has}
 use Rattle.letters.specs.declared.alphabet.Alphabet.{Alphabet}
 use Rattle.letterclasses.proofs.StacksLemmas.{accepted_holds, holds_accepted}
 use Rattle.lazydfa.specs.StateSets.{grammar_of, last_in, StateSet}
-use Rattle.rulelines.specs.FirstLines.{ComesFirst, IsShortlexBefore, later, shorter, symbol}
+use Rattle.rulelines.specs.FirstLines.{ComesFirst, IsShortlexBefore, shorter}
 use Rattle.rulelines.specs.declared.list.lines.NextLine.{NextLine}
 use Rattle.rulelines.specs.declared.list.lines.NextLine.TheVariants.{Line, Done}
 use Rattle.rulelines.specs.declared.list.search.Change.{Change}

@@ -9,7 +9,6 @@ use Rattle.std.specs.List.Sorted.{IsStrictlyIncreasing}
 use Rattle.std.specs.Prelude.{Bool, true, slice_get, Some, Contains}
 use Rattle.flatgrammar.specs.Flat.{Flat}
 use Rattle.flatgrammar.proofs.SliceGetLemmas.{push_cases}
-use Rattle.letterclasses.specs.Stacks.{AreAlike}
 use Rattle.letterclasses.proofs.AreClassesLemmas.{rising_up}
 use Rattle.lazydfa.proofs.StateSetsLemmas.{contained_at, got_at}
 use Rattle.rulelines.specs.FirstLines.{sort_key}

@@ -1,20 +1,20 @@
 -- Lines that a rule does not derive, by its first prefixes.
 -- Serves: next, abnfg_main
-use Rattle.std.proofs.Common.{◌≡◌, ◌⊎◌, inl, inr, ℕ, zero, suc, ◌+◌, ◌<◌, ◌≤◌, List, [], ◌∷◌, ◌++◌, length, refl, sym}
-use Rattle.std.proofs.Common.{◌∙◌, ap, subst, arith, append_assoc, append-nil, length-append, take, Vec, Global, get_or}
+use Rattle.std.proofs.Common.{◌≡◌, inl, inr, ℕ, ◌+◌, List, [], ◌∷◌, ◌++◌, length, refl, sym}
+use Rattle.std.proofs.Common.{◌∙◌, ap, subst, arith, append_assoc, append-nil, length-append, take, Vec, Global}
 use Rattle.std.proofs.lemmas.Grind.{flat_map-append}
 use Rattle.std.proofs.lemmas.List.Elements.{All-append, All-cons, All-head, All-nil, All-tail}
 use Rattle.std.proofs.lemmas.List.{map-append, reverse-append}
 use Rattle.std.specs.List.{All, flat_map}
-use Rattle.std.specs.Prelude.{Bool, true, false, Option, None, Some, Contains, map, reverse}
+use Rattle.std.specs.Prelude.{Bool, true, false, Option, None, Some, map, reverse}
 use Rattle.abnfread.specs.Element.{Rule}
 use Rattle.abnfcheck.specs.Derivable.{RuleDerives}
-use Rattle.abnfcheck.specs.Prefixes.{BeginsMember, IsFurthest}
+use Rattle.abnfcheck.specs.Prefixes.{BeginsMember}
 use Rattle.letters.specs.Letters.{has as has_letter}
 use Rattle.letters.specs.declared.alphabet.Alphabet.{Alphabet}
 use Rattle.rulelines.specs.declared.miss.prefixes.StatePrefix.{StatePrefix}
 use Rattle.rulelines.specs.LineSets.{is_line_symbol}
-use Rattle.rulelines.specs.Misses.{AreAllPrefixes, AreFirstPrefixes, CannotFollow, IsFirstWrong, IsMiss}
+use Rattle.rulelines.specs.Misses.{AreAllPrefixes, AreFirstPrefixes, IsFirstWrong, IsMiss}
 use Rattle.rulelines.specs.Misses.{IsStatePrefix, IsViable, prefix_lines, refused_lines, wrong_lines}
 use Rattle.rulelines.specs.MissLists.{AreAllMisses, AreFirstMisses, AreLinesReported, MissList, waiting_lines}
 use Rattle.rulelines.specs.MissSearch.{ArePrefixesReported}

@@ -3,7 +3,6 @@
 use Rattle.std.proofs.Common.{◌≡◌, ◌↔◌, ◌⊎◌, inl, inr, ℕ, zero, suc, ◌+◌, ◌<◌, ◌≤◌, List, [], ◌∷◌, ◌++◌, length, refl}
 use Rattle.std.proofs.Common.{sym, ◌∙◌, ap, subst, arith}
 use Rattle.std.proofs.lemmas.Bool.{cases_lt}
-use Rattle.std.proofs.lemmas.Option.{slice_get_within}
 use Rattle.std.specs.Prelude.{Bool, true, false, Option, None, Some, slice_get, Contains, IsTrue}
 use Rattle.flatgrammar.specs.Flat.{Flat, Dot}
 use Rattle.flatgrammar.specs.NodeSteps.{flat_of}
@@ -17,10 +16,10 @@ use Rattle.rulelines.specs.declared.pairs.SearchedPair.{SearchedPair}
 use Rattle.rulelines.specs.FirstLines.{sort_key}
 use Rattle.rulelines.specs.FoundPairs.{IsWordOf, next, start}
 use Rattle.rulelines.specs.MissSearch.{AreFoundStill, IsAstrayTo, IsExpandedTo, IsFirstAstray, IsFoundAt, IsLedBy}
-use Rattle.rulelines.specs.MissSearch.{IsLedFrom, IsLive, IsStateSearch, IsWordIn, IsWrongKept, LeadsAstray, LeadsOn}
+use Rattle.rulelines.specs.MissSearch.{IsLedFrom, IsLive, IsStateSearch, IsWordIn, IsWrongKept, LeadsOn}
 use Rattle.rulelines.specs.MissSearch.{FoundStates}
 use Rattle.rulelines.specs.Samples.{AreInLineOrder}
-use Rattle.rulelines.specs.Search.{found_pair, found_pairs, IsPairAdded, IsPairSearch}
+use Rattle.rulelines.specs.Search.{found_pair, found_pairs, IsPairAdded}
 use Rattle.rulelines.specs.StatePairs.{AreSamples, HasSample}
 use Rattle.rulelines.proofs.OldAloneLemmas.{search_begun}
 use Rattle.rulelines.proofs.SearchLemmas.{get_left, search_kept, search_next}

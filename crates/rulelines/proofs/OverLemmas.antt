@@ -1,14 +1,13 @@
 -- States from which no more than so many symbols lead to the end.
 -- Serves: is_over
-use Rattle.std.proofs.Common.{◌≡◌, ◌⊎◌, inl, inr, ℕ, zero, suc, ◌+◌, ◌-◌, ◌<◌, ◌≤◌, length, refl, sym, ap, subst, arith}
-use Rattle.std.specs.Prelude.{false, true, Some, None, slice_get}
+use Rattle.std.proofs.Common.{◌≡◌, ◌⊎◌, inl, inr, ℕ, zero, suc, ◌+◌, ◌-◌, ◌<◌, ◌≤◌, length, refl, subst, arith}
+use Rattle.std.specs.Prelude.{false, true, Some, slice_get}
 use Rattle.std.proofs.Common.{Vec, Global}
 use Rattle.std.proofs.lemmas.Bool.{cases_lt}
 use Rattle.lazydfa.specs.StateSets.{grammar_of, last_in, StateSet}
-use Rattle.rulelines.specs.FirstLines.{sort_key}
 use Rattle.rulelines.specs.Samples.{symbol_of}
 use Rattle.rulelines.specs.declared.list.table.Table.{Table}
-use Rattle.rulelines.specs.StateTables.{AreRowsClosed, HasNoRestFrom, HaveNoRest, HasRestIn, IsCan, IsFirstKeyIn}
+use Rattle.rulelines.specs.StateTables.{AreRowsClosed, HasNoRestFrom, HaveNoRest, HasRestIn, IsCan}
 use Rattle.rulelines.specs.StateTables.{IsStateTable, IsStep, line_symbols, TakesKeyIn}
 use Rattle.rulelines.proofs.FirstKeyLemmas.{AreNotTaken, IsState, none_reported, step_leads}
 use Rattle.rulelines.proofs.RestLemmas.{no_key, taken_key, taken_symbol}

@@ -9,14 +9,12 @@ use Rattle.std.proofs.lemmas.List.Elements.{Contains-push_cases}
 use Rattle.std.proofs.lemmas.List.Quantifiers.{all_pairs_push}
 use Rattle.std.proofs.lemmas.Option.{slice_get_within}
 use Rattle.std.specs.List.{All}
-use Rattle.std.specs.Prelude.{Bool, true, false, not, Option, None, Some, slice_get, Contains}
+use Rattle.std.specs.Prelude.{Bool, true, false, not, Option, Some, slice_get, Contains}
 use Rattle.abnfread.specs.Element.{Rule}
 use Rattle.abnfcheck.specs.Derivable.{AreLetters, RuleDerives}
 use Rattle.flatgrammar.specs.Flat.{Flat, Dot}
-use Rattle.flatgrammar.specs.NodeSteps.{flat_of}
 use Rattle.flatgrammar.proofs.CallOfLemmas.{get_unmap}
 use Rattle.lazydfa.specs.StateSets.{AreMoreStates, grammar_of, last_in, StateSet}
-use Rattle.letterclasses.specs.Stacks.{AreUncounted, MarksLast}
 use Rattle.letters.specs.Letters.{has as has_letter}
 use Rattle.letters.specs.declared.alphabet.Alphabet.{Alphabet}
 use Rattle.lazydfa.proofs.StateSetsLemmas.{got_at}
@@ -24,7 +22,6 @@ use Rattle.rulelines.specs.declared.list.keys.LineSymbols.{LineSymbols}
 use Rattle.rulelines.specs.declared.miss.prefixes.NextPrefix.{NextPrefix}
 use Rattle.rulelines.specs.declared.miss.prefixes.NextPrefix.TheVariants.{Prefix, Done}
 use Rattle.rulelines.specs.declared.miss.prefixes.StatePrefix.{StatePrefix}
-use Rattle.rulelines.specs.declared.pairs.SearchedPair.{SearchedPair}
 use Rattle.rulelines.specs.Alone.{AreOfGrammar}
 use Rattle.rulelines.specs.FirstLines.{ComesFirst, IsShortlexBefore}
 use Rattle.rulelines.specs.LineSets.{LineSet}
@@ -48,7 +45,7 @@ use Rattle.rulelines.proofs.OldAloneLemmas.{still_of}
 use Rattle.rulelines.proofs.SearchLemmas.{old_there, search_iteration, search_skip}
 use Rattle.rulelines.proofs.StateClosuresLemmas.{lead_next, LeadTo}
 use Rattle.rulelines.proofs.StatePairsLemmas.{element_at}
-use Rattle.rulelines.proofs.ViableLemmas.{derives_ended, ended_derives, follows_some, letters_join, letters_left}
+use Rattle.rulelines.proofs.ViableLemmas.{derives_ended, ended_derives, follows_some, letters_left}
 use Rattle.rulelines.proofs.ViableLemmas.{letters_right, live_viable, same_rests, viable_prefix, viable_live, Viable}
 use Rattle.rulelines.proofs.ViableLemmas.{wrong_within}
 

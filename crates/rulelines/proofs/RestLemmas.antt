@@ -4,7 +4,6 @@ use Rattle.std.proofs.Common.{◌≡◌, ◌⊎◌, inl, inr, ℕ, zero, suc, �
 use Rattle.std.proofs.Common.{refl, sym, ◌∙◌}
 use Rattle.std.proofs.Common.{ap, subst, arith}
 use Rattle.std.proofs.lemmas.Bool.{cases_lt}
-use Rattle.std.proofs.lemmas.Bool.Decides.{nat_tests}
 use Rattle.std.specs.Prelude.{Bool, true, None, Some, Contains}
 use Rattle.flatgrammar.specs.Flat.{Flat, Dot}
 use Rattle.letterclasses.specs.Stacks.{IsNext}
@@ -13,7 +12,6 @@ use Rattle.rulelines.specs.FirstLines.{ComesFirst, IsShortlexBefore, later, shor
 use Rattle.rulelines.specs.Samples.{symbol_of}
 use Rattle.rulelines.specs.Rests.{HasNoNextRest, HasRest, IsFirstKey, IsFirstRest, IsNextRest, IsRest, TakesKey}
 use Rattle.rulelines.specs.Starts.{AreClassStarts, IsJoinedOn}
-use Rattle.rulelines.proofs.ComesFirstLemmas.{one_key}
 use Rattle.rulelines.proofs.SamplesLemmas.{key_symbol}
 use Rattle.rulelines.proofs.TakesLemmas.{takes_after, takes_alike, takes_before}
 

@@ -1,10 +1,10 @@
 -- What a state says of the prefixes that lead to it.
 -- Serves: next_prefix
-use Rattle.std.proofs.Common.{◌≡◌, ◌↔◌, ◌⊎◌, inl, inr, ℕ, zero, suc, ◌+◌, ◌<◌, ◌≤◌, List, [], ◌∷◌, ◌++◌, length, refl}
+use Rattle.std.proofs.Common.{◌≡◌, ◌↔◌, ◌⊎◌, inl, inr, ℕ, suc, ◌+◌, ◌≤◌, List, [], ◌∷◌, ◌++◌, length, refl}
 use Rattle.std.proofs.Common.{sym, ◌∙◌, ap, subst, arith, append_assoc, append-nil, drop, length-append}
 use Rattle.std.specs.Prelude.{Bool, true, slice_get, Some, Contains}
 use Rattle.flatgrammar.specs.Flat.{Flat, Dot}
-use Rattle.letterclasses.specs.Stacks.{Accepts, AreAlike, IsStackClosure, IsNext, IsReading, Led, led, LedToEnd, Lifted}
+use Rattle.letterclasses.specs.Stacks.{Accepts, AreAlike, IsStackClosure, IsNext, IsReading, Led, led, Lifted}
 use Rattle.letterclasses.specs.Stacks.{moves, Reach, ReadBy}
 use Rattle.letterclasses.proofs.StackClosureLemmas.{nothing_below, taken_by_tops}
 use Rattle.lazydfa.specs.StateSets.{StateSet}

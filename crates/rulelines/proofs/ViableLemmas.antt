@@ -1,23 +1,22 @@
 -- What a state says of the rule.
 -- Serves: next_prefix
-use Rattle.std.proofs.Common.{◌≡◌, ◌↔◌, ◌⊎◌, inl, inr, ℕ, zero, suc, ◌+◌, ◌<◌, ◌≤◌, List, [], ◌∷◌, ◌++◌, length, refl}
+use Rattle.std.proofs.Common.{◌≡◌, ◌⊎◌, inl, inr, ℕ, ◌+◌, ◌<◌, ◌≤◌, List, [], ◌∷◌, ◌++◌, length, refl}
 use Rattle.std.proofs.Common.{sym, ◌∙◌, ap, subst, arith, append_assoc, append-nil, take, length-append}
 use Rattle.std.proofs.lemmas.Bool.{cases_lt}
-use Rattle.std.specs.Prelude.{Bool, true, false, Option, None, Some, Contains}
+use Rattle.std.specs.Prelude.{Bool, true, Option, None, Some}
 use Rattle.abnfread.specs.Element.{Rule}
 use Rattle.abnfcheck.specs.Derivable.{AreLetters, RuleDerives}
 use Rattle.abnfcheck.specs.Prefixes.{BeginsMember}
 use Rattle.flatgrammar.specs.Flat.{Flat, Dot}
-use Rattle.flatgrammar.specs.Holds.{HasItem}
 use Rattle.letters.specs.Letters.{has as has_letter}
 use Rattle.letters.specs.declared.alphabet.Alphabet.{Alphabet}
-use Rattle.letterclasses.specs.Stacks.{Accepts, AreUncounted, MarksLast, Reach}
+use Rattle.letterclasses.specs.Stacks.{AreUncounted, MarksLast, Reach}
 use Rattle.letterclasses.proofs.StacksLemmas.{item_reached, reached_item}
 use Rattle.lazydfa.specs.RunVerdicts.{IsOne}
 use Rattle.lazydfa.specs.StateSets.{StateSet}
 use Rattle.rulelines.specs.FirstLines.{sort_key}
 use Rattle.rulelines.specs.LineSets.{is_line_symbol}
-use Rattle.rulelines.specs.Misses.{CannotFollow, HaveSameRests, IsFirstWrong, IsViable}
+use Rattle.rulelines.specs.Misses.{CannotFollow, HaveSameRests, IsFirstWrong}
 use Rattle.rulelines.specs.MissSearch.{GivesPrefixesTo, IsFirstAstray, IsLive, IsKeptWithin, LeadsAstray, LeadsOn}
 use Rattle.rulelines.specs.StatePairs.{AcceptsRule}
 use Rattle.rulelines.proofs.LineOrderLemmas.{inner_letters}

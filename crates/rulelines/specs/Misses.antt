@@ -1,7 +1,7 @@
 -- The first prefix of each state, whether the rule derives it, and the first symbol that cannot follow it.
 use Rattle.std.specs.Prelude.{◌≡◌, ◌⊎◌, ℕ, ◌+◌, ◌<◌, ◌≤◌, Bool, true, false, List, [], ◌∷◌, ◌++◌, length, Contains}
 use Rattle.std.specs.Prelude.{◌↔◌, Option, None, Some}
-use Rattle.std.specs.List.{All, AllPairs, flat_map}
+use Rattle.std.specs.List.{All, AllPairs}
 use Rattle.abnfread.specs.Element.{Rule}
 use Rattle.abnfcheck.specs.Derivable.{AreLetters, RuleDerives}
 use Rattle.abnfcheck.specs.Prefixes.{BeginsMember, IsFurthest}

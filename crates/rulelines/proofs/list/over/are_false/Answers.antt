@@ -1,5 +1,4 @@
-use Rattle.std.proofs.Common.{◌≡◌, ◌≤◌, arith, subst}
-use Rattle.std.specs.Prelude.{IfSome}
+use Rattle.std.proofs.Common.{arith, subst}
 use Rattle.rulelines.specs.StateTables.{IsCan}
 use Rattle.rulelines.proofs.OverLemmas.{none_all, none_more}
 use Rattle.rulelines.proofs.list.over.are_false.Goals as goal

@@ -1,4 +1,4 @@
-use Rattle.std.proofs.Common.{◌≡◌, ◌∙◌, ap, subst, sym, refl}
+use Rattle.std.proofs.Common.{◌∙◌, ap, subst, sym, refl}
 use Rattle.rulelines.specs.MissLists.{AreLinesReported, MissList, waiting_lines}
 use Rattle.rulelines.proofs.MissLinesLemmas.{one_reported, waiting_more}
 use Rattle.rulelines.proofs.miss.lines.Misses.next.Goals as goal

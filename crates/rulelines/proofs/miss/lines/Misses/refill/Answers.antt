@@ -1,4 +1,4 @@
-use Rattle.std.proofs.Common.{◌≡◌, ℕ, List, subst, true, false}
+use Rattle.std.proofs.Common.{ℕ, List, subst, true, false}
 use Rattle.abnfread.specs.Element.{Rule}
 use Rattle.rulelines.specs.MissLists.{IsRefilled, AreOfRule, MissList, waiting_lines}
 use Rattle.rulelines.proofs.MissLinesLemmas.{all_reported, lines_refilled}
