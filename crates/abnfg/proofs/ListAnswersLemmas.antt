@@ -1,6 +1,6 @@
 -- What is stated for a grammar's text, from what is stated for the grammar.
 -- Serves: abnfg_main (right)
-use Rattle.std.proofs.Common.{◌≡◌, ◌∙◌, ℕ, List, [], Option, None, Some, false, refl, sym, ap, subst, append-nil, arith}
+use Rattle.std.proofs.Common.{◌≡◌, ◌∙◌, ℕ, List, [], Option, None, Some, false, refl, sym, subst, append-nil, arith}
 use Rattle.std.specs.Prelude.{option_copied}
 use Rattle.abnfg.specs.ListAnswers.{JudgedReply, OpenedStates, TextStates, faulty, lists, no_memory, rejected}
 use Rattle.abnfg.specs.ListedLines.{end_of, no_room}
@@ -16,7 +16,7 @@ use Rattle.abnfread.specs.AbnfViews.{rules_of}
 use Rattle.abnfread.specs.Element.{Rule}
 use Rattle.abnfread.specs.declared.elem.Elem.{Elem}
 use Rattle.abnfrun.specs.AbnfLanguage.{IsChecked}
-use Rattle.abnfrun.specs.AbnfNoted.{all_rules, judged_of}
+use Rattle.abnfrun.specs.AbnfNoted.{all_rules}
 use Rattle.letters.specs.declared.alphabet.Alphabet.{Alphabet}
 use Rattle.rulelines.specs.LineSets.{IsRuleLine}
 use Rattle.ruletable.specs.Notes.{Said}
@@ -28,7 +28,7 @@ use Rattle.toolrun.specs.Explained.{ExplainedIf}
 use Rattle.toolrun.specs.Input.{Input}
 use Rattle.toolrun.specs.NotesText.{notes_text}
 use Rattle.toolrun.specs.Plan.{stopped}
-use Rattle.toolrun.specs.Reply.{Reply, without_memory}
+use Rattle.toolrun.specs.Reply.{Reply}
 use Rattle.toolrun.specs.Stop.{unread}
 use Rattle.toolrun.specs.ReportedNotes.{HintedNotes, ReportedNotes, no_note, note_reported}
 use Rattle.toolrun.specs.declared.settings.Settings.{Settings as Opening}

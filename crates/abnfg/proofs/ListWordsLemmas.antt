@@ -1,7 +1,7 @@
 -- The command of the program, from that of its parameters.
 -- Serves: abnfg_command
 use Prim.Native.Char.{code}
-use Rattle.std.proofs.Common.{◌≡◌, ◌∙◌, ap, false, List, [], ◌∷◌, refl}
+use Rattle.std.proofs.Common.{◌≡◌, ◌∙◌, ap, false, [], ◌∷◌, refl}
 use Rattle.std.specs.Prelude.{IfOk, Result, codes}
 use Rattle.abnfg.specs.ListWords.{IsAbnfgApp, abnfg_app, seed_rule}
 use Rattle.clap.specs.Words.{AddsArg, App, app_of, rule_of, with_rule}

@@ -1,9 +1,9 @@
 -- The first lines, one after another.
 -- Serves: abnfg_main (right)
-use Rattle.std.proofs.Common.{◌≡◌, ◌≢◌, ◌⊎◌, inl, inr, ℕ, zero, suc, ◌+◌, ◌<◌, ◌≤◌, List, [], ◌∷◌, ◌++◌, length, refl}
+use Rattle.std.proofs.Common.{◌≡◌, ◌⊎◌, inl, inr, ℕ, ◌+◌, ◌<◌, ◌≤◌, List, [], ◌∷◌, ◌++◌, length, refl}
 use Rattle.std.proofs.Common.{sym, ◌∙◌, ap, subst, arith, length-append, append-nil, Option, None, Some, Vec, Global}
-use Rattle.std.specs.Prelude.{Result, Ok, Err, IfOk, IfSome, Contains, MatchResult, ◌↔◌}
-use Rattle.std.specs.List.{All, AllPairs, flat_map}
+use Rattle.std.specs.Prelude.{Result, Ok, Err, IfOk, IfSome, Contains, ◌↔◌}
+use Rattle.std.specs.List.{All, flat_map}
 use Rattle.std.specs.Io.KnownBytes.{Appends}
 use Rattle.std.proofs.lemmas.Grind.{flat_map-append}
 use Rattle.std.proofs.lemmas.List.Elements.{All-contains, All-get_or, All-push, All-weaker, Contains-append_left}
@@ -22,7 +22,7 @@ use Rattle.ruletable.specs.Writing.{AppendsPart}
 use Rattle.ruletable.specs.declared.memory.Memory.{Memory}
 use Rattle.ruletable.specs.declared.sink.WriteFault.{WriteFault}
 use Rattle.rulelines.proofs.ComesFirstLemmas.{before_trans}
-use Rattle.rulelines.specs.FirstLines.{ComesFirst, HasNoLine, IsFirstLine, IsShortlexBefore}
+use Rattle.rulelines.specs.FirstLines.{ComesFirst, IsFirstLine, IsShortlexBefore}
 
 -- a line up to the last one is before each after that
 before_next : (u last w : List ℕ) → ComesFirst u last → IsShortlexBefore last w → IsShortlexBefore u w

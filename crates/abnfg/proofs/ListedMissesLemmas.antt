@@ -1,6 +1,6 @@
 -- The lines that miss a rule, one after another.
 -- Serves: abnfg_main (right)
-use Rattle.std.proofs.Common.{◌≡◌, ◌≢◌, ◌⊎◌, inl, inr, ℕ, ◌+◌, ◌<◌, ◌≤◌, List, [], ◌∷◌, ◌++◌, length, refl, sym, ◌∙◌}
+use Rattle.std.proofs.Common.{◌≡◌, inl, inr, ℕ, ◌+◌, ◌<◌, ◌≤◌, List, [], ◌∷◌, ◌++◌, length, refl, sym, ◌∙◌}
 use Rattle.std.proofs.Common.{ap, subst, arith, length-append, append-nil, Option, None, Some, Vec, Global}
 use Rattle.std.specs.Prelude.{Result, Ok, Err}
 use Rattle.std.specs.List.{flat_map}
@@ -14,7 +14,7 @@ use Rattle.abnfg.specs.declared.lines.Halt.TheVariants.{All as Finished}
 use Rattle.abnfread.specs.Element.{Rule}
 use Rattle.letters.specs.declared.alphabet.Alphabet.{Alphabet}
 use Rattle.rulelines.specs.LineSets.{LineSet}
-use Rattle.rulelines.specs.MissLists.{AreAllMisses, AreFirstMisses, AreMissesOf, AreLinesReported, AreOfRule, MissList}
+use Rattle.rulelines.specs.MissLists.{AreAllMisses, AreFirstMisses, AreMissesOf, AreLinesReported, MissList}
 use Rattle.rulelines.proofs.MissLinesLemmas.{first_misses, no_prefixes, reported_first}
 use Rattle.ruletable.proofs.AppendsLemmas.{Appends-join, Appends-same, AppendsPart-join}
 use Rattle.ruletable.specs.Writing.{AppendsPart}

@@ -1,6 +1,6 @@
 -- What a run states of the lines that it wrote.
 -- Serves: abnfg_main (right)
-use Rattle.std.proofs.Common.{◌≡◌, ℕ, Bool, List, [], Option, inl, inr, refl, sym, ◌∙◌, ap, subst, arith, true}
+use Rattle.std.proofs.Common.{◌≡◌, ℕ, Bool, List, [], Option, inl, inr, refl, sym, ap, arith, true}
 use Rattle.std.specs.Prelude.{Result, Ok, Err, codes}
 use Rattle.std.specs.Io.KnownBytes.{Appends}
 use Rattle.std.specs.List.{flat_map}
@@ -9,9 +9,7 @@ use Rattle.abnfg.specs.declared.lines.Halt.{Halt}
 use Rattle.abnfg.specs.declared.lines.Halt.TheVariants.{NoMemory as HaltsUnroomed, Nothing, TooMany}
 use Rattle.abnfg.specs.declared.lines.Halt.TheVariants.{All as Finished}
 use Rattle.ruletable.specs.declared.sink.WriteFault.{WriteFault}
-use Rattle.toolrun.specs.Plan.{stopped}
-use Rattle.toolrun.specs.Reply.{Reply, without_memory}
-use Rattle.toolrun.specs.RunEnd.{ended_status, ended_text}
+use Rattle.toolrun.specs.Reply.{without_memory}
 use Rattle.toolrun.specs.Status.{code_of}
 use Rattle.toolrun.specs.Stop.{message_of}
 use Rattle.toolrun.specs.Stopped.{Fulfils}
@@ -19,7 +17,7 @@ use Rattle.toolrun.specs.Stream.{no_input}
 use Rattle.toolrun.specs.declared.ending.Ending.{Ending}
 use Rattle.toolrun.specs.declared.status.Status.{Status}
 use Rattle.toolrun.specs.declared.status.Status.TheVariants.{Done, NoMatch, NoMemory as WithoutMemory, Overlong}
-use Rattle.toolrun.specs.declared.stop.Stop.TheVariants.{NoMemory, Quiet}
+use Rattle.toolrun.specs.declared.stop.Stop.TheVariants.{NoMemory}
 
 module _ (first whole : List (List ℕ) → Type 0) (text_of : List ℕ → List ℕ) (count : ℕ) (s0 s1 : Option (List ℕ))
     (was failed : Bool) where

@@ -226,6 +226,9 @@ fn add_level(alloc: Global, table: &mut Table) -> Result<bool, Memory>
     requires table { IsStateTable table.old }
     ensures { IfOk result (λ done. IsTableGrown table.old table.new) }
 {
+    if table.cells >= table.room {
+        return Ok(false);
+    }
     if !explore_all(alloc, table)? {
         return Ok(false);
     }
