@@ -70,7 +70,6 @@ EXEMPT = (
     # A crate above has such an edit.
     "abnfrun: AbnfJudge.judge", "memoryrun: whole_run.abnf_in_memory", "memoryrun: whole_run.peg_in_memory",
     "earleyitems: ItemChart.dots", "toolrun: plan.plan_of", "toolrun: tool.act", "diagnostics: explained.positions_of",
-    "abnfcheck: table_marks.sound_rules",
 )
 
 
