@@ -21,6 +21,9 @@ use toolrun::{Status, Stop, close_run, end_run};
 /// The message on a word that is not UTF-8.
 const INVALID_UTF8: &str = "invalid UTF-8 was detected in one or more arguments";
 
+/// The message on words of a run that name standard input twice.
+const SHARED: &str = "the grammar and the input are both standard input\n";
+
 /// Writes a text on the error output, and ends with this status.
 fn report_fault<O: Sink, E: Sink>(text: &str, status: Status, out: &mut O, err: &mut E) -> Status
     requires out_is_fresh { O.failed out.old ≡ false }
@@ -141,6 +144,7 @@ fn unopened_text(alloc: Global, name: &str, fault: &io::Error) -> Option<String>
 /// Ends a program whose input cannot be opened: `err` says why.
 ///
 /// - `Unopened`: `cannot read`, the file's name and the reason of the system, `Fault`.
+/// - `Shared`: `the grammar and the input are both standard input`, `Refused`.
 /// - `NoMemory`, or an allocation fails: `out of memory`, `NoMemory`.
 pub(crate) fn end_inputless<O: Sink, E: Sink>(
     alloc: Global,
@@ -158,6 +162,7 @@ pub(crate) fn end_inputless<O: Sink, E: Sink>(
             Some(text) => report_fault(text.as_str(), Status::Fault, out, err),
             None => end_run(Ok(Stop::NoMemory), out, err),
         },
+        Inputless::Shared => report_fault(SHARED, Status::Refused, out, err),
         Inputless::NoMemory => end_run(Ok(Stop::NoMemory), out, err),
     }
 }

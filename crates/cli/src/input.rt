@@ -1,7 +1,7 @@
 //! The input of a program: standard input, or the file that its words name.
-ghost use Rattle.std.specs.Prelude.{◌≡◌, IfErr, IfOk, false, map, string_bytes};
+ghost use Rattle.std.specs.Prelude.{◌≡◌, IfErr, IfOk, MatchResult, Some, false, map, option_map, string_bytes, true};
 ghost use Rattle.clap.specs.Words.{App};
-ghost use Rattle.cli.specs.Inputs.{InputlessStates, IsInputOf, IsUnopened, file_of, rest_of};
+ghost use Rattle.cli.specs.Inputs.{InputlessStates, IsInputOf, IsUnopened, are_shared, file_of, rest_of, shared_of};
 ghost use Rattle.cli.specs.declared.input.Inputless.{Inputless as Why};
 ghost use Rattle.toolrun.specs.Right.{RunIsRight};
 ghost use Rattle.toolrun.specs.Status.{code_of};
@@ -9,14 +9,14 @@ ghost use Rattle.toolrun.specs.Stream.{no_input, passed};
 
 use crate::fault::end_inputless;
 use crate::program::Program;
-use crate::settings::read_words;
+use crate::settings::{Asked, read_words};
 use clap::error::ErrorKind as WordsFault;
 use feed::{Source, SourceOf};
 use ruletable::Sink;
 use std::io::{BufReader, ErrorKind, Read};
 use std::rt::Files;
 use std::{fs, io};
-use toolrun::{Status, Stop, end_run};
+use toolrun::{Mode, Status, Stop, end_run};
 
 /// An input of a program.
 #[derive(Drop)]
@@ -46,6 +46,8 @@ impl<S: Read, F: Read> Read for Input<S, F> {
 pub enum Inputless<'a> {
     /// The system cannot open the file of that name, for this reason.
     Unopened(&'a str, io::Error),
+    /// The words name standard input for the grammar and for the input of a run.
+    Shared,
     /// An allocation failed.
     NoMemory,
 }
@@ -61,19 +63,34 @@ fn open_named<'a, R: Files>(rt: &R, name: &'a str) -> Result<R::File, Inputless<
     }
 }
 
+/// Returns whether the words name standard input for the grammar and for the input of a run.
+fn is_shared<O>(asked: &Asked<'_, O>) -> bool
+    ensures { result ≡ are_shared asked.now.settings.mode (Some asked.now.path.now)
+        (option_map (λ s. s.now) asked.now.file) }
+{
+    let is_standard = match asked.file {
+        Some(name) => name == "-",
+        None => true,
+    };
+    is_standard && asked.path == "-" && asked.settings.mode == Mode::Run
+}
+
 /// Returns the input that the words ask for. It is `standard` if the words name no file for it, or name it `-`, or if
 /// something is wrong with the words; else the file, opened.
 ///
 /// # Errors
 /// - `Unopened` if the file cannot be opened.
+/// - `Shared` if the words of a run name standard input for the grammar too.
 /// - `NoMemory` if an allocation fails.
 fn open_input<'a, P: Program, R: Files + AllocGlobal, S: Drop>(
     rt: &R,
     words: &'a [String],
     standard: S,
 ) -> Result<Input<S, R::File>, Inputless<'a>>
-    ensures { (app : App) × P.is_app app × IfOk result (IsInputOf standard
-        (file_of app (map string_bytes words.entry.now))) }
+    ensures { (app : App) × P.is_app app × MatchResult result
+        (λ input. IsInputOf standard (file_of app (map string_bytes words.entry.now)) input
+        × (shared_of app (map string_bytes words.entry.now) ≡ false))
+        (λ why. why ≡ Why.Shared → shared_of app (map string_bytes words.entry.now) ≡ true) }
 {
     let asked = match read_words::<P, String>(rt.alloc(), words) {
         Ok(asked) => asked,
@@ -84,6 +101,9 @@ fn open_input<'a, P: Program, R: Files + AllocGlobal, S: Drop>(
             return Ok(Input::Standard(standard));
         }
     };
+    if is_shared(&asked) {
+        return Err(Inputless::Shared);
+    }
     let Some(name) = asked.file else {
         return Ok(Input::Standard(standard));
     };
@@ -100,6 +120,7 @@ fn open_input<'a, P: Program, R: Files + AllocGlobal, S: Drop>(
 /// # Errors
 /// The status of a program that has no input; `err` says why:
 /// - The file cannot be opened: `cannot read`, its name and the reason of the system, `Fault`.
+/// - The words of a run name standard input for the grammar too: a message, `Refused`.
 /// - An allocation fails: `out of memory`, `NoMemory`.
 pub fn open_source<P: Program, R: Files + AllocGlobal, S: Read + Drop, O: Sink, E: Sink>(
     rt: &R,
@@ -113,8 +134,12 @@ pub fn open_source<P: Program, R: Files + AllocGlobal, S: Read + Drop, O: Sink, 
     ensures ready { IfOk result (λ source. (⟦<SourceOf<BufReader<Input<S, R::File>>> as Source>⟧.failed source ≡ false)
         × (⟦<SourceOf<BufReader<Input<S, R::File>>> as Source>⟧.ended source ≡ false)
         × (out.new ≡ out.old) × (err.new ≡ err.old)) }
-    ensures ended { IfErr result (λ status. (why : Why) × RunIsRight (InputlessStates why) no_input
-        (passed O.contents O.failed out.old out.new) (passed E.contents E.failed err.old err.new) (code_of status)) }
+    ensures shared { (app : App) × P.is_app app
+        × IfOk result (λ _. shared_of app (map string_bytes words.now) ≡ false) }
+    ensures ended { IfErr result (λ status. (why : Why) × ((app : App) × P.is_app app
+        × (why ≡ Why.Shared → shared_of app (map string_bytes words.now) ≡ true))
+        × RunIsRight (InputlessStates why) no_input (passed O.contents O.failed out.old out.new)
+        (passed E.contents E.failed err.old err.new) (code_of status)) }
 {
     let input = match open_input::<P, R, S>(rt, words, standard) {
         Ok(input) => input,

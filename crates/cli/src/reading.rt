@@ -40,8 +40,13 @@ pub enum Unready {
     NoMemory,
 }
 
-/// Reads a grammar's file: one byte more than a grammar may have is enough to show that it is too long.
+/// The path of standard input, which `-` names.
+const STANDARD: &str = "/dev/stdin";
+
+/// Reads a grammar's file: one byte more than a grammar may have is enough to show that it is too long. `-` names
+/// standard input.
 pub fn read_grammar<R: Files + AllocGlobal>(rt: &R, path: &str) -> io::Result<Vec<u8>> {
+    let path = if path == "-" { STANDARD } else { path };
     let mut bytes = Vec::new(rt.alloc());
     fs::open(rt, path)?
         .take(MAX_GRAMMAR as u64 + 1)

@@ -153,7 +153,7 @@ fn run_inputs<P: Program, R: Files + AllocGlobal, S: Read + Drop, O: BufferedSin
     rt: &R,
     job: &CheckedJob<'_, P::Options>,
     names: &[&str],
-    standard: S,
+    mut standard: Option<S>,
     out: &mut O,
     err: &mut E,
 ) -> Status
@@ -163,7 +163,6 @@ fn run_inputs<P: Program, R: Files + AllocGlobal, S: Read + Drop, O: BufferedSin
         (map (λ s. s.now) names.now)
         (passed O.contents O.failed out.old out.new) (passed E.contents E.failed err.old err.new) (code_of result) }
 {
-    let mut standard = Some(standard);
     let mut most = Status::Done;
     for name in names {
         if is_over(most, out, err) {
@@ -207,6 +206,12 @@ fn check_and_run<P: Program, R: Files + AllocGlobal, S: Read + Drop, O: Buffered
         settings,
         text,
         messages,
+    };
+    // a grammar that is standard input has taken it
+    let standard = if asked.path == "-" {
+        None
+    } else {
+        Some(standard)
     };
     run_inputs::<P, R, S, O, E>(rt, &job, names, standard, out, err)
 }
