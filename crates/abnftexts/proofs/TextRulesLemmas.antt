@@ -28,7 +28,7 @@ use Rattle.abnftexts.specs.WrittenLists.{AreExpanded, IsFirstList, WritesLists, 
 use Rattle.abnftexts.specs.WrittenLists.{lines_written, with_lists}
 use Rattle.abnftexts.specs.TextRules.{GivesFound, GivesText, GiveTexts, given_by, next_rule, next_text, no_rule}
 use Rattle.abnftexts.specs.TextRules.{IsRuleReported, asks_lists, for_fault, for_list, no_texts, none_found}
-use Rattle.abnftexts.specs.TextRules.{position_in}
+use Rattle.abnftexts.specs.TextRules.{position_in, report_with}
 use Rattle.abnftexts.specs.UsedNames.{AreRuleUses, AreNameUses, UsedName, next_uses, no_rules, used_at}
 
 both-same : (a b c d : RulesGathered) → a ≡ b → c ≡ d → both_given a c ≡ both_given b d
@@ -91,7 +91,8 @@ module _ (one : OneReading) where
         rules)
         (found-same h k)
     found-same (no_rule x h) (no_rule y k) =
-        both-same _ _ _ _ (ap (λ (r : List ℕ). reported_alone r) (reported-same x y)) (found-same h k)
+        both-same _ _ _ _ (ap (λ (message : List ℕ). reported_alone (report_with message _)) (reported-same x y))
+        (found-same h k)
 
   text-same : (lists : Option ListForm) (text : NamedText) (a b : RulesGathered) → GivesText lists text a
       → GivesText lists text b → a ≡ b

@@ -19,8 +19,8 @@ pub returns-in-Err : goal.returns-in-Err
 returns-in-Err g c = record {
   right =
       let texts = map named_text c.args.texts.now in
-      run_is_right (JoinStates texts c.args.lists c.args.form) [] (StopsEarly texts c.args.lists c.args.form)
-      (notes_stated (early-planned texts c.args.lists c.args.form)) no_input
+      run_is_right (JoinStates texts c.args.asked.lists c.args.asked.form c.args.asked.explains) [] (StopsEarly texts c.args.asked.lists c.args.asked.form c.args.asked.explains)
+      (notes_stated (early-planned texts c.args.asked.lists c.args.asked.form c.args.asked.explains)) no_input
       (passed g.O.Sink.contents g.O.Sink.failed c.args.out.now c.args.out.now)
       (passed g.O.Sink.contents g.O.Sink.failed c.args.out.now c.finish.new.out)
       (passed g.E.Sink.contents g.E.Sink.failed c.args.err.now c.finish.new.err)
@@ -38,8 +38,8 @@ returns-then-is_err g c = record {
       let texts = map named_text c.args.texts.now in
       let joined = grammar_joined c.in-Ok.joined in
       let bytes = rw c.deref.ensures.value at c.write_whole.ensures.bytes in
-      cut_short (JoinStates texts c.args.lists c.args.form) joined.reported
-      (notes_some (joined-planned texts c.args.lists c.args.form joined c.in-Ok.ensures)) no_input
+      cut_short (JoinStates texts c.args.asked.lists c.args.asked.form c.args.asked.explains) joined.reported
+      (notes_some (joined-planned texts c.args.asked.lists c.args.asked.form c.args.asked.explains joined c.in-Ok.ensures)) no_input
       (passed g.O.Sink.contents g.O.Sink.failed c.args.out.now c.close.new.out)
       (passed g.E.Sink.contents g.E.Sink.failed c.args.err.now c.close.new.err)
       _ (code_of c.close.result) refl (wrote-part _ _ _ c.write_whole.result failed bytes) c.close.ensures.out
@@ -53,8 +53,8 @@ returns g c = record {
       let texts = map named_text c.args.texts.now in
       let joined = grammar_joined c.in-Ok.joined in
       let bytes = rw c.deref.ensures.value at c.write_whole.ensures.bytes in
-      run_is_right (JoinStates texts c.args.lists c.args.form) joined.reported (DoesJoin c.args.form joined)
-      (notes_stated (joined-planned texts c.args.lists c.args.form joined c.in-Ok.ensures)) no_input
+      run_is_right (JoinStates texts c.args.asked.lists c.args.asked.form c.args.asked.explains) joined.reported (DoesJoin c.args.asked.form joined)
+      (notes_stated (joined-planned texts c.args.asked.lists c.args.asked.form c.args.asked.explains joined c.in-Ok.ensures)) no_input
       (passed g.O.Sink.contents g.O.Sink.failed c.args.out.now c.write_joined-stop.new.out)
       (passed g.O.Sink.contents g.O.Sink.failed c.args.out.now c.finish-2.new.out)
       (passed g.E.Sink.contents g.E.Sink.failed c.args.err.now c.finish-2.new.err)

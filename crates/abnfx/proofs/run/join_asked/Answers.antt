@@ -7,7 +7,7 @@ use Rattle.toolrun.specs.declared.status.Status.TheVariants as status
 use Rattle.toolrun.specs.declared.stop.Stop.TheVariants.{Quiet}
 use Rattle.clap.specs.Words.{found_of, rows_of}
 use Rattle.abnfx.specs.JoinAnswers.{FilesJoined, JoinAnswers, asks, both, both_forms, both_lists, two_lists}
-use Rattle.abnfx.specs.JoinWords.{paths_asked}
+use Rattle.abnfx.specs.JoinWords.{explains_asked, paths_asked}
 use Rattle.toolrun.proofs.IsRightLemmas.{comes_as}
 use Rattle.abnfx.proofs.run.join_asked.Goals as goal
 
@@ -23,19 +23,20 @@ returns-in_default g c =
           c.end_clash.ensures.right;
     }
 
-pub returns-in-Some-lists_of : goal.returns-in-Some-lists_of
-returns-in-Some-lists_of g c =
+pub returns : goal.returns
+returns g c =
     let rows = rows_of (found_of c.args.matches.now) in
     record {
-      right = comes_as (FilesJoined (paths_asked rows) c.in-Some-lists_of.lists c.in-Some.form) (JoinAnswers rows)
+      right = comes_as (FilesJoined (paths_asked rows) c.in-Some-lists_of.lists c.in-Some.form
+          (explains_asked rows)) (JoinAnswers rows)
           (λ input notes reply is. asks (sym c.in-Some.ensures) (sym c.in-Some-lists_of.ensures) is)
           no_input (passed g.O.Sink.contents g.O.Sink.failed c.args.out.now c.join_named.new.out)
           (passed g.E.Sink.contents g.E.Sink.failed c.args.err.now c.join_named.new.err) (code_of c.join_named.result)
           c.join_named.ensures.right;
     }
 
-pub returns-in-None : goal.returns-in-None
-returns-in-None g c =
+pub returns-in_default-lists_of : goal.returns-in_default-lists_of
+returns-in_default-lists_of g c =
     let rows = rows_of (found_of c.args.matches.now) in
     record {
       right = comes_as (IsReportedAnd both_lists (Quiet status.Refused)) (JoinAnswers rows)

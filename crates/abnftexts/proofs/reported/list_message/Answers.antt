@@ -2,7 +2,7 @@ use Rattle.std.proofs.Common.{◌≡◌, ◌∙◌, ℕ, List, ◌++◌, ap, app
 use Rattle.ruletable.specs.Faults.{at_line}
 use Rattle.abnfblocks.specs.TextLines.{numbered}
 use Rattle.abnftexts.specs.TextPositions.{number_at, position_shown}
-use Rattle.abnftexts.proofs.reported.push_list.Goals as goal
+use Rattle.abnftexts.proofs.reported.list_message.Goals as goal
 
 three-pushed : (a b c d p q r : List ℕ) → b ≡ a ++ p → c ≡ b ++ q → d ≡ c ++ r → d ≡ a ++ (p ++ (q ++ r))
 three-pushed a b c d p q r e f g =
