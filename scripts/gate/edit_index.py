@@ -23,8 +23,8 @@ FEWEST_EDITS = 4
 # What a first line names where no clause of the function rejects the edit.
 OTHERS = r"ensures|invariant|loop|safe|ends|requires of [\w.]+"
 # Traits whose methods need no edit of their own. A method of a `Language` hands on what one function of a crate below
-# says, where that function has its edit.
-PLAIN_TRAITS = ("From", "Model", "Display", "Drop", "Language")
+# says, where that function has its edit. A method of a `Node` equates what it makes with a term.
+PLAIN_TRAITS = ("From", "Model", "Display", "Drop", "Language", "Node")
 # Crates that show how to call the others, or that tests alone call: they need no edits.
 EXAMPLES = ("uses", "testio")
 # Words that equate what they speak of.

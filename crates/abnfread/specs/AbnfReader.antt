@@ -1,6 +1,8 @@
 -- The reader's state as a configuration of the machine, and what the reader's calls do to it.
-use Rattle.std.specs.Prelude.{◌≡◌, ℕ, Bool, true, false, List, [], map, reverse, Option, Some, None, Result, Ok, Err}
+use Rattle.std.specs.Prelude.{◌≡◌, ℕ, Bool, true, false, List, [], map, Option, Some, None, Result, Ok, Err}
 use Rattle.ruletable.specs.declared.span.Span.{Span}
+use Rattle.lexer.specs.ReadBodies.{Part, part, alternatives_of, brackets_of, items_of}
+use Rattle.abnfread.specs.declared.elem.Elem.{Elem}
 use Rattle.abnfread.specs.declared.kind.AbnfKind.{AbnfKind}
 use Rattle.abnfread.specs.declared.kind.AbnfKind.TheVariants as kinds
 use Rattle.abnfread.specs.declared.words.Said.{Said as CodeSaid}
@@ -13,7 +15,7 @@ use Rattle.abnfread.specs.declared.reader.Times.{Times as CodeTimes}
 use Rattle.abnfread.specs.declared.reader.Times.TheVariants as code_times
 use Rattle.abnfread.specs.declared.reader.Bracket.{Bracket as CodeBracket}
 use Rattle.abnfread.specs.declared.reader.Bracket.TheVariants as code_brackets
-use Rattle.abnfread.specs.declared.reader.Level.{Level as CodeLevel}
+use Rattle.abnfread.specs.declared.reader.Opened.{Opened}
 use Rattle.abnfread.specs.declared.reader.At.{At}
 use Rattle.abnfread.specs.declared.reader.At.TheVariants as ats
 use Rattle.abnfread.specs.declared.reader.Reader.{Reader}
@@ -51,26 +53,21 @@ abbrev pub bracket_of : CodeBracket → Bracket
 bracket_of code_brackets.Paren = paren
 bracket_of code_brackets.Brack = brack
 
-abbrev pub level_of : CodeLevel → Level
-level_of l = level (elements_of l.alternatives.items) (elements_of l.parts.items) (times_of l.times)
-    (bracket_of l.bracket)
-
--- the innermost first
-abbrev pub levels_of : List CodeLevel → List Level
-levels_of ls = reverse (map level_of ls)
+abbrev pub level_of : Part Elem Opened → Level
+level_of (part bs es m) = level (elements_of bs) (elements_of es) (times_of m.times) (bracket_of m.bracket)
 
 -- what the reader has of the definition that goes on
 abbrev pub head_of : Reader → Head
 head_of r = head (definitions_from r.definitions.items) r.adds r.name.now r.span
 
 abbrev pub ended_of : Reader → Elements
-ended_of r = elements_of r.alternatives.items
+ended_of r = elements_of (alternatives_of r.body)
 
 abbrev pub parts_of : Reader → Elements
-parts_of r = elements_of r.parts.items
+parts_of r = elements_of (items_of r.body)
 
 abbrev pub outer_of : Reader → List Level
-outer_of r = levels_of r.outer.items
+outer_of r = map level_of (brackets_of r.body)
 
 abbrev pub body_config : Reader → Last → Config
 body_config r l = body (head_of r) (outer_of r) (ended_of r) (parts_of r) l

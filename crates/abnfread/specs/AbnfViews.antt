@@ -1,5 +1,5 @@
 -- The elements, rules and definitions that the code's stand for.
-use Rattle.std.specs.Prelude.{List, [], ◌∷◌, map}
+use Rattle.std.specs.Prelude.{◌≡◌, List, [], ◌∷◌, map}
 use Rattle.ruletable.specs.Rules as table
 use Rattle.abnfread.specs.declared.definition.Definition.{Definition as CodeDefinition}
 use Rattle.abnfread.specs.declared.elem.Elem.{Elem}
@@ -29,6 +29,14 @@ element_of = fold-Elem Element node_element
 
 abbrev pub elements_of : List Elem → Elements
 elements_of es = elements (map element_of es)
+
+-- the element is the concatenation of these items
+abbrev pub IsSequence : List Elem → Elem → Type 0
+IsSequence es e = element_of e ≡ Concat (elements_of es)
+
+-- the element is the alternation of these alternatives
+abbrev pub IsChoice : List Elem → Elem → Type 0
+IsChoice es e = element_of e ≡ Alt (elements_of es)
 
 -- a rule of a table, with the element of its body
 abbrev pub rule_of : table.Rule Elem → Rule

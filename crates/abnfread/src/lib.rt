@@ -9,6 +9,7 @@ mod kind;
 mod lexicon;
 mod marked;
 mod marks;
+mod node;
 mod number;
 mod read;
 mod reader;

@@ -4,7 +4,7 @@ ghost use Rattle.abnfread.specs.AbnfMachine as machine;
 ghost use Rattle.abnfread.specs.AbnfMachine.{apply, enclosed, finish, ended, snoc, head, level as a_level, levels_in};
 ghost use Rattle.abnfread.specs.AbnfMachine.{element_step, fresh_step, read_step, named_step, rule_step, close_step};
 ghost use Rattle.abnfread.specs.AbnfMachine.{end_step, first_step, later_step, step};
-ghost use Rattle.abnfread.specs.AbnfReader.{said_of, times_of, bracket_of, level_of, levels_of, head_of, ended_of};
+ghost use Rattle.abnfread.specs.AbnfReader.{said_of, times_of, bracket_of, head_of, ended_of};
 ghost use Rattle.abnfread.specs.AbnfReader.{parts_of, outer_of, body_config, config_of, Steps, sample, is_there};
 ghost use Rattle.abnfread.specs.AbnfSpelling.{concatenation as concatenation_of, alternation as alternation_of};
 ghost use Rattle.abnfread.specs.AbnfWords.{word};
@@ -14,9 +14,9 @@ ghost use Rattle.abnfread.specs.AbnfViews.{element_of, elements_of, definition_f
 use crate::definition::Definition;
 use crate::elem::Elem;
 use crate::words::Said;
+use lexer::Body;
 use ruletable::Span;
 use std::alloc::{AllocError, AllocFailed, Global};
-use std::mem;
 
 /// Why the reader takes no further token.
 #[derive(Clone, Copy)]
@@ -62,13 +62,9 @@ pub(crate) enum Bracket {
     Brack,
 }
 
-/// The part of a body that an open bracket interrupts.
-#[derive(Drop)]
-pub(crate) struct Level {
-    /// The alternatives that ended.
-    alternatives: Vec<Elem>,
-    /// The parts of the last alternative so far.
-    parts: Vec<Elem>,
+/// An open bracket, with what its end needs.
+#[derive(Clone, Copy)]
+pub(crate) struct Opened {
     /// The repeat before the bracket.
     times: Times,
     /// The form of the bracket.
@@ -95,9 +91,7 @@ pub(crate) enum At {
 /// A pushdown machine that takes a grammar word by word, and makes definitions of the words.
 ///
 /// The definitions that ended stand in `definitions`. `adds`, `name` and `span` are those of the definition that goes
-/// on. Of its body the machine has `alternatives` and `parts`, within the innermost open bracket. An open bracket
-/// pushes these onto `outer`; its end pops them. `at` decides which words may follow. The stack is a vector, so nesting
-/// takes no call stack.
+/// on, and `body` has what is read of its body. `at` decides which words may follow.
 #[derive(Drop)]
 pub(crate) struct Reader<'a> {
     /// Allocates the definitions.
@@ -110,51 +104,10 @@ pub(crate) struct Reader<'a> {
     name: &'a [u8],
     /// The span of that name.
     span: Span,
-    /// The parts that open brackets interrupt, the innermost last.
-    outer: Vec<Level>,
-    /// The alternatives that ended, within the innermost bracket.
-    alternatives: Vec<Elem>,
-    /// The parts of the last alternative so far.
-    parts: Vec<Elem>,
+    /// What is read of its body.
+    body: Body<Elem, Opened>,
     /// The word that was taken last.
     at: At,
-}
-
-// A concatenation of one part is that part.
-fn concatenation(mut parts: Vec<Elem>) -> Elem
-    ensures { element_of result ≡ concatenation_of (elements_of parts.items) }
-{
-    if parts.len() != 1 {
-        return Elem::Concat(parts);
-    }
-    match parts.pop() {
-        Some(only) => only,
-        None => Elem::Concat(parts),
-    }
-}
-
-// An alternation of one alternative is that alternative.
-pub(crate) fn alternation(mut alternatives: Vec<Elem>) -> Elem
-    ensures { element_of result ≡ alternation_of (elements_of alternatives.items) }
-{
-    if alternatives.len() != 1 {
-        return Elem::Alt(alternatives);
-    }
-    match alternatives.pop() {
-        Some(only) => only,
-        None => Elem::Alt(alternatives),
-    }
-}
-
-// The alternation of these alternatives and one more, of these parts.
-fn finished(mut alternatives: Vec<Elem>, parts: Vec<Elem>) -> Result<Elem, AllocError>
-    ensures { IfOk result (λ e. element_of e ≡ finish (elements_of alternatives.items) (elements_of parts.items)) }
-{
-    if alternatives.is_empty() {
-        return Ok(concatenation(parts));
-    }
-    alternatives.push(concatenation(parts))?;
-    Ok(alternation(alternatives))
 }
 
 // The element, as often as that.
@@ -195,9 +148,7 @@ impl<'a> Reader<'a> {
             adds: false,
             name: &[],
             span: Span { start: 0, end: 0 },
-            outer: Vec::new(alloc),
-            alternatives: Vec::new(alloc),
-            parts: Vec::new(alloc),
+            body: Body::new(alloc),
             at: At::Start,
         }
     }
@@ -208,7 +159,7 @@ impl<'a> Reader<'a> {
             (snoc (parts_of self.old) (apply (times_of times) (element_of e))) machine.read)) result self.new }
     {
         let part = repeated(self.alloc, times, e)?;
-        self.parts.push(part)?;
+        self.body.push(part)?;
         self.at = At::Read;
         Ok(())
     }
@@ -219,14 +170,7 @@ impl<'a> Reader<'a> {
             (a_level (ended_of self.old) (parts_of self.old) (times_of times) (bracket_of bracket) ∷ outer_of self.old)
             none none machine.fresh)) result self.new }
     {
-        let alternatives = mem::replace(&mut self.alternatives, Vec::new(self.alloc));
-        let parts = mem::replace(&mut self.parts, Vec::new(self.alloc));
-        self.outer.push(Level {
-            alternatives,
-            parts,
-            times,
-            bracket,
-        })?;
+        self.body.open(Opened { times, bracket })?;
         self.at = At::Fresh;
         Ok(())
     }
@@ -276,8 +220,7 @@ impl<'a> Reader<'a> {
         ensures { Steps (Some (machine.body (head_of self.old) (outer_of self.old)
             (snoc (ended_of self.old) (concatenation_of (parts_of self.old))) none machine.fresh)) result self.new }
     {
-        let parts = mem::replace(&mut self.parts, Vec::new(self.alloc));
-        self.alternatives.push(concatenation(parts))?;
+        self.body.end_alternative()?;
         self.at = At::Fresh;
         Ok(())
     }
@@ -287,17 +230,14 @@ impl<'a> Reader<'a> {
         ensures { Steps (close_step (bracket_of bracket) (outer_of self.old) (head_of self.old)
             (finish (ended_of self.old) (parts_of self.old))) result self.new }
     {
-        let Some(level) = self.outer.pop() else {
+        let Some((opened, inner)) = self.body.close()? else {
             return Err(ReaderStop::Hopeless);
         };
-        if level.bracket != bracket {
+        if opened.bracket != bracket {
             return Err(ReaderStop::Hopeless);
         }
-        let alternatives = mem::replace(&mut self.alternatives, level.alternatives);
-        let parts = mem::replace(&mut self.parts, level.parts);
-        let inner = finished(alternatives, parts)?;
         let e = bracketed(self.alloc, bracket, inner)?;
-        self.push_part(level.times, e)
+        self.push_part(opened.times, e)
     }
 
     // Ends a definition.
@@ -305,9 +245,7 @@ impl<'a> Reader<'a> {
         ensures { IfOk result (λ _. definitions_from self.new.definitions.items ≡ ended (head_of self.old)
             (finish (ended_of self.old) (parts_of self.old))) }
     {
-        let alternatives = mem::replace(&mut self.alternatives, Vec::new(self.alloc));
-        let parts = mem::replace(&mut self.parts, Vec::new(self.alloc));
-        let body = finished(alternatives, parts)?;
+        let body = self.body.finish()?;
         self.definitions.push(Definition {
             adds: self.adds,
             name: self.name,
@@ -327,7 +265,7 @@ impl<'a> Reader<'a> {
             Said::RParen => self.close_bracket(Bracket::Paren),
             Said::RBrack => self.close_bracket(Bracket::Brack),
             Said::End => {
-                if !self.outer.is_empty() {
+                if self.body.depth() > 0 {
                     return Err(ReaderStop::Hopeless);
                 }
                 self.end_definition()?;
@@ -349,9 +287,7 @@ impl<'a> Reader<'a> {
             self.old.name.now self.old.span) [] none none machine.fresh }
     {
         self.adds = adds;
-        self.outer = Vec::new(self.alloc);
-        self.alternatives = Vec::new(self.alloc);
-        self.parts = Vec::new(self.alloc);
+        self.body = Body::new(self.alloc);
         self.at = At::Fresh;
     }
 
@@ -399,7 +335,7 @@ impl<'a> Reader<'a> {
                 self.take_rule(said)
             }
             At::Read => {
-                if !self.outer.is_empty() {
+                if self.body.depth() > 0 {
                     return Err(ReaderStop::Hopeless);
                 }
                 self.end_definition()?;
@@ -458,7 +394,7 @@ impl<'a> Reader<'a> {
         ensures { result ≡ levels_in (config_of self.now) }
     {
         match self.at {
-            At::Fresh | At::Awaits(_, _) | At::Read => self.outer.len(),
+            At::Fresh | At::Awaits(_, _) | At::Read => self.body.depth(),
             _ => 0,
         }
     }

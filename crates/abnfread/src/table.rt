@@ -11,7 +11,7 @@ ghost use Rattle.abnfread.specs.Element.{body_of};
 use crate::appendix::{core_body, core_rules};
 use crate::definition::Definition;
 use crate::elem::Elem;
-use crate::reader::alternation;
+use lexer::choice;
 use ruletable::{Defined, Memory, NameCase, RuleTable};
 use std::alloc::Global;
 use std::mem;
@@ -53,7 +53,7 @@ fn join(alloc: Global, old: Elem, new: Elem) -> Result<Elem, Memory>
     for e in more {
         all.push(e)?;
     }
-    Ok(alternation(all))
+    Ok(choice(all))
 }
 
 // The body of a rule, which is left with one that means nothing.

@@ -1,5 +1,5 @@
 -- The patterns that expressions stand for.
-use Rattle.std.specs.Prelude.{false, List, [], ◌∷◌, map, get_or}
+use Rattle.std.specs.Prelude.{◌≡◌, false, List, [], ◌∷◌, map, get_or}
 use Rattle.ruletable.specs.Rules as table
 use Rattle.pegread.specs.declared.expr.Expr.{Expr}
 use Rattle.pegread.specs.declared.expr.Expr.TheOpen.{Expr-F}
@@ -33,6 +33,14 @@ pattern_of = fold-Expr Pattern node_pattern
 
 abbrev pub patterns_of : List Expr → Patterns
 patterns_of es = patterns (map pattern_of es)
+
+-- the expression is the sequence of these items
+abbrev pub IsSequence : List Expr → Expr → Type 0
+IsSequence es e = pattern_of e ≡ Seq (patterns_of es)
+
+-- the expression is the choice of these alternatives
+abbrev pub IsChoice : List Expr → Expr → Type 0
+IsChoice es e = pattern_of e ≡ Choice (patterns_of es)
 
 -- a rule of a table, with the pattern of its body
 abbrev pub rule_of : table.Rule Expr → Rule

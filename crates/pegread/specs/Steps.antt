@@ -1,5 +1,7 @@
 -- The reader's state as a configuration of the machine, and what the reader's calls do to it.
-use Rattle.std.specs.Prelude.{◌≡◌, List, map, reverse, get_or, false, Option, Some, None, Result, Ok, Err}
+use Rattle.std.specs.Prelude.{◌≡◌, List, map, get_or, false, Option, Some, None, Result, Ok, Err}
+use Rattle.lexer.specs.ReadBodies.{Part, part, alternatives_of, brackets_of, items_of}
+use Rattle.pegread.specs.declared.expr.Expr.{Expr}
 use Rattle.pegread.specs.declared.words.Word.{Word as CodeWord}
 use Rattle.pegread.specs.declared.words.Word.TheVariants as code
 use Rattle.pegread.specs.declared.reader.ReaderStop.{ReaderStop}
@@ -7,7 +9,6 @@ use Rattle.pegread.specs.declared.reader.ReaderStop.TheVariants as stops
 use Rattle.pegread.specs.declared.reader.Prefix.{Prefix}
 use Rattle.pegread.specs.declared.reader.Prefix.TheVariants as prefixes
 use Rattle.pegread.specs.declared.reader.Definition.{Definition}
-use Rattle.pegread.specs.declared.reader.Level.{Level as CodeLevel}
 use Rattle.pegread.specs.declared.reader.At.{At}
 use Rattle.pegread.specs.declared.reader.At.TheVariants as ats
 use Rattle.pegread.specs.declared.reader.Reader.{Reader}
@@ -53,25 +54,21 @@ mark_of prefixes.Nothing = no_mark
 mark_of prefixes.Not = not_mark
 mark_of prefixes.And = and_mark
 
-abbrev pub level_of : CodeLevel → Level
-level_of l = level (patterns_of l.alternatives.items) (patterns_of l.items.items) (mark_of l.prefix)
-
--- the innermost first
-abbrev pub levels_of : List CodeLevel → List Level
-levels_of ls = reverse (map level_of ls)
+abbrev pub level_of : Part Expr Prefix → Level
+level_of (part bs es p) = level (patterns_of bs) (patterns_of es) (mark_of p)
 
 -- what the reader has of the definition that goes on
 abbrev pub head_of : Reader → Head
 head_of r = head (rules_from r.definitions.items) r.name.now r.span
 
 abbrev pub outer_of : Reader → List Level
-outer_of r = levels_of r.outer.items
+outer_of r = map level_of (brackets_of r.body)
 
 abbrev pub ended_of : Reader → Patterns
-ended_of r = patterns_of r.alternatives.items
+ended_of r = patterns_of (alternatives_of r.body)
 
 abbrev pub last_items : Reader → Patterns
-last_items r = patterns_of r.items.items
+last_items r = patterns_of (items_of r.body)
 
 abbrev pub waiting_of : Reader → Mark
 waiting_of r = mark_of r.prefix

@@ -8,6 +8,7 @@ mod kind;
 mod lexicon;
 mod lexing;
 mod literal;
+mod node;
 mod read;
 mod reader;
 mod spelling_laws;

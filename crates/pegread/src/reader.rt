@@ -11,6 +11,7 @@ ghost use Rattle.pegread.specs.Steps.{rules_from, unmarked_step, waiting_of, wor
 
 use crate::expr::Expr;
 use crate::words::Word;
+use lexer::Body;
 use ruletable::Span;
 use std::alloc::{AllocError, AllocFailed, Global};
 use std::mem;
@@ -63,17 +64,6 @@ pub(crate) struct Definition<'a> {
     pub(crate) body: Expr,
 }
 
-/// The part of a body that an open bracket interrupts.
-#[derive(Drop)]
-pub(crate) struct Level {
-    /// The alternatives that ended.
-    alternatives: Vec<Expr>,
-    /// The items of the last alternative so far.
-    items: Vec<Expr>,
-    /// The prefix operator of the bracket.
-    prefix: Prefix,
-}
-
 /// The state of the reader: the kind of word that it took last.
 #[derive(Drop)]
 pub(crate) enum At<'a> {
@@ -93,10 +83,9 @@ pub(crate) enum At<'a> {
 
 /// A pushdown machine that takes a grammar word by word, and makes definitions of the words.
 ///
-/// The definitions that ended stand in `definitions`. `name` and `span` are those of the definition that goes on. Of
-/// its body the machine has `alternatives`, `items` and `prefix`, within the innermost open bracket. An open bracket
-/// pushes these onto `outer`; its end pops them. `at` decides which words may follow. The stack is a vector, so nesting
-/// takes no call stack.
+/// The definitions that ended stand in `definitions`. `name` and `span` are those of the definition that goes on, and
+/// `body` has what is read of its body. An open bracket sets aside the prefix operator before it. `at` decides which
+/// words may follow.
 #[derive(Drop)]
 pub(crate) struct Reader<'a> {
     /// Allocates the definitions.
@@ -107,50 +96,12 @@ pub(crate) struct Reader<'a> {
     name: &'a [u8],
     /// The span of that name.
     span: Span,
-    /// The parts that open brackets interrupt, the innermost last.
-    outer: Vec<Level>,
-    /// The alternatives that ended, within the innermost bracket.
-    alternatives: Vec<Expr>,
-    /// The items of the last alternative so far.
-    items: Vec<Expr>,
+    /// What is read of its body, with the prefix operator of each open bracket.
+    body: Body<Expr, Prefix>,
     /// The prefix operator that waits for its item.
     prefix: Prefix,
     /// The word that was taken last.
     at: At<'a>,
-}
-
-// Makes a sequence of these items. A sequence of one item is that item.
-fn sequence(mut items: Vec<Expr>) -> Expr
-    ensures { pattern_of result ≡ sequence_of (patterns_of items.items) }
-{
-    if items.len() != 1 {
-        return Expr::Seq(items);
-    }
-    match items.pop() {
-        Some(only) => only,
-        None => Expr::Seq(items),
-    }
-}
-
-// Makes a choice of these alternatives. A choice of one alternative is that alternative.
-fn choice(mut alternatives: Vec<Expr>) -> Expr
-    ensures { pattern_of result ≡ choice_of (patterns_of alternatives.items) }
-{
-    if alternatives.len() != 1 {
-        return Expr::Choice(alternatives);
-    }
-    match alternatives.pop() {
-        Some(only) => only,
-        None => Expr::Choice(alternatives),
-    }
-}
-
-// Makes a choice of these alternatives and of one more, the sequence of these items.
-fn finished(mut alternatives: Vec<Expr>, items: Vec<Expr>) -> Result<Expr, AllocError>
-    ensures { IfOk result (λ e. pattern_of e ≡ finish (patterns_of alternatives.items) (patterns_of items.items)) }
-{
-    alternatives.push(sequence(items))?;
-    Ok(choice(alternatives))
 }
 
 // Puts an item under a prefix operator.
@@ -174,9 +125,7 @@ impl<'a> Reader<'a> {
             definitions: Vec::new(alloc),
             name: &[],
             span: Span { start: 0, end: 0 },
-            outer: Vec::new(alloc),
-            alternatives: Vec::new(alloc),
-            items: Vec::new(alloc),
+            body: Body::new(alloc),
             prefix: Prefix::Nothing,
             at: At::Start,
         }
@@ -189,7 +138,7 @@ impl<'a> Reader<'a> {
             self.new }
     {
         let item = prefixed(self.alloc, self.prefix, item)?;
-        self.items.push(item)?;
+        self.body.push(item)?;
         self.prefix = Prefix::Nothing;
         self.at = At::Fresh;
         Ok(())
@@ -201,13 +150,7 @@ impl<'a> Reader<'a> {
             (a_level (ended_of self.old) (last_items self.old) (waiting_of self.old) ∷ outer_of self.old) none none
             no_mark machine.fresh)) result self.new }
     {
-        let alternatives = mem::replace(&mut self.alternatives, Vec::new(self.alloc));
-        let items = mem::replace(&mut self.items, Vec::new(self.alloc));
-        self.outer.push(Level {
-            alternatives,
-            items,
-            prefix: self.prefix,
-        })?;
+        self.body.open(self.prefix)?;
         self.prefix = Prefix::Nothing;
         self.at = At::Fresh;
         Ok(())
@@ -219,8 +162,7 @@ impl<'a> Reader<'a> {
             (snoc (ended_of self.old) (sequence_of (last_items self.old))) none (waiting_of self.old) machine.fresh))
             result self.new }
     {
-        let items = mem::replace(&mut self.items, Vec::new(self.alloc));
-        self.alternatives.push(sequence(items))?;
+        self.body.end_alternative()?;
         self.at = At::Fresh;
         Ok(())
     }
@@ -238,13 +180,10 @@ impl<'a> Reader<'a> {
         ensures { Steps (close_step (outer_of self.old) (head_of self.old)
             (finish (ended_of self.old) (last_items self.old))) result self.new }
     {
-        let Some(level) = self.outer.pop() else {
+        let Some((prefix, e)) = self.body.close()? else {
             return Err(ReaderStop::Hopeless);
         };
-        let alternatives = mem::replace(&mut self.alternatives, level.alternatives);
-        let items = mem::replace(&mut self.items, level.items);
-        self.prefix = level.prefix;
-        let e = finished(alternatives, items)?;
+        self.prefix = prefix;
         self.take_primary(e)
     }
 
@@ -253,9 +192,7 @@ impl<'a> Reader<'a> {
         ensures { IfOk result (λ _. rules_from self.new.definitions.items ≡ ended (head_of self.old)
             (finish (ended_of self.old) (last_items self.old))) }
     {
-        let alternatives = mem::replace(&mut self.alternatives, Vec::new(self.alloc));
-        let items = mem::replace(&mut self.items, Vec::new(self.alloc));
-        let body = finished(alternatives, items)?;
+        let body = self.body.finish()?;
         self.definitions.push(Definition {
             name: self.name,
             span: self.span,
@@ -271,9 +208,7 @@ impl<'a> Reader<'a> {
     {
         self.name = name;
         self.span = span;
-        self.outer = Vec::new(self.alloc);
-        self.alternatives = Vec::new(self.alloc);
-        self.items = Vec::new(self.alloc);
+        self.body = Body::new(self.alloc);
         self.prefix = Prefix::Nothing;
         self.at = At::Fresh;
     }
@@ -283,7 +218,7 @@ impl<'a> Reader<'a> {
         ensures { Steps (end_step (outer_of self.old) (ended (head_of self.old)
             (finish (ended_of self.old) (last_items self.old)))) result self.new }
     {
-        if !self.outer.is_empty() {
+        if self.body.depth() > 0 {
             return Err(ReaderStop::Hopeless);
         }
         self.end_definition()?;
@@ -380,7 +315,7 @@ impl<'a> Reader<'a> {
         match word {
             Word::Arrow => match self.prefix {
                 Prefix::Nothing => {
-                    if !self.outer.is_empty() {
+                    if self.body.depth() > 0 {
                         return Err(ReaderStop::Hopeless);
                     }
                     self.end_definition()?;
@@ -428,7 +363,7 @@ impl<'a> Reader<'a> {
         ensures { result ≡ levels_in (config_of self.now) }
     {
         match self.at {
-            At::Fresh | At::Read(_) | At::Name(_, _) => self.outer.len(),
+            At::Fresh | At::Read(_) | At::Name(_, _) => self.body.depth(),
             _ => 0,
         }
     }

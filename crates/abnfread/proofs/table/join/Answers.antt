@@ -2,6 +2,7 @@ use Rattle.std.proofs.Common.{◌≡◌, [], refl, sym, ap, ◌∙◌, arith}
 use Rattle.abnfread.specs.AbnfSpelling.{alternation}
 use Rattle.abnfread.specs.AbnfViews.{elements_of}
 use Rattle.abnfread.proofs.AbnfMachineLemmas.{append-none}
+use Rattle.abnfread.proofs.ElementListLemmas.{choice-node}
 use Rattle.abnfread.proofs.FirstBodyLemmas.{one-joined, length-none}
 use Rattle.abnfread.proofs.table.join.Goals as goal
 
@@ -17,5 +18,5 @@ returns c =
     let t = c.loop-e in
     let none : t.e-iterator.rest.items ≡ [] = length-none t.e-iterator.rest.items
     (omega (arith, t.e-iterator.rest.ok, c.in-None.ensures.steps.0)) in
-    c.alternation.ensures ∙ ap alternation (sym (append-none (elements_of t.all.items))
+    choice-node t.all.items _ c.choice.ensures ∙ ap alternation (sym (append-none (elements_of t.all.items))
     ∙ (let i = t.invariant in rw none at i))

@@ -1,14 +1,13 @@
-use Rattle.std.proofs.Common.{Vec, Global, ap, ◌∙◌}
-use Rattle.abnfread.specs.declared.elem.Elem.{Elem}
-use Rattle.abnfread.specs.AbnfReader.{head_of, outer_of}
+use Rattle.std.proofs.Common.{Some, ap}
+use Rattle.lexer.specs.ReadBodies.{alternatives_of, brackets_of, items_of}
+use Rattle.abnfread.specs.AbnfMachine.{fresh}
+use Rattle.abnfread.specs.AbnfReader.{head_of}
 use Rattle.abnfread.proofs.ElementListLemmas.{body-alternative}
 use Rattle.abnfread.proofs.reader.Reader.end_concatenation.Goals as goal
 
 pub returns : goal.returns
 returns c =
-    let r = c.args.self.now in
-    let taken = ap (λ (v : Vec Elem Global). v.items) c.replace-parts.ensures.value in
-    let rest = ap (λ (v : Vec Elem Global). v.items) c.replace-parts.ensures.after ∙ c.new.ensures.items in
-    body-alternative (head_of r) (outer_of r) r.alternatives.items c.push.new.self.items r.parts.items
-    c.replace-parts.result.items c.replace-parts.new.dest.items _
-    c.in_ok-push.ensures.items c.concatenation.ensures taken rest
+    let b = c.args.self.now.body in
+    let e = c.in_ok-end_alternative.ensures in
+    ap Some (body-alternative (head_of c.args.self.now) c.end_alternative.new.self (brackets_of b) fresh
+    (alternatives_of b) (items_of b) e.last e.sequence e.rest)

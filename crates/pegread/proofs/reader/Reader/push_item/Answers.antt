@@ -1,9 +1,14 @@
-use Rattle.pegread.specs.Steps.{head_of, outer_of, ended_of}
+use Rattle.std.proofs.Common.{Some, ap}
+use Rattle.lexer.specs.ReadBodies.{alternatives_of, brackets_of, items_of}
+use Rattle.pegread.specs.Machine.{fresh, no_mark}
+use Rattle.pegread.specs.Steps.{head_of}
 use Rattle.pegread.proofs.PatternsOfLemmas.{body-item}
 use Rattle.pegread.proofs.reader.Reader.push_item.Goals as goal
 
 pub returns : goal.returns
 returns c =
-    let r = c.args.self.now in
-    body-item (head_of r) (outer_of r) (ended_of r) r.items.items c.push.new.self.items _ _ c.in_ok-push.ensures.items
-    c.in_ok-item.ensures
+    let b = c.args.self.now.body in
+    let e = c.in_ok-push.ensures in
+    ap Some (body-item (head_of c.args.self.now) c.push.new.self (brackets_of b) no_mark fresh (alternatives_of b)
+    (items_of b) c.in_ok-item.item _ (record { brackets = e.brackets; alternatives = e.alternatives; items = e.items })
+    c.in_ok-item.ensures)

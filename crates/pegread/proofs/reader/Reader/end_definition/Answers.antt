@@ -1,0 +1,9 @@
+use Rattle.lexer.specs.ReadBodies.{alternatives_of, items_of}
+use Rattle.pegread.proofs.PatternsOfLemmas.{rules-push, whole-pattern}
+use Rattle.pegread.proofs.reader.Reader.end_definition.Goals as goal
+
+pub returns : goal.returns
+returns c =
+    let r = c.args.self.now in
+    rules-push r.definitions.items c.push.new.self.items _ _ c.in_ok-push.ensures.items
+    (whole-pattern (alternatives_of r.body) (items_of r.body) c.in_ok-body.body c.in_ok-body.ensures.whole)
