@@ -109,7 +109,7 @@ module _ (one : OneReading) where
         let mine : AreReports explains k.reports reports =
         subst (λ (g : GrammarJoined). AreReports explains g.reports reports) same rs in (
           ap (λ (g : GrammarJoined). reports ++ g.reported) same
-          ∙ ap (λ (t : List ℕ). t ++ k.reported) (reports-same mine ss),
+              ∙ ap (λ (t : List ℕ). t ++ k.reported) (reports-same mine ss),
           reply-same k here s p q,
         )
     stated-same lists texts (joins x rs r) no_room p q = absurd (q refl)

@@ -94,7 +94,11 @@ pub(crate) fn list_message(
     let mut message = Vec::new(alloc);
     push_position(&mut message, name, number_at(lines, 1))?;
     message.extend_from_slice(b": not ABNF: ")?;
-    push_at_line(&mut message, number_at(lines, n), b"list of RFC 9110: use --expand")?;
+    push_at_line(
+        &mut message,
+        number_at(lines, n),
+        b"list of RFC 9110: use --expand",
+    )?;
     Ok(message)
 }
 

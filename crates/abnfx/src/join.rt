@@ -12,9 +12,9 @@ ghost use Rattle.toolrun.specs.Stop.{unread};
 ghost use Rattle.toolrun.specs.Stopped.{Performs};
 ghost use Rattle.toolrun.specs.Stream.{no_input, passed};
 
+use crate::reports::reported_text;
 use abnfprint::print_abnf;
 use abnfread::{Abnf, read_abnf};
-use crate::reports::reported_text;
 use abnftexts::{JoinForm, JoinedTexts, ListForm, SourceText, join_texts};
 use ruletable::{ReadFault, Sink, WriteFault, write_whole};
 use std::alloc::Global;
