@@ -86,16 +86,16 @@ module _ (one : OneReading) where
     text_why-same (it_reads reads) (its_fault {fault} g m y) = absurd (one.no_fault _ _ fault g m reads)
     text_why-same (it_reads reads) (it_reads reads_too) = refl
 
-    why-same : (explains : Bool) {text a b : List ℕ} → ExplainsIfAsked explains text a
+    why-same : (explains : Bool) (text : List ℕ) {a b : List ℕ} → ExplainsIfAsked explains text a
         → ExplainsIfAsked explains text b → a ≡ b
-    why-same true x y = text_why-same x y
-    why-same false x y = x ∙ sym y
+    why-same true text x y = text_why-same x y
+    why-same false text x y = x ∙ sym y
 
     reports-same : {explains : Bool} {reports : List ReportedRule} {a b : List ℕ} → AreReports explains reports a
         → AreReports explains reports b → a ≡ b
     reports-same no_reports no_reports = refl
-    reports-same {explains} (next_report {report} {why} {more} x xs) (next_report {why = second} {more = others} y ys) =
-        ap (λ (w : List ℕ). report.message ++ (w ++ more)) (why-same explains x y)
+    reports-same {explains} (next_report {report} why {more} x xs) (next_report second {more = others} y ys) =
+        ap (λ (w : List ℕ). report.message ++ (w ++ more)) (why-same explains report.lines x y)
         ∙ ap (λ (m : List ℕ). report.message ++ (second ++ m)) (reports-same xs ys)
 
     pub stated-same : (lists : Option ListForm) (texts : List NamedText) {form : JoinForm} {explains : Bool}

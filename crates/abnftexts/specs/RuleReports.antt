@@ -21,6 +21,6 @@ ExplainsIfAsked false text why = why ≡ []
 -- The messages of reports, each followed by what explains the lines of its rule, where that is asked for.
 pub data AreReports (explains : Bool) : List ReportedRule → List ℕ → Type 0 where
   no_reports : AreReports explains [] []
-  next_report : {report : ReportedRule} {reports : List ReportedRule} {why more : List ℕ}
+  next_report : {report : ReportedRule} {reports : List ReportedRule} (why : List ℕ) {more : List ℕ}
       → ExplainsIfAsked explains report.lines why → AreReports explains reports more
       → AreReports explains (report ∷ reports) (report.message ++ (why ++ more))

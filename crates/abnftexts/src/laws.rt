@@ -19,8 +19,8 @@ use lexer::one_list;
 use rfcforms::{ListForm, one_expansion};
 use ruletable::ReadFault;
 
-/// Says that texts make up at most one joined grammar. The reports on them, explained or not, and the reply of a run that
-/// joins them in a form are one too, but for those that report `out of memory`, status 5.
+/// Says that texts make up at most one joined grammar. The reports on them, explained or not, and the reply of a run
+/// that joins them in a form are one too, but for those that report `out of memory`, status 5.
 pub fn one_joining()
     ensures joined { (lists : Option ListForm) (texts : List NamedText) (a b : GrammarJoined)
         → AreTextsJoined lists texts a → AreTextsJoined lists texts b → a ≡ b }

@@ -123,8 +123,11 @@ fn push_no_rule(
         (map reported_rule reported.old.items) (map reported_rule reported.new.items)) }
 {
     let message = rule_message(alloc, asks, name, lines, fault)?;
-    let lines = joined_text(alloc, 0, lines)?;
-    reported.push(RuleReport { message, lines })?;
+    let own = joined_text(alloc, 0, lines)?;
+    reported.push(RuleReport {
+        message,
+        lines: own,
+    })?;
     Ok(())
 }
 

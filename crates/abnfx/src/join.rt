@@ -142,8 +142,8 @@ fn write_joined<O: Sink>(
     }
 }
 
-/// Joins texts: writes the grammar that they make up on `out`, in the form that is asked for, and the reports on them on
-/// `err`. Neither may have failed before.
+/// Joins texts: writes the grammar that they make up on `out`, in the form that is asked for, and the reports on them
+/// on `err`. Neither may have failed before.
 ///
 /// - The reports of `join_texts` are written on `err` first. Where explanations are asked for, that of a rule's lines
 ///   follows the message on the rule.

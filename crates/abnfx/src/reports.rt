@@ -48,8 +48,8 @@ fn push_report(
     Ok(())
 }
 
-/// Returns the reports on joined texts: first those of rules that are no ABNF, each with what explains it, where that is
-/// asked for.
+/// Returns the reports on joined texts: first those of rules that are no ABNF, each with what explains it, where that
+/// is asked for.
 ///
 /// # Errors
 /// `Memory` if an allocation fails.

@@ -18,5 +18,5 @@ returns c =
     c.in_ok-listed.listed.items (grammar_joined j))
     (λ j. IsGatheredJoined (rules_gathered c.args.gathered) (grammar_joined j)) c.join_standing.result
     (λ j h. gathered-all c.args.gathered.positions.items c.in_ok-standing_positions.standing_positions.items
-    c.args.gathered.rules.items c.in_ok-standing_rules.standing_rules.items (map reported_rule c.args.gathered.reported.items)
-    c.in_ok-listed.listed.items c.in_ok-fates.fates.items (grammar_joined j) fates list positions rules h) joins
+    c.args.gathered.rules.items c.in_ok-standing_rules.standing_rules.items
+    (map reported_rule c.args.gathered.reported.items) c.in_ok-listed.listed.items c.in_ok-fates.fates.items (grammar_joined j) fates list positions rules h) joins
