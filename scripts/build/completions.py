@@ -95,6 +95,7 @@ PROGRAMS = (
     Program("abnfx", (
         Option("c", "canonical", "", (), "Write the canonical text of the grammar"),
         Option("l", "list", "", (), "List the rules, and what becomes of each"),
+        Option("x", "explain", "", (), "Explain why rules are no ABNF"),
         Option("", "expand", "", (), "Write lists out as recipients accept them"),
         Option("", "expand-send", "", (), "Write lists out as senders write them"),
         HELP,

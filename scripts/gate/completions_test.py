@@ -51,7 +51,7 @@ ROWS = (
     ("abnfi", "--li", {"--limit", "--line-number", "--line-buffered"}),
     ("abnfx", "-c g.p", {"g.peg"}),
     ("abnfx", "g.peg g.a", {"g.abnf"}),
-    ("abnfx", "-c --", {"--list", "--expand", "--expand-send", "--help", "--version"}),
+    ("abnfx", "-c --", {"--list", "--explain", "--expand", "--expand-send", "--help", "--version"}),
     ("abnfd", "g.abnf g.abnf -t w", {"word"}),
     ("abnfd", "-u u", {"utf8"}),
     ("abnfg", "g.abnf -s w", {"word"}),

@@ -198,7 +198,8 @@ def main():
             form = made.choice((None, None, "receive", "send"))
             grammar, listed, reported, status = slow_abnfx.joined(texts, form)
             trials.expect(texts, EXPAND[form], grammar, reported.encode(), status)
-            trials.expect(texts, ["-l", *EXPAND[form]], listed.encode(), reported.encode(), status)
+            explained = slow_abnfx.joined(texts, form, True)[2]
+            trials.expect(texts, ["-lx", *EXPAND[form]], listed.encode(), explained.encode(), status)
             if ABNFI.exists():
                 trials.expect(texts, ["-c", *EXPAND[form]], trials.canonical(grammar), reported.encode(), status)
     print(f"texts: {words.n} cases, {trials.wrong} wrong")

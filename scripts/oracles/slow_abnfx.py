@@ -219,6 +219,14 @@ def fault(some):
     return reported and reported.partition("\n")[0]
 
 
+def explained(some):
+    """Returns the lines that explain why these lines, as they stand, are no ABNF."""
+    text = text_of(some)
+    if len(text) > MAX_GRAMMAR:
+        return f"  a grammar has at most {MAX_GRAMMAR} bytes\n"
+    return slow_faults.abnf(text).partition("\n")[2]
+
+
 def is_cut(some, count):
     """Returns whether the rule that has these lines can end after so many of them."""
     if some[count - 1][2] == "blank":
@@ -377,7 +385,7 @@ def list_line(some):
 
 
 def found(name, text, form=None):
-    """Returns for each line of a text that begins a rule the rule, or its number and the fault."""
+    """Returns for each line of a text that begins a rule the rule, or its number, the fault and what explains it."""
     bare, reported = text.removeprefix(b"\xEF\xBB\xBF"), []
     if is_xml(bare):
         shown = kept(lines(xml_text(bare)))
@@ -397,15 +405,16 @@ def found(name, text, form=None):
                 whole = some[:cuts(some)[-1]]
                 listed = None if form else list_line(whole)
                 told = f"line {listed}: list of RFC 9110: use --expand" if listed else in_text(fault(whole), whole)
-                reported.append((number, told))
+                reported.append((number, told, explained(whole)))
     return reported
 
 
-def given(name, text, form):
+def given(name, text, form, explains):
     """Returns the rules of a text, and the reports on it."""
     all_found = found(name, text, form)
     rules = [it for it in all_found if isinstance(it, Rule)]
-    return rules, "".join(f"{name}:{it[0]}: not ABNF: {it[1]}\n" for it in all_found if not isinstance(it, Rule))
+    reported = [it for it in all_found if not isinstance(it, Rule)]
+    return rules, "".join(f"{name}:{number}: not ABNF: {fault}\n" + explains * why for number, fault, why in reported)
 
 
 def fates(rules):
@@ -419,11 +428,11 @@ def fates(rules):
     return found
 
 
-def joined(texts, form=None):
+def joined(texts, form=None, explains=False):
     """Returns the grammar that texts make up, the list of their rules, the messages, and the status."""
     rules, reported = [], ""
     for name, text in texts:
-        more, said = given(name, text, form)
+        more, said = given(name, text, form, explains)
         rules, reported = rules + more, reported + said
     is_faulty = reported != ""
     known = {it.key for it in rules} | set(CORE)

@@ -13,7 +13,7 @@ use Rattle.abnftexts.specs.JoinedGrammar.{GrammarJoined, fate_reported, has_stay
 use Rattle.abnftexts.specs.JoinedGrammar.{printed_after, rule_printed}
 use Rattle.abnftexts.specs.JoinedGrammar.{rules_listed, standing}
 use Rattle.abnftexts.specs.JoinedViews.{IsGatheredJoined, IsStandingJoined}
-use Rattle.abnftexts.specs.RulesGathered.{RuleLines, lines_placed}
+use Rattle.abnftexts.specs.RulesGathered.{ReportedRule, RuleLines, lines_placed}
 use Rattle.abnftexts.specs.declared.gathered.RulePosition.{RulePosition}
 use Rattle.abnftexts.proofs.RulesTakenLemmas.{one-after}
 
@@ -77,17 +77,15 @@ module _ (positions : List RuleLines) (order : List ℕ) (i : ℕ) where
       ∙ ap (λ (ps : List RuleLines). old ++ printed_after before ps) (sym (front ∙ here)) ∙ h
 
 -- what stands of what was gathered is joined
-pub gathered-all : (positions sp : List RulePosition) (rules sr : List GivenRule) (reported listed : List ℕ)
-    (fates : List Fate)
-    (joined : GrammarJoined) → fates ≡ fates_of (map text_rule rules)
+pub gathered-all : (positions sp : List RulePosition) (rules sr : List GivenRule) (reported : List ReportedRule)
+    (listed : List ℕ) (fates : List Fate) (joined : GrammarJoined) → fates ≡ fates_of (map text_rule rules)
     → listed ≡ rules_listed (map lines_placed positions) (map text_rule rules) fates
     → sp ≡ standing fates positions → sr ≡ standing fates rules
     → IsStandingJoined (map lines_placed sp) (map text_rule sr) reported listed joined
     → IsGatheredJoined (record {
       positions = map lines_placed positions;
       rules = map text_rule rules;
-      reported =
-          reported;
+      reported = reported;
     })
     joined
 gathered-all positions sp rules sr reported listed fates joined are list stand_positions stand_rules h =

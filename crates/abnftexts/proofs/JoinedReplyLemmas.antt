@@ -1,6 +1,6 @@
 -- Texts have one joined grammar, and a run that joins them has one reply.
 -- Serves: one_joining
-use Rattle.std.proofs.Common.{◌≡◌, ◌≢◌, ℕ, List, [], Option, refl, sym, ap, ◌∙◌, subst}
+use Rattle.std.proofs.Common.{◌≡◌, ◌≢◌, ℕ, Bool, true, false, List, [], ◌++◌, Option, refl, sym, ap, ◌∙◌, subst}
 use Rattle.ruletable.specs.declared.fault.ReadFault.{ReadFault}
 use Rattle.ruletable.specs.declared.fault.ReadFault.TheVariants as faults
 use Rattle.abnfread.specs.AbnfReading.{IsFaultOf}
@@ -14,7 +14,10 @@ use Rattle.abnftexts.specs.JoinedGrammar.{AreTextsJoined, GrammarJoined, UsesPri
 use Rattle.abnftexts.specs.JoinedGrammar.{standing_positions}
 use Rattle.abnftexts.specs.JoinedGrammar.{standing_rules}
 use Rattle.abnftexts.specs.NamedRules.{AreRenamed}
-use Rattle.abnftexts.specs.RulesGathered.{NamedText, RulesGathered}
+use Rattle.abnfexplain.specs.AbnfExplained.{Explains}
+use Rattle.abnftexts.specs.RuleReports.{AreReports, ExplainsIfAsked, ExplainsText, it_reads, its_fault, next_report}
+use Rattle.abnftexts.specs.RuleReports.{no_reports}
+use Rattle.abnftexts.specs.RulesGathered.{NamedText, ReportedRule, RulesGathered}
 use Rattle.abnftexts.specs.UsedNames.{UsedName}
 use Rattle.abnftexts.specs.declared.joined.JoinForm.{JoinForm}
 use Rattle.abnftexts.specs.declared.joined.JoinForm.TheVariants.{Listed}
@@ -73,12 +76,41 @@ module _ (one : OneReading) where
     reply-same (too_long l s f) no_memory p q = absurd (q refl)
     reply-same no_memory r p q = absurd (p refl)
 
-  pub stated-same : (lists : Option ListForm) (texts : List NamedText) {form : JoinForm} {input : Input}
-      {notes others : List ℕ} {a b : Reply} → JoinStates texts lists form input notes a
-      → JoinStates texts lists form input others b → a.status ≢ 5 → b.status ≢ 5 → (notes ≡ others) × (a ≡ b)
-  stated-same lists texts {form} (joins {j} {reply} x r) (joins {j = k} {reply = other} y s) p q =
-      let same : j ≡ k = joined-same lists texts j k x y in
-      let here : JoinedReply form k reply = subst (λ (g : GrammarJoined). JoinedReply form g reply) same r in
-      (ap (λ (g : GrammarJoined). g.reported) same, reply-same k here s p q)
-  stated-same lists texts (joins x r) no_room p q = absurd (q refl)
-  stated-same lists texts no_room s p q = absurd (p refl)
+  module _ (one_why : (text : List ℕ) (fault : ReadFault) (a b : List ℕ) → Explains text fault a
+      → Explains text fault b → a ≡ b) where
+    text_why-same : {text a b : List ℕ} → ExplainsText text a → ExplainsText text b → a ≡ b
+    text_why-same {text} (its_fault {fault} {why} f n x) (its_fault {fault = other} {why = second} g m y) =
+        let same : other ≡ fault = one.one_fault text other fault g f m n in
+        one_why text fault why second x (subst (λ (w : ReadFault). Explains text w second) same y)
+    text_why-same (its_fault {fault} f n x) (it_reads reads) = absurd (one.no_fault _ _ fault f n reads)
+    text_why-same (it_reads reads) (its_fault {fault} g m y) = absurd (one.no_fault _ _ fault g m reads)
+    text_why-same (it_reads reads) (it_reads reads_too) = refl
+
+    why-same : (explains : Bool) (text : List ℕ) {a b : List ℕ} → ExplainsIfAsked explains text a
+        → ExplainsIfAsked explains text b → a ≡ b
+    why-same true text x y = text_why-same x y
+    why-same false text x y = x ∙ sym y
+
+    reports-same : {explains : Bool} {reports : List ReportedRule} {a b : List ℕ} → AreReports explains reports a
+        → AreReports explains reports b → a ≡ b
+    reports-same no_reports no_reports = refl
+    reports-same {explains} (next_report {report} why {more} x xs) (next_report second {more = others} y ys) =
+        ap (λ (w : List ℕ). report.message ++ (w ++ more)) (why-same explains report.lines x y)
+        ∙ ap (λ (m : List ℕ). report.message ++ (second ++ m)) (reports-same xs ys)
+
+    pub stated-same : (lists : Option ListForm) (texts : List NamedText) {form : JoinForm} {explains : Bool}
+        {input : Input} {notes others : List ℕ} {a b : Reply} → JoinStates texts lists form explains input notes a
+        → JoinStates texts lists form explains input others b → a.status ≢ 5 → b.status ≢ 5
+        → (notes ≡ others) × (a ≡ b)
+    stated-same lists texts {form} {explains} (joins {j} {reports} {reply} x rs r)
+        (joins {j = k} {reports = seconds} {reply = other} y ss s) p q =
+        let same : j ≡ k = joined-same lists texts j k x y in
+        let here : JoinedReply form k reply = subst (λ (g : GrammarJoined). JoinedReply form g reply) same r in
+        let mine : AreReports explains k.reports reports =
+        subst (λ (g : GrammarJoined). AreReports explains g.reports reports) same rs in (
+          ap (λ (g : GrammarJoined). reports ++ g.reported) same
+              ∙ ap (λ (t : List ℕ). t ++ k.reported) (reports-same mine ss),
+          reply-same k here s p q,
+        )
+    stated-same lists texts (joins x rs r) no_room p q = absurd (q refl)
+    stated-same lists texts no_room s p q = absurd (p refl)

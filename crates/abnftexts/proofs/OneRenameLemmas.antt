@@ -11,7 +11,7 @@ use Rattle.abnftexts.specs.NamedRules.{source_of}
 use Rattle.abnftexts.specs.NamedRules.{next_line, no_lines, no_more_positions, no_more_rules, one_position, one_rule}
 use Rattle.abnftexts.specs.NamedRules.{positions_end, read_again}
 use Rattle.abnftexts.specs.NamedRules.{rules_end, same_rule, stays, tokens_named, with_prose}
-use Rattle.abnftexts.specs.RulesGathered.{RuleLines, RulesGathered}
+use Rattle.abnftexts.specs.RulesGathered.{ReportedRule, RuleLines, RulesGathered}
 use Rattle.abnftexts.specs.TextRules.{SpellRule, given_by}
 use Rattle.abnftexts.proofs.TextRulesLemmas.{OneReading}
 
@@ -98,4 +98,4 @@ module _ (one : OneReading) where
       all-same a b positions rules reported =
           ap (λ (ps : List RuleLines). record { positions = ps; rules = a.rules; reported = a.reported }) positions
           ∙ ap (λ (rs : List RuleGiven). record { positions = b.positions; rules = rs; reported = a.reported }) rules
-          ∙ ap (λ (t : List ℕ). record { positions = b.positions; rules = b.rules; reported = t }) reported
+          ∙ ap (λ (rs : List ReportedRule). record { positions = b.positions; rules = b.rules; reported = rs }) reported

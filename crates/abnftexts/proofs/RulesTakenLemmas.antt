@@ -15,7 +15,7 @@ use Rattle.abnfblocks.specs.declared.rfctext.text_line.TextLine.{TextLine}
 use Rattle.abnfblocks.specs.RuleCuts.{blanks_first, lines_text, margin_at}
 use Rattle.abnfblocks.specs.declared.found.RuleSearch.{RuleSearch}
 use Rattle.abnfblocks.specs.declared.found.RuleSearch.TheVariants as found
-use Rattle.abnftexts.specs.RulesGathered.{RuleLines, RulesGathered, NamedText, both_given, named_text}
+use Rattle.abnftexts.specs.RulesGathered.{ReportedRule, RuleLines, RulesGathered, NamedText, both_given, named_text}
 use Rattle.abnftexts.specs.RulesGathered.{none_given, one_rule, reported_alone}
 use Rattle.abnftexts.specs.TakenRules.{AddsReport, AreTextRows, TakesFound, TakesMore, TakesRule, TextRows}
 use Rattle.abnftexts.specs.WrittenLists.{AreExpanded, WritesLists, as_they_are, with_lists}
@@ -23,6 +23,7 @@ use Rattle.rfcforms.specs.Lists.{Expands}
 use Rattle.rfcforms.specs.declared.lists.written.ListForm.{ListForm}
 use Rattle.abnftexts.specs.TextRules.{GivesFound, GivesText, GiveTexts, SpellRule, given_by, next_rule, next_text}
 use Rattle.abnftexts.specs.TextRules.{IsRuleReported, asks_lists, no_rule, no_texts, none_found, position_in}
+use Rattle.abnftexts.specs.TextRules.{report_with}
 use Rattle.abnftexts.specs.ShownTexts.{AreShown, IsShown, AreListsOut, asked, next_shown, none_shown, not_asked}
 use Rattle.abnftexts.specs.declared.gathered.ShownText.{ShownText}
 use Rattle.abnftexts.specs.declared.gathered.SourceText.{SourceText}
@@ -49,7 +50,8 @@ pub both-none : (a : RulesGathered) → both_given a none_given ≡ a
 both-none a = rw (append-nil a.positions, append-nil a.rules, append-nil a.reported) refl
 
 -- something is reported, and all else is as it was
-with-reported : (g : RulesGathered) (reported more : List ℕ) → reported ≡ g.reported ++ more
+with-reported : (g : RulesGathered) (reported : List ReportedRule) (more : ReportedRule)
+    → reported ≡ g.reported ++ more ∷ []
     → record { positions = g.positions; rules = g.rules; reported = reported } ≡ both_given g (reported_alone more)
 with-reported g reported more e = rw (e, append-nil g.positions, append-nil g.rules) refl
 
@@ -135,7 +137,8 @@ module _ (asks : Bool) (name : List ℕ) (kept lines : List NumberedLine) (all :
       (one, refl, taken own.definition own.reads) more)
 
   pub no_rule-more : (first count : ℕ) (fault : ReadFault) (rows : List NumberedLine) (g : RulesGathered)
-      (reported : List ℕ) (end : RulesGathered) → i < length all → get_or all i d ≡ found.NotAbnf first count fault
+      (reported : List ReportedRule) (end : RulesGathered) → i < length all
+      → get_or all i d ≡ found.NotAbnf first count fault
       → rows ≡ take count (drop first lines) → AddsReport asks name rows fault g.reported reported
       → TakesMore (GivesFound asks name kept lines (drop (i + 1) all))
       (record { positions = g.positions; rules = g.rules; reported = reported }) end
@@ -147,12 +150,15 @@ module _ (asks : Bool) (name : List ℕ) (kept lines : List NumberedLine) (all :
       one-after all i d lt ∙ ap (λ (x : RuleSearch). x ∷ others) is in
       let is_reported : IsRuleReported asks name own fault adds.0 =
       subst (λ (xs : List NumberedLine). IsRuleReported asks name xs fault adds.0) are adds.1 in
-      let one : RulesGathered = reported_alone adds.0 in
+      let report : ReportedRule = report_with adds.0 own in
+      let more_is : reported ≡ g.reported ++ report ∷ [] =
+      adds.2 ∙ ap (λ (xs : List NumberedLine). g.reported ++ report_with adds.0 xs ∷ []) are in
+      let one : RulesGathered = reported_alone report in
       let h : RulesGathered = record { positions = g.positions; rules = g.rules; reported = reported } in
       subst (λ (xs : List RuleSearch). TakesMore (GivesFound asks name kept lines xs) g end) (sym here)
       (more-taken (λ x. x ≡ one) (GivesFound asks name kept lines others)
       (GivesFound asks name kept lines (found.NotAbnf first count fault ∷ others)) g h end
-      (λ a b x y. rw x (no_rule is_reported y)) (one, refl, with-reported g reported _ adds.2) more)
+      (λ a b x y. rw x (no_rule is_reported y)) (one, refl, with-reported g reported report more_is) more)
 
 pub lines-from : (kept lines : List TextLine) (first : ℕ) → lines ≡ drop first kept
     → map numbered lines ≡ drop first (map numbered kept)

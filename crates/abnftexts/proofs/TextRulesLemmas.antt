@@ -1,6 +1,6 @@
 -- What texts give is one list of rules, and one text of reports; and the names that rules use are one list.
 -- Serves: one_joining
-use Rattle.std.proofs.Common.{◌≡◌, ◌≢◌, ℕ, suc, Bool, List, [], ◌∷◌, ◌++◌, Option, None, Some, drop, map}
+use Rattle.std.proofs.Common.{◌≡◌, ◌≢◌, ℕ, suc, Bool, List, [], ◌∷◌, ◌++◌, Option, None, Some, drop, take, map}
 use Rattle.std.proofs.Common.{refl, sym, ap, ◌∙◌, subst}
 use Rattle.std.specs.List.{flat_map}
 use Rattle.lexer.specs.TokenLists.{Tok}
@@ -28,7 +28,7 @@ use Rattle.abnftexts.specs.WrittenLists.{AreExpanded, IsFirstList, WritesLists, 
 use Rattle.abnftexts.specs.WrittenLists.{lines_written, with_lists}
 use Rattle.abnftexts.specs.TextRules.{GivesFound, GivesText, GiveTexts, given_by, next_rule, next_text, no_rule}
 use Rattle.abnftexts.specs.TextRules.{IsRuleReported, asks_lists, for_fault, for_list, no_texts, none_found}
-use Rattle.abnftexts.specs.TextRules.{position_in}
+use Rattle.abnftexts.specs.TextRules.{position_in, report_with}
 use Rattle.abnftexts.specs.UsedNames.{AreRuleUses, AreNameUses, UsedName, next_uses, no_rules, used_at}
 
 both-same : (a b c d : RulesGathered) → a ≡ b → c ≡ d → both_given a c ≡ both_given b d
@@ -90,8 +90,10 @@ module _ (one : OneReading) where
         one_rule (position_in name (drop first kept) (drop first lines) count) g)
         rules)
         (found-same h k)
-    found-same (no_rule x h) (no_rule y k) =
-        both-same _ _ _ _ (ap (λ (r : List ℕ). reported_alone r) (reported-same x y)) (found-same h k)
+    found-same {lines = lines} (no_rule {first} {count} x h) (no_rule y k) =
+        both-same _ _ _ _ (ap (λ (message : List ℕ).
+        reported_alone (report_with message (take count (drop first lines)))) (reported-same x y))
+        (found-same h k)
 
   text-same : (lists : Option ListForm) (text : NamedText) (a b : RulesGathered) → GivesText lists text a
       → GivesText lists text b → a ≡ b

@@ -1,5 +1,5 @@
 -- What a run states that joins texts.
-use Rattle.std.specs.Prelude.{◌≡◌, ◌≢◌, ℕ, ◌==◌, ◌||◌, Bool, List, Option, [], length, if◌then◌else◌}
+use Rattle.std.specs.Prelude.{◌≡◌, ◌≢◌, ℕ, ◌==◌, ◌||◌, Bool, List, Option, [], ◌++◌, length, if◌then◌else◌}
 use Rattle.ruletable.specs.declared.fault.ReadFault.{ReadFault}
 use Rattle.ruletable.specs.declared.fault.ReadFault.TheVariants as faults
 use Rattle.abnfread.specs.AbnfReading.{Reads, IsFaultOf}
@@ -16,6 +16,7 @@ use Rattle.toolrun.specs.declared.status.Status.TheVariants as status
 use Rattle.toolrun.specs.declared.stop.Stop.TheVariants.{NoMemory, Refused}
 use Rattle.abnftexts.specs.JoinedGrammar.{AreTextsJoined, GrammarJoined}
 use Rattle.rfcforms.specs.declared.lists.written.ListForm.{ListForm}
+use Rattle.abnftexts.specs.RuleReports.{AreReports}
 use Rattle.abnftexts.specs.RulesGathered.{NamedText}
 use Rattle.abnftexts.specs.declared.joined.JoinForm.{JoinForm}
 use Rattle.abnftexts.specs.declared.joined.JoinForm.TheVariants.{Plain, Canonical, Listed}
@@ -58,10 +59,11 @@ pub data TriedReply (form : JoinForm) (j : GrammarJoined) : Reply → Type 0 whe
   refused : {fault : ReadFault} → form ≢ Listed → j.grammar ≢ [] → IsFaultOf j.grammar fault → fault ≢ faults.Memory
       → TriedReply form j (stopped (Refused fault))
 
--- What is stated for texts, a form of lists, and a form: the reports on the texts first, and the reply. There is no
--- input.
-pub data JoinStates (texts : List NamedText) (lists : Option ListForm) (form : JoinForm) (input : Input)
-    : List ℕ → Reply → Type 0 where
-  joins : {j : GrammarJoined} {reply : Reply} → AreTextsJoined lists texts j → JoinedReply form j reply
-      → JoinStates texts lists form input j.reported reply
-  no_room : JoinStates texts lists form input [] (stopped NoMemory)
+-- What is stated for texts, a form of lists, and a form: the reports on the texts first, with explanations or without,
+-- and the reply. There is no input.
+pub data JoinStates (texts : List NamedText) (lists : Option ListForm) (form : JoinForm) (explains : Bool)
+    (input : Input) : List ℕ → Reply → Type 0 where
+  joins : {j : GrammarJoined} {reports : List ℕ} {reply : Reply} → AreTextsJoined lists texts j
+      → AreReports explains j.reports reports → JoinedReply form j reply
+      → JoinStates texts lists form explains input (reports ++ j.reported) reply
+  no_room : JoinStates texts lists form explains input [] (stopped NoMemory)

@@ -8,7 +8,7 @@ use Rattle.abnftexts.specs.JoinedRules.{clashes_of, joined_order}
 use Rattle.abnftexts.specs.declared.join.fate.Fate.{Fate}
 use Rattle.abnftexts.specs.declared.join.fate.Fate.TheVariants.{Stands, Again, Yields}
 use Rattle.abnftexts.specs.declared.join.order.Clash.{Clash}
-use Rattle.abnftexts.specs.RulesGathered.{NamedText, RuleLines, RulesGathered}
+use Rattle.abnftexts.specs.RulesGathered.{NamedText, ReportedRule, RuleLines, RulesGathered}
 use Rattle.rfcforms.specs.declared.lists.written.ListForm.{ListForm}
 use Rattle.abnftexts.specs.NamedRules.{AreRenamed}
 use Rattle.abnftexts.specs.TextRules.{GiveTexts}
@@ -101,23 +101,25 @@ abbrev pub none_reported : List RuleGiven → List ℕ
 none_reported [] = codes "no rules found\n"
 none_reported (rule ∷ rules) = []
 
--- the grammar, the reports, a line for each rule that is given, and whether a rule is no ABNF or a name has two
--- definitions
+-- the grammar, the reports of rules that are no ABNF, the other reports, a line for each rule that is given, and
+-- whether a rule is no ABNF or a name has two definitions
 pub record GrammarJoined : Type 0 where
   pub grammar : List ℕ
+  pub reports : List ReportedRule
   pub reported : List ℕ
   pub listed : List ℕ
   pub is_faulty : Bool
 
--- of the rules that stand, where these are their lines, the names that they use, the reports of lines that are no ABNF,
+-- of the rules that stand, where these are their lines, the names that they use, the reports of rules that are no ABNF,
 -- and the list
-abbrev pub joined_of : List RuleLines → List RuleGiven → List UsedName → List ℕ → List ℕ → GrammarJoined
-joined_of positions rules uses reported listed = record {
+abbrev pub joined_of : List RuleLines → List RuleGiven → List UsedName → List ReportedRule → List ℕ → GrammarJoined
+joined_of positions rules uses reports listed = record {
   grammar = printed_after None (ordered_rules positions (joined_order rules));
-  reported = reported ++ flat_map (clash_reported positions rules) (clashes_of rules) ++ undefined_reported rules uses
+  reports = reports;
+  reported = flat_map (clash_reported positions rules) (clashes_of rules) ++ undefined_reported rules uses
       ++ none_reported rules;
   listed = listed;
-  is_faulty = nat_lt 0 (length reported) || nat_lt 0 (length (clashes_of rules));
+  is_faulty = nat_lt 0 (length reports) || nat_lt 0 (length (clashes_of rules));
 }
 
 -- the rules that stand of what was gathered

@@ -3,6 +3,7 @@ pub mod JoinRun
 pub mod JoinedGrammar
 pub mod JoinedViews
 pub mod NamedRules
+pub mod RuleReports
 pub mod RulesGathered
 pub mod SpelledRules
 pub mod TakenRules

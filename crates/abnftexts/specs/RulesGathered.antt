@@ -4,6 +4,7 @@ use Rattle.abnftexts.specs.GivenRules.{RuleGiven, text_rule}
 use Rattle.abnfblocks.specs.TextLines.{NumberedLine, numbered}
 use Rattle.abnftexts.specs.declared.gathered.Gathered.{Gathered}
 use Rattle.abnftexts.specs.declared.gathered.RulePosition.{RulePosition}
+use Rattle.abnftexts.specs.declared.gathered.RuleReport.{RuleReport}
 use Rattle.abnftexts.specs.declared.gathered.SourceText.{SourceText}
 
 -- a text: its name, and its bytes
@@ -22,11 +23,16 @@ pub record RuleLines : Type 0 where
   pub comments : List ℕ
   pub text : List ℕ
 
--- the rules of texts in order, the lines of each, and the reports on the error output
+-- the report of a rule that is no ABNF: the line that reports it, and the lines of the rule as they stand
+pub record ReportedRule : Type 0 where
+  pub message : List ℕ
+  pub lines : List ℕ
+
+-- the rules of texts in order, the lines of each, and the reports of rules that are no ABNF
 pub record RulesGathered : Type 0 where
   pub positions : List RuleLines
   pub rules : List RuleGiven
-  pub reported : List ℕ
+  pub reported : List ReportedRule
 
 -- what the code's values stand for
 abbrev pub named_text : SourceText → NamedText
@@ -43,11 +49,14 @@ lines_placed position = record {
   text = position.text.items;
 }
 
+abbrev pub reported_rule : RuleReport → ReportedRule
+reported_rule report = record { message = report.message.items; lines = report.lines.items }
+
 abbrev pub rules_gathered : Gathered → RulesGathered
 rules_gathered gathered = record {
   positions = map lines_placed gathered.positions.items;
   rules = map text_rule gathered.rules.items;
-  reported = gathered.reported.items;
+  reported = map reported_rule gathered.reported.items;
 }
 
 -- nothing is given
@@ -59,14 +68,13 @@ abbrev pub one_rule : RuleLines → RuleGiven → RulesGathered
 one_rule position rule = record { positions = position ∷ []; rules = rule ∷ []; reported = [] }
 
 -- no rule, and a report
-abbrev pub reported_alone : List ℕ → RulesGathered
-reported_alone reported = record { positions = []; rules = []; reported = reported }
+abbrev pub reported_alone : ReportedRule → RulesGathered
+reported_alone report = record { positions = []; rules = []; reported = report ∷ [] }
 
 -- both, one after the other
 abbrev pub both_given : RulesGathered → RulesGathered → RulesGathered
 both_given a b = record {
   positions = a.positions ++ b.positions;
   rules = a.rules ++ b.rules;
-  reported = a.reported
-      ++ b.reported;
+  reported = a.reported ++ b.reported;
 }

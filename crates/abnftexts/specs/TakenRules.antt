@@ -9,7 +9,7 @@ use Rattle.abnfblocks.specs.RuleCuts.{lines_text, margin_at}
 use Rattle.abnfblocks.specs.declared.found.RuleSearch.{RuleSearch}
 use Rattle.abnftexts.specs.GivenRules.{RuleGiven}
 use Rattle.abnftexts.specs.NamedRules.{SpellsNamed}
-use Rattle.abnftexts.specs.RulesGathered.{NamedText, RulesGathered, both_given, one_rule}
+use Rattle.abnftexts.specs.RulesGathered.{NamedText, ReportedRule, RulesGathered, both_given, one_rule}
 use Rattle.abnftexts.specs.WrittenLists.{AreExpanded}
 use Rattle.ruletable.specs.declared.fault.ReadFault.{ReadFault}
 use Rattle.abnftexts.specs.ShownTexts.{IsShown}
@@ -17,6 +17,7 @@ use Rattle.abnftexts.specs.declared.gathered.ShownText.{ShownText}
 use Rattle.abnftexts.specs.declared.gathered.WrittenText.{WrittenText}
 use Rattle.rfcforms.specs.declared.lists.written.ListForm.{ListForm}
 use Rattle.abnftexts.specs.TextRules.{GivesFound, IsRuleReported, SpellRule, asks_lists, given_by, position_in}
+use Rattle.abnftexts.specs.TextRules.{report_with}
 
 -- a text: its name, its lines, the same with lists written out, and whether lists are looked for
 pub record TextRows : Type 0 where
@@ -61,9 +62,9 @@ TakesFound rows found old new =
     → AreFound 0 rows.lines found → TakesMore (GivesFound rows.asks rows.name rows.kept rows.lines found) old new
 
 -- the report of a rule that is no ABNF follows
-abbrev pub AddsReport : Bool → List ℕ → List NumberedLine → ReadFault → List ℕ → List ℕ → Type 0
-AddsReport asks name lines fault old new =
-    (more : List ℕ) × IsRuleReported asks name lines fault more × (new ≡ old ++ more)
+abbrev pub AddsReport : Bool → List ℕ → List NumberedLine → ReadFault → List ReportedRule → List ReportedRule → Type 0
+AddsReport asks name lines fault old new = (message : List ℕ) × IsRuleReported asks name lines fault message
+    × (new ≡ old ++ report_with message lines ∷ [])
 
 -- a text with these lines has what is written for them, in the form that it is shown in
 pub record AreTextRows (shown : ShownText) (kept : List NumberedLine) (rows : TextRows) : Type 0 where

@@ -15,7 +15,7 @@ use Rattle.abnfblocks.specs.RuleCuts.{blanks_first, lines_text, margin_at}
 use Rattle.abnfblocks.specs.declared.found.RuleSearch.{RuleSearch}
 use Rattle.abnfblocks.specs.declared.found.RuleSearch.TheVariants as found
 use Rattle.abnftexts.specs.RulesGathered.{NamedText, RuleLines, RulesGathered, both_given, none_given, one_rule}
-use Rattle.abnftexts.specs.RulesGathered.{reported_alone}
+use Rattle.abnftexts.specs.RulesGathered.{ReportedRule, reported_alone}
 use Rattle.abnftexts.specs.TextPositions.{list_reported, not_abnf_reported}
 use Rattle.abnftexts.specs.WrittenLists.{AreExpanded, IsFirstList}
 use Rattle.rfcforms.specs.declared.lists.written.ListForm.{ListForm}
@@ -57,6 +57,10 @@ pub data IsRuleReported (asks : Bool) (name : List ℕ) (lines : List NumberedLi
   for_fault : (asks ≡ true → IsFirstList lines None)
       → IsRuleReported asks name lines fault (not_abnf_reported name lines fault)
 
+-- the report of a rule that has these lines, with that message
+abbrev pub report_with : List ℕ → List NumberedLine → ReportedRule
+report_with message lines = record { message = message; lines = lines_text 0 lines }
+
 -- What is found gives that, where the first lines are those that are read of a text, and these are as they are written:
 -- each rule what its lines alone spell, and each line that begins no ABNF a report.
 pub data GivesFound (asks : Bool) (name : List ℕ) (kept lines : List NumberedLine)
@@ -67,12 +71,12 @@ pub data GivesFound (asks : Bool) (name : List ℕ) (kept lines : List NumberedL
       → GivesFound asks name kept lines others after
       → GivesFound asks name kept lines (found.Rule first count ∷ others)
       (both_given (one_rule (position_in name (drop first kept) (drop first lines) count) given) after)
-  no_rule : {first count : ℕ} {fault : ReadFault} {others : List RuleSearch} {reported : List ℕ}
+  no_rule : {first count : ℕ} {fault : ReadFault} {others : List RuleSearch} {message : List ℕ}
       {after : RulesGathered}
-      → IsRuleReported asks name (take count (drop first lines)) fault reported
+      → IsRuleReported asks name (take count (drop first lines)) fault message
       → GivesFound asks name kept lines others after
       → GivesFound asks name kept lines (found.NotAbnf first count fault ∷ others)
-      (both_given (reported_alone reported) after)
+      (both_given (reported_alone (report_with message (take count (drop first lines)))) after)
 
 -- lists are looked for where none is written out
 abbrev pub asks_lists : Option ListForm → Bool

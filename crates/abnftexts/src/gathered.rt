@@ -57,6 +57,15 @@ pub(crate) struct RulePosition<'a> {
     pub(crate) text: Vec<u8>,
 }
 
+/// The report of a rule that is no ABNF.
+#[derive(Drop)]
+pub struct RuleReport {
+    /// The line that reports it, with LF.
+    pub message: Vec<u8>,
+    /// The lines of the rule as they stand, each with LF.
+    pub lines: Vec<u8>,
+}
+
 /// The rules of texts, in order.
 #[derive(Drop)]
 pub(crate) struct Gathered<'a> {
@@ -64,6 +73,6 @@ pub(crate) struct Gathered<'a> {
     pub(crate) positions: Vec<RulePosition<'a>>,
     /// The rules.
     pub(crate) rules: Vec<GivenRule>,
-    /// The reports on the error output.
-    pub(crate) reported: Vec<u8>,
+    /// The reports of rules that are no ABNF.
+    pub(crate) reported: Vec<RuleReport>,
 }

@@ -3,9 +3,9 @@ ghost use Rattle.std.specs.Prelude.{map, IfOk};
 ghost use Rattle.abnftexts.specs.GivenRules.{text_rule};
 ghost use Rattle.abnftexts.specs.JoinedGrammar.{AreTextsJoined};
 ghost use Rattle.abnftexts.specs.JoinedViews.{IsGatheredJoined, IsStandingJoined, grammar_joined};
-ghost use Rattle.abnftexts.specs.RulesGathered.{lines_placed, named_text, rules_gathered};
+ghost use Rattle.abnftexts.specs.RulesGathered.{lines_placed, named_text, reported_rule, rules_gathered};
 
-use crate::gathered::{Gathered, RulePosition, SourceText};
+use crate::gathered::{Gathered, RulePosition, RuleReport, SourceText};
 use crate::join::{GivenRule, find_clashes, find_fates, find_order};
 use crate::listed::listed_text;
 use crate::printed::{printed_text, push_clashes, push_none};
@@ -35,7 +35,9 @@ pub enum JoinForm {
 pub struct JoinedTexts {
     /// The rules that stand, as their texts have them, in the order in which they are printed.
     pub grammar: Vec<u8>,
-    /// The reports on the error output.
+    /// The reports of rules that are no ABNF, which stand first on the error output.
+    pub reports: Vec<RuleReport>,
+    /// The other reports on the error output.
     pub reported: Vec<u8>,
     /// A line for each rule that the texts give, with what becomes of it.
     pub listed: Vec<u8>,
@@ -48,14 +50,14 @@ fn join_standing(
     alloc: Global,
     positions: &[RulePosition<'_>],
     rules: &[GivenRule],
-    reported: Vec<u8>,
+    reports: Vec<RuleReport>,
     listed: Vec<u8>,
 ) -> Result<JoinedTexts, Memory>
     ensures { IfOk result (λ joined. IsStandingJoined (map lines_placed positions.now) (map text_rule rules.now)
-        reported.items listed.items (grammar_joined joined)) }
+        (map reported_rule reports.items) listed.items (grammar_joined joined)) }
 {
-    let is_abnf = reported.is_empty();
-    let mut reported = reported;
+    let is_abnf = reports.is_empty();
+    let mut reported = Vec::new(alloc);
     let order = find_order(alloc, rules)?;
     let grammar = printed_text(alloc, positions, &order)?;
     let clashes = find_clashes(alloc, rules)?;
@@ -65,6 +67,7 @@ fn join_standing(
     push_none(&mut reported, rules)?;
     Ok(JoinedTexts {
         grammar,
+        reports,
         reported,
         listed,
         is_faulty: !is_abnf || !clashes.is_empty(),

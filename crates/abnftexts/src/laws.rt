@@ -1,5 +1,5 @@
 //! Laws of what is stated for texts: there is at most one joined grammar, and one reply; and what the grammar reads as.
-ghost use Rattle.std.specs.Prelude.{◌≡◌, ◌≢◌, ◌≤◌, ℕ, List, [], Option, length, map};
+ghost use Rattle.std.specs.Prelude.{◌≡◌, ◌≢◌, ◌≤◌, ℕ, Bool, List, [], Option, length, map};
 ghost use Rattle.abnfread.specs.AbnfReading.{IsFaultOf, Reads};
 ghost use Rattle.abnfread.specs.Element.{Definition};
 ghost use Rattle.lexer.specs.GrammarLimits.{max_grammar};
@@ -13,20 +13,23 @@ ghost use Rattle.toolrun.specs.Reply.{Reply};
 
 use crate::joined::JoinForm;
 use abnfblocks::{one_finding, one_masking};
+use abnfexplain::one_explanation_of_abnf;
 use abnfread::{AbnfKind, one_reading};
 use lexer::one_list;
 use rfcforms::{ListForm, one_expansion};
 use ruletable::ReadFault;
 
-/// Says that texts make up at most one joined grammar. The reports on them and the reply of a run that joins them in a
-/// form are one too, but for those that report `out of memory`, status 5.
+/// Says that texts make up at most one joined grammar. The reports on them, explained or not, and the reply of a run
+/// that joins them in a form are one too, but for those that report `out of memory`, status 5.
 pub fn one_joining()
     ensures joined { (lists : Option ListForm) (texts : List NamedText) (a b : GrammarJoined)
         → AreTextsJoined lists texts a → AreTextsJoined lists texts b → a ≡ b }
-    ensures stated { (texts : List NamedText) (lists : Option ListForm) (form : JoinForm) (input : Input)
-        (notes others : List ℕ) (a b : Reply) → JoinStates texts lists form input notes a
-        → JoinStates texts lists form input others b → a.status ≢ 5 → b.status ≢ 5 → (notes ≡ others) × (a ≡ b) }
+    ensures stated { (texts : List NamedText) (lists : Option ListForm) (form : JoinForm) (explains : Bool)
+        (input : Input) (notes others : List ℕ) (a b : Reply) → JoinStates texts lists form explains input notes a
+        → JoinStates texts lists form explains input others b → a.status ≢ 5 → b.status ≢ 5
+        → (notes ≡ others) × (a ≡ b) }
 {
+    one_explanation_of_abnf();
     one_reading();
     one_masking();
     one_finding();

@@ -18,7 +18,7 @@ mod taken;
 mod undefined;
 mod uses;
 
-pub use gathered::SourceText;
+pub use gathered::{RuleReport, SourceText};
 pub use join::{
     Clash, Fate, GivenRule, find_clashes, find_fates, find_order, is_only_prose, is_same_element,
     linked_reading,

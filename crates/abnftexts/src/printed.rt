@@ -60,22 +60,7 @@ fn push_empty(out: &mut Vec<u8>, count: usize) -> Result<(), Memory>
     Ok(())
 }
 
-// Adds what stands between a rule and the one that is printed before it.
-fn push_gap(
-    out: &mut Vec<u8>,
-    before: &RulePosition<'_>,
-    position: &RulePosition<'_>,
-) -> Result<(), Memory>
-    ensures { OnOk result (out.new.items
-        ≡ out.old.items ++ gap_before (Some (lines_placed before.now)) (lines_placed position.now)) }
-{
-    if goes_after(before, position) {
-        return push_empty(out, before.blanks);
-    }
-    push_comment(out, position)
-}
-
-// Adds what stands before a rule.
+// Adds what stands before a rule: empty lines, or a comment.
 fn push_start(
     out: &mut Vec<u8>,
     before: Option<&RulePosition<'_>>,
@@ -84,10 +69,12 @@ fn push_start(
     ensures { OnOk result (out.new.items ≡ out.old.items
         ++ gap_before (option_map (λ p. lines_placed p.now) before.entry) (lines_placed position.now)) }
 {
-    match before {
-        Some(before) => push_gap(out, before, position),
-        None => push_comment(out, position),
+    if let Some(before) = before {
+        if goes_after(before, position) {
+            return push_empty(out, before.blanks);
+        }
     }
+    push_comment(out, position)
 }
 
 // Adds a rule as it is printed.

@@ -1,5 +1,5 @@
 //! Reports of positions in texts.
-ghost use Rattle.std.specs.Prelude.{◌≡◌, ◌++◌, ◌-◌, codes, decimal, map, OnOk};
+ghost use Rattle.std.specs.Prelude.{◌≡◌, ◌++◌, ◌-◌, codes, decimal, map, IfOk, OnOk};
 ghost use Rattle.abnfblocks.specs.TextLines.{numbered};
 ghost use Rattle.ruletable.specs.Faults.{at_line, fault_text};
 ghost use Rattle.abnftexts.specs.TextPositions.{number_at as number_there, fault_in as fault_there, position_shown};
@@ -8,6 +8,7 @@ ghost use Rattle.abnftexts.specs.TextPositions.{list_reported, not_abnf_reported
 use abnfblocks::TextLine;
 use diagnostics::{push_number, push_shown};
 use ruletable::{Memory, ReadFault};
+use std::alloc::Global;
 
 /// Returns the number in its text of the n-th of these lines, from 1, or of the last one if there are fewer.
 pub(crate) fn number_at(lines: &[TextLine<'_>], n: usize) -> usize
@@ -78,32 +79,44 @@ fn push_fault(out: &mut Vec<u8>, fault: ReadFault) -> Result<(), Memory>
     }
 }
 
-/// Adds the report of a rule that has these lines and reads only with its lists, of which that line has the first.
-pub(crate) fn push_list(
-    out: &mut Vec<u8>,
+/// Returns the message on a rule that has these lines and reads only with its lists, of which that line has the first.
+///
+/// # Errors
+/// `Memory` if an allocation fails.
+pub(crate) fn list_message(
+    alloc: Global,
     name: &[u8],
     lines: &[TextLine<'_>],
     n: usize,
-) -> Result<(), Memory>
-    ensures { OnOk result (out.new.items ≡ out.old.items ++ list_reported name.now (map numbered lines.now) n) }
+) -> Result<Vec<u8>, Memory>
+    ensures { IfOk result (λ message. message.items ≡ list_reported name.now (map numbered lines.now) n) }
 {
-    push_position(out, name, number_at(lines, 1))?;
-    out.extend_from_slice(b": not ABNF: ")?;
-    push_at_line(out, number_at(lines, n), b"list of RFC 9110: use --expand")?;
-    Ok(())
+    let mut message = Vec::new(alloc);
+    push_position(&mut message, name, number_at(lines, 1))?;
+    message.extend_from_slice(b": not ABNF: ")?;
+    push_at_line(
+        &mut message,
+        number_at(lines, n),
+        b"list of RFC 9110: use --expand",
+    )?;
+    Ok(message)
 }
 
-/// Adds the report of a rule that is no ABNF, where it has these lines and they have that fault.
-pub(crate) fn push_not_abnf(
-    out: &mut Vec<u8>,
+/// Returns the message on a rule that is no ABNF, where it has these lines and they have that fault.
+///
+/// # Errors
+/// `Memory` if an allocation fails.
+pub(crate) fn fault_message(
+    alloc: Global,
     name: &[u8],
     lines: &[TextLine<'_>],
     fault: ReadFault,
-) -> Result<(), Memory>
-    ensures { OnOk result (out.new.items ≡ out.old.items ++ not_abnf_reported name.now (map numbered lines.now) fault) }
+) -> Result<Vec<u8>, Memory>
+    ensures { IfOk result (λ message. message.items ≡ not_abnf_reported name.now (map numbered lines.now) fault) }
 {
-    push_position(out, name, number_at(lines, 1))?;
-    out.extend_from_slice(b": not ABNF: ")?;
-    push_fault(out, fault_in(lines, fault))?;
-    Ok(())
+    let mut message = Vec::new(alloc);
+    push_position(&mut message, name, number_at(lines, 1))?;
+    message.extend_from_slice(b": not ABNF: ")?;
+    push_fault(&mut message, fault_in(lines, fault))?;
+    Ok(message)
 }

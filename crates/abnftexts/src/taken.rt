@@ -3,16 +3,17 @@ ghost use Rattle.std.specs.Prelude.{◌≡◌, List, Option, map, IfOk, OnOk};
 ghost use Rattle.abnfblocks.specs.RuleCuts.{margin_at};
 ghost use Rattle.abnftexts.specs.GivenRules.{text_rule};
 ghost use Rattle.abnfblocks.specs.TextLines.{numbered};
-ghost use Rattle.abnftexts.specs.RulesGathered.{NamedText, both_given, lines_placed, one_rule, rules_gathered};
+ghost use Rattle.abnftexts.specs.RulesGathered.{NamedText, both_given, lines_placed, one_rule, reported_rule};
+ghost use Rattle.abnftexts.specs.RulesGathered.{rules_gathered};
 ghost use Rattle.abnftexts.specs.ShownTexts.{AreShown, IsShown};
 ghost use Rattle.abnftexts.specs.TakenRules.{AddsReport, AreTextRows, TakesFound, TakesMore, TakesRule, text_rows};
-ghost use Rattle.abnftexts.specs.TextRules.{GivesText, GiveTexts, position_in};
+ghost use Rattle.abnftexts.specs.TextRules.{GivesText, GiveTexts, IsRuleReported, position_in};
 
-use crate::gathered::{Gathered, RulePosition, ShownText, WrittenText};
+use crate::gathered::{Gathered, RulePosition, RuleReport, ShownText, WrittenText};
 use crate::join::GivenRule;
 use crate::lists::{first_list, written_lines};
 use crate::own::read_rule;
-use crate::reported::{push_list, push_not_abnf};
+use crate::reported::{fault_message, list_message};
 use abnfblocks::{
     RuleSearch, TextLine, blank_count, find_rules, joined_text, margin, one_masking, read_lines,
 };
@@ -92,23 +93,42 @@ fn take_rule<'a>(
     Ok(())
 }
 
-// Adds the report of a rule that is no ABNF, where it has these lines and they have that fault. If that is asked, it is
-// looked for lists.
+// Returns the message on a rule that is no ABNF, where it has these lines and they have that fault. If that is asked,
+// it is looked for lists.
+fn rule_message(
+    alloc: Global,
+    asks: bool,
+    name: &[u8],
+    lines: &[TextLine<'_>],
+    fault: ReadFault,
+) -> Result<Vec<u8>, Memory>
+    ensures { IfOk result (λ message. IsRuleReported asks name.now (map numbered lines.now) fault message.items) }
+{
+    match first_list(alloc, asks, lines)? {
+        Some(n) => list_message(alloc, name, lines, n),
+        None => fault_message(alloc, name, lines, fault),
+    }
+}
+
+// Adds the report of such a rule.
 fn push_no_rule(
     alloc: Global,
-    reported: &mut Vec<u8>,
+    reported: &mut Vec<RuleReport>,
     asks: bool,
     name: &[u8],
     lines: &[TextLine<'_>],
     fault: ReadFault,
 ) -> Result<(), Memory>
     ensures { OnOk result (AddsReport asks name.now (map numbered lines.now) fault
-        reported.old.items reported.new.items) }
+        (map reported_rule reported.old.items) (map reported_rule reported.new.items)) }
 {
-    match first_list(alloc, asks, lines)? {
-        Some(n) => push_list(reported, name, lines, n),
-        None => push_not_abnf(reported, name, lines, fault),
-    }
+    let message = rule_message(alloc, asks, name, lines, fault)?;
+    let own = joined_text(alloc, 0, lines)?;
+    reported.push(RuleReport {
+        message,
+        lines: own,
+    })?;
+    Ok(())
 }
 
 // Takes what is found there among the lines of a text.

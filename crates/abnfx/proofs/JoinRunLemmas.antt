@@ -1,6 +1,6 @@
 -- What a run writes, and how it stops.
 -- Serves: run_join
-use Rattle.std.proofs.Common.{◌≡◌, ◌≢◌, ℕ, Bool, true, false, Option, List, [], ◌∷◌, length, refl, sym, ap, arith}
+use Rattle.std.proofs.Common.{◌≡◌, ◌≢◌, ℕ, Bool, true, false, Option, List, [], ◌∷◌, ◌++◌, length, refl, sym, ap, arith}
 use Rattle.std.proofs.Common.{subst}
 use Rattle.std.specs.Prelude.{Result, Ok, Err}
 use Rattle.std.specs.Io.KnownBytes.{Appends}
@@ -31,6 +31,7 @@ use Rattle.abnftexts.specs.JoinRun.{as_it_is, canonical, joins, no_room, nothing
 use Rattle.abnftexts.specs.JoinRun as run
 use Rattle.rfcforms.specs.declared.lists.written.ListForm.{ListForm}
 use Rattle.abnftexts.specs.JoinedGrammar.{AreTextsJoined, GrammarJoined}
+use Rattle.abnftexts.specs.RuleReports.{AreReports}
 use Rattle.abnftexts.specs.RulesGathered.{NamedText}
 use Rattle.abnftexts.specs.declared.joined.JoinForm.{JoinForm}
 use Rattle.abnftexts.specs.declared.joined.JoinForm.TheVariants.{Plain, Canonical, Listed}
@@ -166,7 +167,7 @@ module _ (j : GrammarJoined) where
       subst (λ (rs : List Rule). IsWrittenAs j Canonical (grammar_text rs)) (sym is)
       (canonical some (subst (λ (t : List ℕ). Reads t definitions) same reads))
 
-module _ (texts : List NamedText) (lists : Option ListForm) (form : JoinForm) where
+module _ (texts : List NamedText) (lists : Option ListForm) (form : JoinForm) (explains : Bool) where
   -- a joined grammar has no fault but its length
   tried-joined : {j : GrammarJoined} {reply : Reply} → AreTextsJoined lists texts j → TriedReply form j reply
       → JoinedReply form j reply
@@ -176,17 +177,18 @@ module _ (texts : List NamedText) (lists : Option ListForm) (form : JoinForm) wh
       subst (λ (w : ReadFault). JoinedReply form j (stopped (Refused w))) (sym long)
       (too_long no_list some (subst (λ (w : ReadFault). IsFaultOf j.grammar w) long f))
 
-  pub joined-planned : (j : GrammarJoined) → AreTextsJoined lists texts j
-      → IsPlan (JoinStates texts lists form) j.reported (DoesJoin form j)
-  joined-planned j are = record {
-    stated = λ input reply is. joins are (tried-joined are is);
+  pub joined-planned : (j : GrammarJoined) (reports : List ℕ) → AreTextsJoined lists texts j
+      → AreReports explains j.reports reports
+      → IsPlan (JoinStates texts lists form explains) (reports ++ j.reported) (DoesJoin form j)
+  joined-planned j reports are of = record {
+    stated = λ input reply is. joins are of (tried-joined are is);
     some = λ input. (stopped NoMemory, tries run.no_memory);
   }
 
   abbrev pub StopsEarly : Input → Reply → Type 0
   StopsEarly input reply = reply ≡ stopped NoMemory
 
-  pub early-planned : IsPlan (JoinStates texts lists form) [] StopsEarly
+  pub early-planned : IsPlan (JoinStates texts lists form explains) [] StopsEarly
   early-planned = record {
     stated = λ input reply is. rw is no_room;
     some = λ input. (stopped NoMemory, refl);

@@ -1,3 +1,4 @@
 mod FlagWordsLemmas
 mod JoinRunLemmas
+mod RuleReportsLemmas
 mod TextsReadLemmas

@@ -1,11 +1,11 @@
 -- What the program states where nothing is wrong with its words.
-use Rattle.std.specs.Prelude.{◌≡◌, ⊤, ℕ, ◌≤◌, List, [], ◌++◌, Option, Some, None, codes, length, map}
+use Rattle.std.specs.Prelude.{◌≡◌, ⊤, ℕ, ◌≤◌, Bool, List, [], ◌++◌, Option, Some, None, codes, length, map}
 use Rattle.std.specs.List.{All, Contains}
 use Rattle.clap.specs.Words.{Row, Text}
 use Rattle.abnftexts.specs.JoinRun.{JoinStates}
 use Rattle.abnftexts.specs.RulesGathered.{NamedText}
 use Rattle.abnftexts.specs.declared.joined.JoinForm.{JoinForm}
-use Rattle.abnfx.specs.JoinWords.{form_asked, lists_asked, paths_asked}
+use Rattle.abnfx.specs.JoinWords.{explains_asked, form_asked, lists_asked, paths_asked}
 use Rattle.rfcforms.specs.declared.lists.written.ListForm.{ListForm}
 use Rattle.abnfx.specs.declared.texts.Unread.{Unread}
 use Rattle.abnfx.specs.declared.texts.Unread.TheVariants.{Unreadable, TooLong, NoMemory}
@@ -41,13 +41,14 @@ IsUnreadOf paths NoMemory = ⊤
 
 -- What is stated for the files of these paths: what is stated for their texts. No clause can say which text a file
 -- holds. Or one cannot be read.
-pub data FilesJoined (paths : List Text) (lists : Option ListForm) (form : JoinForm) (input : Input) : List ℕ
-    → Reply → Type 0 where
+pub data FilesJoined (paths : List Text) (lists : Option ListForm) (form : JoinForm) (explains : Bool) (input : Input)
+    : List ℕ → Reply → Type 0 where
   joins : {texts : List NamedText} {notes : List ℕ} {reply : Reply} → AreTextsOf paths texts
-      → JoinStates texts lists form input notes reply → FilesJoined paths lists form input notes reply
-  unread : (why : Unread) → IsUnreadOf paths why → FilesJoined paths lists form input (unread_text why)
+      → JoinStates texts lists form explains input notes reply
+      → FilesJoined paths lists form explains input notes reply
+  unread : (why : Unread) → IsUnreadOf paths why → FilesJoined paths lists form explains input (unread_text why)
       (stopped (unread_stop why))
-  no_memory : FilesJoined paths lists form input [] (stopped stop.NoMemory)
+  no_memory : FilesJoined paths lists form explains input [] (stopped stop.NoMemory)
 
 -- the report of words that ask for two forms
 abbrev pub both_forms : List ℕ
@@ -62,7 +63,8 @@ both_lists = codes "error: the argument '--expand' cannot be used with '--expand
 pub data JoinAnswers (rows : List Row) (input : Input) : List ℕ → Reply → Type 0 where
   asks : {form : JoinForm} {lists : Option ListForm} {notes : List ℕ} {reply : Reply}
       → form_asked rows ≡ Some form → lists_asked rows ≡ Some lists
-      → FilesJoined (paths_asked rows) lists form input notes reply → JoinAnswers rows input notes reply
+      → FilesJoined (paths_asked rows) lists form (explains_asked rows) input notes reply
+      → JoinAnswers rows input notes reply
   two_lists : {form : JoinForm} → form_asked rows ≡ Some form → lists_asked rows ≡ None
       → JoinAnswers rows input both_lists (stopped (stop.Quiet status.Refused))
   both : form_asked rows ≡ None → JoinAnswers rows input both_forms (stopped (stop.Quiet status.Refused))

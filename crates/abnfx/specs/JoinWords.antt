@@ -9,11 +9,12 @@ use Rattle.cli.specs.Command.{flag_rule, long_flag_rule, operands_rule, program_
 use Rattle.rfcforms.specs.declared.lists.written.ListForm.{ListForm}
 use Rattle.rfcforms.specs.declared.lists.written.ListForm.TheVariants.{Receive, Send}
 
--- `abnfx [-c | -l] [--expand | --expand-send] TEXT..`
+-- `abnfx [-c | -l] [-x] [--expand | --expand-send] TEXT..`
 abbrev pub abnfx_app : App
 abnfx_app = program_app (codes "abnfx") (flag_rule (codes "canonical") (code "c")
-    ∷ flag_rule (codes "list") (code "l") ∷ long_flag_rule (codes "expand") ∷ long_flag_rule (codes "expand-send")
-    ∷ operands_rule (codes "text") true ∷ [])
+    ∷ flag_rule (codes "list") (code "l") ∷ flag_rule (codes "explain") (code "x")
+    ∷ long_flag_rule (codes "expand") ∷ long_flag_rule (codes "expand-send") ∷ operands_rule
+    (codes "text") true ∷ [])
 
 -- the paths of the texts
 abbrev pub paths_asked : List Row → List Text
@@ -28,6 +29,10 @@ form_flagged canonical list = if list then (if canonical then None else Some Lis
 abbrev pub form_asked : List Row → Option JoinForm
 form_asked rows =
     form_flagged (is_flagged (first_of (codes "canonical") rows)) (is_flagged (first_of (codes "list") rows))
+
+-- the words ask for explanations
+abbrev pub explains_asked : List Row → Bool
+explains_asked rows = is_flagged (first_of (codes "explain") rows)
 
 -- the form of lists that two flags ask for, for recipients and for senders, if they ask for one; none where both are
 -- given, since they exclude each other

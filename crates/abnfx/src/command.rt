@@ -19,6 +19,7 @@ Arguments:
 Output:
   -c, --canonical  Write the canonical text of the grammar
   -l, --list       List the rules, and what becomes of each
+  -x, --explain    Explain why rules are no ABNF
 
 Lists of RFC 9110 (#element):
       --expand       Write lists out as recipients accept them
@@ -40,15 +41,16 @@ Example:
   abnfx rfc3339.txt > date.abnf";
 
 /// The options and operands.
-static PARAMETERS: [Parameter; 5] = [
+static PARAMETERS: [Parameter; 6] = [
     Parameter::Flag("canonical", 'c'),
     Parameter::Flag("list", 'l'),
+    Parameter::Flag("explain", 'x'),
     Parameter::LongFlag("expand"),
     Parameter::LongFlag("expand-send"),
     Parameter::Operands("text", "TEXT", true),
 ];
 
-/// Returns the command `abnfx [-c | -l] [--expand | --expand-send] TEXT..`, or an error if an allocation fails.
+/// Returns the command `abnfx [-c | -l] [-x] [--expand | --expand-send] TEXT..`, or an error if an allocation fails.
 pub(crate) fn abnfx_command<'a>(alloc: Global) -> Result<Command<'a>, AllocError>
     ensures app { IfOk result (λ c. app_of c ≡ abnfx_app) }
 {

@@ -12,12 +12,24 @@ ghost use Rattle.toolrun.specs.Stop.{unread};
 ghost use Rattle.toolrun.specs.Stopped.{Performs};
 ghost use Rattle.toolrun.specs.Stream.{no_input, passed};
 
+use crate::reports::reported_text;
 use abnfprint::print_abnf;
 use abnfread::{Abnf, read_abnf};
 use abnftexts::{JoinForm, JoinedTexts, ListForm, SourceText, join_texts};
 use ruletable::{ReadFault, Sink, WriteFault, write_whole};
 use std::alloc::Global;
 use toolrun::{Status, Stop, close_run, end_run};
+
+/// What is asked for.
+#[derive(Clone, Copy)]
+pub(crate) struct FormsAsked {
+    /// The form of the grammar.
+    pub(crate) form: JoinForm,
+    /// The form of its lists.
+    pub(crate) lists: Option<ListForm>,
+    /// Whether it is explained why a rule is no ABNF.
+    pub(crate) explains: bool,
+}
 
 // The status of a run whose text was written.
 fn status_of(joined: &JoinedTexts) -> Status
@@ -130,10 +142,11 @@ fn write_joined<O: Sink>(
     }
 }
 
-/// Joins texts: writes the grammar that they make up on `out`, in that form, and the reports on them on `err`. Neither
-/// may have failed before.
+/// Joins texts: writes the grammar that they make up on `out`, in the form that is asked for, and the reports on them
+/// on `err`. Neither may have failed before.
 ///
-/// - The reports of `join_texts` are written on `err` first.
+/// - The reports of `join_texts` are written on `err` first. Where explanations are asked for, that of a rule's lines
+///   follows the message on the rule.
 /// - The grammar is read by `read_abnf`, and written if it reads: `Done`; or where a rule is no ABNF, or a name has two
 ///   definitions, `NoMatch`. A grammar of more than `MAX_GRAMMAR` bytes is reported, `Refused`, and not written.
 /// - Where no text gives a rule nothing is written, `NoMatch`.
@@ -144,23 +157,26 @@ fn write_joined<O: Sink>(
 pub(crate) fn run_join<O: Sink, E: Sink>(
     alloc: Global,
     texts: &[SourceText<'_>],
-    lists: Option<ListForm>,
-    form: JoinForm,
+    asked: FormsAsked,
     out: &mut O,
     err: &mut E,
 ) -> Status
     requires out_is_fresh { O.failed out.old ≡ false }
     requires err_is_fresh { E.failed err.old ≡ false }
-    ensures right { RunIsRight (JoinStates (map named_text texts.now) lists form) no_input
+    ensures right { RunIsRight (JoinStates (map named_text texts.now) asked.lists asked.form asked.explains) no_input
         (passed O.contents O.failed out.old out.new) (passed E.contents E.failed err.old err.new) (code_of result) }
 {
-    let joined = match join_texts(alloc, texts, lists) {
+    let joined = match join_texts(alloc, texts, asked.lists) {
         Ok(joined) => joined,
         Err(_) => return end_run(Ok(Stop::NoMemory), out, err),
     };
-    if write_whole(err, &joined.reported).is_err() {
+    let reported = match reported_text(alloc, &joined, asked.explains) {
+        Ok(reported) => reported,
+        Err(_) => return end_run(Ok(Stop::NoMemory), out, err),
+    };
+    if write_whole(err, &reported).is_err() {
         return close_run(out, err);
     }
-    let stop = write_joined(alloc, &joined, form, out);
+    let stop = write_joined(alloc, &joined, asked.form, out);
     end_run(stop, out, err)
 }

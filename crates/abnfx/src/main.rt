@@ -4,6 +4,7 @@
 mod command;
 mod flags;
 mod join;
+mod reports;
 mod run;
 mod texts;
 

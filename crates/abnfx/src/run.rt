@@ -11,23 +11,13 @@ ghost use Rattle.toolrun.specs.Status.{code_of};
 ghost use Rattle.toolrun.specs.Stream.{no_input, passed};
 
 use crate::command::{abnfx_command, form_of, lists_of};
-use crate::join::run_join;
+use crate::join::{FormsAsked, run_join};
 use crate::texts::{Unread, read_texts, sources_of};
-use abnftexts::{JoinForm, ListForm};
 use clap::ArgMatches;
-use cli::{Unready, end_unready, parse_words};
+use cli::{Unready, end_unready, is_given, parse_words};
 use ruletable::{Sink, write_pieces};
 use std::rt::Files;
 use toolrun::{Status, Stop, close_run, end_run};
-
-/// What the words ask for.
-#[derive(Clone, Copy)]
-pub(crate) struct FormsAsked {
-    /// The form of the grammar.
-    pub(crate) form: JoinForm,
-    /// The form of its lists.
-    pub(crate) lists: Option<ListForm>,
-}
 
 // Reports why nothing is joined, and ends.
 fn end_reported<O: Sink, E: Sink>(
@@ -81,7 +71,8 @@ fn join_files<R: Files + AllocGlobal, O: Sink, E: Sink>(
 ) -> Status
     requires out_is_fresh { O.failed out.old ≡ false }
     requires err_is_fresh { E.failed err.old ≡ false }
-    ensures right { RunIsRight (FilesJoined (map (λ p. p.now) paths.now) asked.lists asked.form) no_input
+    ensures right { RunIsRight (FilesJoined (map (λ p. p.now) paths.now) asked.lists asked.form asked.explains)
+        no_input
         (passed O.contents O.failed out.old out.new) (passed E.contents E.failed err.old err.new) (code_of result) }
 {
     let texts = match read_texts(rt, paths) {
@@ -89,7 +80,7 @@ fn join_files<R: Files + AllocGlobal, O: Sink, E: Sink>(
         Err(why) => return end_unread(&why, out, err),
     };
     match sources_of(rt.alloc(), &texts) {
-        Ok(sources) => run_join(rt.alloc(), &sources, asked.lists, asked.form, out, err),
+        Ok(sources) => run_join(rt.alloc(), &sources, asked, out, err),
         Err(_) => end_run(Ok(Stop::NoMemory), out, err),
     }
 }
@@ -132,8 +123,8 @@ fn join_named<R: Files + AllocGlobal, O: Sink, E: Sink>(
 ) -> Status
     requires out_is_fresh { O.failed out.old ≡ false }
     requires err_is_fresh { E.failed err.old ≡ false }
-    ensures right { RunIsRight (FilesJoined (paths_asked (rows_of (found_of matches.now))) asked.lists asked.form)
-        no_input
+    ensures right { RunIsRight (FilesJoined (paths_asked (rows_of (found_of matches.now))) asked.lists asked.form
+        asked.explains) no_input
         (passed O.contents O.failed out.old out.new) (passed E.contents E.failed err.old err.new) (code_of result) }
 {
     match matches.get_strs("text") {
@@ -157,14 +148,19 @@ fn join_asked<R: Files + AllocGlobal, O: Sink, E: Sink>(
     let Some(form) = form_of(matches) else {
         return end_clash(out, err);
     };
-    match lists_of(matches) {
-        Some(lists) => join_named(rt, matches, FormsAsked { form, lists }, out, err),
-        None => end_lists(out, err),
-    }
+    let Some(lists) = lists_of(matches) else {
+        return end_lists(out, err);
+    };
+    let asked = FormsAsked {
+        form,
+        lists,
+        explains: is_given(matches, "explain"),
+    };
+    join_named(rt, matches, asked, out, err)
 }
 
-/// Runs the program, whose words are its own name and `[-c | -l] [--expand | --expand-send] TEXT..`: it joins the texts
-/// of these files, as `run_join` says, in the forms that the words ask for.
+/// Runs the program, whose words are its own name and `[-c | -l] [-x] [--expand | --expand-send] TEXT..`: it joins the
+/// texts of these files, as `run_join` says, in the forms that the words ask for.
 ///
 /// - `-h`: the help on `out`, `Done`.
 /// - Other words, or two flags that exclude each other: what is wrong with them on `err`, `Refused`, and nothing is

@@ -17,7 +17,7 @@ returns-clause-joined c = λ lists texts a b x y.
     joined-same one lists texts a b x y
 
 pub returns-clause-stated : goal.returns-clause-stated
-returns-clause-stated c = λ texts lists form input notes others a b x y p q.
+returns-clause-stated c = λ texts lists form explains input notes others a b x y p q.
     let one : OneReading = record {
       definitions = c.one_reading.ensures.definitions;
       no_fault = c.one_reading.ensures.no_fault;
@@ -28,4 +28,4 @@ returns-clause-stated c = λ texts lists form input notes others a b x y p q.
       expanded = c.one_expansion.ensures.expanded;
       lines = c.one_expansion.ensures.lines;
     } in
-    stated-same one lists texts x y p q
+    stated-same one c.one_explanation_of_abnf.ensures lists texts x y p q

@@ -1,6 +1,6 @@
 use Rattle.std.proofs.Common.{map, refl}
 use Rattle.abnfblocks.specs.TextLines.{numbered}
-use Rattle.abnftexts.specs.RulesGathered.{rules_gathered}
+use Rattle.abnftexts.specs.RulesGathered.{reported_rule, rules_gathered}
 use Rattle.abnftexts.specs.TakenRules.{text_rows}
 use Rattle.abnftexts.proofs.ClearLinesLemmas.{kept-clear}
 use Rattle.abnftexts.proofs.ExpandedLinesLemmas.{expanded-clear}
@@ -30,8 +30,8 @@ loop-it-preserved c = λ text lists keeps written are end more.
       | in-NotAbnf+in_ok-push_no_rule-in-NotAbnf w ↦ c.loop-it.invariant text lists keeps written are end
           (no_rule-more rows.asks rows.name rows.kept rows.lines c.args.found.now c.loop-it.it-index _
           w.in-NotAbnf.first w.in-NotAbnf.count w.in-NotAbnf.fault (map numbered w.items_before-lines.result.now)
-          (rules_gathered c.loop-it.gathered) w.push_no_rule.new.reported.items end c.loop-it-test.true
-          w.in-NotAbnf.is
+          (rules_gathered c.loop-it.gathered) (map reported_rule w.push_no_rule.new.reported.items) end
+          c.loop-it-test.true w.in-NotAbnf.is
           (lines-taken lines w.items_after.result.now w.items_before-lines.result.now
           w.in-NotAbnf.first w.in-NotAbnf.count
           (rw w.deref-in-NotAbnf.ensures.value at w.items_after.ensures) w.items_before-lines.ensures)

@@ -1,5 +1,5 @@
 -- What is reported of the texts, the grammar and the end, together.
-use Rattle.std.proofs.Common.{◌≡◌, [], sym, true, false, ap, map, refl, Ok, Some}
+use Rattle.std.proofs.Common.{◌≡◌, [], ◌++◌, sym, true, false, ap, map, refl, Ok, Some}
 use Rattle.std.specs.Result.{is_err}
 use Rattle.ruletable.proofs.AppendsLemmas.{Appends-same}
 use Rattle.toolrun.specs.Status.{code_of}
@@ -19,8 +19,9 @@ pub returns-in-Err : goal.returns-in-Err
 returns-in-Err g c = record {
   right =
       let texts = map named_text c.args.texts.now in
-      run_is_right (JoinStates texts c.args.lists c.args.form) [] (StopsEarly texts c.args.lists c.args.form)
-      (notes_stated (early-planned texts c.args.lists c.args.form)) no_input
+      let a = c.args.asked in
+      run_is_right (JoinStates texts a.lists a.form a.explains) [] (StopsEarly texts a.lists a.form a.explains)
+      (notes_stated (early-planned texts a.lists a.form a.explains)) no_input
       (passed g.O.Sink.contents g.O.Sink.failed c.args.out.now c.args.out.now)
       (passed g.O.Sink.contents g.O.Sink.failed c.args.out.now c.finish.new.out)
       (passed g.E.Sink.contents g.E.Sink.failed c.args.err.now c.finish.new.err)
@@ -31,15 +32,35 @@ returns-in-Err g c = record {
       c.finish.ensures.stays c.finish.ensures.reported;
 }
 
+pub returns-in-Err-reported_text : goal.returns-in-Err-reported_text
+returns-in-Err-reported_text g c = record {
+  right =
+      let texts = map named_text c.args.texts.now in
+      let a = c.args.asked in
+      let end = c.finish-in-Err-reported_text in
+      run_is_right (JoinStates texts a.lists a.form a.explains) [] (StopsEarly texts a.lists a.form a.explains)
+      (notes_stated (early-planned texts a.lists a.form a.explains)) no_input
+      (passed g.O.Sink.contents g.O.Sink.failed c.args.out.now c.args.out.now)
+      (passed g.O.Sink.contents g.O.Sink.failed c.args.out.now end.new.out)
+      (passed g.E.Sink.contents g.E.Sink.failed c.args.err.now end.new.err)
+      (g.E.Sink.contents c.args.err.now) (Ok (Plain NoMemory)) (code_of end.result)
+      (stops_at_once NoMemory (Some []) (g.O.Sink.contents c.args.out.now) false false
+      (g.O.Sink.failed c.args.out.now))
+      c.requires.out_is_fresh refl (Appends-same (g.E.Sink.contents c.args.err.now)) end.ensures.kept
+      end.ensures.stays end.ensures.reported;
+}
+
 pub returns-then-is_err : goal.returns-then-is_err
 returns-then-is_err g c = record {
   right =
       let failed : is_err c.write_whole.result ≡ true = sym c.if-is_err.ensures.value in
       let texts = map named_text c.args.texts.now in
+      let a = c.args.asked in
       let joined = grammar_joined c.in-Ok.joined in
-      let bytes = rw c.deref.ensures.value at c.write_whole.ensures.bytes in
-      cut_short (JoinStates texts c.args.lists c.args.form) joined.reported
-      (notes_some (joined-planned texts c.args.lists c.args.form joined c.in-Ok.ensures)) no_input
+      let notes = c.in-Ok-reported_text.ensures in
+      let bytes = rw (c.deref.ensures.value, notes.2) at c.write_whole.ensures.bytes in
+      cut_short (JoinStates texts a.lists a.form a.explains) (notes.0 ++ joined.reported)
+      (notes_some (joined-planned texts a.lists a.form a.explains joined notes.0 c.in-Ok.ensures notes.1)) no_input
       (passed g.O.Sink.contents g.O.Sink.failed c.args.out.now c.close.new.out)
       (passed g.E.Sink.contents g.E.Sink.failed c.args.err.now c.close.new.err)
       _ (code_of c.close.result) refl (wrote-part _ _ _ c.write_whole.result failed bytes) c.close.ensures.out
@@ -51,10 +72,12 @@ returns g c = record {
   right =
       let fine : is_err c.write_whole.result ≡ false = sym c.if-is_err.ensures.value in
       let texts = map named_text c.args.texts.now in
+      let a = c.args.asked in
       let joined = grammar_joined c.in-Ok.joined in
-      let bytes = rw c.deref.ensures.value at c.write_whole.ensures.bytes in
-      run_is_right (JoinStates texts c.args.lists c.args.form) joined.reported (DoesJoin c.args.form joined)
-      (notes_stated (joined-planned texts c.args.lists c.args.form joined c.in-Ok.ensures)) no_input
+      let notes = c.in-Ok-reported_text.ensures in
+      let bytes = rw (c.deref.ensures.value, notes.2) at c.write_whole.ensures.bytes in
+      run_is_right (JoinStates texts a.lists a.form a.explains) (notes.0 ++ joined.reported) (DoesJoin a.form joined)
+      (notes_stated (joined-planned texts a.lists a.form a.explains joined notes.0 c.in-Ok.ensures notes.1)) no_input
       (passed g.O.Sink.contents g.O.Sink.failed c.args.out.now c.write_joined-stop.new.out)
       (passed g.O.Sink.contents g.O.Sink.failed c.args.out.now c.finish-2.new.out)
       (passed g.E.Sink.contents g.E.Sink.failed c.args.err.now c.finish-2.new.err)

@@ -14,7 +14,8 @@ use Rattle.abnfx.proofs.run.join_files.Goals as goal
 pub returns-in-Err : goal.returns-in-Err
 returns-in-Err g c = record {
   right = comes_as (IsReportedAnd (unread_text c.in-Err.why) (unread_stop c.in-Err.why))
-      (FilesJoined (map (λ p. p.now) c.args.paths.now) c.args.asked.lists c.args.asked.form)
+      (FilesJoined (map (λ p. p.now) c.args.paths.now) c.args.asked.lists c.args.asked.form
+      c.args.asked.explains)
       (λ input notes reply is. rw (is.0, is.1) (unread c.in-Err.why c.in-Err.ensures.unread))
       no_input (passed g.O.Sink.contents g.O.Sink.failed c.args.out.now c.end_unread.new.out)
       (passed g.E.Sink.contents g.E.Sink.failed c.args.err.now c.end_unread.new.err) (code_of c.end_unread.result)
@@ -23,8 +24,10 @@ returns-in-Err g c = record {
 
 pub returns-in-Ok-sources_of : goal.returns-in-Ok-sources_of
 returns-in-Ok-sources_of g c = record {
-  right = comes_as (JoinStates (map text_read c.in-Ok.texts.items) c.args.asked.lists c.args.asked.form)
-      (FilesJoined (map (λ p. p.now) c.args.paths.now) c.args.asked.lists c.args.asked.form)
+  right = comes_as (JoinStates (map text_read c.in-Ok.texts.items) c.args.asked.lists c.args.asked.form
+      c.args.asked.explains)
+      (FilesJoined (map (λ p. p.now) c.args.paths.now) c.args.asked.lists c.args.asked.form
+      c.args.asked.explains)
       (λ input notes reply is. joins c.in-Ok.ensures.texts is)
       no_input (passed g.O.Sink.contents g.O.Sink.failed c.args.out.now c.run_join.new.out)
       (passed g.E.Sink.contents g.E.Sink.failed c.args.err.now c.run_join.new.err) (code_of c.run_join.result)
@@ -34,7 +37,8 @@ returns-in-Ok-sources_of g c = record {
 
 pub returns : goal.returns
 returns g c = record {
-  right = stop_comes (FilesJoined (map (λ p. p.now) c.args.paths.now) c.args.asked.lists c.args.asked.form) NoMemory
+  right = stop_comes (FilesJoined (map (λ p. p.now) c.args.paths.now) c.args.asked.lists c.args.asked.form
+      c.args.asked.explains) NoMemory
       (λ input. no_memory) (Some []) false false
       (passed g.O.Sink.contents g.O.Sink.failed c.args.out.now c.finish.new.out)
       (passed g.E.Sink.contents g.E.Sink.failed c.args.err.now c.finish.new.err) (code_of c.finish.result)
