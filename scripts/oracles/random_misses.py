@@ -4,8 +4,9 @@
 usage: random_misses.py [-n GRAMMARS] [-s SEED]
 
 No line may be derived. Its longest viable prefix is all of it, or all but its last letter; then that letter is the
-first that cannot stand there. The prefixes ascend, and no line comes twice. If all are written, the letters of each
-viable prefix of a few letters lead on from one of the prefixes too. Grammars and their order follow from the seed.
+first that cannot stand there or, with -e, one next to a letter that can. Each prefix but the last has all of these. The
+prefixes ascend, and no line comes twice. If all are written, the letters of each viable prefix of a few letters lead on
+from one of the prefixes too. Grammars and their order follow from the seed.
 Prints how many grammars were tried, and how they ended; at the first disagreement it prints the grammar, and then the
 status is 1. A program that is not built is skipped.
 """
@@ -27,14 +28,17 @@ TOO_MANY = b"too many stacks\n"
 
 
 class Judge:
-    """What a rule says of letters: which lists are lines, which begin one, and which letter is the first wrong one."""
+    """What a rule says of letters: which lists are lines, which begin one, and which letters are reported as wrong."""
 
-    def __init__(self, rules, key, is_utf8, end):
-        self.rules, self.key, self.is_utf8 = rules, key, is_utf8
+    def __init__(self, rules, key, is_utf8, end, edges):
+        self.rules, self.key, self.is_utf8, self.end, self.edges = rules, key, is_utf8, end, edges
         bodies = [rules.all[it] for it in slow_abnf.reached(rules, key) if it in rules.all]
         bounds = {0, 32, 33, 127, 0xE000, end, end + 1} | {it for body in bodies for it in bounds_in(body)}
-        firsts = (it for it in bounds if it != end and slow_abnf.is_letter(it, is_utf8))
-        self.firsts = sorted(firsts, key=lambda it: line_key([it]))
+        ends = {it - 1 for it in bounds if it > 0} if edges else set()
+        self.firsts = sorted(filter(self.is_letter, bounds | ends), key=lambda it: line_key([it]))
+
+    def is_letter(self, letter):
+        return letter != self.end and slow_abnf.is_letter(letter, self.is_utf8)
 
     def derives(self, letters):
         return slow_abnf.Deriver(self.rules, letters).derives(self.key)
@@ -45,9 +49,11 @@ class Judge:
     def is_viable(self, letters):
         return self.furthest(letters) == len(letters)
 
-    def first_wrong(self, letters):
-        """Returns the first letter that cannot follow, or nothing."""
-        return next((it for it in self.firsts if not self.is_viable([*letters, it])), None)
+    def wrong_after(self, letters):
+        """Returns the letters that are reported after a prefix."""
+        wrong = [it for it in self.firsts if not self.is_viable([*letters, it])]
+        can = {it for it in self.firsts if it not in wrong}
+        return wrong[:1] + [it for it in wrong[1:] if self.edges and {it - 1, it + 1} & can]
 
     def fault(self, line):
         """Returns what is wrong with a line, or nothing."""
@@ -56,15 +62,24 @@ class Judge:
             return "derived"
         if after < len(line) - 1:
             return "far from a line"
-        if after < len(line) and line[-1] != self.first_wrong(line[:-1]):
-            return "another letter is the first that is wrong"
+        if after < len(line) and line[-1] not in self.wrong_after(line[:-1]):
+            return "another letter is the first that is wrong, or next to one that is not"
         return None
 
     def place(self, line):
-        """Returns what orders a line: its prefix, and whether a wrong letter follows."""
+        """Returns what orders a line: its prefix, and the wrong letter that follows, if there is one."""
         is_whole = self.is_viable(line)
         size, keys = line_key(line if is_whole else line[:-1])
-        return size, tuple(keys), not is_whole
+        return size, tuple(keys), tuple(() if is_whole else line_key(line[-1:])[1])
+
+    def lacks(self, lines, limit):
+        """Returns a prefix that is not the last with a wrong letter that has no line; or nothing."""
+        fronts = [line if self.is_viable(line) else line[:-1] for line in lines]
+        for front in (it for it in fronts if len(it) < limit and it != fronts[-1]):
+            lacking = [it for it in self.wrong_after(front) if [*front, it] not in lines]
+            if lacking:
+                return [*front, lacking[0]]
+        return None
 
 
 class Case:
@@ -78,10 +93,11 @@ class Case:
         self.limit = r.choice([1, 2, 3, 8])
         rules = slow_abnf.Rules(grammar)
         self.reported, self.is_refused = slow_abnf.notes_on(rules, rule)
-        key = (rule or next(iter(rules.file))).upper()
-        self.judge = None if self.is_refused else Judge(rules, key, self.is_utf8, self.end)
+        key, edges = (rule or next(iter(rules.file))).upper(), r.random() < 0.5
+        self.judge = None if self.is_refused else Judge(rules, key, self.is_utf8, self.end, edges)
         self.words = ["-m", "miss", *(["-s", rule] if rule else []), *(["-u", "utf8"] if self.is_utf8 else []),
-                      *(["-z"] if self.end == 0 else []), "-c", str(self.count), "-l", str(self.limit)]
+                      *(["-e"] if edges else []), *(["-z"] if self.end == 0 else []), "-c", str(self.count), "-l",
+                      str(self.limit)]
 
     def lines_in(self, out):
         text = out.decode("utf-8" if self.is_utf8 else "latin-1")
@@ -92,9 +108,10 @@ class Case:
         told = [it for it in lines if not self.judge.is_viable(it)]
         for size in range(min(self.limit, 3)):
             for front in itertools.islice(itertools.product(self.judge.firsts, repeat=size), 200):
-                wrong = self.judge.is_viable(list(front)) and self.judge.first_wrong(list(front))
-                if wrong is not None and wrong is not False and wrong not in {it[-1] for it in told}:
-                    return [*front, wrong]
+                wrong = self.judge.wrong_after(list(front)) if self.judge.is_viable(list(front)) else []
+                lacking = [it for it in wrong if it not in {line[-1] for line in told}]
+                if lacking:
+                    return [*front, lacking[0]]
         return None
 
     def fault(self, out, status):
@@ -104,7 +121,8 @@ class Case:
         is_whole = status in (0, 1) and len(lines) < self.count
         if places != sorted(set(places)) or len(lines) > self.count or any(len(it) > self.limit for it in lines):
             return "order or size"
-        return next((it for it in faults if it), None) or (is_whole and self.missing(lines)) or None
+        first = next((it for it in faults if it), None) or self.judge.lacks(lines, self.limit)
+        return first or (is_whole and self.missing(lines)) or None
 
     def ended(self, out, err, status):
         """Returns how a run ended: a word, or nothing if something is wrong with it."""

@@ -1,6 +1,7 @@
 -- What is stated for a grammar's text, from what is stated for the grammar.
 -- Serves: abnfg_main (right)
-use Rattle.std.proofs.Common.{◌≡◌, ◌∙◌, ℕ, List, [], Option, None, Some, false, refl, sym, subst, append-nil, arith}
+use Rattle.std.proofs.Common.{◌≡◌, ◌∙◌, ℕ, Bool, List, [], Option, None, Some, false, refl, sym, subst, append-nil}
+use Rattle.std.proofs.Common.{arith}
 use Rattle.std.specs.Prelude.{option_copied}
 use Rattle.abnfg.specs.ListAnswers.{JudgedReply, OpenedStates, TextStates, faulty, lists, no_memory, rejected}
 use Rattle.abnfg.specs.ListedLines.{end_of, no_room}
@@ -51,18 +52,22 @@ module _ {O : Type 0} (opening : Opening O) (Why : Option (List ℕ) → Said �
       is.all ∙ (rw none (append-nil is.first) ∙ notes_plain is.are_reported)
 
 -- no line is a first list of each mode
-no_first : (mode : ListMode) (alphabet : Alphabet) (terminator limit : ℕ) (rules : List Rule) (id : ℕ)
-    → FirstIn mode alphabet terminator limit rules id []
-no_first Derived alphabet terminator limit rules id = no_lines_first (IsRuleLine alphabet terminator limit rules id)
-no_first Miss alphabet terminator limit rules id = no_misses_first alphabet terminator limit rules id
-no_first Random alphabet terminator limit rules id = no_draws (IsRuleLine alphabet terminator limit rules id)
+no_first : (mode : ListMode) (edges : Bool) (alphabet : Alphabet) (terminator limit : ℕ) (rules : List Rule) (id : ℕ)
+    → FirstIn mode edges alphabet terminator limit rules id []
+no_first Derived edges alphabet terminator limit rules id =
+    no_lines_first (IsRuleLine alphabet terminator limit rules id)
+no_first Miss edges alphabet terminator limit rules id = no_misses_first alphabet terminator limit rules id edges
+no_first Random edges alphabet terminator limit rules id = no_draws (IsRuleLine alphabet terminator limit rules id)
 
 -- some reply is stated
 pub judged_some : (settings : ListSettings) (rules : List Rule) (judged : Option ℕ)
     → (reply : Reply) × JudgedReply settings rules judged reply
 judged_some settings rules None = (_, refl)
-judged_some settings rules (Some id) =
-    (_, no_room (no_first settings.mode settings.letters (end_of settings.nul) settings.limit rules id) (omega arith))
+judged_some settings rules (Some id) = (
+  _,
+  no_room (no_first settings.mode settings.edges settings.letters (end_of settings.nul) settings.limit rules id)
+      (omega arith),
+)
 
 module _ (text : List ℕ) (settings : ListSettings) (notes : List Said) (rules : table.Rules Elem) (input : Input)
     (out reported : List ℕ) (reply : Reply) (same : reported ≡ notes_text notes) where

@@ -1,29 +1,31 @@
 -- The lines that miss a rule, one after another.
 -- Serves: abnfg_main (right)
-use Rattle.std.proofs.Common.{◌≡◌, inl, inr, ℕ, ◌+◌, ◌<◌, ◌≤◌, List, [], ◌∷◌, ◌++◌, length, refl, sym, ◌∙◌}
+use Rattle.std.proofs.Common.{◌≡◌, inl, inr, ℕ, Bool, ◌+◌, ◌<◌, ◌≤◌, List, [], ◌∷◌, ◌++◌, length, refl, sym, ◌∙◌}
 use Rattle.std.proofs.Common.{ap, subst, arith, length-append, append-nil, Option, None, Some, Vec, Global}
 use Rattle.std.specs.Prelude.{Result, Ok, Err}
 use Rattle.std.specs.List.{flat_map}
 use Rattle.std.specs.Io.KnownBytes.{Appends}
 use Rattle.std.proofs.lemmas.Grind.{flat_map-append}
 use Rattle.abnfg.specs.ListedLines.{AreWritten, IsRecordWritten}
-use Rattle.abnfg.specs.ListModes.{AreMissesAll, AreMissesFirst, IsMissHalt, IsMissNext, IsMissWritten}
+use Rattle.abnfg.specs.ListModes.{IsMissHalt, IsMissNext, IsMissWritten}
 use Rattle.abnfg.specs.declared.lines.Halt.{Halt}
 use Rattle.abnfg.specs.declared.lines.Halt.TheVariants.{NoMemory as HaltsUnroomed, Nothing, TooMany}
 use Rattle.abnfg.specs.declared.lines.Halt.TheVariants.{All as Finished}
 use Rattle.abnfread.specs.Element.{Rule}
 use Rattle.letters.specs.declared.alphabet.Alphabet.{Alphabet}
-use Rattle.rulelines.specs.LineSets.{LineSet}
-use Rattle.rulelines.specs.MissLists.{AreAllMisses, AreFirstMisses, AreMissesOf, AreLinesReported, MissList}
+use Rattle.rulelines.specs.MissSearch.{PrefixSet}
+use Rattle.rulelines.specs.MissLists.{AreAllMisses, AreAllMissesOf, AreFirstMisses, AreFirstMissesOf}
+use Rattle.rulelines.specs.MissLists.{AreMissesOf, AreLinesReported, MissList}
 use Rattle.rulelines.proofs.MissLinesLemmas.{first_misses, no_prefixes, reported_first}
 use Rattle.ruletable.proofs.AppendsLemmas.{Appends-join, Appends-same, AppendsPart-join}
 use Rattle.ruletable.specs.Writing.{AppendsPart}
 use Rattle.ruletable.specs.declared.sink.WriteFault.{WriteFault}
 
-pub no_misses_first : (alphabet : Alphabet) (terminator limit : ℕ) (rules : List Rule) (id : ℕ)
-    → AreFirstMisses alphabet terminator limit rules id []
-no_misses_first alphabet terminator limit rules id =
-    first_misses alphabet terminator limit rules id [] (no_prefixes alphabet terminator limit rules id) [] [] refl
+pub no_misses_first : (alphabet : Alphabet) (terminator limit : ℕ) (rules : List Rule) (id : ℕ) (edges : Bool)
+    → AreFirstMisses alphabet terminator limit rules id edges []
+no_misses_first alphabet terminator limit rules id edges =
+    first_misses alphabet terminator limit rules id edges [] (no_prefixes alphabet terminator limit rules id edges) []
+    [] refl
 
 module _ (rules : List Rule) (id : ℕ) (text_of : List ℕ → List ℕ) where
   -- the next line was written
@@ -39,7 +41,7 @@ module _ (rules : List Rule) (id : ℕ) (text_of : List ℕ → List ℕ) where
   miss_written done old new from to w next (Err fault) is = λ ws t. (w.items, next ws t, is)
 
   -- so many lines were written
-  pub record IsMissedTo (set : LineSet) (done : ℕ) (list : MissList) (old new : Option (List ℕ)) : Type 0 where
+  pub record IsMissedTo (set : PrefixSet) (done : ℕ) (list : MissList) (old new : Option (List ℕ)) : Type 0 where
     pub same : list.prefixes.set ≡ set
     pub ws : List (List ℕ)
     pub reported : AreLinesReported rules id list ws
@@ -60,17 +62,17 @@ module _ (rules : List Rule) (id : ℕ) (text_of : List ℕ → List ℕ) where
   one_text ws w =
       flat_map-append text_of ws (w ∷ []) ∙ ap (λ v. flat_map text_of ws ++ v) (append-nil (text_of w))
 
-  abbrev pub FirstOf : LineSet → List (List ℕ) → Type 0
-  FirstOf set = AreFirstMisses set.alphabet set.terminator set.limit rules id
+  abbrev pub FirstOf : PrefixSet → List (List ℕ) → Type 0
+  FirstOf set = AreFirstMisses set.alphabet set.terminator set.limit rules id set.edges
 
-  abbrev pub WholeOf : LineSet → List (List ℕ) → Type 0
-  WholeOf set = AreAllMisses set.alphabet set.terminator set.limit rules id
+  abbrev pub WholeOf : PrefixSet → List (List ℕ) → Type 0
+  WholeOf set = AreAllMisses set.alphabet set.terminator set.limit rules id set.edges
 
-  first_reported : (set : LineSet) (list : MissList) → list.prefixes.set ≡ set → (ws : List (List ℕ))
+  first_reported : (set : PrefixSet) (list : MissList) → list.prefixes.set ≡ set → (ws : List (List ℕ))
       → AreLinesReported rules id list ws → FirstOf set ws
   first_reported set list same ws t = subst (λ v. FirstOf v ws) same (reported_first rules id list ws t)
 
-  module _ (set : LineSet) (done count : ℕ) (list next : MissList) (a b c : Option (List ℕ))
+  module _ (set : PrefixSet) (done count : ℕ) (list next : MissList) (a b c : Option (List ℕ))
       (u : IsMissedTo set done list a b) (still : next.prefixes.set ≡ list.prefixes.set) where
     pub one_missed : IsMissWritten rules id text_of done list next b c (Ok None) → IsMissedTo set (done + 1) next a c
     one_missed is =
@@ -130,7 +132,7 @@ module _ (rules : List Rule) (id : ℕ) (text_of : List ℕ → List ℕ) where
               (AppendsPart-join a b c (flat_map text_of u.ws) (text_of g.0) u.text g.2),
         )
 
-  pub all_missed : (set : LineSet) (done count : ℕ) (list : MissList) (a b c : Option (List ℕ))
+  pub all_missed : (set : PrefixSet) (done count : ℕ) (list : MissList) (a b c : Option (List ℕ))
       → IsMissedTo set done list a b → done ≡ count → b ≡ c
       → AreWritten (FirstOf set) (WholeOf set) text_of count a c (Ok Finished)
   all_missed set done count list a b c u same still = (
@@ -141,16 +143,22 @@ module _ (rules : List Rule) (id : ℕ) (text_of : List ℕ → List ℕ) where
   )
 
   -- by the settings
-  pub misses_as : (alphabet : Alphabet) (terminator limit count : ℕ) (list : MissList) (old new : Option (List ℕ))
-      (r : Result Halt WriteFault) → AreMissesOf alphabet terminator limit rules id list
-      → AreWritten (AreMissesFirst rules id list) (AreMissesAll rules id list) text_of count old new r
-      → AreWritten (AreFirstMisses alphabet terminator limit rules id) (AreAllMisses alphabet terminator limit rules id)
-      text_of count old new r
-  misses_as alphabet terminator limit count list old new r m is =
-      subst (λ (v : Alphabet). AreWritten (AreFirstMisses v terminator limit rules id)
-      (AreAllMisses v terminator limit rules id) text_of count old new r) m.alphabet_is
-      (subst (λ v. AreWritten (AreFirstMisses list.prefixes.set.alphabet v limit rules id)
-      (AreAllMisses list.prefixes.set.alphabet v limit rules id) text_of count old new r) m.terminator_is
-      (subst (λ v. AreWritten (AreFirstMisses list.prefixes.set.alphabet list.prefixes.set.terminator v rules id)
-      (AreAllMisses list.prefixes.set.alphabet list.prefixes.set.terminator v rules id) text_of count old new r)
-      m.limit_is is))
+  pub misses_as : (alphabet : Alphabet) (terminator limit count : ℕ) (edges : Bool) (list : MissList)
+      (old new : Option (List ℕ)) (r : Result Halt WriteFault)
+      → AreMissesOf alphabet terminator limit edges rules id list
+      → AreWritten (AreFirstMissesOf rules id list) (AreAllMissesOf rules id list) text_of count old new r
+      → AreWritten (AreFirstMisses alphabet terminator limit rules id edges)
+      (AreAllMisses alphabet terminator limit rules id edges) text_of count old new r
+  misses_as alphabet terminator limit count edges list old new r m is =
+      subst (λ (v : PrefixSet). AreWritten (FirstOf v) (WholeOf v) text_of count old new r)
+      (same_set list.prefixes.set m.alphabet_is m.terminator_is m.limit_is m.edges_is) is
+    where
+      same_set : (s : PrefixSet) → s.alphabet ≡ alphabet → s.terminator ≡ terminator → s.limit ≡ limit
+          → s.edges ≡ edges → s ≡ record {
+            flat = s.flat;
+            alphabet = alphabet;
+            terminator = terminator;
+            limit = limit;
+            edges = edges;
+          }
+      same_set s a t l e = rw (a, t, l, e) refl

@@ -1,5 +1,5 @@
 -- Which lines each mode lists.
-use Rattle.std.specs.Prelude.{◌≡◌, ◌≢◌, ℕ, List, [], ◌∷◌, ◌++◌, Option, None, Some, Result, Ok, Err}
+use Rattle.std.specs.Prelude.{◌≡◌, ◌≢◌, ℕ, Bool, List, [], ◌∷◌, ◌++◌, Option, None, Some, Result, Ok, Err}
 use Rattle.std.specs.Io.KnownBytes.{Appends}
 use Rattle.std.specs.List.{All}
 use Rattle.std.proofs.Common.{Vec, Global}
@@ -14,27 +14,29 @@ use Rattle.abnfread.specs.Element.{Rule}
 use Rattle.letters.specs.declared.alphabet.Alphabet.{Alphabet}
 use Rattle.rulelines.specs.FirstLines.{HasNoLine}
 use Rattle.rulelines.specs.LineSets.{IsRuleLine}
-use Rattle.rulelines.specs.MissLists.{AreAllMisses, AreFirstMisses, AreLinesReported, MissList}
+use Rattle.rulelines.specs.MissLists.{AreAllMisses, AreAllMissesOf, AreFirstMisses, AreLinesReported, MissList}
 use Rattle.ruletable.specs.Writing.{AppendsPart}
 use Rattle.ruletable.specs.declared.sink.WriteFault.{WriteFault}
 
 -- the lists of lines that a mode begins with
-abbrev pub FirstIn : ListMode → Alphabet → ℕ → ℕ → List Rule → ℕ → List (List ℕ) → Type 0
-FirstIn Derived alphabet terminator limit rules id = AreFirstLines (IsRuleLine alphabet terminator limit rules id)
-FirstIn Miss alphabet terminator limit rules id = AreFirstMisses alphabet terminator limit rules id
-FirstIn Random alphabet terminator limit rules id = All (IsRuleLine alphabet terminator limit rules id)
+abbrev pub FirstIn : ListMode → Bool → Alphabet → ℕ → ℕ → List Rule → ℕ → List (List ℕ) → Type 0
+FirstIn Derived edges alphabet terminator limit rules id = AreFirstLines (IsRuleLine alphabet terminator limit rules id)
+FirstIn Miss edges alphabet terminator limit rules id = AreFirstMisses alphabet terminator limit rules id edges
+FirstIn Random edges alphabet terminator limit rules id = All (IsRuleLine alphabet terminator limit rules id)
 
 -- the lists of all its lines
-abbrev pub WholeIn : ListMode → Alphabet → ℕ → ℕ → List Rule → ℕ → List (List ℕ) → Type 0
-WholeIn Derived alphabet terminator limit rules id = HoldAll (IsRuleLine alphabet terminator limit rules id)
-WholeIn Miss alphabet terminator limit rules id = AreAllMisses alphabet terminator limit rules id
-WholeIn Random alphabet terminator limit rules id = HoldAll (IsRuleLine alphabet terminator limit rules id)
+abbrev pub WholeIn : ListMode → Bool → Alphabet → ℕ → ℕ → List Rule → ℕ → List (List ℕ) → Type 0
+WholeIn Derived edges alphabet terminator limit rules id = HoldAll (IsRuleLine alphabet terminator limit rules id)
+WholeIn Miss edges alphabet terminator limit rules id = AreAllMisses alphabet terminator limit rules id edges
+WholeIn Random edges alphabet terminator limit rules id = HoldAll (IsRuleLine alphabet terminator limit rules id)
 
 abbrev pub AreFirstAsked : ListSettings → List Rule → ℕ → List (List ℕ) → Type 0
-AreFirstAsked settings rules id = FirstIn settings.mode settings.letters (end_of settings.nul) settings.limit rules id
+AreFirstAsked settings rules id = FirstIn settings.mode settings.edges settings.letters (end_of settings.nul)
+    settings.limit rules id
 
 abbrev pub AreWholeAsked : ListSettings → List Rule → ℕ → List (List ℕ) → Type 0
-AreWholeAsked settings rules id = WholeIn settings.mode settings.letters (end_of settings.nul) settings.limit rules id
+AreWholeAsked settings rules id = WholeIn settings.mode settings.edges settings.letters (end_of settings.nul)
+    settings.limit rules id
 
 module _ (rules : List Rule) (id : ℕ) where
   -- the next line that misses the rule
@@ -42,20 +44,12 @@ module _ (rules : List Rule) (id : ℕ) where
   IsMissNext old new line = (ws : List (List ℕ)) → AreLinesReported rules id old ws
       → AreLinesReported rules id new (ws ++ line.items ∷ [])
 
-  abbrev pub AreMissesFirst : MissList → List (List ℕ) → Type 0
-  AreMissesFirst list = AreFirstMisses list.prefixes.set.alphabet list.prefixes.set.terminator list.prefixes.set.limit
-      rules id
-
-  abbrev pub AreMissesAll : MissList → List (List ℕ) → Type 0
-  AreMissesAll list = AreAllMisses list.prefixes.set.alphabet list.prefixes.set.terminator list.prefixes.set.limit rules
-      id
-
   -- why there is none after so many lines
   abbrev pub IsMissHalt : ℕ → MissList → Halt → Type 0
   IsMissHalt done list Finished = (done ≢ 0) × ((ws : List (List ℕ)) → AreLinesReported rules id list ws
-      → AreMissesAll list ws)
+      → AreAllMissesOf rules id list ws)
   IsMissHalt done list Nothing = (done ≡ 0) × ((ws : List (List ℕ)) → AreLinesReported rules id list ws
-      → AreMissesAll list ws)
+      → AreAllMissesOf rules id list ws)
   IsMissHalt done list TooMany = Unit {0}
   IsMissHalt done list HaltsUnroomed = Unit {0}
 

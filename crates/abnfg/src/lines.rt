@@ -47,6 +47,8 @@ pub(crate) struct ListSettings<'a> {
     pub(crate) count: u32,
     /// Whether a NUL byte ends a line, in place of LF.
     pub(crate) nul: bool,
+    /// Whether each symbol that cannot follow a prefix is listed after it, next to one that can.
+    pub(crate) edges: bool,
     /// The seed of lines by lot.
     pub(crate) seed: u64,
 }

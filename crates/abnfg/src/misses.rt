@@ -1,16 +1,17 @@
 //! The lines that a rule of a grammar does not derive, written one after another.
 ghost use Rattle.std.specs.Prelude.{◌≡◌, ℕ, List, false, MatchResult};
 ghost use Rattle.abnfg.specs.ListedLines.{AreWritten, end_of, record_text};
-ghost use Rattle.abnfg.specs.ListModes.{AreMissesAll, AreMissesFirst, IsMissHalt, IsMissNext, IsMissWritten};
+ghost use Rattle.abnfg.specs.ListModes.{IsMissHalt, IsMissNext, IsMissWritten};
 ghost use Rattle.abnfg.specs.ListModes.{IsNoLineReported};
 ghost use Rattle.abnfread.specs.AbnfViews.{rules_of};
 ghost use Rattle.abnfread.specs.Element.{Rule};
-ghost use Rattle.rulelines.specs.MissLists.{AreAllMisses, AreFirstMisses, AreOfRule};
+ghost use Rattle.rulelines.specs.MissLists.{AreAllMisses, AreAllMissesOf, AreFirstMisses, AreFirstMissesOf};
+ghost use Rattle.rulelines.specs.MissLists.{AreOfRule};
 ghost use Rattle.ruletable.specs.Writing.{Flags};
 
 use crate::lines::{Halt, ListSettings, ROOM, end_byte, write_record};
 use abnfcheck::SoundAbnf;
-use rulelines::{Misses, NextLine};
+use rulelines::{MissSet, Misses, NextLine};
 use ruletable::{Memory, Sink, WriteFault};
 use std::alloc::Global;
 
@@ -61,7 +62,7 @@ fn write_misses<O: Sink>(
     requires { O.failed out.old ≡ false }
     ensures lines { (rules : List Rule) (id : ℕ) → AreOfRule rules id misses.old →
         IsNoLineReported rules id misses.old →
-        AreWritten (AreMissesFirst rules id misses.old) (AreMissesAll rules id misses.old)
+        AreWritten (AreFirstMissesOf rules id misses.old) (AreAllMissesOf rules id misses.old)
         (record_text settings.now.letters (end_of settings.now.nul)) settings.now.count (O.contents out.old)
         (O.contents out.new) result }
     ensures flag { Flags (O.failed out.old) (O.failed out.new) result }
@@ -86,14 +87,20 @@ pub(crate) fn write_refused<O: Sink>(
 ) -> Result<Halt, WriteFault>
     requires { O.failed out.old ≡ false }
     ensures lines { AreWritten (AreFirstMisses settings.now.letters (end_of settings.now.nul) settings.now.limit
-        (rules_of grammar.now.rules) grammar.now.judged) (AreAllMisses settings.now.letters (end_of settings.now.nul)
-        settings.now.limit (rules_of grammar.now.rules) grammar.now.judged)
+        (rules_of grammar.now.rules) grammar.now.judged settings.now.edges) (AreAllMisses settings.now.letters
+        (end_of settings.now.nul) settings.now.limit (rules_of grammar.now.rules) grammar.now.judged
+        settings.now.edges)
         (record_text settings.now.letters (end_of settings.now.nul)) settings.now.count (O.contents out.old)
         (O.contents out.new) result }
     ensures flag { Flags (O.failed out.old) (O.failed out.new) result }
 {
-    let end = end_byte(settings);
-    match Misses::new(alloc, grammar, settings.letters, end, settings.limit, ROOM) {
+    let set = MissSet {
+        alphabet: settings.letters,
+        terminator: end_byte(settings),
+        limit: settings.limit,
+        edges: settings.edges,
+    };
+    match Misses::new(alloc, grammar, set, ROOM) {
         Ok(Some(mut misses)) => write_misses(alloc, settings, &mut misses, out),
         Ok(None) => Ok(Halt::TooMany),
         Err(Memory) => Ok(Halt::NoMemory),

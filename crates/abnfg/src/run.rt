@@ -40,8 +40,8 @@ fn list_asked<R: Files + AllocGlobal, O: Sink, E: Sink>(
     }
 }
 
-/// Runs the program, whose words are its own name and `[-m MODE] [-l N] [-c N] [-g SEED] [-s RULE] [-u MODE] [-z]
-/// GRAMMAR`: it lists lines that a rule of the grammar in the file GRAMMAR derives.
+/// Runs the program, whose words are its own name and `[-e] [-m MODE] [-l N] [-c N] [-g SEED] [-s RULE] [-u MODE]
+/// [-z] GRAMMAR`: it lists lines that a rule of the grammar in the file GRAMMAR derives.
 ///
 /// - `-h`: the help on `out`, `Done`.
 /// - Other words: what is wrong with them on `err`, `Refused`, and nothing is read.

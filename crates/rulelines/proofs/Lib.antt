@@ -21,5 +21,7 @@ mod LineSamplesLemmas
 mod MissSearchLemmas
 mod StateClosuresLemmas
 mod ViableLemmas
+mod WrongSymbolsLemmas
+mod ReportedWrongLemmas
 mod ReportedPrefixesLemmas
 pub mod MissLinesLemmas

@@ -13,7 +13,8 @@ use Rattle.letterclasses.proofs.AreClassesLemmas.{rising_up}
 use Rattle.lazydfa.proofs.StateSetsLemmas.{contained_at, got_at}
 use Rattle.rulelines.specs.FirstLines.{sort_key}
 use Rattle.rulelines.specs.Samples.{AreInLineOrder, symbol_of}
-use Rattle.rulelines.specs.Starts.{AreClassStarts, IsJoinedOn}
+use Rattle.letterclasses.specs.Stacks.{AreAlike}
+use Rattle.rulelines.specs.Starts.{AreClassStarts, HaveBothEnds, HaveBothKeys, IsJoinedOn}
 use Rattle.rulelines.specs.StatePairs.{AreSamples, HasSample}
 use Rattle.rulelines.proofs.ComesFirstLemmas.{one_key}
 use Rattle.rulelines.proofs.SamplesLemmas.{key_symbol}
@@ -166,3 +167,11 @@ module _ (flat : Flat) (has : ℕ → Bool) (starts samples : List ℕ) (are : A
 
   pub samples_each : AreSamples flat flat has samples
   samples_each c symbol = sample_of (sort_key c) c refl symbol
+
+  pub samples_ends : HaveBothKeys flat has starts → HaveBothEnds flat has samples
+  samples_ends keys c first next = by (keys c first next)
+    where
+      by : AreAlike flat (c + 1) c ⊎ (Contains starts (sort_key c) × Contains starts (sort_key (c + 1)))
+          → AreAlike flat (c + 1) c ⊎ (Contains samples c × Contains samples (c + 1))
+      by (inl alike) = inl alike
+      by (inr h) = inr (all c first h.0, all (c + 1) next h.1)

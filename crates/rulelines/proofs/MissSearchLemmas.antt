@@ -1,9 +1,9 @@
 -- A step of a search of states.
 -- Serves: next_prefix, begin_search
-use Rattle.std.proofs.Common.{◌≡◌, ◌↔◌, ◌⊎◌, inl, inr, ℕ, zero, suc, ◌+◌, ◌<◌, ◌≤◌, List, [], ◌∷◌, ◌++◌, length, refl}
-use Rattle.std.proofs.Common.{sym, ◌∙◌, ap, subst, arith}
-use Rattle.std.proofs.lemmas.Bool.{cases_lt}
-use Rattle.std.specs.Prelude.{Bool, true, false, Option, None, Some, slice_get, Contains, IsTrue}
+use Rattle.std.proofs.Common.{◌≡◌, ◌↔◌, ◌⊎◌, inl, inr, ℕ, zero, suc, ◌+◌, ◌<◌, List, [], ◌∷◌, ◌++◌, length, refl}
+use Rattle.std.proofs.Common.{sym, ◌∙◌, ap, subst, arith, length-append}
+use Rattle.std.proofs.lemmas.Option.{slice_get_within}
+use Rattle.std.specs.Prelude.{Bool, true, false, Some, slice_get, Contains, IsTrue}
 use Rattle.flatgrammar.specs.Flat.{Flat, Dot}
 use Rattle.flatgrammar.specs.NodeSteps.{flat_of}
 use Rattle.flatgrammar.proofs.CallOfLemmas.{get_map, get_unmap}
@@ -11,21 +11,15 @@ use Rattle.flatgrammar.proofs.SliceGetLemmas.{push_cases}
 use Rattle.letterclasses.specs.Stacks.{IsNext}
 use Rattle.lazydfa.specs.Conts.{last_of}
 use Rattle.lazydfa.specs.StateSets.{AreMoreStates, grammar_of, IsNextState, last_in, StateSet, StateSets}
-use Rattle.lazydfa.proofs.StateSetsLemmas.{contained_at, got_at}
 use Rattle.rulelines.specs.declared.pairs.SearchedPair.{SearchedPair}
-use Rattle.rulelines.specs.FirstLines.{sort_key}
 use Rattle.rulelines.specs.FoundPairs.{IsWordOf, next, start}
-use Rattle.rulelines.specs.MissSearch.{AreFoundStill, IsAstrayTo, IsExpandedTo, IsFirstAstray, IsFoundAt, IsLedBy}
-use Rattle.rulelines.specs.MissSearch.{IsLedFrom, IsLive, IsStateSearch, IsWordIn, IsWrongKept, LeadsOn}
-use Rattle.rulelines.specs.MissSearch.{FoundStates}
-use Rattle.rulelines.specs.Samples.{AreInLineOrder}
+use Rattle.rulelines.specs.MissSearch.{AreFoundStill, AreLedBy, FoundStates, IsExpandedTo, IsFoundAt, IsLedBy}
+use Rattle.rulelines.specs.MissSearch.{IsLedFrom, IsLive, IsStateSearch, IsWordIn}
 use Rattle.rulelines.specs.Search.{found_pair, found_pairs, IsPairAdded}
-use Rattle.rulelines.specs.StatePairs.{AreSamples, HasSample}
 use Rattle.rulelines.proofs.OldAloneLemmas.{search_begun}
 use Rattle.rulelines.proofs.SearchLemmas.{get_left, search_kept, search_next}
 use Rattle.rulelines.proofs.StatePairsLemmas.{element_at}
 use Rattle.rulelines.proofs.StateTableLemmas.{more_trans, no_more, one_element, state_kept}
-use Rattle.rulelines.proofs.TakesLemmas.{next_alike}
 use Rattle.lazydfa.specs.StateSets.{IsStartState}
 
 -- what was found is there still
@@ -135,91 +129,45 @@ was_led old new at c t p live at_p more index led added reported = record {
 
 -- no sample was followed, or one more
 module _ (samples : List ℕ) where
-  pub none_expanded : (search : FoundStates) (at : ℕ) → IsExpandedTo samples 0 search search at None
+  pub none_expanded : (search : FoundStates) (at : ℕ) → IsExpandedTo samples 0 search search at []
   none_expanded search at = record {
+    count = refl;
     more = no_more search.states;
     still = λ i p is. is;
     index = refl;
     search = λ has in_order s. s;
-    wrong_is = λ s f j d lt. absurd (omega (arith, lt));
+    led = λ s f j c b lt. absurd (omega (arith, lt));
   }
 
-  module _ (flat : Flat) (last : Dot → Bool) (s : StateSet) (k c : ℕ) (at_k : slice_get samples k ≡ Some c) where
-    all_lead : ((j d : ℕ) → j < k → slice_get samples j ≡ Some d → LeadsOn flat last s d) → LeadsOn flat last s c
-        → (j d : ℕ) → j < k + 1 → slice_get samples j ≡ Some d → LeadsOn flat last s d
-    all_lead before here j d lt at_j = by (cases_lt j k)
-      where
-        by : (j < k) ⊎ (k ≤ j) → LeadsOn flat last s d
-        by (inl less) = before j d less at_j
-        by (inr more) =
-            let same : j ≡ k = omega (arith, lt, more) in
-            let at_d : slice_get samples k ≡ Some d = subst (λ v. slice_get samples v ≡ Some d) same at_j in
-            let one : c ≡ d = cc (at_k, at_d) in
-            subst (λ v. LeadsOn flat last s v) one here
-
-    pub wrong_kept : (wrong new : Option ℕ) (live : Bool) → IsAstrayTo flat last samples k s wrong
-        → IsLedBy flat last s c live → IsWrongKept wrong c live new → IsAstrayTo flat last samples (k + 1) s new
-    wrong_kept (Some d) new live was led is =
-        subst (λ v. IsAstrayTo flat last samples (k + 1) s v) (sym is) was
-    wrong_kept None new true was led is =
-        subst (λ v. IsAstrayTo flat last samples (k + 1) s v) (sym is) (all_lead was led)
-    wrong_kept None new false was led is =
-        subst (λ v. IsAstrayTo flat last samples (k + 1) s v) (sym is) (k, at_k, led, was)
-
-  pub one_expanded : (old mid new : FoundStates) (at k c : ℕ) (wrong more : Option ℕ) (live : Bool)
-      → slice_get samples k ≡ Some c → IsExpandedTo samples k old mid at wrong → IsLedFrom mid new at c live
-      → IsWrongKept wrong c live more → IsExpandedTo samples (k + 1) old new at more
-  one_expanded old mid new at k c wrong more live at_k e l kept = record {
-    more = more_trans old.states mid.states new.states e.more l.more;
-    still = λ i p is. l.still i p (e.still i p is);
-    index = l.index ∙ e.index;
-    search = λ has in_order s. l.search has samples k (e.search has in_order s) in_order at_k;
-    wrong_is = λ s f. wrong_kept (grammar_of old.states) (last_in old.states) s k c at_k wrong more live
-        (e.wrong_is s f)
-        (subst (λ v. IsLedBy (flat_of v) (last_of v) s c live) e.more.same
-        (l.leads s (found_still old mid e.more e.still at s f)))
-        kept;
-  }
-
--- of all symbols, by the samples
-module _ (flat : Flat) (last : Dot → Bool) (has : ℕ → Bool) (samples : List ℕ) (each : AreSamples flat flat has samples)
-    (in_order : AreInLineOrder has samples) (s : StateSet) where
-  leads_alike : (c : ℕ) → (h : HasSample flat flat samples c) → LeadsOn flat last s h.sample → LeadsOn flat last s c
-  leads_alike c h l = record {
-    to = l.to;
-    next = next_alike flat last h.old_alike (Contains s.stacks) (Contains l.to.stacks) l.to.ended l.next;
-    live = l.live;
-  }
-
-  pub first_astray : (k : ℕ) → length samples ≤ k → (wrong : Option ℕ) → IsAstrayTo flat last samples k s wrong
-      → IsFirstAstray flat last has s wrong
-  first_astray k le None all = λ c symbol.
-      let h = each c symbol in
-      leads_alike c h (all h.is.0 h.sample (let lt = h.is.1 in omega (arith, lt, le)) (got_at samples h.sample h.is))
-  first_astray k le (Some c) w = (
-    in_order.symbols c (contained w.0 c w.1),
-    w.2,
-    λ d symbol lt.
-        let h = each d symbol in
-        leads_alike d h (w.3 h.is.0 h.sample (before h.is.0 h.sample (got_at samples h.sample h.is)
-        (let le = h.order in omega (arith, lt, le)) (cases_lt h.is.0 w.0)) (got_at samples h.sample h.is)),
-  )
+  led_more : (flat : Flat) (last : Dot → Bool) (s : StateSet) (k c : ℕ) (live : List Bool) (b : Bool)
+      → slice_get samples k ≡ Some c → length live ≡ k → AreLedBy flat last samples k s live → IsLedBy flat last s c b
+      → AreLedBy flat last samples (k + 1) s (live ++ b ∷ [])
+  led_more flat last s k c live b at_k count before here j d a lt at_j is = by (push_cases live b j a is)
     where
-      contained : (i b : ℕ) → slice_get samples i ≡ Some b → Contains samples b
-      contained i b is = contained_at samples i b is
+      by : (slice_get live j ≡ Some a) ⊎ ((j ≡ length live) × (b ≡ a)) → IsLedBy flat last s d a
+      by (inl old) =
+          let within = slice_get_within live j a old in
+          before j d a (omega (arith, within, count)) at_j old
+      by (inr end) =
+          let same : j ≡ k = end.0 ∙ count in
+          let at_d : slice_get samples k ≡ Some d = subst (λ v. slice_get samples v ≡ Some d) same at_j in
+          let one : c ≡ d = cc (at_k, at_d) in
+          subst (λ v. IsLedBy flat last s v a) one (subst (λ v. IsLedBy flat last s c v) end.1 here)
 
-      before : (j b : ℕ) → slice_get samples j ≡ Some b → sort_key b < sort_key c → (j < w.0) ⊎ (w.0 ≤ j) → j < w.0
-      before j b at_j less (inl lt) = lt
-      before j b at_j less (inr more) = absurd (by (cases_lt w.0 j))
-        where
-          by : (w.0 < j) ⊎ (j ≤ w.0) → ⊥
-          by (inl lt) = let up = in_order.order w.0 j c b lt w.1 at_j in omega (arith, up, less)
-          by (inr le) =
-              let same : j ≡ w.0 = omega (arith, le, more) in
-              let at_b : slice_get samples w.0 ≡ Some b = subst (λ v. slice_get samples v ≡ Some b) same at_j in
-              let one : c ≡ b = cc (w.1, at_b) in
-              let key = ap sort_key one in
-              omega (arith, key, less)
+  pub one_expanded : (old mid new : FoundStates) (at k c : ℕ) (live more : List Bool) (b : Bool)
+      → slice_get samples k ≡ Some c → IsExpandedTo samples k old mid at live → IsLedFrom mid new at c b
+      → more ≡ live ++ b ∷ [] → IsExpandedTo samples (k + 1) old new at more
+  one_expanded old mid new at k c live more b at_k e l pushed =
+      subst (λ v. IsExpandedTo samples (k + 1) old new at v) (sym pushed) (record {
+        count = (let n = length-append live (b ∷ []) in let m = e.count in omega (arith, n, m));
+        more = more_trans old.states mid.states new.states e.more l.more;
+        still = λ i p is. l.still i p (e.still i p is);
+        index = l.index ∙ e.index;
+        search = λ has in_order s. l.search has samples k (e.search has in_order s) in_order at_k;
+        led = λ s f. led_more (grammar_of old.states) (last_in old.states) s k c live b at_k e.count (e.led s f)
+            (subst (λ v. IsLedBy (flat_of v) (last_of v) s c b) e.more.same
+            (l.leads s (found_still old mid e.more e.still at s f)));
+      })
 
 -- the start state as the first
 pub states_begun : (sets : StateSets) (t : ℕ) → IsStartState sets t → (has : ℕ → Bool) (samples : List ℕ)

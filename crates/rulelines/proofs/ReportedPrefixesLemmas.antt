@@ -9,7 +9,7 @@ use Rattle.std.proofs.lemmas.List.Elements.{Contains-push_cases}
 use Rattle.std.proofs.lemmas.List.Quantifiers.{all_pairs_push}
 use Rattle.std.proofs.lemmas.Option.{slice_get_within}
 use Rattle.std.specs.List.{All}
-use Rattle.std.specs.Prelude.{Bool, true, false, not, Option, Some, slice_get, Contains}
+use Rattle.std.specs.Prelude.{Bool, true, false, not, Some, slice_get, Contains}
 use Rattle.abnfread.specs.Element.{Rule}
 use Rattle.abnfcheck.specs.Derivable.{AreLetters, RuleDerives}
 use Rattle.flatgrammar.specs.Flat.{Flat, Dot}
@@ -24,13 +24,13 @@ use Rattle.rulelines.specs.declared.miss.prefixes.NextPrefix.TheVariants.{Prefix
 use Rattle.rulelines.specs.declared.miss.prefixes.StatePrefix.{StatePrefix}
 use Rattle.rulelines.specs.Alone.{AreOfGrammar}
 use Rattle.rulelines.specs.FirstLines.{ComesFirst, IsShortlexBefore}
-use Rattle.rulelines.specs.LineSets.{LineSet}
 use Rattle.rulelines.specs.FoundPairs.{AreFound, FoundPair, IsOldDead, IsWordOf, LeadsToFound, next, start}
-use Rattle.rulelines.specs.Misses.{AreAllPrefixes, HasPrefixFor, IsFirstWrong, IsStatePrefix, IsViableLine}
-use Rattle.rulelines.specs.MissSearch.{AreFoundStill, ArePrefixesOf, AreReportedIn, FoundStates, GivesPrefixesTo}
-use Rattle.rulelines.specs.MissSearch.{IsExpandedTo, IsFirstAstray, IsFoundAt, IsLive, IsNextLive, IsStatePassed}
-use Rattle.rulelines.specs.MissSearch.{IsPrefixStep, IsSearchBegun, IsSearchFor, IsStateSearch, IsStepIn, IsKeptWithin}
-use Rattle.rulelines.specs.MissSearch.{IsWordIn, SearchesStates, symbols_in}
+use Rattle.rulelines.specs.Misses.{AreAllPrefixes, AreReportedWrong, HasPrefixFor, IsStatePrefix, IsViableLine}
+use Rattle.rulelines.specs.MissSearch.{AreEndsOf, AreFoundStill, AreKeptWithin, AreLedBy, ArePrefixesOf, AreReportedIn}
+use Rattle.rulelines.specs.MissSearch.{FoundStates, GivesPrefixesTo, IsExpanded, IsFoundAt, IsLive, IsNextLive}
+use Rattle.rulelines.specs.MissSearch.{IsPrefixStep, IsSearchBegun, IsSearchFor, IsStatePassed, IsStateSearch}
+use Rattle.rulelines.specs.MissSearch.{IsStepIn, IsWordIn, PrefixSet, SearchesStates, symbols_in}
+use Rattle.rulelines.specs.WrongSymbols.{AreWrongTo}
 use Rattle.rulelines.specs.Samples.{AreInLineOrder}
 use Rattle.rulelines.specs.Search.{found_pair, found_pairs, state_at}
 use Rattle.rulelines.specs.StatePairs.{AreSamples, HasSample}
@@ -40,14 +40,15 @@ use Rattle.rulelines.proofs.ComesFirstLemmas.{prefix_first}
 use Rattle.rulelines.proofs.FoundPairsLemmas.{lead_order, one_word, word_closures, word_found, word_symbols}
 use Rattle.rulelines.proofs.FoundPairsLemmas.{words_ascend, words_in_order}
 use Rattle.rulelines.proofs.LineOrderLemmas.{inner_letters}
-use Rattle.rulelines.proofs.MissSearchLemmas.{first_astray, found_back, found_still, word_still}
+use Rattle.rulelines.proofs.MissSearchLemmas.{found_back, found_still, word_still}
 use Rattle.rulelines.proofs.OldAloneLemmas.{still_of}
 use Rattle.rulelines.proofs.SearchLemmas.{old_there, search_iteration, search_skip}
 use Rattle.rulelines.proofs.StateClosuresLemmas.{lead_next, LeadTo}
 use Rattle.rulelines.proofs.StatePairsLemmas.{element_at}
-use Rattle.rulelines.proofs.ViableLemmas.{derives_ended, ended_derives, follows_some, letters_left}
-use Rattle.rulelines.proofs.ViableLemmas.{letters_right, live_viable, same_rests, viable_prefix, viable_live, Viable}
-use Rattle.rulelines.proofs.ViableLemmas.{wrong_within}
+use Rattle.rulelines.proofs.ReportedWrongLemmas.{none_reported_wrong, wrong_reported}
+use Rattle.rulelines.proofs.ViableLemmas.{astray_wrong, derives_ended, ended_derives, follows_some, letters_left}
+use Rattle.rulelines.proofs.ViableLemmas.{letters_right, live_viable, on_can, same_rests, viable_prefix, viable_live}
+use Rattle.rulelines.proofs.ViableLemmas.{Viable}
 
 -- a list before one that comes no later than another
 before_first : (u v w : List ℕ) → IsShortlexBefore u v → ComesFirst v w → IsShortlexBefore u w
@@ -380,11 +381,38 @@ module _ (inner : LineSymbols) (limit : ℕ) (rules : List Rule) (id : ℕ) (fla
             let l = ap length same in
             absurd (omega (arith, some, l))
 
-    pub prefix_is : (0 < at → IsLive (state_of e)) → (p : StatePrefix) → p.prefix.items ≡ w
+    -- the samples that lead astray are reported, if there is room for one
+    module _ (in_order : AreInLineOrder Inner samples) (edges : Bool) (ends : AreEndsOf edges flat Inner samples)
+        (live : List Bool) (same : length live ≡ length samples)
+        (led : AreLedBy G L samples (length samples) (state_of e) live) (wrong : List ℕ)
+        (are : AreWrongTo samples live edges (length samples) wrong) where
+      ends_here : AreEndsOf edges G Inner samples
+      ends_here = subst (λ v. AreEndsOf edges v Inner samples) (sym grammar.is) ends
+
+      wrong_there : length w < limit → AreReportedWrong inner.alphabet inner.terminator limit rules id edges w wrong
+      wrong_there room = wrong_reported G L (state_of e) inner.alphabet inner.terminator limit rules id w
+          (on_can inner.alphabet inner.terminator limit rules id G L gives_here grammar.one grammar.uncounted
+          grammar.tail_positions w (state_of e) here_leads (letters_found here_word) within)
+          (λ c symbol a. astray_wrong inner.alphabet inner.terminator limit rules id G L gives_here grammar.one
+          grammar.uncounted grammar.tail_positions w (state_of e) here_leads (letters_found here_word) within c symbol
+          room a) samples each_here in_order edges ends_here live same led wrong are
+
+      pub wrong_within : (new : List ℕ) → AreKeptWithin limit (length w) wrong new
+          → AreReportedWrong inner.alphabet inner.terminator limit rules id edges w new
+      wrong_within new kept = by (cases_lt (length w) limit)
+        where
+          by : (length w < limit) ⊎ (limit ≤ length w)
+              → AreReportedWrong inner.alphabet inner.terminator limit rules id edges w new
+          by (inl room) = subst (λ v. AreReportedWrong inner.alphabet inner.terminator limit rules id edges w v)
+              (sym (kept.0 room)) (wrong_there room)
+          by (inr full) = none_reported_wrong inner.alphabet inner.terminator limit rules id edges w new full
+              (kept.1 full)
+
+    pub prefix_is : (0 < at → IsLive (state_of e)) → (edges : Bool) (p : StatePrefix) → p.prefix.items ≡ w
         → p.is_refused ≡ not e.pair.old_ended
-        → (wrong : Option ℕ) → IsFirstAstray G L Inner (state_of e) wrong → IsKeptWithin limit (length w) wrong p.wrong
-        → IsStatePrefix inner.alphabet inner.terminator limit rules id p
-    prefix_is live p is refused wrong astray kept = record {
+        → AreReportedWrong inner.alphabet inner.terminator limit rules id edges w p.wrong.items
+        → IsStatePrefix inner.alphabet inner.terminator limit rules id edges p
+    prefix_is live edges p is refused wrong = record {
       symbols = subst (λ v. AreLetters Inner v) (sym is) (letters_found here_word);
       within = subst (λ v. length v ≤ limit) (sym is) within;
       viable = subst (λ v. 0 < length v → Viable inner.alphabet rules id v) (sym is) (viable_here live);
@@ -399,9 +427,8 @@ module _ (inner : LineSymbols) (limit : ℕ) (rules : List Rule) (id : ℕ) (fla
           (ended_derives inner.alphabet inner.terminator limit rules id G L gives_here grammar.one grammar.uncounted
           grammar.tail_positions w (state_of e) here_leads (letters_of w (letters_found here_word)) within
           (true_of e.pair.old_ended (sym refused ∙ runs)));
-      wrong = subst (λ v. IsFirstWrong inner.alphabet inner.terminator limit rules id v p.wrong) (sym is)
-          (wrong_within inner.alphabet inner.terminator limit rules id G L gives_here grammar.one grammar.uncounted
-          grammar.tail_positions w (state_of e) here_leads (letters_found here_word) within wrong p.wrong astray kept);
+      wrong = subst (λ v. AreReportedWrong inner.alphabet inner.terminator limit rules id edges v p.wrong.items)
+          (sym is) wrong;
     }
       where
         true_of : (b : Bool) → not b ≡ false → b ≡ true
@@ -410,8 +437,8 @@ module _ (inner : LineSymbols) (limit : ℕ) (rules : List Rule) (id : ℕ) (fla
 
 -- one more prefix is reported
 module _ (inner : LineSymbols) (flat : Flat) (samples : List ℕ) (old mid new : FoundStates)
-    (for : IsSearchFor flat inner samples old) (at : ℕ) (ahead : IsNextLive old (Some at)) (wrong : Option ℕ) (k : ℕ)
-    (full : length samples ≤ k) (e : IsExpandedTo samples k old mid at wrong) (states : new.states ≡ mid.states)
+    (for : IsSearchFor flat inner samples old) (at : ℕ) (ahead : IsNextLive old (Some at)) (live : List Bool)
+    (e : IsExpanded samples old mid at live) (states : new.states ≡ mid.states)
     (pairs : new.pairs ≡ mid.pairs) (index : new.at ≡ at + 1) where
   states_grown : AreMoreStates old.states new.states
   states_grown = subst (λ v. AreMoreStates old.states v) (sym states) e.more
@@ -430,7 +457,8 @@ module _ (inner : LineSymbols) (flat : Flat) (samples : List ℕ) (old mid new :
   at_mid =
       let s = e.search (line_symbols inner) for.order at_old in
       record {
-        found = search_iteration (line_symbols inner) samples mid.states mid.states mid.pairs at 0 k full s.found;
+        found = search_iteration (line_symbols inner) samples mid.states mid.states mid.pairs at 0 (length samples)
+            (omega arith) s.found;
         own = s.own;
       }
 
@@ -462,24 +490,23 @@ module _ (inner : LineSymbols) (flat : Flat) (samples : List ℕ) (old mid new :
   )
 
   module _ (limit : ℕ) (rules : List Rule) (id : ℕ) (gives : GivesPrefixesTo inner.alphabet limit rules id flat)
-      (w : List ℕ) (word : IsWordIn old.pairs at w) (within : length w ≤ limit) (p : StatePrefix)
+      (w : List ℕ) (word : IsWordIn old.pairs at w) (within : length w ≤ limit) (edges : Bool)
+      (ends : AreEndsOf edges flat (line_symbols inner) samples) (p : StatePrefix)
       (is : p.prefix.items ≡ w)
       (refused : (s : StateSet) → IsFoundAt new at s → p.is_refused ≡ not s.ended)
-      (kept : IsKeptWithin limit (length w) wrong p.wrong) where
-    prefix_right : IsStatePrefix inner.alphabet inner.terminator limit rules id p
+      (wrong : List ℕ) (are : AreWrongTo samples live edges (length samples) wrong)
+      (kept : AreKeptWithin limit (length w) wrong p.wrong.items) where
+    prefix_right : IsStatePrefix inner.alphabet inner.terminator limit rules id edges p
     prefix_right =
         let f = entry_here in
         let there = found_state inner limit rules id flat gives samples for.each old for.grammar at at_old at f.0 f.1 in
         prefix_is inner limit rules id flat gives samples for.each old for.grammar at at_old at w word f.0 f.1 within
-        (λ lt. ahead.2 lt (state_of f.0) there) p is
-        (refused (state_of f.0) (found_still old new states_grown pairs_still at (state_of f.0) there)) wrong
-        (first_astray (grammar_of old.states) (last_in old.states) (line_symbols inner) samples
-        (subst (λ v. AreSamples v v (line_symbols inner) samples) (sym for.grammar.is) for.each) for.order
-        (state_of f.0)
-        k full wrong (e.wrong_is (state_of f.0) there))
-        kept
+        (λ lt. ahead.2 lt (state_of f.0) there) edges p is
+        (refused (state_of f.0) (found_still old new states_grown pairs_still at (state_of f.0) there))
+        (wrong_within inner limit rules id flat gives samples for.each old for.grammar at at_old at w word f.0 f.1
+        within for.order edges ends live e.count (e.led (state_of f.0) there) wrong are p.wrong.items kept)
 
-    module _ (ps : List StatePrefix) (reported : AreReportedIn inner limit rules id old ps) where
+    module _ (ps : List StatePrefix) (reported : AreReportedIn inner limit rules id edges old ps) where
       abbrev More : List StatePrefix
       More = ps ++ p ∷ []
 
@@ -540,10 +567,10 @@ module _ (inner : LineSymbols) (flat : Flat) (samples : List ℕ) (old mid new :
           (last_in old.states) (found_pairs old.states old.states old.pairs) at_old.found.found
           (f.2 old.states old.states) (word old.states old.states) (omega (arith, less, le)))
 
-      pub one_more_reported : AreReportedIn inner limit rules id new More
+      pub one_more_reported : AreReportedIn inner limit rules id edges new More
       one_more_reported = record {
         first = record {
-          are = All-push (IsStatePrefix inner.alphabet inner.terminator limit rules id) ps p
+          are = All-push (IsStatePrefix inner.alphabet inner.terminator limit rules id edges) ps p
               reported.first.are prefix_right;
           rise = all_pairs_push (λ a b. IsShortlexBefore a.prefix.items b.prefix.items) ps p
               reported.first.rise prefixes_rise;
@@ -555,9 +582,9 @@ module _ (inner : LineSymbols) (flat : Flat) (samples : List ℕ) (old mid new :
       }
 
 -- no prefix is reported yet
-pub none_reported : (inner : LineSymbols) (limit : ℕ) (rules : List Rule) (id : ℕ) (search : FoundStates)
-    → search.at ≡ 0 → AreReportedIn inner limit rules id search []
-none_reported inner limit rules id search first = record {
+pub none_reported : (inner : LineSymbols) (limit : ℕ) (rules : List Rule) (id : ℕ) (edges : Bool)
+    (search : FoundStates) → search.at ≡ 0 → AreReportedIn inner limit rules id edges search []
+none_reported inner limit rules id edges search first = record {
   first = record {
     are = λ k d lt. absurd (omega (arith, lt));
     rise = λ i j d lt less. absurd (omega (arith, less));
@@ -579,35 +606,37 @@ begun_for flat inner samples search begun each in_order = record {
   order = in_order;
 }
 
-pub prefixes_begun : (alphabet : Alphabet) (terminator limit : ℕ) (rules : List Rule) (id : ℕ) (flat : Flat)
-    (search : FoundStates) → GivesPrefixesTo alphabet limit rules id flat → search.at ≡ 0
-    → ArePrefixesOf alphabet terminator limit rules id (record {
-      set = record { flat = flat; alphabet = alphabet; terminator = terminator; limit = limit };
+pub prefixes_begun : (alphabet : Alphabet) (terminator limit : ℕ) (edges : Bool) (rules : List Rule) (id : ℕ)
+    (flat : Flat) (search : FoundStates) → GivesPrefixesTo alphabet limit rules id flat → search.at ≡ 0
+    → ArePrefixesOf alphabet terminator limit edges rules id (record {
+      set = record { flat = flat; alphabet = alphabet; terminator = terminator; limit = limit; edges = edges };
       search = Some search;
     })
-prefixes_begun alphabet terminator limit rules id flat search gives first = record {
+prefixes_begun alphabet terminator limit edges rules id flat search gives first = record {
   alphabet_is = refl;
   terminator_is = refl;
   limit_is = refl;
+  edges_is = refl;
   gives = gives;
   none = record {
     search = search;
     is = refl;
-    reported = none_reported (record { alphabet = alphabet; terminator = terminator }) limit rules id search first;
+    reported = none_reported (record { alphabet = alphabet; terminator = terminator }) limit rules id edges search
+        first;
   };
 }
 
 -- a step of a search is one of the list
-pub search_step : (rules : List Rule) (id : ℕ) (set : LineSet) (old new : FoundStates) (step : NextPrefix)
-    → IsStepIn (symbols_in set) set.limit rules id old new step
+pub search_step : (rules : List Rule) (id : ℕ) (set : PrefixSet) (old new : FoundStates) (step : NextPrefix)
+    → IsStepIn (symbols_in set) set.limit rules id set.edges old new step
     → IsPrefixStep rules id (record { set = set; search = Some old }) (record { set = set; search = Some new }) step
 search_step rules id set old new (Prefix p) is = λ ps t.
     let one : t.search ≡ old = cc t.is in
     record {
       search = new;
       is = refl;
-      reported = is ps (subst (λ v. AreReportedIn (symbols_in set) set.limit rules id v ps) one t.reported);
+      reported = is ps (subst (λ v. AreReportedIn (symbols_in set) set.limit rules id set.edges v ps) one t.reported);
     }
 search_step rules id set old new Done is = λ ps t.
     let one : t.search ≡ old = cc t.is in
-    is ps (subst (λ v. AreReportedIn (symbols_in set) set.limit rules id v ps) one t.reported)
+    is ps (subst (λ v. AreReportedIn (symbols_in set) set.limit rules id set.edges v ps) one t.reported)

@@ -1,5 +1,5 @@
 -- Starts of classes of symbols.
--- Serves: find_starts, start_up_to.
+-- Serves: find_starts, start_up_to
 use Rattle.std.proofs.Common.{◌≡◌, ◌⊎◌, inl, inr, ℕ, zero, suc, ◌+◌, ◌-◌, ◌<◌, ◌≤◌, ◌^◌, Bool, true, false, List, []}
 use Rattle.std.proofs.Common.{◌∷◌, ◌++◌}
 use Rattle.std.proofs.Common.{length, refl, sym, ◌∙◌, ap, subst, arith, eqb, leb, leb-true, leb-false, get_or}
@@ -25,7 +25,8 @@ use Rattle.letterclasses.proofs.AreClassesLemmas.{joined_alike, more_nodes_split
 use Rattle.lazydfa.proofs.StateSetsLemmas.{got_at}
 use Rattle.rulelines.specs.FirstLines.{sort_key}
 use Rattle.rulelines.specs.LineSets.{is_line_symbol}
-use Rattle.rulelines.specs.Starts.{AreLineBounds, AreClassStarts, edges, HaveKeys, IsJoinedOn, IsLastUpTo}
+use Rattle.rulelines.specs.Starts.{AreLineBounds, AreClassStarts, edges, HaveBothEnds, HaveBothKeys, HaveEnds}
+use Rattle.rulelines.specs.Starts.{HaveKeys, IsJoinedOn, IsLastUpTo}
 use Rattle.rulelines.proofs.SamplesLemmas.{contains_or}
 
 pub bounds_made : (flat : Flat) (terminator : ℕ) (samples bounds : List ℕ) → AreNodesSplit samples flat.nodes
@@ -79,6 +80,75 @@ module _ (flat : Flat) (alphabet : Alphabet) (terminator : ℕ) (bounds : List �
           → Contains starts (sort_key c) ⊎ IsJoinedOn flat (is_line_symbol alphabet terminator) c
       by (inl h) = inl (keys c h is)
       by (inr none) = inr (joined_on c none is)
+
+-- with the numbers before bounds
+module _ (flat : Flat) (alphabet : Alphabet) (terminator : ℕ) (bounds all : List ℕ)
+    (are : AreLineBounds flat terminator bounds) (ends : HaveEnds bounds all) where
+  pub bounds_kept : AreLineBounds flat terminator all
+  bounds_kept = record {
+    split = more_nodes_split bounds all flat.nodes (λ i free. record { none = λ h. free.none (ends.kept i h) })
+        are.split;
+    edges_are = λ c h. ends.kept c (are.edges_are c h);
+  }
+
+  pub both_ends : HaveBothEnds flat (is_line_symbol alphabet terminator) all
+  both_ends c first next = by (contains_or bounds (c + 1))
+    where
+      by : Contains bounds (c + 1) ⊎ (Contains bounds (c + 1) → ⊥)
+          → AreAlike flat (c + 1) c ⊎ (Contains all c × Contains all (c + 1))
+      by (inl h) = inr (ends.before c h, ends.kept (c + 1) h)
+      by (inr none) = inl (joined_alike flat bounds are.split (c + 1) c
+          (let small = inner_small alphabet terminator (c + 1) next in omega (arith, small)) (
+            omega arith,
+            λ i lo hi. subst (λ v. IsFree bounds v) (omega (arith, lo, hi)) (record { none = none }),
+          ))
+
+pub both_keys : (flat : Flat) (has : ℕ → Bool) (bounds keys : List ℕ) → HaveBothEnds flat has bounds
+    → HaveKeys has bounds keys → HaveBothKeys flat has keys
+both_keys flat has bounds keys ends are c first next = by (ends c first next)
+  where
+    by : AreAlike flat (c + 1) c ⊎ (Contains bounds c × Contains bounds (c + 1))
+        → AreAlike flat (c + 1) c ⊎ (Contains keys (sort_key c) × Contains keys (sort_key (c + 1)))
+    by (inl alike) = inl alike
+    by (inr h) = inr (are c h.0 first, are (c + 1) h.1 next)
+
+-- the first n bounds, and the number before each
+abbrev pub HaveEndsTo : List ℕ → ℕ → List ℕ → Type 0
+HaveEndsTo bounds n all = (i b : ℕ) → i < n → slice_get bounds i ≡ Some b
+    → Contains all b × ((c : ℕ) → b ≡ c + 1 → Contains all c)
+
+pub ends_pushed : (bounds : List ℕ) (n b : ℕ) (old mid new : List ℕ) → slice_get bounds n ≡ Some b
+    → HaveEndsTo bounds n old → mid ≡ old ++ b ∷ [] → new ≡ mid ++ (b - 1) ∷ [] → HaveEndsTo bounds (n + 1) new
+ends_pushed bounds n b old mid new at_n before first then i a lt is = by (cases_lt i n)
+  where
+    kept : (c : ℕ) → Contains mid c → Contains new c
+    kept c h = subst (λ v. Contains v c) (sym then) (Contains-append_left mid ((b - 1) ∷ []) c h)
+
+    was : (c : ℕ) → Contains old c → Contains new c
+    was c h = kept c (subst (λ v. Contains v c) (sym first) (Contains-append_left old (b ∷ []) c h))
+
+    last : Contains new (b - 1)
+    last = subst (λ v. Contains v (b - 1)) (sym then) (Contains-push mid (b - 1))
+
+    here : Contains new b
+    here = kept b (subst (λ v. Contains v b) (sym first) (Contains-push old b))
+
+    by : (i < n) ⊎ (n ≤ i) → Contains new a × ((c : ℕ) → a ≡ c + 1 → Contains new c)
+    by (inl less) = let g = before i a less is in (was a g.0, λ c next. was c (g.1 c next))
+    by (inr more) =
+        let at : i ≡ n = omega (arith, lt, more) in
+        let both : Some a ≡ Some b = sym is ∙ (ap (λ v. slice_get bounds v) at ∙ at_n) in
+        let same : a ≡ b = cc both in (
+          subst (λ v. Contains new v) (sym same) here,
+          λ c next. subst (λ v. Contains new v) (omega (arith, next, same)) last,
+        )
+
+pub ends_of_all : (bounds : List ℕ) (n : ℕ) (all : List ℕ) → length bounds ≤ n → HaveEndsTo bounds n all
+    → HaveEnds bounds all
+ends_of_all bounds n all le before = record {
+  kept = λ b h. (before h.0 b (let lt = h.1 in omega (arith, lt, le)) (got_at bounds b h)).0;
+  before = λ b h. (before h.0 (b + 1) (let lt = h.1 in omega (arith, lt, le)) (got_at bounds (b + 1) h)).1 b refl;
+}
 
 pub sorted_keys : (has : ℕ → Bool) (bounds old mid new : List ℕ) → HaveKeys has bounds old → IsPermutation old mid
     → IsFiltered (DiffersFromLast eqb) [] mid new → HaveKeys has bounds new

@@ -2,8 +2,7 @@
 -- Serves: next_prefix
 use Rattle.std.proofs.Common.{◌≡◌, ◌⊎◌, inl, inr, ℕ, ◌+◌, ◌<◌, ◌≤◌, List, [], ◌∷◌, ◌++◌, length, refl}
 use Rattle.std.proofs.Common.{sym, ◌∙◌, ap, subst, arith, append_assoc, append-nil, take, length-append}
-use Rattle.std.proofs.lemmas.Bool.{cases_lt}
-use Rattle.std.specs.Prelude.{Bool, true, Option, None, Some}
+use Rattle.std.specs.Prelude.{Bool, true}
 use Rattle.abnfread.specs.Element.{Rule}
 use Rattle.abnfcheck.specs.Derivable.{AreLetters, RuleDerives}
 use Rattle.abnfcheck.specs.Prefixes.{BeginsMember}
@@ -14,10 +13,9 @@ use Rattle.letterclasses.specs.Stacks.{AreUncounted, MarksLast, Reach}
 use Rattle.letterclasses.proofs.StacksLemmas.{item_reached, reached_item}
 use Rattle.lazydfa.specs.RunVerdicts.{IsOne}
 use Rattle.lazydfa.specs.StateSets.{StateSet}
-use Rattle.rulelines.specs.FirstLines.{sort_key}
 use Rattle.rulelines.specs.LineSets.{is_line_symbol}
-use Rattle.rulelines.specs.Misses.{CannotFollow, HaveSameRests, IsFirstWrong}
-use Rattle.rulelines.specs.MissSearch.{GivesPrefixesTo, IsFirstAstray, IsLive, IsKeptWithin, LeadsAstray, LeadsOn}
+use Rattle.rulelines.specs.Misses.{CanFollow, CannotFollow, HaveSameRests}
+use Rattle.rulelines.specs.MissSearch.{GivesPrefixesTo, IsLive, LeadsAstray, LeadsOn}
 use Rattle.rulelines.specs.StatePairs.{AcceptsRule}
 use Rattle.rulelines.proofs.LineOrderLemmas.{inner_letters}
 use Rattle.rulelines.proofs.StateClosuresLemmas.{accepts_ended, accepts_takes, ended_accepts, lead_next, LeadTo}
@@ -170,11 +168,14 @@ module _ (alphabet : Alphabet) (terminator limit : ℕ) (rules : List Rule) (id 
     abbrev Wrong : ℕ → Type 0
     Wrong c = CannotFollow alphabet terminator limit rules id u c
 
-    on_wrong : (c : ℕ) → LeadsOn flat last s c → Wrong c → ⊥
-    on_wrong c l w = w.not_viable (live_viable u s leads letters_are within c (inner_symbol c w.symbol)
-        l.to l.next l.live)
+    pub on_can : (c : ℕ) → is_line_symbol alphabet terminator c ≡ true → LeadsOn flat last s c
+        → CanFollow alphabet terminator limit rules id u c
+    on_can c symbol l = record {
+      symbol = symbol;
+      viable = live_viable u s leads letters_are within c (inner_symbol c symbol) l.to l.next l.live;
+    }
 
-    astray_wrong : (c : ℕ) → is_line_symbol alphabet terminator c ≡ true → length u < limit
+    pub astray_wrong : (c : ℕ) → is_line_symbol alphabet terminator c ≡ true → length u < limit
         → LeadsAstray flat last s c → Wrong c
     astray_wrong c symbol room a = record {
       symbol = symbol;
@@ -184,30 +185,6 @@ module _ (alphabet : Alphabet) (terminator limit : ℕ) (rules : List Rule) (id 
           (letters_join Has u (c ∷ []) letters_are (inner_symbol c symbol, tt))
           (let e = length_pushed u c in omega (arith, e, room)) viable);
     }
-
-    first_wrong : length u < limit → (wrong : Option ℕ)
-        → IsFirstAstray flat last (is_line_symbol alphabet terminator) s wrong
-        → IsFirstWrong alphabet terminator limit rules id u wrong
-    first_wrong room None all = λ c w. on_wrong c (all c w.symbol) w
-    first_wrong room (Some c) a = (
-      astray_wrong c a.0 room a.1,
-      λ d w. least d w (cases_lt (sort_key d) (sort_key c)),
-    )
-      where
-        least : (d : ℕ) → Wrong d → (sort_key d < sort_key c) ⊎ (sort_key c ≤ sort_key d) → sort_key c ≤ sort_key d
-        least d w (inl less) = absurd (on_wrong d (a.2 d w.symbol less) w)
-        least d w (inr le) = le
-
-    -- .. if there is room for it
-    pub wrong_within : (wrong new : Option ℕ) → IsFirstAstray flat last (is_line_symbol alphabet terminator) s wrong
-        → IsKeptWithin limit (length u) wrong new → IsFirstWrong alphabet terminator limit rules id u new
-    wrong_within wrong new a is = by (cases_lt (length u) limit)
-      where
-        by : (length u < limit) ⊎ (limit ≤ length u) → IsFirstWrong alphabet terminator limit rules id u new
-        by (inl room) = subst (λ v. IsFirstWrong alphabet terminator limit rules id u v) (sym (is.0 room))
-            (first_wrong room wrong a)
-        by (inr full) = subst (λ v. IsFirstWrong alphabet terminator limit rules id u v) (sym (is.1 full))
-            (λ c w. let room = w.room in omega (arith, room, full))
 
   -- two prefixes that lead to one state
   pub same_rests : (u v : List ℕ) (s : StateSet) → LeadTo flat last u s → LeadTo flat last v s → AreLetters Has u

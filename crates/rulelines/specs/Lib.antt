@@ -10,6 +10,7 @@ pub mod LineSets
 pub mod Rests
 pub mod Starts
 pub mod StateTables
+pub mod WrongSymbols
 pub mod Misses
 pub mod MissSearch
 pub mod MissLists

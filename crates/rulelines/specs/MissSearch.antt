@@ -15,14 +15,13 @@ use Rattle.rulelines.specs.declared.miss.prefixes.StatePrefix.{StatePrefix}
 use Rattle.rulelines.specs.declared.miss.search.StateSearch.{StateSearch}
 use Rattle.rulelines.specs.declared.pairs.SearchedPair.{SearchedPair}
 use Rattle.rulelines.specs.Alone.{AreOfGrammar}
-use Rattle.rulelines.specs.FirstLines.{sort_key}
 use Rattle.rulelines.specs.FoundPairs.{IsWordOf}
-use Rattle.rulelines.specs.LineSets.{LineSet}
 use Rattle.rulelines.specs.Misses.{AreAllPrefixes, AreFirstPrefixes}
 use Rattle.rulelines.specs.Samples.{AreInLineOrder}
 use Rattle.rulelines.specs.Search.{found_pairs, IsPairSearch}
 use Rattle.rulelines.specs.StatePairs.{AreSamples}
 use Rattle.rulelines.specs.StateTables.{line_symbols}
+use Rattle.rulelines.specs.Starts.{HaveBothEnds}
 
 -- the states of a search, those that it found, in order, and the index of the next one
 pub record FoundStates : Type 0 where
@@ -55,17 +54,10 @@ module _ (flat : Flat) (last : Dot → Bool) where
   IsLedBy s c true = LeadsOn s c
   IsLedBy s c false = LeadsAstray s c
 
-  -- the first of the first k samples that leads astray, if there is one
-  abbrev pub IsAstrayTo : List ℕ → ℕ → StateSet → Option ℕ → Type 0
-  IsAstrayTo samples k s None = (j d : ℕ) → j < k → slice_get samples j ≡ Some d → LeadsOn s d
-  IsAstrayTo samples k s (Some c) = (i : ℕ) × (slice_get samples i ≡ Some c) × LeadsAstray s c
-      × ((j d : ℕ) → j < i → slice_get samples j ≡ Some d → LeadsOn s d)
-
-  -- the first symbol that leads astray, if there is one
-  abbrev pub IsFirstAstray : (ℕ → Bool) → StateSet → Option ℕ → Type 0
-  IsFirstAstray has s None = (c : ℕ) → has c ≡ true → LeadsOn s c
-  IsFirstAstray has s (Some c) = (has c ≡ true) × LeadsAstray s c
-      × ((d : ℕ) → has d ≡ true → sort_key d < sort_key c → LeadsOn s d)
+  -- whether each of the first k samples leads on
+  abbrev pub AreLedBy : List ℕ → ℕ → StateSet → List Bool → Type 0
+  AreLedBy samples k s live = (j c : ℕ) (b : Bool) → j < k → slice_get samples j ≡ Some c → slice_get live j ≡ Some b
+      → IsLedBy s c b
 
 -- All samples lead on from the first n states that were found, and the first k samples from the next one. Each state
 -- stands as a pair with itself.
@@ -96,24 +88,19 @@ pub record IsLedFrom (old new : FoundStates) (at c : ℕ) (live : Bool) : Type 0
   pub leads : (s : StateSet) → IsFoundAt old at s → IsLedBy (grammar_of old.states) (last_in old.states) s c live
 
 -- the first k samples lead on from the state at an index, or astray
-pub record IsExpandedTo (samples : List ℕ) (k : ℕ) (old new : FoundStates) (at : ℕ) (wrong : Option ℕ) : Type 0 where
+pub record IsExpandedTo (samples : List ℕ) (k : ℕ) (old new : FoundStates) (at : ℕ) (live : List Bool) : Type 0 where
+  pub count : length live ≡ k
   pub more : AreMoreStates old.states new.states
   pub still : AreFoundStill old.pairs new.pairs
   pub index : new.at ≡ old.at
   pub search : (has : ℕ → Bool) → AreInLineOrder has samples → SearchesStates has samples old at 0
       → SearchesStates has samples new at k
-  pub wrong_is : (s : StateSet) → IsFoundAt old at s
-      → IsAstrayTo (grammar_of old.states) (last_in old.states) samples k s wrong
+  pub led : (s : StateSet) → IsFoundAt old at s
+      → AreLedBy (grammar_of old.states) (last_in old.states) samples k s live
 
 -- all of them
-abbrev pub IsExpanded : List ℕ → FoundStates → FoundStates → ℕ → Option ℕ → Type 0
-IsExpanded samples old new at wrong = (k : ℕ) × (length samples ≤ k) × IsExpandedTo samples k old new at wrong
-
--- a symbol that leads astray was kept, unless there was one
-abbrev pub IsWrongKept : Option ℕ → ℕ → Bool → Option ℕ → Type 0
-IsWrongKept (Some c) symbol live new = new ≡ Some c
-IsWrongKept None symbol true new = new ≡ None
-IsWrongKept None symbol false new = new ≡ Some symbol
+abbrev pub IsExpanded : List ℕ → FoundStates → FoundStates → ℕ → List Bool → Type 0
+IsExpanded samples old new at live = IsExpandedTo samples (length samples) old new at live
 
 -- no line leads to the state at an index, and it is not the first
 abbrev pub IsStatePassed : FoundStates → ℕ → Type 0
@@ -126,9 +113,9 @@ IsNextLive search (Some at) = (search.at ≤ at) × (at < length search.pairs)
     × (0 < at → (s : StateSet) → IsFoundAt search at s → IsLive s)
     × ((i : ℕ) → search.at ≤ i → i < at → IsStatePassed search i)
 
--- the symbol, if there is room for one after so many
-abbrev pub IsKeptWithin : ℕ → ℕ → Option ℕ → Option ℕ → Type 0
-IsKeptWithin limit count symbol new = (count < limit → new ≡ symbol) × (limit ≤ count → new ≡ None)
+-- the symbols, if there is room for one after so many
+abbrev pub AreKeptWithin : ℕ → ℕ → List ℕ → List ℕ → Type 0
+AreKeptWithin limit count symbols new = (count < limit → new ≡ symbols) × (limit ≤ count → new ≡ [])
 
 -- these symbols lead to what was found at an index
 abbrev pub IsWordIn : List SearchedPair → ℕ → List ℕ → Type 0
@@ -140,6 +127,10 @@ pub record IsSearchBegun (flat : Flat) (search : FoundStates) : Type 0 where
   pub at_first : search.at ≡ 0
   pub starts : (has : ℕ → Bool) (samples : List ℕ) → SearchesStates has samples search 0 0
 
+-- with edges, two symbols whose numbers follow are samples, or no set tells them apart
+abbrev pub AreEndsOf : Bool → Flat → (ℕ → Bool) → List ℕ → Type 0
+AreEndsOf edges flat has samples = edges ≡ true → HaveBothEnds flat has samples
+
 -- a search of the states of a flat grammar, by samples of all its classes
 pub record IsSearchFor (flat : Flat) (inner : LineSymbols) (samples : List ℕ) (search : FoundStates) : Type 0 where
   pub grammar : AreOfGrammar flat search.states
@@ -147,20 +138,21 @@ pub record IsSearchFor (flat : Flat) (inner : LineSymbols) (samples : List ℕ) 
   pub each : AreSamples flat flat (line_symbols inner) samples
   pub order : AreInLineOrder (line_symbols inner) samples
 
-module _ (inner : LineSymbols) (limit : ℕ) (rules : List Rule) (id : ℕ) (search : FoundStates) where
+module _ (inner : LineSymbols) (limit : ℕ) (rules : List Rule) (id : ℕ) (edges : Bool) (search : FoundStates) where
   -- the prefixes are those of the live states below the search's index
   pub record AreReportedIn (ps : List StatePrefix) : Type 0 where
-    pub first : AreFirstPrefixes inner.alphabet inner.terminator limit rules id ps
+    pub first : AreFirstPrefixes inner.alphabet inner.terminator limit rules id edges ps
     pub each : (i : ℕ) → i < search.at → IsStatePassed search i ⊎ ((q : StatePrefix) × Contains ps q
         × IsWordIn search.pairs i q.prefix.items)
     pub from : (q : StatePrefix) → Contains ps q → (i : ℕ) × (i < search.at)
         × IsWordIn search.pairs i q.prefix.items
 
 -- one more prefix is reported, or all are
-abbrev pub IsStepIn : LineSymbols → ℕ → List Rule → ℕ → FoundStates → FoundStates → NextPrefix → Type 0
-IsStepIn inner limit rules id old new (Prefix p) = (ps : List StatePrefix) → AreReportedIn inner limit rules id old ps
-    → AreReportedIn inner limit rules id new (ps ++ p ∷ [])
-IsStepIn inner limit rules id old new Done = (ps : List StatePrefix) → AreReportedIn inner limit rules id old ps
+abbrev pub IsStepIn : LineSymbols → ℕ → List Rule → ℕ → Bool → FoundStates → FoundStates → NextPrefix → Type 0
+IsStepIn inner limit rules id edges old new (Prefix p) = (ps : List StatePrefix)
+    → AreReportedIn inner limit rules id edges old ps → AreReportedIn inner limit rules id edges new (ps ++ p ∷ [])
+IsStepIn inner limit rules id edges old new Done = (ps : List StatePrefix)
+    → AreReportedIn inner limit rules id edges old ps
     → AreAllPrefixes inner.alphabet inner.terminator limit rules id ps
 
 -- a flat grammar that answers for a rule on lines of one symbol more than so many
@@ -168,12 +160,20 @@ pub record GivesPrefixesTo (alphabet : Alphabet) (limit : ℕ) (rules : List Rul
   pub prefixes : GivesPrefixes (has_letter alphabet) rules id flat
   pub most : flat.limit ≡ limit + 1
 
--- the lines of a flat grammar, and a search of its states
+-- a flat grammar, the symbols and the greatest length of lines, and which symbols are reported
+pub record PrefixSet : Type 0 where
+  pub flat : Flat
+  pub alphabet : Alphabet
+  pub terminator : ℕ
+  pub limit : ℕ
+  pub edges : Bool
+
+-- .. and a search of its states
 pub record PrefixSearch : Type 0 where
-  pub set : LineSet
+  pub set : PrefixSet
   pub search : Option FoundStates
 
-abbrev pub symbols_in : LineSet → LineSymbols
+abbrev pub symbols_in : PrefixSet → LineSymbols
 symbols_in set = record { alphabet = set.alphabet; terminator = set.terminator }
 
 -- these are the first prefixes, and the search has reported them
@@ -181,7 +181,7 @@ pub record ArePrefixesReported (rules : List Rule) (id : ℕ) (prefixes : Prefix
     (ps : List StatePrefix) : Type 0 where
   pub search : FoundStates
   pub is : prefixes.search ≡ Some search
-  pub reported : AreReportedIn (symbols_in prefixes.set) prefixes.set.limit rules id search ps
+  pub reported : AreReportedIn (symbols_in prefixes.set) prefixes.set.limit rules id prefixes.set.edges search ps
 
 -- one more prefix is reported, or all are
 abbrev pub IsPrefixStep : List Rule → ℕ → PrefixSearch → PrefixSearch → NextPrefix → Type 0
@@ -191,10 +191,11 @@ IsPrefixStep rules id old new Done = (ps : List StatePrefix) → ArePrefixesRepo
     → AreAllPrefixes old.set.alphabet old.set.terminator old.set.limit rules id ps
 
 -- no prefix is reported yet of those of a rule
-pub record ArePrefixesOf (alphabet : Alphabet) (terminator limit : ℕ) (rules : List Rule) (id : ℕ)
+pub record ArePrefixesOf (alphabet : Alphabet) (terminator limit : ℕ) (edges : Bool) (rules : List Rule) (id : ℕ)
     (prefixes : PrefixSearch) : Type 0 where
   pub alphabet_is : prefixes.set.alphabet ≡ alphabet
   pub terminator_is : prefixes.set.terminator ≡ terminator
   pub limit_is : prefixes.set.limit ≡ limit
+  pub edges_is : prefixes.set.edges ≡ edges
   pub gives : GivesPrefixesTo alphabet limit rules id prefixes.set.flat
   pub none : ArePrefixesReported rules id prefixes []

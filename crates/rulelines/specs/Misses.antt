@@ -1,6 +1,6 @@
--- The first prefix of each state, whether the rule derives it, and the first symbol that cannot follow it.
+-- The first prefix of each state, whether the rule derives it, and symbols that cannot follow it.
 use Rattle.std.specs.Prelude.{◌≡◌, ◌⊎◌, ℕ, ◌+◌, ◌<◌, ◌≤◌, Bool, true, false, List, [], ◌∷◌, ◌++◌, length, Contains}
-use Rattle.std.specs.Prelude.{◌↔◌, Option, None, Some}
+use Rattle.std.specs.Prelude.{◌↔◌, map}
 use Rattle.std.specs.List.{All, AllPairs}
 use Rattle.abnfread.specs.Element.{Rule}
 use Rattle.abnfcheck.specs.Derivable.{AreLetters, RuleDerives}
@@ -10,18 +10,18 @@ use Rattle.letters.specs.declared.alphabet.Alphabet.{Alphabet}
 use Rattle.rulelines.specs.declared.miss.prefixes.StatePrefix.{StatePrefix}
 use Rattle.rulelines.specs.FirstLines.{ComesFirst, IsShortlexBefore, sort_key}
 use Rattle.rulelines.specs.LineSets.{is_line_symbol}
+use Rattle.rulelines.specs.Samples.{AreInLineOrder}
 
--- a prefix as a line, if the rule does not derive it; and it with the first symbol that cannot follow it
+-- a prefix as a line, if the rule does not derive it; and it with each of some symbols that cannot follow it
 abbrev pub refused_lines : Bool → List ℕ → List (List ℕ)
 refused_lines true u = u ∷ []
 refused_lines false u = []
 
-abbrev pub wrong_lines : List ℕ → Option ℕ → List (List ℕ)
-wrong_lines u None = []
-wrong_lines u (Some c) = (u ++ c ∷ []) ∷ []
+abbrev pub wrong_lines : List ℕ → List ℕ → List (List ℕ)
+wrong_lines u symbols = map (λ c. u ++ c ∷ []) symbols
 
 abbrev pub prefix_lines : StatePrefix → List (List ℕ)
-prefix_lines p = refused_lines p.is_refused p.prefix.items ++ wrong_lines p.prefix.items p.wrong
+prefix_lines p = refused_lines p.is_refused p.prefix.items ++ wrong_lines p.prefix.items p.wrong.items
 
 module _ (alphabet : Alphabet) (terminator limit : ℕ) (rules : List Rule) (id : ℕ) where
   -- some line that the rule derives begins so
@@ -34,19 +34,20 @@ module _ (alphabet : Alphabet) (terminator limit : ℕ) (rules : List Rule) (id 
     pub room : length u < limit
     pub not_viable : IsViable (u ++ c ∷ []) → ⊥
 
-  -- the first such symbol, if there is one
-  abbrev pub IsFirstWrong : List ℕ → Option ℕ → Type 0
-  IsFirstWrong u None = (c : ℕ) → CannotFollow u c → ⊥
-  IsFirstWrong u (Some c) = CannotFollow u c × ((d : ℕ) → CannotFollow u d → sort_key c ≤ sort_key d)
+  -- some line that the rule derives begins so, with a symbol of a line after a prefix
+  pub record CanFollow (u : List ℕ) (c : ℕ) : Type 0 where
+    pub symbol : is_line_symbol alphabet terminator c ≡ true
+    pub viable : IsViable (u ++ c ∷ [])
 
-  -- what is reported of a prefix is right
-  pub record IsStatePrefix (p : StatePrefix) : Type 0 where
-    pub symbols : AreLetters (is_line_symbol alphabet terminator) p.prefix.items
-    pub within : length p.prefix.items ≤ limit
-    pub viable : 0 < length p.prefix.items → IsViable p.prefix.items
-    pub refused : p.is_refused ≡ true → RuleDerives (has alphabet) rules id p.prefix.items → ⊥
-    pub derived : p.is_refused ≡ false → RuleDerives (has alphabet) rules id p.prefix.items
-    pub wrong : IsFirstWrong p.prefix.items p.wrong
+  -- no symbol before it in the order of lines cannot follow
+  abbrev pub IsFirstWrong : List ℕ → ℕ → Type 0
+  IsFirstWrong u c = (d : ℕ) → CannotFollow u d → sort_key c ≤ sort_key d
+
+  -- a symbol can follow whose number is one more or less
+  pub record IsEdge (u : List ℕ) (c : ℕ) : Type 0 where
+    pub next : ℕ
+    pub follows : CanFollow u next
+    pub beside : (next ≡ c + 1) ⊎ (c ≡ next + 1)
 
   -- a viable prefix of symbols of a line
   pub record IsViableLine (v : List ℕ) : Type 0 where
@@ -67,24 +68,45 @@ module _ (alphabet : Alphabet) (terminator limit : ℕ) (rules : List Rule) (id 
     pub order : ComesFirst one.prefix.items v
     pub rests : HaveSameRests one.prefix.items v
 
-  -- the first prefixes, in order: for each other viable prefix there is one of them, or it comes after all of them
-  pub record AreFirstPrefixes (ps : List StatePrefix) : Type 0 where
-    pub are : All IsStatePrefix ps
-    pub rise : AllPairs (λ p q. IsShortlexBefore p.prefix.items q.prefix.items) ps
-    pub rest : (v : List ℕ) → IsViableLine v
-        → HasPrefixFor ps v ⊎ All (λ p. IsShortlexBefore p.prefix.items v) ps
-
   -- for each viable prefix there is one of them
   abbrev pub AreAllPrefixes : List StatePrefix → Type 0
   AreAllPrefixes ps = (v : List ℕ) → IsViableLine v → HasPrefixFor ps v
 
-  -- A line of symbols that the rule does not derive: its longest viable prefix is all of it, or all but the last
-  -- symbol, and no symbol before that one in the order of lines is wrong there.
-  pub record IsMiss (w : List ℕ) : Type 0 where
-    pub symbols : AreLetters (is_line_symbol alphabet terminator) w
-    pub within : length w ≤ limit
-    pub refused : RuleDerives (has alphabet) rules id w → ⊥
-    pub after : ℕ
-    pub furthest : IsFurthest (has alphabet) rules id w after
-    pub near : (after ≡ length w) ⊎ ((u : List ℕ) × (c : ℕ) × (w ≡ u ++ c ∷ []) × (after ≡ length u)
-        × ((d : ℕ) → CannotFollow u d → sort_key c ≤ sort_key d))
+  -- with edges or without
+  module _ (edges : Bool) where
+    -- a symbol that is reported after a prefix: the first that cannot follow; with edges, each one next to one that can
+    pub record IsReportedWrong (u : List ℕ) (c : ℕ) : Type 0 where
+      pub cannot : CannotFollow u c
+      pub reason : IsFirstWrong u c ⊎ ((edges ≡ true) × IsEdge u c)
+
+    -- all of them, in the order of lines
+    pub record AreReportedWrong (u symbols : List ℕ) : Type 0 where
+      pub are : (c : ℕ) → Contains symbols c ↔ IsReportedWrong u c
+      pub order : AreInLineOrder (is_line_symbol alphabet terminator) symbols
+
+    -- what is reported of a prefix is right
+    pub record IsStatePrefix (p : StatePrefix) : Type 0 where
+      pub symbols : AreLetters (is_line_symbol alphabet terminator) p.prefix.items
+      pub within : length p.prefix.items ≤ limit
+      pub viable : 0 < length p.prefix.items → IsViable p.prefix.items
+      pub refused : p.is_refused ≡ true → RuleDerives (has alphabet) rules id p.prefix.items → ⊥
+      pub derived : p.is_refused ≡ false → RuleDerives (has alphabet) rules id p.prefix.items
+      pub wrong : AreReportedWrong p.prefix.items p.wrong.items
+
+    -- the first prefixes, in order: for each other viable prefix there is one of them, or it comes after all of them
+    pub record AreFirstPrefixes (ps : List StatePrefix) : Type 0 where
+      pub are : All IsStatePrefix ps
+      pub rise : AllPairs (λ p q. IsShortlexBefore p.prefix.items q.prefix.items) ps
+      pub rest : (v : List ℕ) → IsViableLine v
+          → HasPrefixFor ps v ⊎ All (λ p. IsShortlexBefore p.prefix.items v) ps
+
+    -- A line of symbols that the rule does not derive: its longest viable prefix is all of it, or all but the last
+    -- symbol, which is one that is reported there.
+    pub record IsMiss (w : List ℕ) : Type 0 where
+      pub symbols : AreLetters (is_line_symbol alphabet terminator) w
+      pub within : length w ≤ limit
+      pub refused : RuleDerives (has alphabet) rules id w → ⊥
+      pub after : ℕ
+      pub furthest : IsFurthest (has alphabet) rules id w after
+      pub near : (after ≡ length w) ⊎ ((u : List ℕ) × (c : ℕ) × (w ≡ u ++ c ∷ []) × (after ≡ length u)
+          × IsReportedWrong u c)

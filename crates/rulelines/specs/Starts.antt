@@ -16,6 +16,16 @@ pub record IsJoinedOn (flat : Flat) (has : ℕ → Bool) (c : ℕ) : Type 0 wher
 abbrev pub AreClassStarts : Flat → (ℕ → Bool) → List ℕ → Type 0
 AreClassStarts flat has starts = (c : ℕ) → has c ≡ true → Contains starts (sort_key c) ⊎ IsJoinedOn flat has c
 
+-- of two symbols whose numbers follow, both are among these, or no set tells them apart
+abbrev pub HaveBothEnds : Flat → (ℕ → Bool) → List ℕ → Type 0
+HaveBothEnds flat has symbols = (c : ℕ) → has c ≡ true → has (c + 1) ≡ true
+    → AreAlike flat (c + 1) c ⊎ (Contains symbols c × Contains symbols (c + 1))
+
+-- .. by their keys
+abbrev pub HaveBothKeys : Flat → (ℕ → Bool) → List ℕ → Type 0
+HaveBothKeys flat has keys = (c : ℕ) → has c ≡ true → has (c + 1) ≡ true
+    → AreAlike flat (c + 1) c ⊎ (Contains keys (sort_key c) × Contains keys (sort_key (c + 1)))
+
 -- where the order of symbols, the alphabets or the symbols of a line change
 abbrev pub edges : ℕ → List ℕ
 edges terminator = 0 ∷ 32 ∷ 33 ∷ 127 ∷ 57344 ∷ terminator ∷ (terminator + 1) ∷ []
@@ -24,6 +34,11 @@ edges terminator = 0 ∷ 32 ∷ 33 ∷ 127 ∷ 57344 ∷ terminator ∷ (termina
 pub record AreLineBounds (flat : Flat) (terminator : ℕ) (bounds : List ℕ) : Type 0 where
   pub split : AreNodesSplit bounds flat.nodes
   pub edges_are : (c : ℕ) → Contains (edges terminator) c → Contains bounds c
+
+-- each bound, and the number before it
+pub record HaveEnds (bounds all : List ℕ) : Type 0 where
+  pub kept : (b : ℕ) → Contains bounds b → Contains all b
+  pub before : (b : ℕ) → Contains bounds (b + 1) → Contains all b
 
 -- the keys of those bounds that are symbols
 abbrev pub HaveKeys : (ℕ → Bool) → List ℕ → List ℕ → Type 0

@@ -18,4 +18,4 @@ pub use laws::{
     suffixes_include, swapped_pairs,
 };
 pub use list::{Lines, Lots, NextLine};
-pub use miss::Misses;
+pub use miss::{MissSet, Misses};

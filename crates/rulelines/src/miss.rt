@@ -4,5 +4,7 @@ mod lines;
 mod prefixes;
 mod search;
 mod symbols;
+mod wrong;
 
 pub use lines::Misses;
+pub use prefixes::MissSet;

@@ -71,7 +71,7 @@ fn begin_table(
 ) -> Result<Option<Table>, Memory>
     ensures { IfOk result (λ reported. IfSome reported (IsTableFor flat.now inner)) }
 {
-    let starts = find_starts(alloc, inner, flat)?;
+    let starts = find_starts(alloc, inner, flat, false)?;
     let Some(mut states) = States::new(alloc, flat, room)? else {
         return Ok(None);
     };

@@ -1,21 +1,21 @@
 //! The lines that a rule does not derive, one after another.
-ghost use Rattle.std.specs.Prelude.{◌≡◌, ◌∷◌, ◌++◌, ℕ, List, IfOk, IfSome};
+ghost use Rattle.std.specs.Prelude.{◌≡◌, ◌∷◌, ◌++◌, ℕ, List, [], IfOk, IfSome};
 ghost use Rattle.abnfread.specs.AbnfViews.{rules_of};
 ghost use Rattle.abnfread.specs.Element.{Rule};
 ghost use Rattle.rulelines.specs.Misses.{prefix_lines, refused_lines, wrong_lines};
-ghost use Rattle.rulelines.specs.MissLists.{AreMissesOf, IsMissStep, IsRefilled, AreOfRule, waiting_lines};
+ghost use Rattle.rulelines.specs.MissLists.{AreMissesOf, IsMissStep, IsRefilled, AreOfRule, item_lines, waiting_lines};
 
 use crate::list::NextLine;
-use crate::miss::prefixes::{NextPrefix, StatePrefix, StatePrefixes};
+use crate::miss::prefixes::{MissSet, NextPrefix, StatePrefix, StatePrefixes};
 use abnfcheck::SoundAbnf;
-use letters::Alphabet;
 use ruletable::Memory;
 use std::alloc::Global;
 use std::marker::Model;
 
 /// Lines that a rule does not derive: for each state the first prefix that leads there, if the rule does not derive it,
-/// and it with the first symbol that cannot follow it. The prefixes come in the order of lines, each followed by its
-/// own line with that symbol. The lines have at most `limit` symbols, and not the one that ends a line.
+/// and it with the first symbol that cannot follow it. With `edges` it comes with each symbol that cannot follow it,
+/// next to one that can, too. The prefixes come in the order of lines, each followed by its own lines with a symbol
+/// more. The lines have at most `limit` symbols, and not the one that ends a line.
 #[derive(Drop)]
 pub struct Misses {
     /// Allocates the lines.
@@ -35,63 +35,79 @@ impl Model for Misses {
     ghost view = { λ m. record { prefixes = m.prefixes; waiting = waiting_lines m.left.items } };
 }
 
-// Adds a prefix with the symbol that cannot follow it, if there is one. `Memory` if an allocation fails.
-fn push_wrong(
+// Adds a prefix, if it is refused. `Memory` if an allocation fails.
+fn push_refused(
     alloc: Global,
     prefix: &[u32],
-    wrong: Option<u32>,
+    is_refused: bool,
     lines: &mut Vec<Vec<u32>>,
 ) -> Result<(), Memory>
-    ensures { IfOk result (λ done. waiting_lines lines.new.items ≡ wrong_lines prefix.now wrong
-        ++ waiting_lines lines.old.items) }
+    ensures { IfOk result (λ done. item_lines lines.new.items ≡ item_lines lines.old.items
+        ++ refused_lines is_refused prefix.now) }
 {
-    let Some(symbol) = wrong else {
-        return Ok(());
-    };
+    if is_refused {
+        lines.push(Vec::from_slice(alloc, prefix)?)?;
+    }
+    Ok(())
+}
+
+// Adds a prefix with a symbol after it. `Memory` if an allocation fails.
+fn push_longer(
+    alloc: Global,
+    prefix: &[u32],
+    symbol: u32,
+    lines: &mut Vec<Vec<u32>>,
+) -> Result<(), Memory>
+    ensures { IfOk result (λ done. item_lines lines.new.items ≡ item_lines lines.old.items
+        ++ (prefix.now ++ symbol ∷ []) ∷ []) }
+{
     let mut line = Vec::from_slice(alloc, prefix)?;
     line.push(symbol)?;
     lines.push(line)?;
     Ok(())
 }
 
-// Adds a prefix, if it is refused. `Memory` if an allocation fails.
-fn push_refused(prefix: Vec<u32>, is_refused: bool, lines: &mut Vec<Vec<u32>>) -> Result<(), Memory>
-    ensures { IfOk result (λ done. waiting_lines lines.new.items ≡ refused_lines is_refused prefix.items
-        ++ waiting_lines lines.old.items) }
+// Adds a prefix with each of some symbols after it. `Memory` if an allocation fails.
+fn push_wrong(
+    alloc: Global,
+    prefix: &[u32],
+    wrong: &[u32],
+    lines: &mut Vec<Vec<u32>>,
+) -> Result<(), Memory>
+    ensures { IfOk result (λ done. item_lines lines.new.items ≡ item_lines lines.old.items
+        ++ wrong_lines prefix.now wrong.now) }
 {
-    if is_refused {
-        lines.push(prefix)?;
+    for symbol in wrong {
+        push_longer(alloc, prefix, *symbol, lines)?;
     }
     Ok(())
 }
 
 // Returns the lines of a prefix, the last one first. `Memory` if an allocation fails.
-fn lines_from(alloc: Global, prefix: StatePrefix) -> Result<Vec<Vec<u32>>, Memory>
-    ensures { IfOk result (λ lines. waiting_lines lines.items ≡ prefix_lines prefix) }
+fn lines_from(alloc: Global, prefix: &StatePrefix) -> Result<Vec<Vec<u32>>, Memory>
+    ensures { IfOk result (λ lines. waiting_lines lines.items ≡ prefix_lines prefix.now) }
 {
     let mut lines = Vec::new(alloc);
-    push_wrong(alloc, &prefix.prefix, prefix.wrong, &mut lines)?;
-    push_refused(prefix.prefix, prefix.is_refused, &mut lines)?;
+    push_refused(alloc, &prefix.prefix, prefix.is_refused, &mut lines)?;
+    push_wrong(alloc, &prefix.prefix, &prefix.wrong, &mut lines)?;
+    lines.reverse();
     Ok(lines)
 }
 
 impl Misses {
-    /// Returns the lines of at most `limit` symbols that the judged rule of a grammar does not derive, before the first
-    /// one. They have room for `room` entries of states. `None` if the grammar counts how often something nullable is
-    /// repeated, or there is no room. `Memory` if an allocation fails.
+    /// Returns the lines of a set that the judged rule of a grammar does not derive, before the first one. They have
+    /// room for `room` entries of states. `None` if the grammar counts how often something nullable is repeated, or
+    /// there is no room. `Memory` if an allocation fails.
     pub fn new(
         alloc: Global,
         grammar: &SoundAbnf,
-        alphabet: Alphabet,
-        terminator: u8,
-        limit: u32,
+        set: MissSet,
         room: usize,
     ) -> Result<Option<Misses>, Memory>
-        ensures { IfOk result (λ reported. IfSome reported (AreMissesOf alphabet terminator limit
+        ensures { IfOk result (λ reported. IfSome reported (AreMissesOf set.alphabet set.terminator set.limit set.edges
             (rules_of grammar.now.rules) grammar.now.judged)) }
     {
-        let Some(prefixes) = StatePrefixes::new(alloc, grammar, alphabet, terminator, limit, room)?
-        else {
+        let Some(prefixes) = StatePrefixes::new(alloc, grammar, set, room)? else {
             return Ok(None);
         };
         Ok(Some(Misses {
@@ -112,7 +128,7 @@ impl Misses {
             None => Ok(None),
             Some(NextPrefix::Done) => Ok(Some(false)),
             Some(NextPrefix::Prefix(prefix)) => {
-                self.left = lines_from(self.alloc, prefix)?;
+                self.left = lines_from(self.alloc, &prefix)?;
                 Ok(Some(true))
             }
         }

@@ -5,13 +5,15 @@ ghost use Rattle.abnfread.specs.Element.{Rule};
 ghost use Rattle.flatgrammar.specs.Flat.{Flat as the_flat};
 ghost use Rattle.lazydfa.specs.StateSets.{StateSet};
 ghost use Rattle.rulelines.specs.declared.list.keys.LineSymbols.{LineSymbols as the_symbols};
-ghost use Rattle.rulelines.specs.MissSearch.{ArePrefixesOf, GivesPrefixesTo, IsFoundAt, IsPrefixStep, IsSearchBegun};
-ghost use Rattle.rulelines.specs.MissSearch.{IsSearchFor, IsStepIn, IsKeptWithin, found_states};
+ghost use Rattle.rulelines.specs.MissSearch.{AreEndsOf, AreKeptWithin, ArePrefixesOf, GivesPrefixesTo, IsFoundAt};
+ghost use Rattle.rulelines.specs.MissSearch.{IsPrefixStep, IsSearchBegun, IsSearchFor, IsStepIn, found_states};
+ghost use Rattle.rulelines.specs.StateTables.{line_symbols};
 
 use crate::alone::word_of;
 use crate::list::keys::LineSymbols;
 use crate::miss::search::{StateSearch, expand, next_live};
 use crate::miss::symbols::line_samples;
+use crate::miss::wrong::wrong_symbols;
 use crate::pairs::{SearchedPair, add_pair, no_pairs};
 use abnfcheck::SoundAbnf;
 use flatgrammar::Flat;
@@ -22,6 +24,19 @@ use ruletable::Memory;
 use std::alloc::Global;
 use std::marker::Model;
 
+/// Which lines are reported of those that a rule does not derive.
+#[derive(Clone, Copy)]
+pub struct MissSet {
+    /// The alphabet of lines.
+    pub alphabet: Alphabet,
+    /// The symbol that ends a line. Lines do not have it.
+    pub terminator: u8,
+    /// The greatest length of a line.
+    pub limit: u32,
+    /// Whether each symbol that cannot follow is reported next to one that can, and not the first alone.
+    pub edges: bool,
+}
+
 /// The first prefix of lines that leads to a state, in the order of lines.
 #[derive(Drop)]
 pub(crate) struct StatePrefix {
@@ -29,8 +44,8 @@ pub(crate) struct StatePrefix {
     pub(crate) prefix: Vec<u32>,
     /// Whether the rule does not derive it.
     pub(crate) is_refused: bool,
-    /// The first symbol that cannot follow it, if a line has room for one.
-    pub(crate) wrong: Option<u32>,
+    /// The symbols that cannot follow it and are reported, if a line has room for one.
+    pub(crate) wrong: Vec<u32>,
 }
 
 /// The next prefix. `Done`: there is none.
@@ -50,6 +65,8 @@ pub(crate) struct StatePrefixes {
     flat: Flat,
     /// The greatest length of a line.
     limit: u32,
+    /// Whether each symbol that cannot follow is reported next to one that can.
+    edges: bool,
     /// The symbols of a line.
     inner: LineSymbols,
     /// Symbols that stand for all of their class, in the order of lines.
@@ -60,7 +77,8 @@ pub(crate) struct StatePrefixes {
 
 impl Model for StatePrefixes {
     ghost use Rattle.std.specs.Prelude.{IfSome, option_map};
-    ghost use Rattle.rulelines.specs.MissSearch.{IsSearchFor, PrefixSearch, found_states};
+    ghost use Rattle.rulelines.specs.MissSearch.{AreEndsOf, IsSearchFor, PrefixSearch, found_states};
+    ghost use Rattle.rulelines.specs.StateTables.{line_symbols};
 
     ghost Value = { PrefixSearch };
 
@@ -70,12 +88,13 @@ impl Model for StatePrefixes {
         alphabet = p.inner.alphabet;
         terminator = p.inner.terminator;
         limit = p.limit;
+        edges = p.edges;
       };
       search = option_map found_states p.search;
     } };
 
-    ghost invariant = { λ p. IfSome p.search (λ search. IsSearchFor p.flat p.inner p.samples.items
-        (found_states search)) };
+    ghost invariant = { λ p. AreEndsOf p.edges p.flat (line_symbols p.inner) p.samples.items
+        × IfSome p.search (λ search. IsSearchFor p.flat p.inner p.samples.items (found_states search)) };
 }
 
 // Returns a search whose first state is the start state of a flat grammar, with so much room for states. `None` if the
@@ -104,11 +123,15 @@ fn begin_search(alloc: Global, flat: &Flat, room: usize) -> Result<Option<StateS
     }))
 }
 
-// Returns the symbol, if a line of at most `limit` symbols has room for one after so many.
-fn within(limit: u32, count: usize, symbol: Option<u32>) -> Option<u32>
-    ensures { IsKeptWithin limit count symbol result }
+// Returns the symbols, if a line of at most `limit` symbols has room for one after so many; else none.
+fn within(alloc: Global, limit: u32, count: usize, symbols: Vec<u32>) -> Vec<u32>
+    ensures { AreKeptWithin limit count symbols.items result.items }
 {
-    if count < limit as usize { symbol } else { None }
+    if count < limit as usize {
+        symbols
+    } else {
+        Vec::new(alloc)
+    }
 }
 
 // Returns whether the whole may not end in the state of an index.
@@ -121,20 +144,22 @@ fn is_refused(search: &StateSearch, at: usize) -> bool
     }
 }
 
-// Returns the next prefix of at most `limit` symbols; `None` if there is no room. `Memory` if an allocation fails.
+// Returns the next prefix of at most `limit` symbols, with the symbols that cannot follow it: the first or, with
+// `edges`, also each one next to one that can. `None` if there is no room. `Memory` if an allocation fails.
 fn next_prefix(
     alloc: Global,
     search: &mut StateSearch,
     samples: &[u32],
     limit: u32,
+    edges: bool,
 ) -> Result<Option<NextPrefix>, Memory>
     ensures kept { IfOk result (λ reported. IfSome reported (λ step. (flat : the_flat) (inner : the_symbols) →
         IsSearchFor flat inner samples.now (found_states search.old) → IsSearchFor flat inner samples.now
         (found_states search.new))) }
     ensures step { IfOk result (λ reported. IfSome reported (λ step. (flat : the_flat) (inner : the_symbols)
         (rules : List Rule) (id : ℕ) → IsSearchFor flat inner samples.now (found_states search.old) →
-        GivesPrefixesTo inner.alphabet limit rules id flat → IsStepIn inner limit rules id (found_states search.old)
-        (found_states search.new) step)) }
+        AreEndsOf edges flat (line_symbols inner) samples.now → GivesPrefixesTo inner.alphabet limit rules id flat →
+        IsStepIn inner limit rules id edges (found_states search.old) (found_states search.new) step)) }
 {
     let Some(at) = next_live(search) else {
         return Ok(Some(NextPrefix::Done));
@@ -145,11 +170,12 @@ fn next_prefix(
     if prefix.len() > limit as usize {
         return Ok(Some(NextPrefix::Done));
     }
-    let Some(wrong) = expand(search, at, samples)? else {
+    let Some(live) = expand(alloc, search, at, samples)? else {
         return Ok(None);
     };
     search.at = at + 1;
-    let wrong = within(limit, prefix.len(), wrong);
+    let wrong = wrong_symbols(alloc, samples, &live, edges)?;
+    let wrong = within(alloc, limit, prefix.len(), wrong);
     Ok(Some(NextPrefix::Prefix(StatePrefix {
         is_refused: is_refused(search, at),
         prefix,
@@ -158,33 +184,32 @@ fn next_prefix(
 }
 
 impl StatePrefixes {
-    /// Returns the prefixes of the judged rule of a grammar, of at most `limit` symbols, before the first one. They
-    /// have room for `room` entries of states. `None` if the grammar counts how often something nullable is repeated,
-    /// or there is no room. `Memory` if an allocation fails.
+    /// Returns the prefixes of the judged rule of a grammar, before the first one. They have room for `room` entries of
+    /// states. `None` if the grammar counts how often something nullable is repeated, or there is no room. `Memory` if
+    /// an allocation fails.
     pub(crate) fn new(
         alloc: Global,
         grammar: &SoundAbnf,
-        alphabet: Alphabet,
-        terminator: u8,
-        limit: u32,
+        set: MissSet,
         room: usize,
     ) -> Result<Option<StatePrefixes>, Memory>
-        ensures { IfOk result (λ reported. IfSome reported (ArePrefixesOf alphabet terminator limit
-            (rules_of grammar.now.rules) grammar.now.judged)) }
+        ensures { IfOk result (λ reported. IfSome reported (ArePrefixesOf set.alphabet set.terminator set.limit
+            set.edges (rules_of grammar.now.rules) grammar.now.judged)) }
     {
-        let flat = lower_viable(alloc, grammar, alphabet, limit as usize + 1)?;
+        let flat = lower_viable(alloc, grammar, set.alphabet, set.limit as usize + 1)?;
         let inner = LineSymbols {
-            alphabet,
-            terminator,
+            alphabet: set.alphabet,
+            terminator: set.terminator,
         };
-        let samples = line_samples(alloc, inner, &flat)?;
+        let samples = line_samples(alloc, inner, &flat, set.edges)?;
         let Some(search) = begin_search(alloc, &flat, room)? else {
             return Ok(None);
         };
         Ok(Some(StatePrefixes {
             alloc,
             flat,
-            limit,
+            limit: set.limit,
+            edges: set.edges,
             inner,
             samples,
             search: Some(search),
@@ -202,7 +227,14 @@ impl StatePrefixes {
         let Some(mut search) = self.search.take() else {
             return Ok(None);
         };
-        let Some(step) = next_prefix(self.alloc, &mut search, &self.samples, self.limit)? else {
+        let Some(step) = next_prefix(
+            self.alloc,
+            &mut search,
+            &self.samples,
+            self.limit,
+            self.edges,
+        )?
+        else {
             return Ok(None);
         };
         self.search = Some(search);

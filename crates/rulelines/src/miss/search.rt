@@ -2,11 +2,12 @@
 ghost use Rattle.std.specs.Prelude.{◌≡◌, ◌↔◌, ◌<◌, false, IsTrue, IfOk, IfSome, slice_get, Some, length};
 ghost use Rattle.lazydfa.specs.StateSets.{StateSet};
 ghost use Rattle.rulelines.specs.MissSearch.{IsExpanded, IsFoundAt, IsLedFrom, IsLive, IsNextLive, IsStatePassed};
-ghost use Rattle.rulelines.specs.MissSearch.{IsWrongKept, found_states};
+ghost use Rattle.rulelines.specs.MissSearch.{found_states};
 
 use crate::pairs::{Pairs, SearchedPair, add_pair};
 use lazydfa::States;
 use ruletable::Memory;
+use std::alloc::Global;
 
 /// The states of a grammar that a search has found, each as a pair with itself.
 #[derive(Drop)]
@@ -49,36 +50,25 @@ fn lead(search: &mut StateSearch, at: usize, symbol: u32) -> Result<Option<bool>
     Ok(Some(is_live(&search.states, next)))
 }
 
-// Returns the first symbol that leads astray: the one before, if there is one, or this one, unless it leads to a live
-// state.
-fn keep_wrong(wrong: Option<u32>, symbol: u32, is_live: bool) -> Option<u32>
-    ensures { IsWrongKept wrong symbol is_live result }
-{
-    match wrong {
-        Some(wrong) => Some(wrong),
-        None if is_live => None,
-        None => Some(symbol),
-    }
-}
-
-/// Finds the states that samples lead to from the one of an index. Returns the first sample that leads astray; `None`
+/// Finds the states that samples lead to from the one of an index. Returns of each sample whether it leads on; `None`
 /// if there is no room. `Memory` if an allocation fails.
 pub(crate) fn expand(
+    alloc: Global,
     search: &mut StateSearch,
     at: usize,
     samples: &[u32],
-) -> Result<Option<Option<u32>>, Memory>
-    ensures { IfOk result (λ reported. IfSome reported (IsExpanded samples.now (found_states search.old)
-        (found_states search.new) at)) }
+) -> Result<Option<Vec<bool>>, Memory>
+    ensures { IfOk result (λ reported. IfSome reported (λ live. IsExpanded samples.now (found_states search.old)
+        (found_states search.new) at live.items)) }
 {
-    let mut wrong = None;
+    let mut live = Vec::new(alloc);
     for symbol in samples {
-        let Some(is_live) = lead(search, at, *symbol)? else {
+        let Some(leads_on) = lead(search, at, *symbol)? else {
             return Ok(None);
         };
-        wrong = keep_wrong(wrong, *symbol, is_live);
+        live.push(leads_on)?;
     }
-    Ok(Some(wrong))
+    Ok(Some(live))
 }
 
 // Returns whether the state of an index is live, or the first one.

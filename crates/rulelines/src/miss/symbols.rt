@@ -4,6 +4,7 @@ ghost use Rattle.std.specs.List.Sorted.{IsStrictlyIncreasing};
 ghost use Rattle.rulelines.specs.FirstLines.{sort_key};
 ghost use Rattle.rulelines.specs.Samples.{AreInLineOrder};
 ghost use Rattle.rulelines.specs.StatePairs.{AreSamples};
+ghost use Rattle.rulelines.specs.Starts.{HaveBothEnds};
 ghost use Rattle.rulelines.specs.StateTables.{line_symbols};
 
 use crate::list::keys::{LineSymbols, is_inner};
@@ -30,16 +31,18 @@ fn symbols_of(alloc: Global, inner: LineSymbols, keys: &[u32]) -> Result<Vec<u32
     Ok(symbols)
 }
 
-/// Returns a symbol of each class of symbols of a line, the first of its class. They come in the order of lines.
-/// `Memory` if an allocation fails.
+/// Returns a symbol of each class of symbols of a line, the first of its class. With `edges`, also those next to
+/// another class by number. They come in the order of lines. `Memory` if an allocation fails.
 pub(crate) fn line_samples(
     alloc: Global,
     inner: LineSymbols,
     flat: &Flat,
+    edges: bool,
 ) -> Result<Vec<u32>, Memory>
     ensures each { IfOk result (λ samples. AreSamples flat.now flat.now (line_symbols inner) samples.items) }
     ensures order { IfOk result (λ samples. AreInLineOrder (line_symbols inner) samples.items) }
+    ensures ends { IfOk result (λ samples. edges ≡ true → HaveBothEnds flat.now (line_symbols inner) samples.items) }
 {
-    let starts = find_starts(alloc, inner, flat)?;
+    let starts = find_starts(alloc, inner, flat, edges)?;
     symbols_of(alloc, inner, &starts)
 }

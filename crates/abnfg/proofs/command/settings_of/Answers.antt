@@ -13,5 +13,6 @@ returns c = record {
   limit = c.number_of.ensures;
   count = c.number_of-2.ensures;
   nul = c.is_given.ensures;
+  edges = c.is_given-2.ensures;
   seed = c.seed_of.ensures;
 }

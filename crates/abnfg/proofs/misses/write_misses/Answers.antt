@@ -1,8 +1,7 @@
 -- Each line is the next one; then none is, or all are written.
 use Rattle.std.proofs.Common.{◌∙◌, Option, arith, refl, subst, sym}
 use Rattle.std.specs.Prelude.{Ok}
-use Rattle.rulelines.specs.LineSets.{LineSet}
-use Rattle.rulelines.specs.MissSearch.{GivesPrefixesTo}
+use Rattle.rulelines.specs.MissSearch.{GivesPrefixesTo, PrefixSet}
 use Rattle.abnfg.proofs.ListedMissesLemmas.{all_missed, miss_cut, miss_halted, none_missed, one_missed}
 use Rattle.abnfg.specs.ListedLines.{end_of, record_text}
 use Rattle.abnfg.specs.ListModes.{IsMissWritten}
@@ -31,7 +30,7 @@ returns-in-Ok-Some-clause-lines g c = λ rules id rule none.
     (λ (o : Option Halt). IsMissWritten rules id text_of c.loop-done.done c.loop-done.misses c.write_miss.new.misses old
     new (Ok o)) c.in-Ok-Some.field-0-is
     (c.in-Ok-Some.ensures.next rules id
-    (subst (λ (s : LineSet). GivesPrefixesTo s.alphabet s.limit rules id s.flat)
+    (subst (λ (s : PrefixSet). GivesPrefixesTo s.alphabet s.limit rules id s.flat)
     (sym c.loop-done.invariant.same) rule)))
 
 pub returns-in-Err-clause-lines : goal.returns-in-Err-clause-lines
@@ -42,7 +41,8 @@ returns-in-Err-clause-lines g c = λ rules id rule none.
     (g.O.Sink.contents c.write_miss.new.out) (c.loop-done.invariant.missed rules id rule none) c.write_miss.ensures.same
     c.in-Err.fault c.loop-done-test.true
     (c.in-Err.ensures.next rules id
-    (subst (λ (s : LineSet). GivesPrefixesTo s.alphabet s.limit rules id s.flat) (sym c.loop-done.invariant.same) rule))
+    (subst (λ (s : PrefixSet). GivesPrefixesTo s.alphabet s.limit rules id s.flat)
+    (sym c.loop-done.invariant.same) rule))
 
 pub loop-done-preserved : goal.loop-done-preserved
 loop-done-preserved g c =
@@ -58,8 +58,8 @@ loop-done-preserved g c =
           (λ (o : Option Halt). IsMissWritten rules id text_of c.loop-done.done c.loop-done.misses
           c.write_miss.new.misses old new (Ok o)) c.in-Ok-None.field-0-is
           (c.in-Ok-None.ensures.next rules id
-          (subst (λ (s : LineSet). GivesPrefixesTo s.alphabet s.limit rules id s.flat) (sym c.loop-done.invariant.same)
-          rule)));
+          (subst (λ (s : PrefixSet). GivesPrefixesTo s.alphabet s.limit rules id s.flat)
+          (sym c.loop-done.invariant.same) rule)));
       fresh = c.in-Ok-None.ensures.flag ∙ c.loop-done.invariant.fresh;
     }
 
