@@ -1,51 +1,12 @@
-//! The bytes of lines of symbols, and lines in quotes, all in ASCII.
-ghost use Rattle.std.specs.Prelude.{◌≡◌, ◌<◌, ◌++◌, IfOk, OnOk};
-ghost use Rattle.abnfd.specs.QuotedLines.{quoted_byte, quoted_bytes, quoted_line, symbol_bytes, unquoted_line};
+//! Lines in quotes, all in ASCII.
+ghost use Rattle.std.specs.Prelude.{◌≡◌, ◌<◌, ◌++◌, OnOk};
+ghost use Rattle.abnfd.specs.QuotedLines.{quoted_byte, quoted_bytes, quoted_line};
 ghost use Rattle.diagnostics.specs.ShownBytes.{hex_digit as the_digit};
-ghost use Rattle.letters.specs.declared.alphabet.Alphabet.TheVariants.{Utf8};
 
 use letters::Alphabet;
+use rulelines::line_bytes;
 use ruletable::Memory;
 use std::alloc::Global;
-
-// Adds the bytes of a code point in UTF-8.
-fn push_point(symbol: u32, out: &mut Vec<u8>) -> Result<(), Memory>
-    ensures { OnOk result (out.new.items ≡ out.old.items ++ symbol_bytes Utf8 symbol) }
-{
-    let Some(point) = char::from_u32(symbol) else {
-        return Ok(());
-    };
-    let mut bytes = [0; 4];
-    out.extend_from_slice(point.encode_utf8(&mut bytes).as_bytes())?;
-    Ok(())
-}
-
-// Adds the bytes of a symbol.
-fn push_symbol(alphabet: Alphabet, symbol: u32, out: &mut Vec<u8>) -> Result<(), Memory>
-    ensures { OnOk result (out.new.items ≡ out.old.items ++ symbol_bytes alphabet symbol) }
-{
-    match alphabet {
-        Alphabet::Bytes => match u8::try_from(symbol) {
-            Ok(byte) => {
-                out.push(byte)?;
-                Ok(())
-            }
-            Err(_) => Ok(()),
-        },
-        Alphabet::Utf8 => push_point(symbol, out),
-    }
-}
-
-/// Returns the bytes of a line of symbols; code points stand in UTF-8. `Memory` if an allocation fails.
-pub(crate) fn bytes_of(alloc: Global, alphabet: Alphabet, line: &[u32]) -> Result<Vec<u8>, Memory>
-    ensures { IfOk result (λ bytes. bytes.items ≡ unquoted_line alphabet line.now) }
-{
-    let mut bytes = Vec::new(alloc);
-    for symbol in line {
-        push_symbol(alphabet, *symbol, &mut bytes)?;
-    }
-    Ok(bytes)
-}
 
 // Returns the digit of a number below 16.
 fn hex_digit(digit: u8) -> u8
@@ -94,7 +55,7 @@ pub(crate) fn push_quoted(
 ) -> Result<(), Memory>
     ensures { OnOk result (out.new.items ≡ out.old.items ++ quoted_line alphabet line.now) }
 {
-    let bytes = bytes_of(alloc, alphabet, line)?;
+    let bytes = line_bytes(alloc, alphabet, line)?;
     out.push(b'"')?;
     push_bytes(bytes.as_slice(), out)?;
     out.push(b'"')?;

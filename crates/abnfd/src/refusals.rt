@@ -7,14 +7,13 @@ ghost use Rattle.lowering.specs.GivenPrefixes.{GivesPrefixes};
 ghost use Rattle.refusedlines.specs.Refusals.{IsRefusalReported};
 
 use crate::compared::CompareSettings;
-use crate::quoted::bytes_of;
 use abnfcheck::SoundAbnf;
 use earley::Chart;
 use lazydfa::Automaton;
 use letters::Alphabet;
 use lowering::lower_viable;
 use refusedlines::{Explainer, RefusedLine, explain_refused};
-use rulelines::{Alone, Comparison};
+use rulelines::{Alone, Comparison, line_bytes};
 use ruletable::Memory;
 use std::alloc::Global;
 
@@ -76,7 +75,7 @@ fn explain_symbols(
 ) -> Result<Vec<u8>, Memory>
     ensures { IfOk result (λ why. IsRefusalBy letters side.now grammar.now line.now why.items) }
 {
-    let bytes = bytes_of(alloc, letters, line)?;
+    let bytes = line_bytes(alloc, letters, line)?;
     let why = explain_bytes(alloc, letters, grammar, bytes.as_slice())?;
     let rest = &why.as_slice()[FIRST_LINE.len()..];
     let mut text = Vec::new(alloc);

@@ -1,4 +1,3 @@
-pub mod LineBytes
 pub mod ListAnswers
 pub mod ListWords
 pub mod ListedLines

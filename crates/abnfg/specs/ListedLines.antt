@@ -13,7 +13,7 @@ use Rattle.letters.specs.declared.alphabet.Alphabet.{Alphabet}
 use Rattle.ruletable.specs.Writing.{AppendsPart}
 use Rattle.ruletable.specs.declared.sink.WriteFault.{WriteFault}
 use Rattle.rulelines.specs.FirstLines.{ComesFirst, IsShortlexBefore}
-use Rattle.abnfg.specs.LineBytes.{line_bytes}
+use Rattle.rulelines.specs.LineBytes.{line_bytes}
 use Rattle.toolrun.specs.Plan.{stopped}
 use Rattle.toolrun.specs.Reply.{Reply, without_memory}
 use Rattle.toolrun.specs.RunEnd.{ended_status, ended_text}

@@ -12,10 +12,9 @@ ghost use Rattle.toolrun.specs.Stream.{no_input, passed};
 
 use crate::misses::write_refused;
 use crate::random::write_random;
-use crate::symbols::push_line;
 use abnfcheck::SoundAbnf;
 use letters::Alphabet;
-use rulelines::{Lines, NextLine};
+use rulelines::{Lines, NextLine, line_bytes};
 use ruletable::{Memory, Sink, WriteFault, write_whole};
 use std::alloc::Global;
 use toolrun::{Ending, ReportedRefusals, Status, Stop};
@@ -77,8 +76,7 @@ pub(crate) fn end_byte(settings: &ListSettings<'_>) -> u8
 fn line_text(alloc: Global, settings: &ListSettings<'_>, line: &[u32]) -> Result<Vec<u8>, Memory>
     ensures { IfOk result (λ text. text.items ≡ record_text settings.now.letters (end_of settings.now.nul) line.now) }
 {
-    let mut text = Vec::new(alloc);
-    push_line(settings.letters, line, &mut text)?;
+    let mut text = line_bytes(alloc, settings.letters, line)?;
     text.push(end_byte(settings))?;
     Ok(text)
 }

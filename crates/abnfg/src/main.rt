@@ -7,7 +7,6 @@ mod lines;
 mod misses;
 mod random;
 mod run;
-mod symbols;
 
 use crate::command::abnfg_command;
 use crate::run::abnfg_main;

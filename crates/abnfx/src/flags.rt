@@ -1,6 +1,7 @@
 //! The flags that forms of `--expand` stand for.
-ghost use Rattle.std.specs.Prelude.{◌≡◌, Bool, IfOk, map, string_bytes};
-ghost use Rattle.abnfx.specs.FlagWords.{AreFlagWords, ends_after, flag_after, flag_of as the_flag};
+ghost use Rattle.std.specs.Prelude.{◌≡◌, ◌||◌, IfOk, codes, if◌then◌else◌, map, string_bytes};
+ghost use Rattle.std.specs.Str.{bytes_eq};
+ghost use Rattle.abnfx.specs.FlagWords.{flag_of as the_flag, flags_of};
 
 use std::alloc::{AllocError, Global};
 
@@ -17,7 +18,7 @@ fn flag_of(word: &str) -> &str
 
 // Returns what stands for a word, which stays where `--` stands before it. `AllocError` if an allocation fails.
 fn flag_word(alloc: Global, ended: bool, word: &str) -> Result<String, AllocError>
-    ensures { IfOk result (λ new. string_bytes new ≡ flag_after ended word.now) }
+    ensures { IfOk result (λ new. string_bytes new ≡ if ended then word.now else the_flag word.now) }
 {
     if ended {
         String::from_str(alloc, word)
@@ -28,7 +29,7 @@ fn flag_word(alloc: Global, ended: bool, word: &str) -> Result<String, AllocErro
 
 // Returns whether `--` stands before the word after this one.
 fn has_ended(ended: bool, word: &str) -> bool
-    ensures { result ≡ ends_after ended word.now }
+    ensures { result ≡ (ended || bytes_eq word.now (codes "--")) }
 {
     ended || word == "--"
 }
@@ -36,8 +37,7 @@ fn has_ended(ended: bool, word: &str) -> bool
 /// Returns the words of a command line with `--expand-send` for `--expand=send`, and `--expand` for `--expand=receive`.
 /// Words after `--` stay. `AllocError` if an allocation fails.
 pub(crate) fn flag_words(alloc: Global, words: &[String]) -> Result<Vec<String>, AllocError>
-    ensures { IfOk result (λ flags. (ended : Bool) × AreFlagWords ended (map string_bytes words.now)
-        (map string_bytes flags.items)) }
+    ensures { IfOk result (λ flags. map string_bytes flags.items ≡ flags_of (map string_bytes words.now)) }
 {
     let mut flags = Vec::new(alloc);
     let mut ended = false;

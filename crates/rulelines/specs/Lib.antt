@@ -6,6 +6,7 @@ pub mod CountsWithin
 pub mod Samples
 pub mod Search
 pub mod Alone
+pub mod LineBytes
 pub mod LineSets
 pub mod Rests
 pub mod Starts
@@ -14,3 +15,4 @@ pub mod WrongSymbols
 pub mod Misses
 pub mod MissSearch
 pub mod MissLists
+pub mod Seeds

@@ -10,6 +10,7 @@ mod miss;
 mod pairs;
 mod samples;
 mod search;
+mod text;
 
 pub use alone::Alone;
 pub use comparison::{Comparison, compare};
@@ -19,3 +20,4 @@ pub use laws::{
 };
 pub use list::{Lines, Lots, NextLine};
 pub use miss::{MissSet, Misses};
+pub use text::line_bytes;

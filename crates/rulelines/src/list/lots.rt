@@ -1,5 +1,6 @@
 //! Numbers by lot.
-ghost use Rattle.std.specs.Prelude.{◌≡◌, ◌⊎◌, ◌<◌, None, Some};
+ghost use Rattle.std.specs.Prelude.{◌≡◌, ◌⊎◌, ◌<◌, Some};
+ghost use Rattle.rulelines.specs.Seeds.{seed_of};
 
 /// A source of numbers by lot, SplitMix64: the same seed gives the same numbers.
 #[derive(Clone, Copy)]
@@ -11,7 +12,7 @@ pub struct Lots {
 impl Lots {
     /// Returns the source of a seed.
     pub fn new(seed: u64) -> Lots
-        ensures { result.state ≡ seed }
+        ensures { seed_of result ≡ seed }
     {
         Lots { state: seed }
     }
@@ -45,15 +46,11 @@ pub(crate) struct Choice {
     pub(crate) number: Option<usize>,
 }
 
-/// Returns no number.
-pub(crate) fn no_choice() -> Choice
-    ensures { result.number ≡ None }
-{
-    Choice {
-        count: 0,
-        number: None,
-    }
-}
+/// No number.
+pub(crate) const NO_CHOICE: Choice = Choice {
+    count: 0,
+    number: None,
+};
 
 /// Offers one more number, which takes the place of the one before with the odds of one in all.
 pub(crate) fn offer(choice: Choice, number: usize, lots: &mut Lots) -> Choice

@@ -6,7 +6,7 @@ ghost use Rattle.rulelines.specs.StateTables.{IsRestIn, IsStateTable, IsTableGro
 
 use crate::list::keys::LineSymbols;
 use crate::list::lines::NextLine;
-use crate::list::lots::{Lots, no_choice, offer};
+use crate::list::lots::{Lots, NO_CHOICE, offer};
 use crate::list::search::line_from;
 use crate::list::table::{Table, add_levels, can_end, step, takes_key};
 use crate::samples::{key_of, symbol_at};
@@ -19,7 +19,7 @@ fn draw_length(table: &Table, limit: u32, lots: &mut Lots) -> Option<usize>
     requires table { IsStateTable table.now }
     ensures { IfSome result (λ length. length ≤ limit) }
 {
-    let mut choice = no_choice();
+    let mut choice = NO_CHOICE;
     for length in 0..limit as usize + 1 {
         match can_end(table, table.start, length) {
             Some(true) => choice = offer(choice, length, lots),
@@ -35,7 +35,7 @@ fn draw_length(table: &Table, limit: u32, lots: &mut Lots) -> Option<usize>
 fn draw_class(table: &Table, state: usize, rest: usize, lots: &mut Lots) -> Option<usize>
     requires table { IsStateTable table.now }
 {
-    let mut choice = no_choice();
+    let mut choice = NO_CHOICE;
     for class in 0..table.starts.len() {
         if takes_key(table, state, table.starts[class], rest).unwrap_or(false) {
             choice = offer(choice, class, lots);

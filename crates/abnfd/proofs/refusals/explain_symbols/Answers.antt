@@ -3,7 +3,6 @@ use Rattle.std.proofs.Common.{◌≡◌, ℕ, Bool, true, false, List, ◌++◌,
 use Rattle.std.proofs.lemmas.Fmt.{decimal_digit}
 use Rattle.std.proofs.lemmas.List.{take_rest}
 use Rattle.std.specs.Prelude.{codes, decimal, if◌then◌else◌, nat_lt, take}
-use Rattle.abnfd.specs.QuotedLines.{unquoted_line}
 use Rattle.abnfread.specs.AbnfViews.{rules_of}
 use Rattle.abnfread.specs.Element.{Rule}
 use Rattle.diagnostics.specs.ShownBytes.{cut}
@@ -11,6 +10,7 @@ use Rattle.letters.specs.declared.alphabet.Alphabet.{Alphabet}
 use Rattle.refusedlines.specs.RefusedText.{is_none, nothing_text, refused_at, refusal_text, reported_expected}
 use Rattle.refusedlines.specs.Refusals.{IsRefusalReported, name_at, octet_count}
 use Rattle.refusedlines.specs.declared.letterruns.run.LetterRun.{LetterRun}
+use Rattle.rulelines.specs.LineBytes.{line_bytes}
 use Rattle.abnfd.proofs.refusals.explain_symbols.Goals as goal
 
 abbrev IsOfFirst : List ℕ → Type 0
@@ -77,7 +77,7 @@ returns c =
     let letters = c.args.letters in
     let rules = rules_of c.args.grammar.now.rules in
     let judged = c.args.grammar.now.judged in
-    let line = unquoted_line letters c.args.line.now in
+    let line = line_bytes letters c.args.line.now in
     let r : IsRefusalReported letters rules judged line 1 why =
     rw (c.as_slice.ensures.value, c.in_ok-bytes.ensures) at c.in_ok-why.ensures in
     record {

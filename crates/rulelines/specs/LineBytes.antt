@@ -7,10 +7,10 @@ use Rattle.letters.specs.declared.alphabet.Alphabet.{Alphabet}
 use Rattle.letters.specs.declared.alphabet.Alphabet.TheVariants.{Bytes, Utf8}
 
 -- the bytes of a symbol: a byte, or a code point in UTF-8 (RFC 3629, section 3); other numbers have none
-abbrev pub listed_bytes : Alphabet → ℕ → List ℕ
-listed_bytes Bytes c = if has Bytes c then c ∷ [] else []
-listed_bytes Utf8 c = if has Utf8 c then encode_utf8 c else []
+abbrev pub symbol_bytes : Alphabet → ℕ → List ℕ
+symbol_bytes Bytes c = if has Bytes c then c ∷ [] else []
+symbol_bytes Utf8 c = if has Utf8 c then encode_utf8 c else []
 
 -- the bytes of all symbols, one after another
 abbrev pub line_bytes : Alphabet → List ℕ → List ℕ
-line_bytes alphabet line = flat_map (listed_bytes alphabet) line
+line_bytes alphabet line = flat_map (symbol_bytes alphabet) line
