@@ -5,10 +5,9 @@ use Rattle.std.proofs.Common.{true, false}
 use Rattle.std.specs.Prelude.{Result, Ok, Err, codes}
 use Rattle.std.specs.Io.KnownBytes.{Appends}
 use Rattle.abnfd.specs.CompareAnswers.{CompareAnswers, FilesCompared, answer_reply, clash_text, clashes}
-use Rattle.abnfd.specs.CompareAnswers.{compares_files}
+use Rattle.abnfd.specs.CompareAnswers.{compares_files, shared_text, shares}
 use Rattle.abnfd.specs.CompareWords.{all_asked, explain_asked, is_clash, new_rule_asked, new_rule_found}
-use Rattle.abnfd.specs.CompareWords.{old_rule_asked}
-use Rattle.abnfd.specs.CompareWords.{symbols_asked}
+use Rattle.abnfd.specs.CompareWords.{is_shared, old_rule_asked, symbols_asked}
 use Rattle.clap.specs.Words.{Text, first_of, first_value, rows_of}
 use Rattle.clap.specs.declared.parser.matches.Found.{Found}
 use Rattle.clap.proofs.WalkLemmas.{first_value-rows}
@@ -84,17 +83,23 @@ module _ (f : Found) (all : Bool) (new_rule : Option Text) (flag : all ≡ all_a
       → IsReportedAnd clash_text (Quiet Refused) input notes reply → CompareAnswers (rows_of f) input notes reply
   asked_twice twice input notes reply is = rw (is.0, is.1) (clashes (sym clash_asked ∙ twice))
 
+  pub asked_shared : is_clash all new_rule ≡ false → is_shared (rows_of f) ≡ true → (input : Input) (notes : List ℕ)
+      (reply : Reply) → IsReportedAnd shared_text (Quiet Refused) input notes reply
+      → CompareAnswers (rows_of f) input notes reply
+  asked_shared once both input notes reply is = rw (is.0, is.1) (shares (sym clash_asked ∙ once) both)
+
   pub asked_compared : (explain : Bool) (alphabet : Alphabet) (old_rule : Option Text)
       → explain ≡ explain_asked (rows_of f) → alphabet ≡ symbols_asked (rows_of f)
       → old_rule ≡ first_value f (codes "rule")
-      → is_clash all new_rule ≡ false → (input : Input) (notes : List ℕ) (reply : Reply)
+      → is_clash all new_rule ≡ false → is_shared (rows_of f) ≡ false
+      → (input : Input) (notes : List ℕ) (reply : Reply)
       → FilesCompared all explain alphabet old_rule new_rule input notes reply
       → CompareAnswers (rows_of f) input notes reply
-  asked_compared explain alphabet old_rule explained letters old once input notes reply is =
+  asked_compared explain alphabet old_rule explained letters old once apart input notes reply is =
       let rows = rows_of f in
       let first = first_value-rows f in
       let e2 : old_rule ≡ old_rule_asked rows = old ∙ first (codes "rule") in
-      compares_files (sym clash_asked ∙ once)
+      compares_files (sym clash_asked ∙ once) apart
       (subst (λ (b : Bool). FilesCompared b (explain_asked rows) (symbols_asked rows) (old_rule_asked rows)
       (new_rule_asked rows) input notes reply) flag
       (subst (λ (b : Bool). FilesCompared all b (symbols_asked rows) (old_rule_asked rows) (new_rule_asked rows) input

@@ -1,10 +1,11 @@
 -- The words of the program: its command, as a parse reads it, and what the words ask for.
 use Prim.Native.Char.{code}
-use Rattle.std.specs.Prelude.{◌≡◌, ◌&&◌, List, [], ◌∷◌, Bool, Option, Some, None, codes, is_some, true}
+use Rattle.std.specs.Prelude.{◌≡◌, ◌&&◌, List, [], ◌∷◌, Bool, Option, Some, None, codes, false, is_some, true}
 use Rattle.clap.specs.Words.{App, Row, Text, first_of}
 use Rattle.cli.specs.Asked.{alphabet_named, is_flagged}
 use Rattle.cli.specs.Command.{AreAlphabets, Names, flag_rule, letters_rule, number_rule, operand_rule, program_app}
 use Rattle.cli.specs.Command.{rule_rule, value_rule}
+use Rattle.cli.specs.Inputs.{is_standard}
 use Rattle.letters.specs.declared.alphabet.Alphabet.{Alphabet}
 
 -- `abnfd [-s RULE] [-t RULE] [-a] [-b N] OLD NEW [-u MODE] [-x]`
@@ -49,3 +50,11 @@ explain_asked rows = is_flagged (first_of (codes "explain") rows)
 -- all rules are asked for, and one too
 abbrev pub is_clash : Bool → Option Text → Bool
 is_clash all new_rule = all && is_some new_rule
+
+-- both grammars are standard input
+abbrev pub are_both_standard : Option Text → Option Text → Bool
+are_both_standard (Some old) (Some new) = is_standard old && is_standard new
+are_both_standard old new = false
+
+abbrev pub is_shared : List Row → Bool
+is_shared rows = are_both_standard (first_of (codes "old") rows) (first_of (codes "new") rows)

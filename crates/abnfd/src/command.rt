@@ -1,6 +1,7 @@
 //! The command line.
 ghost use Rattle.std.specs.Prelude.{◌≡◌, IfOk, codes, option_copied};
-ghost use Rattle.abnfd.specs.CompareWords.{IsAbnfdApp, all_asked, explain_asked, new_rule_found, symbols_asked};
+ghost use Rattle.abnfd.specs.CompareWords.{IsAbnfdApp, all_asked, explain_asked, is_shared, new_rule_found};
+ghost use Rattle.abnfd.specs.CompareWords.{symbols_asked};
 ghost use Rattle.clap.specs.Words.{app_of, first_value, found_of, rows_of};
 
 use crate::compared::CompareSettings;
@@ -88,5 +89,15 @@ pub(crate) fn settings_of<'a>(matches: &ArgMatches<'a>) -> CompareSettings<'a>
         new_rule: new_rule_of(matches),
         letters: letters_of(matches),
         budget: matches.get_one::<u32>("budget").unwrap_or(1_000_000) as usize,
+    }
+}
+
+/// Returns whether the words name standard input for both grammars.
+pub(crate) fn are_shared(matches: &ArgMatches<'_>) -> bool
+    ensures { result ≡ is_shared (rows_of (found_of matches.now)) }
+{
+    match (matches.get_str("old"), matches.get_str("new")) {
+        (Some(old), Some(new)) => old == "-" && new == "-",
+        _ => false,
     }
 }

@@ -1,7 +1,7 @@
 //! The run of the program.
 ghost use Rattle.std.specs.Prelude.{◌≡◌, ◌≢◌, [], false, map, option_copied, string_bytes};
 ghost use Rattle.abnfd.specs.CompareAnswers.{CompareAnswers, FilesCompared, IsWholeReport, answer_reply, clash_text};
-ghost use Rattle.abnfd.specs.CompareAnswers.{missing_stop, missing_text};
+ghost use Rattle.abnfd.specs.CompareAnswers.{missing_stop, missing_text, shared_text};
 ghost use Rattle.abnfd.specs.CompareWords.{IsAbnfdApp, is_clash as asks_twice};
 ghost use Rattle.clap.specs.Words.{fault_of, found_of, matches_of, rows_of};
 ghost use Rattle.cli.specs.Parsing.{WordsState};
@@ -12,7 +12,7 @@ ghost use Rattle.toolrun.specs.Stopped.{Performs};
 ghost use Rattle.toolrun.specs.Stream.{no_input, passed};
 
 use crate::by_name::compare_asked;
-use crate::command::{abnfd_command, settings_of};
+use crate::command::{abnfd_command, are_shared, settings_of};
 use crate::compared::{CompareSettings, ComparisonAnswer, Report};
 use crate::files::{Texts, UnreadFile, read_both};
 use clap::ArgMatches;
@@ -81,6 +81,17 @@ Usage: abnfd [OPTIONS] <OLD> <NEW>
 
 For more information, try '--help'.
 ";
+    end_reported(reported, Status::Refused, out, err)
+}
+
+// Reports that both grammars are standard input, and ends.
+fn end_shared<O: Sink, E: Sink>(out: &mut O, err: &mut E) -> Status
+    requires out_is_fresh { O.failed out.old ≡ false }
+    requires err_is_fresh { E.failed err.old ≡ false }
+    ensures right { RunIsRight (IsReportedAnd shared_text (Stop.Quiet Status.Refused)) no_input
+        (passed O.contents O.failed out.old out.new) (passed E.contents E.failed err.old err.new) (code_of result) }
+{
+    let reported = b"OLD and NEW are both standard input\n";
     end_reported(reported, Status::Refused, out, err)
 }
 
@@ -168,6 +179,9 @@ fn run_asked<R: Files + AllocGlobal, O: Sink, E: Sink>(
     if is_clash(&settings) {
         return end_clash(out, err);
     }
+    if are_shared(matches) {
+        return end_shared(out, err);
+    }
     let old = matches.get_str("old").unwrap_or("");
     let new = matches.get_str("new").unwrap_or("");
     compare_files(rt, &settings, old, new, out, err)
@@ -179,7 +193,7 @@ fn run_asked<R: Files + AllocGlobal, O: Sink, E: Sink>(
 ///
 /// - `-h`: the help on `out`, `Done`.
 /// - Other words: what is wrong with them on `err`, `Refused`, and nothing is read.
-/// - `-a` with `-s` or `-t`: a message on `err`, `Refused`, and nothing is read.
+/// - `-a` with `-s` or `-t`, or `-` for both files: a message on `err`, `Refused`, and nothing is read.
 /// - The first file that cannot be read: `old: ` or `new: ` and `cannot read the grammar`, `Fault`.
 /// - The notes on both grammars, or their faults, stand on `err`, the old one's first, each after `old: ` or `new: `.
 ///   If one is rejected, that is all: `Refused`.
