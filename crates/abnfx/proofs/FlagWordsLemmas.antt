@@ -9,12 +9,8 @@ use Rattle.abnfx.specs.FlagWords.{flag_of, flags_of}
 use Rattle.clap.specs.Words.{Text}
 
 -- what stands for words, where `--` stands before them or not
-pub flags_from : Bool → List Text → List Text
+abbrev pub flags_from : Bool → List Text → List Text
 flags_from ended words = if ended then words else flags_of words
-
-step_at : (stop : Bool) (word : Text) (words : List Text)
-    → flag_of word ∷ (if stop then words else flags_of words) ≡ flag_of word ∷ flags_from (false || stop) words
-step_at stop word words = refl
 
 step_one : (ended : Bool) (word : Text) (words : List Text) → flags_from ended (word ∷ words)
     ≡ (if ended then word else flag_of word) ∷ flags_from (ended || bytes_eq word (codes "--")) words

@@ -10,6 +10,6 @@ flag_of word = if bytes_eq word (codes "--expand=send") then codes "--expand-sen
     (if bytes_eq word (codes "--expand=receive") then codes "--expand" else word)
 
 -- the words with the flags that they stand for; words after `--` stay
-pub flags_of : List Text → List Text
+abbrev pub flags_of : List Text → List Text
 flags_of [] = []
 flags_of (word ∷ words) = flag_of word ∷ (if bytes_eq word (codes "--") then words else flags_of words)
