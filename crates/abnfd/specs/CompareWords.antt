@@ -51,10 +51,11 @@ explain_asked rows = is_flagged (first_of (codes "explain") rows)
 abbrev pub is_clash : Bool → Option Text → Bool
 is_clash all new_rule = all && is_some new_rule
 
--- both grammars are standard input
-abbrev pub are_both_standard : Option Text → Option Text → Bool
-are_both_standard (Some old) (Some new) = is_standard old && is_standard new
-are_both_standard old new = false
+-- an operand names standard input
+abbrev pub is_standard_input : Option Text → Bool
+is_standard_input None = false
+is_standard_input (Some name) = is_standard name
 
+-- both grammars are standard input
 abbrev pub is_shared : List Row → Bool
-is_shared rows = are_both_standard (first_of (codes "old") rows) (first_of (codes "new") rows)
+is_shared rows = is_standard_input (first_of (codes "old") rows) && is_standard_input (first_of (codes "new") rows)

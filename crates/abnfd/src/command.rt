@@ -1,8 +1,8 @@
 //! The command line.
 ghost use Rattle.std.specs.Prelude.{◌≡◌, IfOk, codes, option_copied};
 ghost use Rattle.abnfd.specs.CompareWords.{IsAbnfdApp, all_asked, explain_asked, is_shared, new_rule_found};
-ghost use Rattle.abnfd.specs.CompareWords.{symbols_asked};
-ghost use Rattle.clap.specs.Words.{app_of, first_value, found_of, rows_of};
+ghost use Rattle.abnfd.specs.CompareWords.{is_standard_input as is_standard, symbols_asked};
+ghost use Rattle.clap.specs.Words.{app_of, first_of, first_value, found_of, rows_of};
 
 use crate::compared::CompareSettings;
 use clap::{ArgMatches, Command};
@@ -92,12 +92,19 @@ pub(crate) fn settings_of<'a>(matches: &ArgMatches<'a>) -> CompareSettings<'a>
     }
 }
 
+// Returns whether an operand names standard input.
+fn is_standard_input(matches: &ArgMatches<'_>, id: &str) -> bool
+    ensures { result ≡ is_standard (first_of id.now (rows_of (found_of matches.now))) }
+{
+    match matches.get_str(id) {
+        Some(name) => name == "-",
+        None => false,
+    }
+}
+
 /// Returns whether the words name standard input for both grammars.
 pub(crate) fn are_shared(matches: &ArgMatches<'_>) -> bool
     ensures { result ≡ is_shared (rows_of (found_of matches.now)) }
 {
-    match (matches.get_str("old"), matches.get_str("new")) {
-        (Some(old), Some(new)) => old == "-" && new == "-",
-        _ => false,
-    }
+    is_standard_input(matches, "old") && is_standard_input(matches, "new")
 }
