@@ -2,5 +2,5 @@ pub mod ListedLinesLemmas
 pub mod ListedReplyLemmas
 pub mod ListAnswersLemmas
 pub mod ListWordsLemmas
-pub mod ListedMissesLemmas
-pub mod DrawnLinesLemmas
+pub mod WrittenLinesLemmas
+pub mod ReturnedLinesLemmas

@@ -1,25 +1,18 @@
 -- What is stated for a grammar's text, from what is stated for the grammar.
 -- Serves: abnfg_main (right)
-use Rattle.std.proofs.Common.{◌≡◌, ◌∙◌, ℕ, Bool, List, [], Option, None, Some, false, refl, sym, subst, append-nil}
+use Rattle.std.proofs.Common.{◌≡◌, ◌∙◌, ℕ, List, [], Option, None, Some, false, refl, sym, subst, append-nil}
 use Rattle.std.proofs.Common.{arith}
 use Rattle.std.specs.Prelude.{option_copied}
 use Rattle.abnfg.specs.ListAnswers.{JudgedReply, OpenedStates, TextStates, faulty, lists, no_memory, rejected}
-use Rattle.abnfg.specs.ListedLines.{end_of, no_room}
-use Rattle.abnfg.specs.ListModes.{FirstIn}
-use Rattle.abnfg.specs.declared.lines.ListMode.{ListMode}
-use Rattle.abnfg.specs.declared.lines.ListMode.TheVariants.{All as Derived, Miss, Random}
+use Rattle.abnfg.specs.ListedLines.{no_room}
 use Rattle.abnfg.specs.declared.lines.ListSettings.{ListSettings}
-use Rattle.abnfg.proofs.DrawnLinesLemmas.{no_draws}
-use Rattle.abnfg.proofs.ListedLinesLemmas.{no_lines_first}
-use Rattle.abnfg.proofs.ListedMissesLemmas.{no_misses_first}
+use Rattle.abnfg.proofs.ReturnedLinesLemmas.{none_first}
 use Rattle.abnfread.specs.AbnfReading.{IsFaultOf}
 use Rattle.abnfread.specs.AbnfViews.{rules_of}
 use Rattle.abnfread.specs.Element.{Rule}
 use Rattle.abnfread.specs.declared.elem.Elem.{Elem}
 use Rattle.abnfrun.specs.AbnfLanguage.{IsChecked}
 use Rattle.abnfrun.specs.AbnfNoted.{all_rules}
-use Rattle.letters.specs.declared.alphabet.Alphabet.{Alphabet}
-use Rattle.rulelines.specs.LineSets.{IsRuleLine}
 use Rattle.ruletable.specs.Notes.{Said}
 use Rattle.ruletable.specs.Rules as table
 use Rattle.ruletable.specs.declared.fault.ReadFault.{ReadFault}
@@ -51,22 +44,13 @@ module _ {O : Type 0} (opening : Opening O) (Why : Option (List ℕ) → Said �
       let none : is.hints ≡ [] = subst (λ b. ExplainedIf b AreHints is.hints) plain is.are_hints in
       is.all ∙ (rw none (append-nil is.first) ∙ notes_plain is.are_reported)
 
--- no line is a first list of each mode
-no_first : (mode : ListMode) (edges : Bool) (alphabet : Alphabet) (terminator limit : ℕ) (rules : List Rule) (id : ℕ)
-    → FirstIn mode edges alphabet terminator limit rules id []
-no_first Derived edges alphabet terminator limit rules id =
-    no_lines_first (IsRuleLine alphabet terminator limit rules id)
-no_first Miss edges alphabet terminator limit rules id = no_misses_first alphabet terminator limit rules id edges
-no_first Random edges alphabet terminator limit rules id = no_draws (IsRuleLine alphabet terminator limit rules id)
-
 -- some reply is stated
 pub judged_some : (settings : ListSettings) (rules : List Rule) (judged : Option ℕ)
     → (reply : Reply) × JudgedReply settings rules judged reply
 judged_some settings rules None = (_, refl)
 judged_some settings rules (Some id) = (
   _,
-  no_room (no_first settings.mode settings.edges settings.letters (end_of settings.nul) settings.limit rules id)
-      (omega arith),
+  no_room (none_first settings rules id settings.mode) (omega arith),
 )
 
 module _ (text : List ℕ) (settings : ListSettings) (notes : List Said) (rules : table.Rules Elem) (input : Input)

@@ -1,5 +1,5 @@
 -- The lines that are listed, in order, and what a run states of them.
-use Rattle.std.specs.Prelude.{◌≡◌, ◌≢◌, ◌⊎◌, ℕ, ◌+◌, ◌<◌, ◌≤◌, Bool, List, [], ◌∷◌, ◌++◌, codes, length, Contains}
+use Rattle.std.specs.Prelude.{◌≡◌, ◌≢◌, ◌⊎◌, ℕ, ◌≤◌, Bool, List, [], ◌∷◌, ◌++◌, codes, length, Contains}
 use Rattle.std.specs.Prelude.{Option, None, Some, Result, Ok, Err, if◌then◌else◌}
 use Rattle.std.specs.Io.KnownBytes.{Appends}
 use Rattle.std.specs.List.{All, AllPairs, flat_map}
@@ -76,38 +76,41 @@ module _ (lines : List ℕ → Type 0) where
   abbrev pub HoldAll : List (List ℕ) → Type 0
   HoldAll ws = (v : List ℕ) → lines v → Contains ws v
 
-  -- so many first lines, the last of which is given
-  pub record AreListed (done : ℕ) (last : List ℕ) (ws : List (List ℕ)) : Type 0 where
-    pub are : AreFirstLines ws
-    pub count : length ws ≡ done
-    pub last_is : 0 < done → Contains ws last
-    pub up_to : 0 < done → All (λ w. ComesFirst w last) ws
+  -- the last of some first lines, if there are some
+  abbrev pub IsLastOf : Option (Vec ℕ Global) → List (List ℕ) → Type 0
+  IsLastOf None ws = ws ≡ []
+  IsLastOf (Some last) ws = Contains ws last.items × All (λ w. ComesFirst w last.items) ws
 
-  -- the line after some first lines
-  abbrev pub IsLineNext : List (List ℕ) → Vec ℕ Global → Type 0
-  IsLineNext ws line = AreFirstLines (ws ++ line.items ∷ []) × All (λ w. IsShortlexBefore w line.items) ws
+  -- some first lines, the last of which is given
+  pub record AreListed (last : Option (Vec ℕ Global)) (ws : List (List ℕ)) : Type 0 where
+    pub first : AreFirstLines ws
+    pub last_is : IsLastOf last ws
 
-  -- it, or there is none
+  -- the line after some first lines, or there is none
   abbrev pub IsStepOf : List (List ℕ) → NextLine → Type 0
-  IsStepOf ws (Line line) = IsLineNext ws line
+  IsStepOf ws (Line line) = AreListed (Some line) (ws ++ line.items ∷ [])
   IsStepOf ws End = HoldAll ws
 
-  -- why no line is written after some first lines
-  abbrev pub IsHaltAt : List (List ℕ) → Halt → Type 0
-  IsHaltAt ws Finished = (ws ≢ []) × HoldAll ws
-  IsHaltAt ws Nothing = (ws ≡ []) × HoldAll ws
-  IsHaltAt ws TooMany = Unit {0}
-  IsHaltAt ws HaltsUnroomed = Unit {0}
+  -- it is the last one then
+  abbrev pub IsListStep : Option (Vec ℕ Global) → List (List ℕ) → NextLine → Type 0
+  IsListStep last ws (Line line) = AreListed last (ws ++ line.items ∷ [])
+  IsListStep last ws End = HoldAll ws
 
-  module _ (text_of : List ℕ → List ℕ) where
-    -- the next line was written after some, and is the last now; or none was, or a part of it
-    abbrev pub IsWrittenNext : ℕ → List (List ℕ) → List ℕ → Option (List ℕ) → Option (List ℕ)
-        → Result (Option Halt) WriteFault → Type 0
-    IsWrittenNext done ws last old new (Ok None) = (w : List ℕ) × AreListed (done + 1) last (ws ++ w ∷ [])
-        × Appends old new (text_of w)
-    IsWrittenNext done ws last old new (Ok (Some halt)) = IsHaltAt ws halt × Appends old new []
-    IsWrittenNext done ws last old new (Err fault) = (w : List ℕ) × AreFirstLines (ws ++ w ∷ [])
-        × AppendsPart old new (text_of w)
+-- why no line is written after some
+module _ (whole : List (List ℕ) → Type 0) (ws : List (List ℕ)) where
+  abbrev pub IsHaltAt : Halt → Type 0
+  IsHaltAt Finished = (ws ≢ []) × whole ws
+  IsHaltAt Nothing = (ws ≡ []) × whole ws
+  IsHaltAt TooMany = Unit {0}
+  IsHaltAt HaltsUnroomed = Unit {0}
+
+-- of a source's lists of lines those that it has returned, and the whole ones
+module _ (returned whole : List (List ℕ) → Type 0) (text_of : List ℕ → List ℕ) (ws : List (List ℕ)) where
+  -- the next line after some was written; or none was, or a part of it
+  abbrev pub IsWrittenNext : Option (List ℕ) → Option (List ℕ) → Result (Option Halt) WriteFault → Type 0
+  IsWrittenNext old new (Ok None) = (w : List ℕ) × returned (ws ++ w ∷ []) × Appends old new (text_of w)
+  IsWrittenNext old new (Ok (Some halt)) = IsHaltAt whole ws halt × Appends old new []
+  IsWrittenNext old new (Err fault) = (w : List ℕ) × returned (ws ++ w ∷ []) × AppendsPart old new (text_of w)
 
 -- the text of a line was written; or an allocation failed, or a part of it was written
 abbrev pub IsRecordWritten : (List ℕ → List ℕ) → List ℕ → Option (List ℕ) → Option (List ℕ)

@@ -1,26 +1,22 @@
 //! The lines of a grammar, written one after another.
-ghost use Rattle.std.specs.Prelude.{◌≡◌, ◌++◌, ℕ, List, [], IfOk, IfSome, MatchResult, false};
-ghost use Rattle.abnfg.specs.ListedLines.{AreFirstLines, AreListed, AreWritten, HaltEnds, HoldAll, IsHaltAt};
-ghost use Rattle.abnfg.specs.ListedLines.{IsLineNext, IsRecordWritten, IsStepOf, IsWrittenNext, LinesReply, end_of};
-ghost use Rattle.abnfg.specs.ListedLines.{record_text};
-ghost use Rattle.abnfg.specs.ListModes.{AreFirstAsked, AreWholeAsked};
+ghost use Rattle.std.specs.Prelude.{◌≡◌, ◌∷◌, ◌++◌, ℕ, List, [], IfOk, MatchResult, false, length};
+ghost use Rattle.abnfg.specs.ListedLines.{AreWritten, HaltEnds, IsHaltAt, IsRecordWritten, IsWrittenNext, LinesReply};
+ghost use Rattle.abnfg.specs.ListedLines.{end_of, record_text};
+ghost use Rattle.abnfg.specs.ListModes.{AreFirstAsked, AreWholeAsked, HasReturned};
+ghost use Rattle.abnfg.specs.declared.lines.ListSettings.{ListSettings as the_settings};
 ghost use Rattle.abnfread.specs.AbnfViews.{rules_of};
-ghost use Rattle.rulelines.specs.LineSets.{IsLineIn, IsRuleLine};
+ghost use Rattle.abnfread.specs.Element.{Rule};
 ghost use Rattle.ruletable.specs.Writing.{Flags};
 ghost use Rattle.toolrun.specs.Stopped.{Fulfils};
 ghost use Rattle.toolrun.specs.Stream.{no_input, passed};
 
-use crate::misses::write_refused;
-use crate::random::write_random;
+use crate::source::LineSource;
 use abnfcheck::SoundAbnf;
 use letters::Alphabet;
-use rulelines::{Lines, NextLine, line_bytes};
+use rulelines::{NextLine, line_bytes};
 use ruletable::{Memory, Sink, WriteFault, write_whole};
 use std::alloc::Global;
 use toolrun::{Ending, ReportedRefusals, Status, Stop};
-
-/// How many entries the states of a grammar may have.
-pub(crate) const ROOM: usize = 1_000_000;
 
 /// Which lines are listed. `All`: those that the rule derives. `Random`: some of these, by lot. `Miss`: near ones that
 /// it does not.
@@ -81,26 +77,14 @@ fn line_text(alloc: Global, settings: &ListSettings<'_>, line: &[u32]) -> Result
     Ok(text)
 }
 
-// Returns the step after so many lines, the last of which is given. `None` if there is no room for the states. `Memory`
-// if an allocation fails.
-fn next_step(lines: &mut Lines, done: u32, last: &[u32]) -> Result<Option<NextLine>, Memory>
-    ensures same { lines.new ≡ lines.old }
-    ensures next { IfOk result (λ reported. IfSome reported (λ step. (ws : List (List ℕ)) →
-        AreListed (IsLineIn lines.old) done last.now ws → IsStepOf (IsLineIn lines.old) ws step)) }
+// Returns the next line after so many, or why there is none.
+fn next_line(source: &mut LineSource, done: u32) -> Result<Vec<u32>, Halt>
+    ensures { (settings : the_settings) (rules : List Rule) (id : ℕ) (ws : List (List ℕ)) →
+        HasReturned settings rules id source.old ws → length ws ≡ done →
+        MatchResult result (λ line. HasReturned settings rules id source.new (ws ++ line.items ∷ []))
+        (IsHaltAt (AreWholeAsked settings rules id) ws) }
 {
-    if done == 0 {
-        return lines.first();
-    }
-    lines.after(last)
-}
-
-// Returns the line after so many lines, the last of which is given, or why there is none.
-fn next_line(lines: &mut Lines, done: u32, last: &[u32]) -> Result<Vec<u32>, Halt>
-    ensures same { lines.new ≡ lines.old }
-    ensures next { (ws : List (List ℕ)) → AreListed (IsLineIn lines.old) done last.now ws →
-        MatchResult result (IsLineNext (IsLineIn lines.old) ws) (IsHaltAt (IsLineIn lines.old) ws) }
-{
-    match next_step(lines, done, last) {
+    match source.next() {
         Ok(Some(NextLine::Line(line))) => Ok(line),
         Ok(Some(NextLine::Done)) => Err(if done == 0 { Halt::Nothing } else { Halt::All }),
         Ok(None) => Err(Halt::TooMany),
@@ -108,9 +92,9 @@ fn next_line(lines: &mut Lines, done: u32, last: &[u32]) -> Result<Vec<u32>, Hal
     }
 }
 
-/// Writes a line with its end. Returns `NoMemory` if an allocation fails. `WriteFault` if the output fails; then a
-/// prefix is written.
-pub(crate) fn write_record<O: Sink>(
+// Writes a line with its end. Returns `NoMemory` if an allocation fails. `WriteFault` if the output fails; then a
+// prefix is written.
+fn write_record<O: Sink>(
     alloc: Global,
     settings: &ListSettings<'_>,
     line: &[u32],
@@ -130,29 +114,25 @@ pub(crate) fn write_record<O: Sink>(
     }
 }
 
-// Writes the line after so many lines, the last of which is given, and keeps it as the last one. Returns why there is
-// none. `WriteFault` if the output fails; then a prefix of the line is written.
+// Writes the next line after so many, and returns why there is none. `WriteFault` if the output fails; then a prefix of
+// the line is written.
 fn write_next<O: Sink>(
     alloc: Global,
     settings: &ListSettings<'_>,
-    lines: &mut Lines,
+    source: &mut LineSource,
     done: u32,
-    last: &mut Vec<u32>,
     out: &mut O,
 ) -> Result<Option<Halt>, WriteFault>
     requires { O.failed out.old ≡ false }
-    ensures same { lines.new ≡ lines.old }
-    ensures next { (ws : List (List ℕ)) → AreListed (IsLineIn lines.old) done last.old.items ws →
-        IsWrittenNext (IsLineIn lines.old) (record_text settings.now.letters (end_of settings.now.nul)) done ws
-        last.new.items (O.contents out.old) (O.contents out.new) result }
+    ensures next { (rules : List Rule) (id : ℕ) (ws : List (List ℕ)) →
+        HasReturned settings.now rules id source.old ws → length ws ≡ done →
+        IsWrittenNext (HasReturned settings.now rules id source.new) (AreWholeAsked settings.now rules id)
+        (record_text settings.now.letters (end_of settings.now.nul)) ws (O.contents out.old) (O.contents out.new)
+        result }
     ensures flag { Flags (O.failed out.old) (O.failed out.new) result }
 {
-    match next_line(lines, done, last) {
-        Ok(line) => {
-            let written = write_record(alloc, settings, &line, out);
-            *last = line;
-            written
-        }
+    match next_line(source, done) {
+        Ok(line) => write_record(alloc, settings, &line, out),
         Err(halt) => Ok(Some(halt)),
     }
 }
@@ -162,18 +142,18 @@ fn write_next<O: Sink>(
 fn write_lines<O: Sink>(
     alloc: Global,
     settings: &ListSettings<'_>,
-    lines: &mut Lines,
+    source: &mut LineSource,
     out: &mut O,
 ) -> Result<Halt, WriteFault>
     requires { O.failed out.old ≡ false }
-    ensures lines { AreWritten (AreFirstLines (IsLineIn lines.old)) (HoldAll (IsLineIn lines.old))
+    ensures lines { (rules : List Rule) (id : ℕ) → HasReturned settings.now rules id source.old [] →
+        AreWritten (AreFirstAsked settings.now rules id) (AreWholeAsked settings.now rules id)
         (record_text settings.now.letters (end_of settings.now.nul)) settings.now.count (O.contents out.old)
         (O.contents out.new) result }
     ensures flag { Flags (O.failed out.old) (O.failed out.new) result }
 {
-    let mut last = Vec::new(alloc);
     for done in 0..settings.count {
-        match write_next(alloc, settings, lines, done, &mut last, out) {
+        match write_next(alloc, settings, source, done, out) {
             Ok(None) => {}
             Ok(Some(halt)) => return Ok(halt),
             Err(fault) => return Err(fault),
@@ -210,31 +190,6 @@ fn ending_of(alloc: Global, halt: Halt) -> Ending
     }
 }
 
-// Writes the lines of a grammar that its rule derives, as many as are asked for, and returns why no more are written.
-// `WriteFault` if the output fails; then a prefix of a line is written after whole lines.
-fn write_derived<O: Sink>(
-    alloc: Global,
-    settings: &ListSettings<'_>,
-    grammar: &SoundAbnf,
-    out: &mut O,
-) -> Result<Halt, WriteFault>
-    requires { O.failed out.old ≡ false }
-    ensures lines { AreWritten (AreFirstLines (IsRuleLine settings.now.letters (end_of settings.now.nul)
-        settings.now.limit (rules_of grammar.now.rules) grammar.now.judged))
-        (HoldAll (IsRuleLine settings.now.letters (end_of settings.now.nul) settings.now.limit
-        (rules_of grammar.now.rules) grammar.now.judged))
-        (record_text settings.now.letters (end_of settings.now.nul)) settings.now.count (O.contents out.old)
-        (O.contents out.new) result }
-    ensures flag { Flags (O.failed out.old) (O.failed out.new) result }
-{
-    let end = end_byte(settings);
-    match Lines::new(alloc, grammar, settings.letters, end, settings.limit, ROOM) {
-        Ok(Some(mut lines)) => write_lines(alloc, settings, &mut lines, out),
-        Ok(None) => Ok(Halt::TooMany),
-        Err(Memory) => Ok(Halt::NoMemory),
-    }
-}
-
 // Writes the lines of a grammar that are asked for, and returns why no more are written. `WriteFault` if the output
 // fails; then a prefix of a line is written after whole lines.
 fn write_asked<O: Sink>(
@@ -250,10 +205,10 @@ fn write_asked<O: Sink>(
         (O.contents out.new) result }
     ensures flag { Flags (O.failed out.old) (O.failed out.new) result }
 {
-    match settings.mode {
-        ListMode::All => write_derived(alloc, settings, grammar, out),
-        ListMode::Miss => write_refused(alloc, settings, grammar, out),
-        ListMode::Random => write_random(alloc, settings, grammar, out),
+    match LineSource::new(alloc, settings, grammar) {
+        Ok(Some(mut source)) => write_lines(alloc, settings, &mut source, out),
+        Ok(None) => Ok(Halt::TooMany),
+        Err(Memory) => Ok(Halt::NoMemory),
     }
 }
 

@@ -4,9 +4,8 @@
 mod command;
 mod grammar;
 mod lines;
-mod misses;
-mod random;
 mod run;
+mod source;
 
 use crate::command::abnfg_command;
 use crate::run::abnfg_main;

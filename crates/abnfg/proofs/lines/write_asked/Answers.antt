@@ -1,37 +1,36 @@
--- The lines are those of the mode.
-use Rattle.std.proofs.Common.{subst, sym}
+-- The lines are those of the mode; or none is written.
+use Rattle.std.proofs.Common.{[], Option, arith, subst}
+use Rattle.std.specs.Prelude.{IfSome}
 use Rattle.abnfread.specs.AbnfViews.{rules_of}
-use Rattle.abnfg.specs.ListedLines.{AreWritten, end_of, record_text}
-use Rattle.abnfg.specs.ListModes.{FirstIn, WholeIn}
-use Rattle.abnfg.specs.declared.lines.ListMode.{ListMode}
+use Rattle.abnfg.proofs.ReturnedLinesLemmas.{none_first}
+use Rattle.abnfg.specs.ListModes.{HasReturned}
+use Rattle.abnfg.specs.declared.source.LineSource.{LineSource}
+use Rattle.ruletable.proofs.AppendsLemmas.{Appends-same}
 use Rattle.abnfg.proofs.lines.write_asked.Goals as goal
 
-pub returns-in-All-clause-lines : goal.returns-in-All-clause-lines
-returns-in-All-clause-lines g c =
+pub returns-in-Ok-Some-clause-lines : goal.returns-in-Ok-Some-clause-lines
+returns-in-Ok-Some-clause-lines g c =
     let s = c.args.settings.now in
     let rules = rules_of c.args.grammar.now.rules in
     let id = c.args.grammar.now.judged in
-    subst (λ (m : ListMode). AreWritten (FirstIn m s.edges s.letters (end_of s.nul) s.limit rules id)
-    (WholeIn m s.edges s.letters (end_of s.nul) s.limit rules id) (record_text s.letters (end_of s.nul)) s.count
-    (g.O.Sink.contents c.args.out.now) (g.O.Sink.contents c.write_derived.new.out) c.write_derived.result)
-    (sym c.in-All.is) c.write_derived.ensures.lines
+    c.write_lines.ensures.lines rules id
+    (subst (λ (o : Option LineSource). IfSome o (λ source. HasReturned s rules id source [])) c.in-Ok-Some.field-0-is
+    c.in-Ok-Some.ensures)
 
-pub returns-in-Miss-clause-lines : goal.returns-in-Miss-clause-lines
-returns-in-Miss-clause-lines g c =
-    let s = c.args.settings.now in
-    let rules = rules_of c.args.grammar.now.rules in
-    let id = c.args.grammar.now.judged in
-    subst (λ (m : ListMode). AreWritten (FirstIn m s.edges s.letters (end_of s.nul) s.limit rules id)
-    (WholeIn m s.edges s.letters (end_of s.nul) s.limit rules id) (record_text s.letters (end_of s.nul)) s.count
-    (g.O.Sink.contents c.args.out.now) (g.O.Sink.contents c.write_refused.new.out) c.write_refused.result)
-    (sym c.in-Miss.is) c.write_refused.ensures.lines
+pub returns-in-Ok-None-clause-lines : goal.returns-in-Ok-None-clause-lines
+returns-in-Ok-None-clause-lines g c =
+    let s = c.args.settings.now in (
+      [],
+      none_first s (rules_of c.args.grammar.now.rules) c.args.grammar.now.judged s.mode,
+      omega arith,
+      Appends-same (g.O.Sink.contents c.args.out.now),
+    )
 
-pub returns-in-Random-clause-lines : goal.returns-in-Random-clause-lines
-returns-in-Random-clause-lines g c =
-    let s = c.args.settings.now in
-    let rules = rules_of c.args.grammar.now.rules in
-    let id = c.args.grammar.now.judged in
-    subst (λ (m : ListMode). AreWritten (FirstIn m s.edges s.letters (end_of s.nul) s.limit rules id)
-    (WholeIn m s.edges s.letters (end_of s.nul) s.limit rules id) (record_text s.letters (end_of s.nul)) s.count
-    (g.O.Sink.contents c.args.out.now) (g.O.Sink.contents c.write_random.new.out) c.write_random.result)
-    (sym c.in-Random.is) c.write_random.ensures.lines
+pub returns-in-Err-clause-lines : goal.returns-in-Err-clause-lines
+returns-in-Err-clause-lines g c =
+    let s = c.args.settings.now in (
+      [],
+      none_first s (rules_of c.args.grammar.now.rules) c.args.grammar.now.judged s.mode,
+      omega arith,
+      Appends-same (g.O.Sink.contents c.args.out.now),
+    )

@@ -1,13 +1,14 @@
-use Rattle.std.proofs.Common.{◌≡◌, false}
-use Rattle.abnfg.proofs.ListedLinesLemmas.{IsUpTo}
+use Rattle.std.proofs.Common.{◌≡◌, ℕ, List, [], false}
+use Rattle.abnfread.specs.Element.{Rule}
+use Rattle.abnfg.proofs.WrittenLinesLemmas.{AreWrittenTo}
 use Rattle.abnfg.specs.ListedLines.{end_of, record_text}
-use Rattle.rulelines.specs.LineSets.{IsLineIn}
+use Rattle.abnfg.specs.ListModes.{HasReturned}
 use Rattle.abnfg.proofs.lines.write_lines.Given as goal
 
 abbrev pub invariant-loop-done : goal.invariant-loop-done
 invariant-loop-done g l = record {
-  same : l.lines ≡ l.fn.lines;
-  listed : IsUpTo (IsLineIn l.fn.lines) (record_text l.settings.letters (end_of l.settings.nul)) l.done l.last.items
-      (g.O.Sink.contents l.fn.out) (g.O.Sink.contents l.out);
+  written : (rules : List Rule) (id : ℕ) → HasReturned l.settings rules id l.fn.source []
+      → AreWrittenTo (record_text l.settings.letters (end_of l.settings.nul))
+      (HasReturned l.settings rules id l.source) l.done (g.O.Sink.contents l.fn.out) (g.O.Sink.contents l.out);
   fresh : g.O.Sink.failed l.out ≡ false;
 }

@@ -1,18 +1,17 @@
-use Rattle.std.proofs.Common.{ℕ, List, refl, subst, sym}
-use Rattle.rulelines.specs.LineSets.{IsLineIn}
-use Rattle.abnfg.proofs.ListedLinesLemmas.{record_next}
-use Rattle.abnfg.specs.ListedLines.{AreListed, end_of, IsRecordWritten, record_text}
+-- The next line was written, or there is none.
+use Rattle.std.proofs.Common.{List, subst, ℕ}
+use Rattle.abnfg.proofs.WrittenLinesLemmas.{record_next}
+use Rattle.abnfg.specs.ListedLines.{IsRecordWritten, end_of, record_text}
+use Rattle.abnfg.specs.ListModes.{AreWholeAsked, HasReturned}
 use Rattle.abnfg.proofs.lines.write_next.Goals as goal
 
 pub returns-in-Ok-clause-next : goal.returns-in-Ok-clause-next
-returns-in-Ok-clause-next g c = λ ws l.
-    record_next (IsLineIn c.args.lines.now)
-    (record_text c.args.settings.now.letters (end_of c.args.settings.now.nul)) ws
-    c.args.done c.args.last.now.items c.in-Ok.line.items (g.O.Sink.contents c.args.out.now)
-    (g.O.Sink.contents c.write_record-written.new.out) l c.in-Ok.line
-    (c.in-Ok.ensures.next ws (subst (λ (v : List ℕ). AreListed (IsLineIn c.args.lines.now) c.args.done v ws)
-    (sym c.deref.ensures.value) l)) refl c.write_record-written.result
-    (subst (λ (v : List ℕ). IsRecordWritten (record_text c.args.settings.now.letters
-    (end_of c.args.settings.now.nul)) v (g.O.Sink.contents c.args.out.now)
-    (g.O.Sink.contents c.write_record-written.new.out) c.write_record-written.result) c.deref-in-Ok.ensures.value
-    c.write_record-written.ensures.next)
+returns-in-Ok-clause-next g c = λ rules id ws before count.
+    let s = c.args.settings.now in
+    let text_of = record_text s.letters (end_of s.nul) in
+    let old = g.O.Sink.contents c.args.out.now in
+    let new = g.O.Sink.contents c.write_record.new.out in
+    record_next text_of (HasReturned s rules id c.next_line.new.source) (AreWholeAsked s rules id) ws c.in-Ok.line.items
+    old new (c.in-Ok.ensures s rules id ws before count) c.write_record.result
+    (subst (λ (v : List ℕ). IsRecordWritten text_of v old new c.write_record.result) c.deref.ensures.value
+    c.write_record.ensures.next)
