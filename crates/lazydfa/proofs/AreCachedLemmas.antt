@@ -11,6 +11,7 @@ use Rattle.std.proofs.lemmas.Option.{slice_get_within}
 use Rattle.std.proofs.Math.ListN.{set}
 use Rattle.std.specs.Prelude.{slice_get, Some, Contains}
 use Rattle.flatgrammar.specs.Flat.{Dot}
+use Rattle.flatgrammar.specs.NodeSteps.{flat_of}
 use Rattle.flatgrammar.specs.declared.tables.Tables as code_flat
 use Rattle.flatgrammar.proofs.InlinedLemmas.{set_same, set_other}
 use Rattle.flatgrammar.proofs.SliceGetLemmas.{push_cases}
@@ -22,6 +23,7 @@ use Rattle.lazydfa.specs.Conts.{stack_of, AreKept, IsStackOf, GoesOn, here, on, 
 use Rattle.lazydfa.specs.Conts.{TopReads}
 use Rattle.lazydfa.specs.Cached.{IsStart, AreGrown, IsStateOf, IsInterned, IsStep, IsPush, IsCell, AreCached}
 use Rattle.lazydfa.specs.Cached.{AreAddedUnknown}
+use Rattle.lazydfa.specs.Domination.{Dominates, IsPruned, LeadsTo}
 use Rattle.lazydfa.specs.StackSuffixes.{IsSplitOff}
 use Rattle.lazydfa.proofs.ContsLemmas.{kept_stack, kept_within, kept_same, kept_both}
 use Rattle.lazydfa.proofs.IsClosureLemmas.{stands_at}
@@ -108,6 +110,35 @@ transition_kept tables c first first_new conts conts_new tops next ended kept mo
   );
 }
 
+pub pruned_kept : (tables : code_flat.Tables) (old new : List Cont) (all kept : List ℕ) → AreKept old new
+    → ((id : ℕ) → Contains all id → id ≤ length old) → IsPruned tables old all kept → IsPruned tables new all kept
+pruned_kept tables old new all kept grown within h = record {
+  only = h.only;
+  rest = λ id stands.
+      let r = h.rest id stands in (
+        r.0,
+        r.1,
+        subst (λ v. Dominates (flat_of tables) v (stack_of new id))
+            (sym (kept_stack old new grown r.0 (within r.0 (h.only r.0 r.1))))
+            (subst (λ v. Dominates (flat_of tables) (stack_of old r.0) v)
+            (sym (kept_stack old new grown id (within id stands))) r.2),
+      );
+}
+
+pub leads_within : {tables : code_flat.Tables} {c : ℕ} {first conts : List Cont} {tops next : List ℕ} {ended : Bool}
+    → LeadsTo tables c first tops conts next ended → (id : ℕ) → Contains next id → id ≤ length conts
+leads_within h id stands = h.is.within id (h.pruned.only id stands)
+
+pub leads_kept : (tables : code_flat.Tables) (c : ℕ) (first first_new conts conts_new : List Cont)
+    (tops next : List ℕ) (ended : Bool) → AreKept first first_new → AreKept conts conts_new
+    → ((id : ℕ) → Contains tops id → id ≤ length first) → LeadsTo tables c first tops conts next ended
+    → LeadsTo tables c first_new tops conts_new next ended
+leads_kept tables c first first_new conts conts_new tops next ended kept more within h = record {
+  read = h.read;
+  is = transition_kept tables c first first_new conts conts_new tops h.read ended kept more within h.is;
+  pruned = pruned_kept tables conts conts_new h.read next more h.is.within h.pruned;
+}
+
 pub start_kept : (tables : code_flat.Tables) (old new : List Cont) (tops : List ℕ) (ended : Bool) → AreKept old new
     → IsStart tables old tops ended → IsStart tables new tops ended
 start_kept tables old new tops ended kept t = record {
@@ -150,7 +181,7 @@ cell_kept tables d old new states more s (To t) kept grown within h = record {
   to = h.to;
   from_is = grown_at states more grown s h.from h.from_is;
   to_is = grown_at states more grown t h.to h.to_is;
-  is = transition_kept tables d old new old new h.from.tops.items h.to.tops.items h.to.ended kept kept
+  is = leads_kept tables d old new old new h.from.tops.items h.to.tops.items h.to.ended kept kept
       (within s h.from h.from_is) h.is;
   some = (
     h.some.0,
@@ -163,13 +194,13 @@ cell_kept tables d old new states more s (Push t suffix) kept grown within h = r
   read = h.read;
   from_is = grown_at states more grown s h.from h.from_is;
   to_is = grown_at states more grown t h.to h.to_is;
-  is = transition_kept tables d old new old new h.from.tops.items h.read false kept kept (within s h.from h.from_is)
+  is = leads_kept tables d old new old new h.from.tops.items h.read false kept kept (within s h.from h.from_is)
       h.is;
   some = (
     h.some.0,
     reads_on old new kept h.from.tops.items (within s h.from h.from_is) tables d h.some.0 h.some.1,
   );
-  split = split_kept tables old new h.read h.to.tops.items suffix kept h.is.within h.split;
+  split = split_kept tables old new h.read h.to.tops.items suffix kept (leads_within h.is) h.split;
   runs = h.runs;
 }
 
@@ -361,7 +392,7 @@ module _ (tables : code_flat.Tables) (conts mid apart new : List Cont) (states m
     (within : (id : ℕ) → Contains from.tops.items id → id ≤ length conts) (kept : AreKept conts mid)
     (moved : AreKept mid apart) (same : new ≡ apart) (interned : IsInterned states more base false t)
     (at_s : slice_get states s ≡ Some from) (tops_are : tops ≡ from.tops.items) (runs : ended ≡ false)
-    (is : IsTransition tables v conts tops mid read ended) (split : IsSplitOff tables apart read base suffix) where
+    (is : LeadsTo tables v conts tops mid read ended) (split : IsSplitOff tables apart read base suffix) where
   both_kept : AreKept conts apart
   both_kept = kept_both conts mid apart kept moved
 
@@ -375,9 +406,9 @@ module _ (tables : code_flat.Tables) (conts mid apart new : List Cont) (states m
         read = read;
         from_is = grown_at states more interned.grown s from at_s;
         to_is = interned.is.is;
-        is = transition_kept tables v conts apart mid apart from.tops.items read false both_kept moved within
-            (subst (λ w. IsTransition tables v conts w mid read false) tops_are
-            (subst (λ w. IsTransition tables v conts tops mid read w) runs is));
+        is = leads_kept tables v conts apart mid apart from.tops.items read false both_kept moved within
+            (subst (λ w. LeadsTo tables v conts w mid read false) tops_are
+            (subst (λ w. LeadsTo tables v conts tops mid read w) runs is));
         some = (
           some.0,
           reads_on conts apart both_kept from.tops.items within tables v some.0
@@ -393,11 +424,11 @@ module _ (tables : code_flat.Tables) (samples : List ℕ) (conts mid new : List 
     (cached : AreCached tables samples conts states cells) (kept : AreKept conts mid) (same : new ≡ mid)
     (interned : IsInterned states more next ended t) (unknown : AreAddedUnknown cells filled)
     (at_s : slice_get states s ≡ Some from) (tops_are : tops ≡ from.tops.items)
-    (is : IsTransition tables v conts tops mid next ended) where
+    (is : LeadsTo tables v conts tops mid next ended) where
   pub led_cached : AreCached tables samples new more filled
   led_cached =
       grown_cached tables samples conts mid new states more cells filled from next ended s t cached kept same interned
-      unknown at_s is.within
+      unknown at_s (leads_within is)
 
   pub led_step : (stack : List Dot) × ReadsFrom tables v conts tops stack → (d : ℕ) → v ≡ d
       → IsStep tables d new more s t
@@ -407,12 +438,12 @@ module _ (tables : code_flat.Tables) (samples : List ℕ) (conts mid new : List 
         to = interned.is.state;
         from_is = grown_at states more interned.grown s from at_s;
         to_is = interned.is.is;
-        is = transition_kept tables v conts mid mid mid from.tops.items interned.is.state.tops.items
+        is = leads_kept tables v conts mid mid mid from.tops.items interned.is.state.tops.items
             interned.is.state.ended kept (kept_same mid) (cached.within s from at_s)
-            (subst (λ w. IsTransition tables v conts w mid interned.is.state.tops.items interned.is.state.ended)
+            (subst (λ w. LeadsTo tables v conts w mid interned.is.state.tops.items interned.is.state.ended)
             tops_are
-            (subst (λ w. IsTransition tables v conts tops mid w interned.is.state.ended) (sym interned.is.tops_are)
-            (subst (λ w. IsTransition tables v conts tops mid next w) (sym interned.is.ended_is) is)));
+            (subst (λ w. LeadsTo tables v conts tops mid w interned.is.state.ended) (sym interned.is.tops_are)
+            (subst (λ w. LeadsTo tables v conts tops mid next w) (sym interned.is.ended_is) is)));
         some = (
           some.0,
           reads_on conts mid kept from.tops.items (cached.within s from at_s) tables v some.0

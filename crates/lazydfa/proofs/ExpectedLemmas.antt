@@ -3,7 +3,7 @@
 use Rattle.std.proofs.Common.{◌≡◌, ◌↔◌, ℕ, ◌+◌, ◌/◌, true, List, [], ◌∷◌, ◌++◌, length, refl}
 use Rattle.std.proofs.Common.{sym, ◌∙◌, ap, subst, arith, inl, IsTrue}
 use Rattle.std.specs.Prelude.{slice_get, Some}
-use Rattle.flatgrammar.specs.Flat.{Flat, Dot, at}
+use Rattle.flatgrammar.specs.Flat.{Flat, Dot, at, Set, Reads}
 use Rattle.flatgrammar.specs.FlatVerdicts.{IsLastSet}
 use Rattle.flatgrammar.specs.Holds.{Holds}
 use Rattle.flatgrammar.specs.NodeSteps.{flat_of}
@@ -11,7 +11,7 @@ use Rattle.flatgrammar.specs.Positions.{In}
 use Rattle.flatgrammar.specs.TableViews.{GiveTargets}
 use Rattle.flatgrammar.specs.declared.closure.DottedRule.{DottedRule}
 use Rattle.flatgrammar.specs.declared.tables.Tables as code_flat
-use Rattle.letterclasses.specs.Stacks.{AreUncounted, IsPlain, IsReading, reading, Lifted}
+use Rattle.letterclasses.specs.Stacks.{AreUncounted, IsReading, reading, Lifted}
 use Rattle.letterclasses.proofs.StacksLemmas.{accepted_holds, holds_accepted, reached_item, item_reached, top_held}
 use Rattle.letterclasses.proofs.StacksLemmas.{reader_reached}
 use Rattle.lazydfa.specs.declared.cache.State.{State}
@@ -19,12 +19,14 @@ use Rattle.lazydfa.specs.declared.glide.Track.{Track}
 use Rattle.lazydfa.specs.declared.memo.Memo.{Memo}
 use Rattle.lazydfa.specs.Cached.{IsAt}
 use Rattle.lazydfa.specs.Conts.{last_of, AreTopsOf, IsStackOf}
+use Rattle.lazydfa.specs.Domination.{Dominates, IsCovered, IsPlainCover}
+use Rattle.lazydfa.proofs.DominatesLemmas.{same_reader}
 use Rattle.lazydfa.specs.ExpectedSets.{AreReadersAt, IsExpected}
 use Rattle.lazydfa.specs.Memos.{IsRunStop}
 use Rattle.lazydfa.specs.RunVerdicts.{IsOne}
 use Rattle.lazydfa.specs.StackSuffixes.{below_of}
 use Rattle.lazydfa.specs.declared.expected.Expected.{Expected}
-use Rattle.lazydfa.proofs.IsAtLemmas.{plain_closure}
+use Rattle.lazydfa.proofs.IsAtLemmas.{plain_cover}
 use Rattle.lazydfa.proofs.IsOverLemmas.{plain_below}
 use Rattle.lazydfa.proofs.IsTrackLemmas.{row_state}
 use Rattle.lazydfa.proofs.MoveLemmas.{marks_last}
@@ -50,13 +52,13 @@ module _ (tables : code_flat.Tables) (targets : GiveTargets (flat_of tables) tab
   none_below =
       plain_below memo.cache.conts.items.items memo.suffixes.items at_stop.state.ended is.tracks.runs.plain
 
-  plain_stop : IsPlain (flat_of tables) (last_of tables) x stop.at
+  plain_stop : IsPlainCover (flat_of tables) (last_of tables) x stop.at
       (IsStackOf memo.cache.conts.items.items at_stop.state.tops.items)
       (below_of memo.cache.conts.items.items memo.suffixes.items)
   plain_stop =
-      plain_closure (flat_of tables) (last_of tables) x stop.at
+      plain_cover (flat_of tables) (last_of tables) x stop.at
       (IsStackOf memo.cache.conts.items.items at_stop.state.tops.items) at_stop.state.ended
-      (below_of memo.cache.conts.items.items memo.suffixes.items) none_below at_stop.closure
+      (below_of memo.cache.conts.items.items memo.suffixes.items) none_below at_stop.cover
 
   last_set : IsLastSet (flat_of tables) x stop.at
   last_set = record {
@@ -72,8 +74,8 @@ module _ (tables : code_flat.Tables) (targets : GiveTargets (flat_of tables) tab
   end_held : (at_stop.state.ended ≡ true) ↔ Holds (flat_of tables) x stop.at (at (flat_of tables).start 1) 0
   end_held = (
     λ ended. accepted_holds (flat_of tables) uncounted x (last_of tables) (marks_last tables targets) one.0 one.1
-        (at_stop.closure.accepts.1 (ended, inl (none_below ended))),
-    λ held. (at_stop.closure.accepts.0
+        (at_stop.cover.accepts.1 (ended, inl (none_below ended))),
+    λ held. (at_stop.cover.accepts.0
         (holds_accepted (flat_of tables) uncounted x (last_of tables) (marks_last tables targets) one.0 one.1 held)).0,
   )
 
@@ -89,22 +91,26 @@ module _ (tables : code_flat.Tables) (targets : GiveTargets (flat_of tables) tab
         (reads_above (flat_of tables) (at s.node s.step) t.2 (t.2 ++ below) (plain_stop.all_read _ top))).1
         (record { top = at s.node s.step ∷ t.2; is = top; stack_is = refl }))
 
-    lifted_in : (s : DottedRule) (below : List Dot)
-        → Lifted (IsStackOf memo.cache.conts.items.items at_stop.state.tops.items)
-        (below_of memo.cache.conts.items.items memo.suffixes.items) (at s.node s.step ∷ below) → In s dots
-    lifted_in s below l =
+    covered_in : (s : DottedRule) (below : List Dot) {set : Set} {r : Dot}
+        → Reads (flat_of tables) (at s.node s.step) set r
+        → IsCovered (flat_of tables) (Lifted (IsStackOf memo.cache.conts.items.items at_stop.state.tops.items)
+        (below_of memo.cache.conts.items.items memo.suffixes.items)) (at s.node s.step ∷ below) → In s dots
+    covered_in s below rd c =
+        let under = below_of memo.cache.conts.items.items memo.suffixes.items in
+        let l = c.is in
         let t = top_of (flat_of tables) l.top (plain_stop.all_read l.top l.is) in
-        let both : at s.node s.step ∷ below ≡ t.0 ∷ (t.1 ++ below_of memo.cache.conts.items.items memo.suffixes.items) =
-        l.stack_is ∙ ap (λ v. v ++ below_of memo.cache.conts.items.items memo.suffixes.items) t.2 in
-        let same : t.0 ≡ at s.node s.step = cc both in
-        are.whole s l.is.id t.1 l.is.stands (sym l.is.is ∙ (t.2 ∙ ap (λ v. v ∷ t.1) same))
+        let is : c.over ≡ t.0 ∷ (t.1 ++ under) = l.stack_is ∙ ap (λ v. v ++ under) t.2 in
+        let same = same_reader (flat_of tables) (t.1 ++ under) below
+        (subst (λ v. IsReading (flat_of tables) v) is c.reads)
+        (subst (λ v. Dominates (flat_of tables) v (at s.node s.step ∷ below)) is c.dominates) rd in
+        are.whole s l.is.id t.1 l.is.stands (sym l.is.is ∙ (t.2 ∙ ap (λ v. v ∷ t.1) same.0))
 
     readers_at : AreReadersAt (flat_of tables) x stop.at dots
     readers_at = record {
       held = dot_held;
       all = λ s i set r held rd.
           let h = reader_reached (flat_of tables) uncounted x (last_of tables) (marks_last tables targets) held rd in
-          lifted_in s h.0 ((plain_stop.reading (at s.node s.step ∷ h.0) (reading rd)).0 h.1);
+          covered_in s h.0 rd ((plain_stop.reading (at s.node s.step ∷ h.0) (reading rd)).0 h.1);
     }
 
   -- the state of the row where a run stops

@@ -17,7 +17,8 @@ use Rattle.lazydfa.specs.declared.cache.State.{State}
 use Rattle.letterclasses.specs.Stacks as st
 use Rattle.letterclasses.specs.Stacks.{IsDoneAt, Moves, Led, led, moves, Reach, Accepts, ReadBy, IsReading, reading}
 use Rattle.letterclasses.specs.Stacks.{Lifted}
-use Rattle.letterclasses.specs.Stacks.{IsStackClosure, IsPlain, AreAlike, Empties}
+use Rattle.letterclasses.specs.Stacks.{AreAlike, Empties, IsStackClosure}
+use Rattle.lazydfa.specs.Domination.{Dominates, IsCover, IsPlainCover, LeadsTo}
 use Rattle.lazydfa.specs.Conts.{stack_of, last_of, AreKept, Adds, Begun}
 use Rattle.lazydfa.specs.Conts.{IsStackOf, TopReads, GoesOn, here, on, EndsAlone}
 use Rattle.lazydfa.specs.Conts.{IsClosure, AreReaders, ReadsFrom, IsTransition}
@@ -30,10 +31,11 @@ use Rattle.letterclasses.specs.ClassBounds.{IsClassOf}
 use Rattle.lazydfa.specs.RunVerdicts.{IsReached}
 use Rattle.std.specs.Option.{option_flatten}
 use Rattle.lazydfa.proofs.AreCachedLemmas.{cached_state, cached_conts}
-use Rattle.lazydfa.proofs.MoveLemmas.{whole_begun, from_goes, to_goes, done_reported, reported_done}
+use Rattle.lazydfa.proofs.MoveLemmas.{whole_begun, from_goes, to_goes, done_reported, reported_done, marks_last}
 use Rattle.letterclasses.proofs.LiftLemmas.{rests_empty}
 use Rattle.lazydfa.proofs.ReportLemmas.{transition_next, reported_top, top_reported, to_read, from_read}
-use Rattle.letterclasses.proofs.StackClosureLemmas.{taken_by_tops, next_closure, nothing_below, not_ended, split_plain}
+use Rattle.lazydfa.proofs.IsCoverLemmas.{covered_as, exact_cover, taken_by_cover, next_cover, pruned_cover}
+use Rattle.lazydfa.proofs.IsCoverLemmas.{cover_alone, cover_running, split_cover}
 use Rattle.lazydfa.proofs.AreCachedLemmas.{stack_on, stack_off, goes_as, grown_at}
 
 pub begun_within : (tables : code_flat.Tables) (target : ℕ) (mid : List Cont) (ids read : List ℕ) (under : List Dot)
@@ -96,12 +98,15 @@ module _ (tables : code_flat.Tables) (target : ℕ) (mid conts : List Cont) (ids
             is = s.is;
           }
 
--- a closure by other words
-pub closure_as : (flat : Flat) (last : Dot → Bool) (x : List ℕ) (j : ℕ) (P Q : List Dot → Type 0) (ended : Bool)
+-- a cover by other words
+pub cover_as : (flat : Flat) (last : Dot → Bool) (x : List ℕ) (j : ℕ) (P Q : List Dot → Type 0) (ended : Bool)
     (below : List Dot) → ((s : List Dot) → P s → Q s) → ((s : List Dot) → Q s → P s)
-    → IsStackClosure flat last x j P ended below → IsStackClosure flat last x j Q ended below
-closure_as flat last x j P Q ended below to of f = record {
-  reading = λ stack r. (λ h. there stack ((f.reading stack r).0 h), λ h. (f.reading stack r).1 (back stack h));
+    → IsCover flat last x j P ended below → IsCover flat last x j Q ended below
+cover_as flat last x j P Q ended below to of f = record {
+  reading = λ stack r. (
+    λ h. covered_as flat last (λ s reads_it among. there s among) ((f.reading stack r).0 h),
+    λ h. (f.reading stack r).1 (back stack h),
+  );
   all_read = λ top h. f.all_read top (of top h);
   accepts = f.accepts;
 }
@@ -117,28 +122,31 @@ closure_as flat last x j P Q ended below to of f = record {
     back stack (inr h) = inr h
 
 -- what reads is on the tops alone
-pub plain_closure : (flat : Flat) (last : Dot → Bool) (x : List ℕ) (j : ℕ) (P : List Dot → Type 0) (ended : Bool)
-    (below : List Dot) → (ended ≡ true → below ≡ []) → IsStackClosure flat last x j P ended below
-    → IsPlain flat last x j P below
-plain_closure flat last x j P true below none f =
-    subst (λ v. IsPlain flat last x j P v) (sym (none refl))
-    (nothing_below flat last x j P true (subst (λ v. IsStackClosure flat last x j P true v) (none refl) f))
-plain_closure flat last x j P false below none f = not_ended flat last x j P below f
+pub plain_cover : (flat : Flat) (last : Dot → Bool) (x : List ℕ) (j : ℕ) (P : List Dot → Type 0) (ended : Bool)
+    (below : List Dot) → (ended ≡ true → below ≡ []) → IsCover flat last x j P ended below
+    → IsPlainCover flat last x j P below
+plain_cover flat last x j P true below none f =
+    subst (λ v. IsPlainCover flat last x j P v) (sym (none refl))
+    (cover_alone flat last x j P true (subst (λ v. IsCover flat last x j P true v) (none refl) f))
+plain_cover flat last x j P false below none f = cover_running flat last x j P below f
 
 -- what all tops stand on is below them
-pub split_closure : (flat : Flat) (last : Dot → Bool) (x : List ℕ) (j : ℕ) (P Q : List Dot → Type 0)
-    (suffix below : List Dot) → IsStackClosure flat last x j P false below
+pub cover_split : (flat : Flat) (last : Dot → Bool) (x : List ℕ) (j : ℕ) (P Q : List Dot → Type 0)
+    (suffix below : List Dot) → IsCover flat last x j P false below
     → ((top : List Dot) → P top ↔ Lifted Q suffix top) → ((top : List Dot) → Q top → IsReading flat top)
-    → IsStackClosure flat last x j Q false (suffix ++ below)
-split_closure flat last x j P Q suffix below f is reads =
-    let plain = split_plain flat last x j P Q suffix below (not_ended flat last x j P below f) is reads in
+    → IsCover flat last x j Q false (suffix ++ below)
+cover_split flat last x j P Q suffix below f is reads =
+    let plain = split_cover flat last x j P Q suffix below (cover_running flat last x j P below f) is reads in
     record {
-      reading = λ stack r. (λ h. inl ((plain.reading stack r).0 h), λ h. back stack r plain h);
+      reading = λ stack r. (
+        λ h. covered_as flat last (λ s reads_it lifted. inl lifted) ((plain.reading stack r).0 h),
+        λ h. back stack r plain h,
+      );
       all_read = reads;
       accepts = (λ a. absurd (let e = (f.accepts.0 a).0 in cc e), λ h. absurd (let e = h.0 in cc e));
     }
   where
-    back : (stack : List Dot) → IsReading flat stack → IsPlain flat last x j Q (suffix ++ below)
+    back : (stack : List Dot) → IsReading flat stack → IsPlainCover flat last x j Q (suffix ++ below)
         → Lifted Q (suffix ++ below) stack
         ⊎ ((false ≡ true) × Led flat last (λ v. suffix ++ below ≡ v) stack) → Reach flat last x j stack
     back stack r plain (inl l) = (plain.reading stack r).1 l
@@ -170,25 +178,37 @@ module _ (tables : code_flat.Tables) (targets : GiveTargets (flat_of tables) tab
         let both : Some at_j.state ≡ Some from = sym (grown_at states more grown s at_j.state at_j.is) ∙ is in
         cc both
 
-    plain_at : IsPlain (flat_of tables) (last_of tables) x j (IsStackOf new at_j.state.tops.items) below
+    plain_at : IsPlainCover (flat_of tables) (last_of tables) x j (IsStackOf new at_j.state.tops.items) below
     plain_at =
-        plain_closure (flat_of tables) (last_of tables) x j (IsStackOf new at_j.state.tops.items) at_j.state.ended below
+        plain_cover (flat_of tables) (last_of tables) x j (IsStackOf new at_j.state.tops.items) at_j.state.ended below
         plain
-        (closure_as (flat_of tables) (last_of tables) x j (IsStackOf old at_j.state.tops.items)
+        (cover_as (flat_of tables) (last_of tables) x j (IsStackOf old at_j.state.tops.items)
         (IsStackOf new at_j.state.tops.items) at_j.state.ended below
         (stack_on old new kept at_j.state.tops.items within) (stack_off old new kept at_j.state.tops.items within)
-        at_j.closure)
+        at_j.cover)
+
+    -- .. and of what the tops lead to the dominated stacks are left out
+    next_pruned : (from : State) → slice_get more s ≡ Some from → (next : List ℕ) (ended : Bool)
+        → LeadsTo tables d new from.tops.items new next ended
+        → IsCover (flat_of tables) (last_of tables) x (j + 1) (IsStackOf new next) ended below
+    next_pruned from is next ended h =
+        pruned_cover (flat_of tables) (last_of tables) x (j + 1) (IsStackOf new h.read) (IsStackOf new next) ended below
+        (next_cover (flat_of tables) (last_of tables) (marks_last tables targets) x j c d letter alike
+        (IsStackOf new at_j.state.tops.items) below plain_at (IsStackOf new h.read) ended
+        (transition_next tables targets d new at_j.state.tops.items new h.read ended
+        (subst (λ v. IsTransition tables d new v.tops.items new h.read ended) (sym (same_state from is)) h.is)))
+        (λ top t. record { id = t.id; stands = h.pruned.only t.id t.stands; is = t.is })
+        (λ top t. let r = h.pruned.rest t.id t.stands in (
+          stack_of new r.0,
+          record { id = r.0; stands = r.1; is = refl },
+          subst (λ v. Dominates (flat_of tables) (stack_of new r.0) v) (sym t.is) r.2,
+        ))
 
     pub at_next : (t : ℕ) → IsStep tables d new more s t → IsAt tables new more t x (j + 1) below
     at_next t step = record {
       state = step.to;
       is = step.to_is;
-      closure = next_closure (flat_of tables) (last_of tables) x j c d letter alike
-          (IsStackOf new at_j.state.tops.items)
-          below plain_at (IsStackOf new step.to.tops.items) step.to.ended
-          (transition_next tables targets d new at_j.state.tops.items new step.to.tops.items step.to.ended
-          (subst (λ v. IsTransition tables d new v.tops.items new step.to.tops.items step.to.ended)
-          (sym (same_state step.from step.from_is)) step.is));
+      cover = next_pruned step.from step.from_is step.to.tops.items step.to.ended step.is;
     }
 
     pub at_push : (t suffix : ℕ) → IsPush tables d new more s t suffix
@@ -196,16 +216,12 @@ module _ (tables : code_flat.Tables) (targets : GiveTargets (flat_of tables) tab
     at_push t suffix push = record {
       state = push.to;
       is = push.to_is;
-      closure = subst (λ v. IsStackClosure (flat_of tables) (last_of tables) x (j + 1)
+      cover = subst (λ v. IsCover (flat_of tables) (last_of tables) x (j + 1)
           (IsStackOf new push.to.tops.items) v
           (stack_of new suffix ++ below)) (sym push.runs)
-          (split_closure (flat_of tables) (last_of tables) x (j + 1) (IsStackOf new push.read)
+          (cover_split (flat_of tables) (last_of tables) x (j + 1) (IsStackOf new push.read)
           (IsStackOf new push.to.tops.items) (stack_of new suffix) below
-          (next_closure (flat_of tables) (last_of tables) x j c d letter alike (IsStackOf new at_j.state.tops.items)
-          below plain_at (IsStackOf new push.read) false
-          (transition_next tables targets d new at_j.state.tops.items new push.read false
-          (subst (λ v. IsTransition tables d new v.tops.items new push.read false)
-          (sym (same_state push.from push.from_is)) push.is)))
+          (next_pruned push.from push.from_is push.read false push.is)
           push.split.tops_are
           (λ top h. reported_top tables top (subst (λ v. TopReads tables v) (sym h.is)
           (push.split.all_read h.id h.stands))));
@@ -215,8 +231,8 @@ module _ (tables : code_flat.Tables) (targets : GiveTargets (flat_of tables) tab
         → (stack : List Dot) × ReadsFrom tables d new from.tops.items stack
         → IsReached (flat_of tables) (last_of tables) x (j + 1)
     next_reached from is some =
-        (taken_by_tops (flat_of tables) (last_of tables) x j c d letter alike (IsStackOf new at_j.state.tops.items)
-        below plain_at).1 (
+        (taken_by_cover (flat_of tables) (last_of tables) (marks_last tables targets) x j c d letter alike
+        (IsStackOf new at_j.state.tops.items) below plain_at).1 (
           some.0,
           to_read tables targets d new at_j.state.tops.items
               (subst (λ v. ReadsFrom tables d new v.tops.items some.0) (sym (same_state from is)) some.1),
@@ -225,9 +241,8 @@ module _ (tables : code_flat.Tables) (targets : GiveTargets (flat_of tables) tab
     pub at_dead : IsDead tables d new more s → (k : ℕ) → j < k → IsReached (flat_of tables) (last_of tables) x k → ⊥
     at_dead dead k lt a =
         let r = reach_past (flat_of tables) (last_of tables) x j a.1 lt in
-        let t = (taken_by_tops (flat_of tables) (last_of tables) x j c d letter alike
-        (IsStackOf new at_j.state.tops.items) below
-        plain_at).0 r in
+        let t = (taken_by_cover (flat_of tables) (last_of tables) (marks_last tables targets) x j c d letter alike
+        (IsStackOf new at_j.state.tops.items) below plain_at).0 r in
         dead.none t.0 (subst (λ v. ReadsFrom tables d new v.tops.items t.0) (same_state dead.from dead.from_is)
         (from_read tables targets d new at_j.state.tops.items t.1))
 
@@ -270,26 +285,22 @@ module _ (tables : code_flat.Tables) (targets : GiveTargets (flat_of tables) tab
       done = reported_done tables targets n k (slice_get tables.nodes.items n) refl e.0;
     }
 
-    pub at_start : (conts : List Cont) (states : List State) (t : ℕ) → IsStartAt tables conts states t
-        → IsAt tables conts states t x 0 []
-    at_start conts states t s = record {
-      state = s.state;
-      is = s.is;
-      closure = record {
-        reading = λ stack r. (
-          λ h. inl (record {
-            top = stack;
-            is = (s.start.tops_are stack).1 (top_reported tables r, from_reach h refl);
-            stack_is = sym (append-nil stack);
-          }),
-          λ h. back stack r h,
-        );
-        all_read = λ top h. reported_top tables top ((s.start.tops_are top).0 h).0;
-        accepts = (
-          λ a. (s.start.ended_is.1 (a.position ∷ [], from_reach a.reached refl, ends_so a.position a.done), inl refl),
-          λ h. let e = s.start.ended_is.0 h.0 in accepted_so e.0 (to_reach e.1) e.2,
-        );
-      };
+    pub start_closure : (conts : List Cont) (states : List State) (t : ℕ) (s : IsStartAt tables conts states t)
+        → IsStackClosure (flat_of tables) (last_of tables) x 0 (IsStackOf conts s.state.tops.items) s.state.ended []
+    start_closure conts states t s = record {
+      reading = λ stack r. (
+        λ h. inl (record {
+          top = stack;
+          is = (s.start.tops_are stack).1 (top_reported tables r, from_reach h refl);
+          stack_is = sym (append-nil stack);
+        }),
+        λ h. back stack r h,
+      );
+      all_read = λ top h. reported_top tables top ((s.start.tops_are top).0 h).0;
+      accepts = (
+        λ a. (s.start.ended_is.1 (a.position ∷ [], from_reach a.reached refl, ends_so a.position a.done), inl refl),
+        λ h. let e = s.start.ended_is.0 h.0 in accepted_so e.0 (to_reach e.1) e.2,
+      );
     }
       where
         back : (stack : List Dot) → IsReading (flat_of tables) stack
@@ -302,6 +313,15 @@ module _ (tables : code_flat.Tables) (targets : GiveTargets (flat_of tables) tab
         back stack r (inr h) =
             absurd (subst (λ v. TopReads tables v) (rests_empty (flat_of tables) (last_of tables) h.1)
             (top_reported tables r))
+
+    pub at_start : (conts : List Cont) (states : List State) (t : ℕ) → IsStartAt tables conts states t
+        → IsAt tables conts states t x 0 []
+    at_start conts states t s = record {
+      state = s.state;
+      is = s.is;
+      cover = exact_cover (flat_of tables) (last_of tables) x 0 (IsStackOf conts s.state.tops.items) s.state.ended []
+          (start_closure conts states t s);
+    }
 
   module _ (x : List ℕ) (old new : List Cont) (states more : List State) (kept : AreKept old new)
       (grown : AreGrown states more) (s j c k : ℕ) (below : List Dot) (at_j : IsAt tables old states s x j below)

@@ -8,8 +8,8 @@ use Rattle.flatgrammar.specs.Flat.{Dot}
 use Rattle.flatgrammar.specs.NodeSteps.{flat_of}
 use Rattle.flatgrammar.specs.TableViews.{GiveTargets}
 use Rattle.flatgrammar.specs.declared.tables.Tables as code_flat
-use Rattle.letterclasses.specs.Stacks.{IsStackClosure}
-use Rattle.letterclasses.proofs.StackClosureLemmas.{resumed_closure}
+use Rattle.lazydfa.specs.Domination.{IsCover}
+use Rattle.lazydfa.proofs.IsCoverLemmas.{resumed_cover}
 use Rattle.lazydfa.specs.declared.conts.Cont.{Cont}
 use Rattle.lazydfa.specs.declared.cache.State.{State}
 use Rattle.lazydfa.specs.declared.memo.ResumedState.{ResumedState}
@@ -19,7 +19,7 @@ use Rattle.lazydfa.specs.StackSuffixes.{PutsBack, AreSuffixes, below_onto, below
 use Rattle.lazydfa.specs.Memos.{IsResumedState, IsKnown, AreResumes, IsOver, IsSettled}
 use Rattle.lazydfa.proofs.ContsLemmas.{kept_stack, kept_within, kept_same}
 use Rattle.lazydfa.proofs.AreCachedLemmas.{stack_on, stack_off, grown_at}
-use Rattle.lazydfa.proofs.IsAtLemmas.{closure_as, at_start}
+use Rattle.lazydfa.proofs.IsAtLemmas.{cover_as, at_start}
 use Rattle.lazydfa.proofs.PutsBackLemmas.{put_back_kept, put_back_resumes}
 use Rattle.flatgrammar.proofs.SliceGetLemmas.{push_cases}
 
@@ -68,10 +68,10 @@ module _ (tables : code_flat.Tables) (old new : List Cont) (states more : List S
   at_kept s x j below a = record {
     state = a.state;
     is = grown_at states more grown s a.state a.is;
-    closure = closure_as (flat_of tables) (last_of tables) x j (IsStackOf old a.state.tops.items)
+    cover = cover_as (flat_of tables) (last_of tables) x j (IsStackOf old a.state.tops.items)
         (IsStackOf new a.state.tops.items) a.state.ended below
         (stack_on old new kept a.state.tops.items (within s a.state a.is))
-        (stack_off old new kept a.state.tops.items (within s a.state a.is)) a.closure;
+        (stack_off old new kept a.state.tops.items (within s a.state a.is)) a.cover;
   }
 
   pub resume_kept : (s suffix t : ℕ) → IsResumedState tables old states s suffix t
@@ -117,23 +117,23 @@ module _ (tables : code_flat.Tables) (old new : List Cont) (states more : List S
         sym (grown_at states more grown s over.at.state over.at.is) ∙ resumes.from_is in
         cc both
 
-    closure_now : IsStackClosure (flat_of tables) (last_of tables) x j (IsStackOf new over.at.state.tops.items)
+    cover_now : IsCover (flat_of tables) (last_of tables) x j (IsStackOf new over.at.state.tops.items)
         over.at.state.ended (below_of old suffixes)
-    closure_now =
-        closure_as (flat_of tables) (last_of tables) x j (IsStackOf old over.at.state.tops.items)
+    cover_now =
+        cover_as (flat_of tables) (last_of tables) x j (IsStackOf old over.at.state.tops.items)
         (IsStackOf new over.at.state.tops.items) over.at.state.ended (below_of old suffixes)
         (stack_on old new kept over.at.state.tops.items (within s over.at.state over.at.is))
-        (stack_off old new kept over.at.state.tops.items (within s over.at.state over.at.is)) over.at.closure
+        (stack_off old new kept over.at.state.tops.items (within s over.at.state over.at.is)) over.at.cover
 
-    closure_before : IsStackClosure (flat_of tables) (last_of tables) x j (IsStackOf new resumes.from.tops.items) true
+    cover_before : IsCover (flat_of tables) (last_of tables) x j (IsStackOf new resumes.from.tops.items) true
         (stack_of new suffix ++ below_of new older)
-    closure_before =
-        subst (λ v. IsStackClosure (flat_of tables) (last_of tables) x j (IsStackOf new resumes.from.tops.items) true v)
+    cover_before =
+        subst (λ v. IsCover (flat_of tables) (last_of tables) x j (IsStackOf new resumes.from.tops.items) true v)
         below_is
-        (subst (λ v. IsStackClosure (flat_of tables) (last_of tables) x j (IsStackOf new resumes.from.tops.items) v
+        (subst (λ v. IsCover (flat_of tables) (last_of tables) x j (IsStackOf new resumes.from.tops.items) v
         (below_of old suffixes)) (ap (λ v. v.ended) (sym same_state) ∙ ended)
-        (subst (λ v. IsStackClosure (flat_of tables) (last_of tables) x j (IsStackOf new v.tops.items) v.ended
-        (below_of old suffixes)) same_state closure_now))
+        (subst (λ v. IsCover (flat_of tables) (last_of tables) x j (IsStackOf new v.tops.items) v.ended
+        (below_of old suffixes)) same_state cover_now))
 
     pub over_resumed : IsOver tables new more older t x j
     over_resumed = record {
@@ -141,12 +141,12 @@ module _ (tables : code_flat.Tables) (old new : List Cont) (states more : List S
       at = record {
         state = resumes.to;
         is = resumes.to_is;
-        closure = resumed_closure (flat_of tables) (last_of tables) x j (IsStackOf new resumes.from.tops.items)
-            (stack_of new suffix) (below_of new older) (λ empty. suffix_in.1 (sym same_suffix ∙ empty)) closure_before
+        cover = resumed_cover (flat_of tables) (last_of tables) x j (IsStackOf new resumes.from.tops.items)
+            (stack_of new suffix) (below_of new older) (λ empty. suffix_in.1 (sym same_suffix ∙ empty)) cover_before
             (IsStackOf new resumes.to.tops.items) resumes.to.ended
             (put_back_resumes tables targets new resumes.from.tops.items suffix new resumes.to.tops.items
             resumes.to.ended
-            closure_before.all_read resumes.is);
+            cover_before.all_read resumes.is);
       };
     }
 

@@ -47,9 +47,9 @@ pub end_verdict : (tables : code_flat.Tables) (conts : List Cont) (states : List
     → IsRunVerdict (flat_of tables) (last_of tables) x (if ended then Yes else No n)
 end_verdict tables conts states s x j below at_j plain end reached n is_n true is =
     subst (λ v. Accepts (flat_of tables) (last_of tables) x v) end
-    (at_j.closure.accepts.1 (sym is, inl (plain (sym is))))
+    (at_j.cover.accepts.1 (sym is, inl (plain (sym is))))
 end_verdict tables conts states s x j below at_j plain end reached n is_n false is = (
-  λ a. let ended = (at_j.closure.accepts.0
+  λ a. let ended = (at_j.cover.accepts.0
       (subst (λ v. Accepts (flat_of tables) (last_of tables) x v) (sym end) a)).0 in
       cc (ended, is),
   record {

@@ -1,5 +1,8 @@
 pub mod ContsLemmas
 pub mod IsClosureLemmas
+pub mod DominatesLemmas
+pub mod IsCoverLemmas
+pub mod IsPrunedLemmas
 pub mod MoveLemmas
 pub mod TransitionLemmas
 pub mod ReportLemmas

@@ -1,7 +1,7 @@
 -- States of ids as lists of stacks.
 -- Serves: start, next, has_ended, is_dead.
 use Rattle.std.proofs.Common.{◌≡◌, ℕ, zero, suc, ◌≤◌, Bool, List, [], ◌∷◌, ◌++◌, length, map, refl, sym, ◌∙◌}
-use Rattle.std.proofs.Common.{ap, subst, arith, ◌↔◌, true, eqb}
+use Rattle.std.proofs.Common.{ap, subst, arith, ◌↔◌, ◌⊎◌, inl, inr, true, eqb}
 use Rattle.std.proofs.lemmas.Bool.{eqb-true}
 use Rattle.std.proofs.lemmas.List.{map-append}
 use Rattle.std.proofs.lemmas.List.Sorted.{Contains-permutation, IsPermutation-sym}
@@ -13,17 +13,37 @@ use Rattle.flatgrammar.specs.NodeSteps.{flat_of}
 use Rattle.flatgrammar.specs.TableViews.{GiveTargets}
 use Rattle.flatgrammar.specs.declared.tables.Tables as code_flat
 use Rattle.flatgrammar.proofs.CallOfLemmas.{get_map, get_unmap}
-use Rattle.letterclasses.specs.Stacks.{IsStackClosure, IsNext, Led, led, moves, LedToEnd, ReadBy}
+use Rattle.letterclasses.specs.Stacks.{IsStackClosure, IsNext, IsReading, Led, led, moves, LedToEnd, Lifted, ReadBy}
 use Rattle.lazydfa.specs.declared.conts.Cont.{Cont}
 use Rattle.lazydfa.specs.declared.cache.State.{State}
 use Rattle.lazydfa.specs.Conts.{stack_of, last_of, AreKept, IsStackOf, IsTransition}
-use Rattle.lazydfa.specs.Cached.{AreGrown, IsAt, IsInterned, IsStartAt}
+use Rattle.lazydfa.specs.Cached.{AreGrown, IsInterned, IsStartAt}
 use Rattle.lazydfa.specs.StateSets.{AreMoreStates, IsLed, IsNextState, IsStartState, state_set_of, sets_of}
 use Rattle.lazydfa.specs.StateSets.{StateSet, StateSets}
 use Rattle.lazydfa.proofs.AreCachedLemmas.{grown_at, transition_kept}
 use Rattle.lazydfa.proofs.ContsLemmas.{kept_same, kept_stack}
-use Rattle.lazydfa.proofs.IsAtLemmas.{at_start, closure_as}
+use Rattle.lazydfa.proofs.IsAtLemmas.{start_closure}
 use Rattle.lazydfa.proofs.ReportLemmas.{transition_next}
+
+-- a closure by other words
+pub closure_as : (flat : Flat) (last : Dot → Bool) (x : List ℕ) (j : ℕ) (P Q : List Dot → Type 0) (ended : Bool)
+    (below : List Dot) → ((s : List Dot) → P s → Q s) → ((s : List Dot) → Q s → P s)
+    → IsStackClosure flat last x j P ended below → IsStackClosure flat last x j Q ended below
+closure_as flat last x j P Q ended below to of f = record {
+  reading = λ stack r. (λ h. there stack ((f.reading stack r).0 h), λ h. (f.reading stack r).1 (back stack h));
+  all_read = λ top h. f.all_read top (of top h);
+  accepts = f.accepts;
+}
+  where
+    there : (stack : List Dot) → Lifted P below stack ⊎ ((ended ≡ true) × Led flat last (λ v. below ≡ v) stack)
+        → Lifted Q below stack ⊎ ((ended ≡ true) × Led flat last (λ v. below ≡ v) stack)
+    there stack (inl h) = inl (record { top = h.top; is = to h.top h.is; stack_is = h.stack_is })
+    there stack (inr h) = inr h
+
+    back : (stack : List Dot) → Lifted Q below stack ⊎ ((ended ≡ true) × Led flat last (λ v. below ≡ v) stack)
+        → Lifted P below stack ⊎ ((ended ≡ true) × Led flat last (λ v. below ≡ v) stack)
+    back stack (inl h) = inl (record { top = h.top; is = of h.top h.is; stack_is = h.stack_is })
+    back stack (inr h) = inr h
 
 pub contained_at : {A : Type 0} (xs : List A) (k : ℕ) (x : A) → slice_get xs k ≡ Some x → Contains xs x
 contained_at [] k x is = absurd (cc is)
@@ -132,17 +152,8 @@ module _ (tables : code_flat.Tables) (targets : GiveTargets (flat_of tables) tab
     is = get_map (state_set_of conts) states t s.is;
     closure = λ x. closure_as (flat_of tables) (last_of tables) x 0 (IsStackOf conts s.state.tops.items)
         (Contains (map (stack_of conts) s.state.tops.items)) s.state.ended [] (to_list conts s.state.tops.items)
-        (from_list conts s.state.tops.items) (first x (at_start tables targets x conts states t s));
+        (from_list conts s.state.tops.items) (start_closure tables targets x conts states t s);
   }
-    where
-      first : (x : List ℕ) (a : IsAt tables conts states t x 0 [])
-          → IsStackClosure (flat_of tables) (last_of tables) x 0
-          (IsStackOf conts s.state.tops.items) s.state.ended []
-      first x a =
-          let same : a.state ≡ s.state = cc (a.is, s.is) in
-          subst (λ v. IsStackClosure (flat_of tables) (last_of tables) x 0 (IsStackOf conts v.tops.items) v.ended [])
-          same
-          a.closure
 
 -- the ids of a transition in another order
 pub tops_reordered : (tables : code_flat.Tables) (c : ℕ) (first : List Cont) (tops : List ℕ) (conts : List Cont)

@@ -11,9 +11,8 @@ use Rattle.lazydfa.specs.declared.cache.Cell.{Cell}
 use Rattle.lazydfa.specs.declared.cache.Cell.TheVariants.{Unknown, Over, Dead, To, Push}
 use Rattle.lazydfa.specs.declared.cache.Cache.{Cache}
 use Rattle.flatgrammar.specs.NodeSteps.{flat_of}
-use Rattle.letterclasses.specs.Stacks.{IsStackClosure}
 use Rattle.lazydfa.specs.Conts.{last_of, AreOlder, AreKept, Begun, IsStackOf, TopReads, GoesOn, EndsAlone, ReadsFrom}
-use Rattle.lazydfa.specs.Conts.{IsTransition}
+use Rattle.lazydfa.specs.Domination.{IsCover, LeadsTo}
 use Rattle.lazydfa.specs.StackSuffixes.{IsSplitOff}
 
 -- the augmented start begins
@@ -54,7 +53,7 @@ pub record IsStep (tables : code_flat.Tables) (d : ℕ) (conts : List Cont) (sta
   pub to : State
   pub from_is : slice_get states s ≡ Some from
   pub to_is : slice_get states t ≡ Some to
-  pub is : IsTransition tables d conts from.tops.items conts to.tops.items to.ended
+  pub is : LeadsTo tables d conts from.tops.items conts to.tops.items to.ended
   pub some : (stack : List Dot) × ReadsFrom tables d conts from.tops.items stack
 
 -- .. and over a suffix that is pushed below it
@@ -65,7 +64,7 @@ pub record IsPush (tables : code_flat.Tables) (d : ℕ) (conts : List Cont) (sta
   pub read : List ℕ
   pub from_is : slice_get states s ≡ Some from
   pub to_is : slice_get states t ≡ Some to
-  pub is : IsTransition tables d conts from.tops.items conts read false
+  pub is : LeadsTo tables d conts from.tops.items conts read false
   pub some : (stack : List Dot) × ReadsFrom tables d conts from.tops.items stack
   pub split : IsSplitOff tables conts read to.tops.items suffix
   pub runs : to.ended ≡ false
@@ -113,10 +112,9 @@ pub record IsStartAt (tables : code_flat.Tables) (conts : List Cont) (states : L
   pub is : slice_get states t ≡ Some state
   pub start : IsStart tables conts state.tops.items state.ended
 
--- the number of a state that is the closure after the first j symbols, over what is below
+-- the number of a state whose stacks, over what is below, cover those that the first j symbols lead to
 pub record IsAt (tables : code_flat.Tables) (conts : List Cont) (states : List State) (s : ℕ) (x : List ℕ) (j : ℕ)
     (below : List Dot) : Type 0 where
   pub state : State
   pub is : slice_get states s ≡ Some state
-  pub closure : IsStackClosure (flat_of tables) (last_of tables) x j
-      (IsStackOf conts state.tops.items) state.ended below
+  pub cover : IsCover (flat_of tables) (last_of tables) x j (IsStackOf conts state.tops.items) state.ended below

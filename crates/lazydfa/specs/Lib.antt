@@ -1,5 +1,6 @@
 pub mod Cached
 pub mod Conts
+pub mod Domination
 pub mod ExpectedSets
 pub mod Transitions
 pub mod Memos

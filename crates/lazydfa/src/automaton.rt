@@ -104,15 +104,30 @@ pub(crate) fn are_served(tables: &Tables) -> bool
     are_uncounted(tables) && is_one(tables)
 }
 
-/// Returns a memo with no state and no resumed state, of a grammar of so many nodes, in such a room. It takes no
-/// memory.
-pub(crate) fn empty_memo(alloc: Global, nodes: usize, room: usize) -> Memo
+// Returns whether a repetition has a greatest number.
+fn counts_repetitions(tables: &Tables) -> bool {
+    for node in &tables.nodes {
+        if let Node::Rep {
+            least: _,
+            most: Some(_),
+            operand: _,
+        } = node
+        {
+            return true;
+        }
+    }
+    false
+}
+
+/// Returns a memo of a grammar with no state and no resumed state, in such a room. It takes no memory.
+pub(crate) fn empty_memo(alloc: Global, tables: &Tables, room: usize) -> Memo
     ensures conts { result.cache.conts.items.items ≡ [] }
     ensures states { result.cache.states.items ≡ [] }
     ensures cells { result.cache.cells.items ≡ [] }
     ensures transitions { result.transitions.items ≡ [] }
     ensures resumes { result.resumes.items ≡ [] }
 {
+    let nodes = tables.nodes.len();
     let most = nodes.saturating_mul(4).saturating_add(16_384);
     Memo {
         cache: Cache {
@@ -128,6 +143,7 @@ pub(crate) fn empty_memo(alloc: Global, nodes: usize, room: usize) -> Memo
             states: Vec::new(alloc),
             chains: HashChains::new(alloc),
             cells: Vec::new(alloc),
+            counts: counts_repetitions(tables),
             budget: Budget::of(nodes, room),
         },
         transitions: Vec::new(alloc),
@@ -159,7 +175,7 @@ impl Automaton {
             return Ok(None);
         }
         let classes = find_classes(alloc, &tables)?;
-        let memo = empty_memo(alloc, tables.nodes.len(), room);
+        let memo = empty_memo(alloc, &tables, room);
         Ok(Some(Automaton {
             alloc,
             tables,

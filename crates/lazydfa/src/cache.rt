@@ -55,6 +55,8 @@ pub(crate) struct Cache {
     pub(crate) chains: HashChains,
     /// The transitions, by state and class.
     pub(crate) cells: Vec<Cell>,
+    /// Whether the grammar has a repetition with a greatest number.
+    pub(crate) counts: bool,
     /// How much more may be filled.
     pub(crate) budget: Budget,
 }

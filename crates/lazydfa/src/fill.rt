@@ -6,6 +6,7 @@ ghost use Rattle.lazydfa.specs.Conts.{AreKept, AreOlder};
 ghost use Rattle.lazydfa.specs.Cached.{IsCache, IsCell, Grows};
 
 use crate::cache::{Cache, Cell, any_reads, state_of};
+use crate::prune::prune;
 use crate::suffixes::split_off;
 use crate::transition::{Closure, transition};
 use flatgrammar::Tables;
@@ -85,7 +86,8 @@ fn lead(
     let Some(closure) = reported else {
         return Ok(Cell::Over);
     };
-    if let Some(split) = split_off(alloc, tables, &mut cache.conts, &closure)? {
+    let kept = prune(alloc, tables, &cache.conts, cache.counts, closure)?;
+    if let Some(split) = split_off(alloc, tables, &mut cache.conts, &kept)? {
         let base = Closure {
             tops: split.tops,
             ended: false,
@@ -93,7 +95,7 @@ fn lead(
         let t = state_of(cache, samples.len(), base)?;
         return Ok(Cell::Push(t, split.suffix));
     }
-    let t = state_of(cache, samples.len(), closure)?;
+    let t = state_of(cache, samples.len(), kept)?;
     Ok(Cell::To(t))
 }
 

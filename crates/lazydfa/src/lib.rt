@@ -11,6 +11,7 @@ mod expected;
 mod fill;
 mod glide;
 mod memo;
+mod prune;
 mod run;
 mod spines;
 mod states;

@@ -101,7 +101,7 @@ impl States {
         if !are_served(&tables) {
             return Ok(None);
         }
-        let memo = empty_memo(alloc, tables.nodes.len(), room);
+        let memo = empty_memo(alloc, &tables, room);
         Ok(Some(States {
             alloc,
             tables,

@@ -4,7 +4,8 @@ use Rattle.std.proofs.lemmas.Option.{slice_get-get_or, get_or_from_slice_get}
 use Rattle.lazydfa.specs.Conts.{AreKept, IsTransition, ReadsFrom}
 use Rattle.lazydfa.specs.StackSuffixes.{IsSplitOff}
 use Rattle.lazydfa.proofs.ContsLemmas.{kept_both, kept_same}
-use Rattle.lazydfa.proofs.AreCachedLemmas.{cached_conts, grown_cached, led_cached, led_step, led_push, transition_kept}
+use Rattle.lazydfa.proofs.AreCachedLemmas.{cached_conts, grown_cached, led_cached, led_step, led_push, leads_kept}
+use Rattle.lazydfa.proofs.IsPrunedLemmas.{leads_pruned}
 use Rattle.lazydfa.proofs.fill.lead.Goals as goal
 
 pub any_reads-requires-clause-within : goal.any_reads-requires-clause-within
@@ -40,13 +41,24 @@ returns-in_default-clause-cached c =
     c.transition.new.conts.items.items c.args.cache.now.states.items c.args.cache.now.cells.items
     c.in_ok-reported.ensures.kept c.requires.cached
 
-pub split_off-requires-clause-within : goal.split_off-requires-clause-within
-split_off-requires-clause-within c =
+pub prune-requires-clause-within : goal.prune-requires-clause-within
+prune-requires-clause-within c =
     let reported = (subst (λ v. IfSome v (λ closure. IsTransition c.args.tables.now
     (get_or c.args.samples.now c.args.class 0) c.args.cache.now.conts.items.items
     c.as_slice-tops.result.now c.transition.new.conts.items.items closure.tops.items closure.ended)) c.in-Some.is
     c.in_ok-reported.ensures.is) in
     reported.within
+
+pub prune-requires-clause-older : goal.prune-requires-clause-older
+prune-requires-clause-older c = c.in_ok-reported.ensures.kept.older c.requires.cached.older
+
+pub split_off-requires-clause-within : goal.split_off-requires-clause-within
+split_off-requires-clause-within c = λ id h.
+    let reported = (subst (λ v. IfSome v (λ closure. IsTransition c.args.tables.now
+    (get_or c.args.samples.now c.args.class 0) c.args.cache.now.conts.items.items
+    c.as_slice-tops.result.now c.transition.new.conts.items.items closure.tops.items closure.ended)) c.in-Some.is
+    c.in_ok-reported.ensures.is) in
+    reported.within id (c.in_ok-kept.ensures.kept.only id h)
 
 pub split_off-requires-clause-older : goal.split_off-requires-clause-older
 split_off-requires-clause-older c = c.in_ok-reported.ensures.kept.older c.requires.cached.older
@@ -54,7 +66,7 @@ split_off-requires-clause-older c = c.in_ok-reported.ensures.kept.older c.requir
 pub returns-in-Some-2-clause-cached : goal.returns-in-Some-2-clause-cached
 returns-in-Some-2-clause-cached c =
     let split = (subst (λ v. IfSome v (λ split. IsSplitOff c.args.tables.now c.split_off.new.conts.items.items
-    c.in-Some.closure.tops.items split.tops.items split.suffix)) c.in-Some-2.is c.in_ok-split.ensures.is) in
+    c.in_ok-kept.kept.tops.items split.tops.items split.suffix)) c.in-Some-2.is c.in_ok-split.ensures.is) in
     grown_cached c.args.tables.now c.args.samples.now c.args.cache.now.conts.items.items
     c.split_off.new.conts.items.items c.state_of.new.cache.conts.items.items c.args.cache.now.states.items
     c.state_of.new.cache.states.items c.args.cache.now.cells.items c.state_of.new.cache.cells.items
@@ -79,8 +91,8 @@ pub returns-in-Some-2-clause-is : goal.returns-in-Some-2-clause-is
 returns-in-Some-2-clause-is c = λ d sample.
     led_push c.args.tables.now c.args.cache.now.conts.items.items c.transition.new.conts.items.items
     c.split_off.new.conts.items.items c.state_of.new.cache.conts.items.items c.args.cache.now.states.items
-    c.state_of.new.cache.states.items c.index.result.now c.as_slice-tops.result.now c.in-Some.closure.tops.items
-    c.in-Some-2.split.tops.items c.in-Some.closure.ended c.args.state c.in_ok-t.t
+    c.state_of.new.cache.states.items c.index.result.now c.as_slice-tops.result.now c.in_ok-kept.kept.tops.items
+    c.in-Some-2.split.tops.items c.in_ok-kept.kept.ended c.args.state c.in_ok-t.t
     (get_or c.args.samples.now c.args.class 0)
     c.in-Some-2.split.suffix (c.requires.cached.within c.args.state c.index.result.now
     (slice_get-get_or c.args.cache.now.states.items c.args.state c.index.result.now
@@ -92,13 +104,17 @@ returns-in-Some-2-clause-is c = λ d sample.
     (let l = c.len.ensures in let t = c.if-state-len.false in omega (arith, l, t))
     ∙ ap (λ v. Some v) (sym c.index.ensures))
     c.as_slice-tops.ensures.value
-    (subst (λ v. IfSome v (λ split. c.in-Some.closure.ended ≡ false)) c.in-Some-2.is c.in_ok-split.ensures.running)
+    (subst (λ v. IfSome v (λ split. c.in_ok-kept.kept.ended ≡ false)) c.in-Some-2.is c.in_ok-split.ensures.running)
+    (leads_pruned c.args.tables.now (get_or c.args.samples.now c.args.class 0)
+    c.args.cache.now.conts.items.items c.as_slice-tops.result.now c.transition.new.conts.items.items
+    c.in-Some.closure.tops.items c.in_ok-kept.kept.tops.items c.in-Some.closure.ended c.in_ok-kept.kept.ended
     (subst (λ v. IfSome v (λ closure. IsTransition c.args.tables.now
     (get_or c.args.samples.now c.args.class 0) c.args.cache.now.conts.items.items
     c.as_slice-tops.result.now c.transition.new.conts.items.items closure.tops.items closure.ended)) c.in-Some.is
     c.in_ok-reported.ensures.is)
+    c.in_ok-kept.ensures.kept c.in_ok-kept.ensures.ended)
     (subst (λ v. IfSome v (λ split. IsSplitOff c.args.tables.now c.split_off.new.conts.items.items
-    c.in-Some.closure.tops.items split.tops.items split.suffix)) c.in-Some-2.is c.in_ok-split.ensures.is)
+    c.in_ok-kept.kept.tops.items split.tops.items split.suffix)) c.in-Some-2.is c.in_ok-split.ensures.is)
     (c.any_reads.ensures.some c.if-not-any_reads.false) d
     (get_or_from_slice_get c.args.samples.now c.args.class d 0 sample)
 
@@ -107,7 +123,7 @@ returns-clause-cached c =
     led_cached c.args.tables.now c.args.samples.now c.args.cache.now.conts.items.items
     c.split_off.new.conts.items.items c.state_of-2.new.cache.conts.items.items c.args.cache.now.states.items
     c.state_of-2.new.cache.states.items c.args.cache.now.cells.items c.state_of-2.new.cache.cells.items
-    c.index.result.now c.as_slice-tops.result.now c.in-Some.closure.tops.items c.in-Some.closure.ended c.args.state
+    c.index.result.now c.as_slice-tops.result.now c.in_ok-kept.kept.tops.items c.in_ok-kept.kept.ended c.args.state
     c.in_ok-t-2.t (get_or c.args.samples.now c.args.class 0) c.requires.cached
     (kept_both c.args.cache.now.conts.items.items c.transition.new.conts.items.items
     c.split_off.new.conts.items.items c.in_ok-reported.ensures.kept c.in_ok-split.ensures.kept)
@@ -116,19 +132,23 @@ returns-clause-cached c =
     (let l = c.len.ensures in let t = c.if-state-len.false in omega (arith, l, t))
     ∙ ap (λ v. Some v) (sym c.index.ensures))
     c.as_slice-tops.ensures.value
-    (transition_kept c.args.tables.now (get_or c.args.samples.now c.args.class 0) c.args.cache.now.conts.items.items
+    (leads_kept c.args.tables.now (get_or c.args.samples.now c.args.class 0) c.args.cache.now.conts.items.items
     c.args.cache.now.conts.items.items c.transition.new.conts.items.items c.split_off.new.conts.items.items
-    c.as_slice-tops.result.now c.in-Some.closure.tops.items c.in-Some.closure.ended
+    c.as_slice-tops.result.now c.in_ok-kept.kept.tops.items c.in_ok-kept.kept.ended
     (kept_same c.args.cache.now.conts.items.items) c.in_ok-split.ensures.kept
     (λ id h. c.requires.cached.within c.args.state c.index.result.now
     (slice_get-get_or c.args.cache.now.states.items c.args.state c.index.result.now
     (let l = c.len.ensures in let t = c.if-state-len.false in omega (arith, l, t))
     ∙ ap (λ v. Some v) (sym c.index.ensures)) id
     (subst (λ v. Contains v id) c.as_slice-tops.ensures.value h))
+    (leads_pruned c.args.tables.now (get_or c.args.samples.now c.args.class 0)
+    c.args.cache.now.conts.items.items c.as_slice-tops.result.now c.transition.new.conts.items.items
+    c.in-Some.closure.tops.items c.in_ok-kept.kept.tops.items c.in-Some.closure.ended c.in_ok-kept.kept.ended
     (subst (λ v. IfSome v (λ closure. IsTransition c.args.tables.now
     (get_or c.args.samples.now c.args.class 0) c.args.cache.now.conts.items.items
     c.as_slice-tops.result.now c.transition.new.conts.items.items closure.tops.items closure.ended)) c.in-Some.is
-    c.in_ok-reported.ensures.is))
+    c.in_ok-reported.ensures.is)
+    c.in_ok-kept.ensures.kept c.in_ok-kept.ensures.ended))
 
 pub returns-clause-grows : goal.returns-clause-grows
 returns-clause-grows c = record {
@@ -144,7 +164,7 @@ returns-clause-is c = λ d sample.
     led_step c.args.tables.now c.args.samples.now c.args.cache.now.conts.items.items
     c.split_off.new.conts.items.items c.state_of-2.new.cache.conts.items.items c.args.cache.now.states.items
     c.state_of-2.new.cache.states.items c.args.cache.now.cells.items c.state_of-2.new.cache.cells.items
-    c.index.result.now c.as_slice-tops.result.now c.in-Some.closure.tops.items c.in-Some.closure.ended c.args.state
+    c.index.result.now c.as_slice-tops.result.now c.in_ok-kept.kept.tops.items c.in_ok-kept.kept.ended c.args.state
     c.in_ok-t-2.t (get_or c.args.samples.now c.args.class 0) c.requires.cached
     (kept_both c.args.cache.now.conts.items.items c.transition.new.conts.items.items
     c.split_off.new.conts.items.items c.in_ok-reported.ensures.kept c.in_ok-split.ensures.kept)
@@ -153,18 +173,22 @@ returns-clause-is c = λ d sample.
     (let l = c.len.ensures in let t = c.if-state-len.false in omega (arith, l, t))
     ∙ ap (λ v. Some v) (sym c.index.ensures))
     c.as_slice-tops.ensures.value
-    (transition_kept c.args.tables.now (get_or c.args.samples.now c.args.class 0) c.args.cache.now.conts.items.items
+    (leads_kept c.args.tables.now (get_or c.args.samples.now c.args.class 0) c.args.cache.now.conts.items.items
     c.args.cache.now.conts.items.items c.transition.new.conts.items.items c.split_off.new.conts.items.items
-    c.as_slice-tops.result.now c.in-Some.closure.tops.items c.in-Some.closure.ended
+    c.as_slice-tops.result.now c.in_ok-kept.kept.tops.items c.in_ok-kept.kept.ended
     (kept_same c.args.cache.now.conts.items.items) c.in_ok-split.ensures.kept
     (λ id h. c.requires.cached.within c.args.state c.index.result.now
     (slice_get-get_or c.args.cache.now.states.items c.args.state c.index.result.now
     (let l = c.len.ensures in let t = c.if-state-len.false in omega (arith, l, t))
     ∙ ap (λ v. Some v) (sym c.index.ensures)) id
     (subst (λ v. Contains v id) c.as_slice-tops.ensures.value h))
+    (leads_pruned c.args.tables.now (get_or c.args.samples.now c.args.class 0)
+    c.args.cache.now.conts.items.items c.as_slice-tops.result.now c.transition.new.conts.items.items
+    c.in-Some.closure.tops.items c.in_ok-kept.kept.tops.items c.in-Some.closure.ended c.in_ok-kept.kept.ended
     (subst (λ v. IfSome v (λ closure. IsTransition c.args.tables.now
     (get_or c.args.samples.now c.args.class 0) c.args.cache.now.conts.items.items
     c.as_slice-tops.result.now c.transition.new.conts.items.items closure.tops.items closure.ended)) c.in-Some.is
-    c.in_ok-reported.ensures.is))
+    c.in_ok-reported.ensures.is)
+    c.in_ok-kept.ensures.kept c.in_ok-kept.ensures.ended))
     (c.any_reads.ensures.some c.if-not-any_reads.false) d
     (get_or_from_slice_get c.args.samples.now c.args.class d 0 sample)
