@@ -75,8 +75,8 @@ PROGRAMS = {
 }
 # The most functions that a crate has, and the crates that have more: so many each. Tests count for nothing.
 LARGEST_CRATE = 105
-# lazydfa: `States` and `expected` need what `Automaton` has, and a crate of their own would make it public.
-LARGER = {"lazydfa": 115}
+# lazydfa: `States`, `expected` and `prune` need what `Automaton` has, and a crate of their own would make it public.
+LARGER = {"lazydfa": 125}
 # The most entries that a folder has, and the folders that have more.
 LARGEST_FOLDER = 40
 WIDER = {"crates": MOST_CRATES, "docs/crates": MOST_CRATES}

@@ -1,6 +1,7 @@
 -- Tops without those that others dominate.
 -- Serves: judge, viable, expected.
-use Rattle.std.proofs.Common.{◌≡◌, ℕ, zero, suc, ◌+◌, ◌-◌, refl, ◌<◌, ◌≤◌, Bool, List, [], ◌∷◌, ◌++◌, length, reverse, sym, ◌∙◌, ap, subst}
+use Rattle.std.proofs.Common.{◌≡◌, ℕ, zero, suc, ◌+◌, ◌-◌, refl, ◌<◌, ◌≤◌, Bool, List, [], ◌∷◌, ◌++◌, length, reverse}
+use Rattle.std.proofs.Common.{sym, ◌∙◌, ap, subst}
 use Rattle.std.proofs.Common.{arith, ◌⊎◌, inl, inr}
 use Rattle.std.proofs.lemmas.Bool.{cases_lt}
 use Rattle.std.proofs.lemmas.List.Elements.{Contains-append_left, Contains-push, Contains-push_cases}
@@ -86,7 +87,8 @@ module _ (tables : code_flat.Tables) (conts : List Cont) where
     pub pruned_push : (count id : ℕ) (kept new : List ℕ) → slice_get tops count ≡ Some id → new ≡ kept ++ id ∷ []
         → ArePrunedTo count kept → ArePrunedTo (count + 1) new
     pruned_push count id kept new is grown h = record {
-      only = λ other stands. from other (Contains-push_cases kept id other (subst (λ v. Contains v other) grown stands));
+      only = λ other stands.
+          from other (Contains-push_cases kept id other (subst (λ v. Contains v other) grown stands));
       rest = λ k other lt at_k. by k other lt at_k (cases_lt k count);
     }
       where
