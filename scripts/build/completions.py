@@ -119,6 +119,7 @@ PROGRAMS = (
         Option("e", "edges", "", (), "Also list lines of mode `miss` by wrong symbols next to those that can follow"),
         Option("g", "seed", "SEED", (), "Draw lines of mode `random` by this number, from 0 to 18446744073709551615"),
         Option("u", "letters", "MODE", ("bytes", "utf8"), "Take bytes or code points of UTF-8 as symbols"),
+        Option("x", "explain", "", (), "Explain why lines of mode `miss` are rejected"),
         Option("z", "null-data", "", (), "End lines with NUL bytes in place of line feeds"),
         HELP,
         VERSION,

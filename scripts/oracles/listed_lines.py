@@ -1,6 +1,6 @@
 #!/usr/bin/env python3
 """Lists lines of each grammar of examples/ by bin/abnfg, and judges them by bin/abnfi: each is derived, also
-by lot, or with `-m miss` none is.
+by lot, or with `-m miss` none is. What `-x` explains of those is what `abnfi -x` explains.
 
 usage: listed_lines.py [-c LINES]
 
@@ -16,11 +16,27 @@ TOP = pathlib.Path(__file__).resolve().parents[2]
 BIN = TOP / "bin"
 
 
+def run(program, *words, lines=b""):
+    return subprocess.run([BIN / program, "-z", *words], input=lines, capture_output=True, check=False)
+
+
 def listed(grammar, mode, count):
     """Returns the lines of a grammar in a mode, each with its end; none if the grammar is rejected."""
-    words = [BIN / "abnfg", "-z", "-m", mode, "-c", str(count), grammar]
-    ran = subprocess.run(words, capture_output=True, check=False)
+    ran = run("abnfg", "-m", mode, "-c", str(count), grammar)
     return ran.stdout if ran.returncode in (0, 3) else b""
+
+
+def is_explained_alike(grammar):
+    """Returns whether both explain the first rejected lines alike, as many as abnfi explains."""
+    plain = run("abnfg", "-m", "miss", "-c", "16", grammar)
+    if plain.returncode != 0:
+        return True
+    ran = run("abnfg", "-x", "-m", "miss", "-c", "16", grammar)
+    why = ran.stderr[len(plain.stderr):]
+    count = sum(it.startswith(b"line ") for it in why.splitlines())
+    return (ran.stdout, ran.stderr, ran.returncode, count) == (
+        plain.stdout, plain.stderr + why, 0, plain.stdout.count(b"\0")) and run(
+        "abnfi", "-x", grammar, lines=plain.stdout).stderr.endswith(why)
 
 
 def main():
@@ -34,11 +50,14 @@ def main():
     for grammar in sorted(TOP.glob("examples/*/*.abnf")):
         for mode, verdict, status in (("all", b"yes\n", 0), ("random", b"yes\n", 0), ("miss", b"no\n", 1)):
             lines = listed(grammar, mode, count)
-            ran = subprocess.run([BIN / "abnfi", "-z", grammar], input=lines, capture_output=True, check=False)
+            ran = run("abnfi", grammar, lines=lines)
             if lines and (ran.returncode, ran.stdout) != (status, verdict * lines.count(b"\0")):
                 print(f"{grammar.relative_to(TOP)}: a line of -m {mode} has another verdict: {ran}")
                 return 1
             judged[mode] += lines.count(b"\0")
+        if not is_explained_alike(grammar):
+            print(f"{grammar.relative_to(TOP)}: a line of -m miss is explained otherwise by abnfi")
+            return 1
     print(f"{judged['all'] + judged['random']} listed lines are derived, and {judged['miss']} are not")
     return 0
 

@@ -4,3 +4,4 @@ pub mod ListAnswersLemmas
 pub mod ListWordsLemmas
 pub mod WrittenLinesLemmas
 pub mod ReturnedLinesLemmas
+pub mod RefusalsFromLemmas

@@ -17,6 +17,7 @@ unseeded_app letters modes = program_app (codes "abnfg") (rule_rule
     ∷ number_rule (codes "count") (code "c") 4294967295 (codes "1000")
     ∷ flag_rule (codes "null-data") (code "z")
     ∷ flag_rule (codes "edges") (code "e")
+    ∷ flag_rule (codes "explain") (code "x")
     ∷ grammar_rule
     ∷ letters_rule letters
     ∷ choice_rule (codes "mode") (code "m") modes (codes "all") ∷ [])

@@ -1,15 +1,23 @@
 -- What a run states of the lines that it wrote.
 -- Serves: abnfg_main (right)
-use Rattle.std.proofs.Common.{◌≡◌, ℕ, Bool, List, [], Option, inl, inr, refl, sym, ap, arith, true}
+use Rattle.std.proofs.Common.{◌≡◌, ◌∙◌, ℕ, ◌≤◌, Bool, List, [], ◌++◌, Option, inl, inr, length, refl, sym, ap, subst}
+use Rattle.std.proofs.Common.{arith, true}
+use Rattle.std.proofs.Common.{append-nil, Vec, Global}
 use Rattle.std.specs.Prelude.{Result, Ok, Err, codes}
 use Rattle.std.specs.Io.KnownBytes.{Appends}
 use Rattle.std.specs.List.{flat_map}
-use Rattle.abnfg.specs.ListedLines.{AreWritten, EndsWith, HaltEnds, LinesReply, listed, no_line, no_room, too_many}
+use Rattle.abnfg.specs.ListedLines.{AreEnough, AreWritten, EndsWith, HaltEnds, LinesReply, end_of, listed, no_line}
+use Rattle.abnfg.specs.ListedLines.{no_room, record_text, too_many}
+use Rattle.abnfg.specs.ListModes.{AreExplained, AreFirstAsked, AreWholeAsked, WithKept, explained_asked}
+use Rattle.abnfg.specs.ListRefusals.{AreRefusalsFrom}
+use Rattle.abnfg.specs.declared.lines.ListSettings.{ListSettings}
+use Rattle.abnfread.specs.Element.{Rule}
+use Rattle.rulelines.specs.MissLists.{item_lines}
 use Rattle.abnfg.specs.declared.lines.Halt.{Halt}
 use Rattle.abnfg.specs.declared.lines.Halt.TheVariants.{NoMemory as HaltsUnroomed, Nothing, TooMany}
 use Rattle.abnfg.specs.declared.lines.Halt.TheVariants.{All as Finished}
 use Rattle.ruletable.specs.declared.sink.WriteFault.{WriteFault}
-use Rattle.toolrun.specs.Reply.{without_memory}
+use Rattle.toolrun.specs.Reply.{Reply, without_memory}
 use Rattle.toolrun.specs.Status.{code_of}
 use Rattle.toolrun.specs.Stop.{message_of}
 use Rattle.toolrun.specs.Stopped.{Fulfils}
@@ -19,14 +27,26 @@ use Rattle.toolrun.specs.declared.status.Status.{Status}
 use Rattle.toolrun.specs.declared.status.Status.TheVariants.{Done, NoMatch, NoMemory as WithoutMemory, Overlong}
 use Rattle.toolrun.specs.declared.stop.Stop.TheVariants.{NoMemory}
 
-module _ (first whole : List (List ℕ) → Type 0) (text_of : List ℕ → List ℕ) (count : ℕ) (s0 s1 : Option (List ℕ))
+-- the lines that are asked for, of which some are kept
+module _ (s : ListSettings) (rules : List Rule) (id : ℕ) (kept : List (Vec ℕ Global)) (s0 s1 : Option (List ℕ))
     (was failed : Bool) where
+  abbrev text_of : List ℕ → List ℕ
+  text_of = record_text s.letters (end_of s.nul)
+
+  abbrev FirstKept : List (List ℕ) → Type 0
+  FirstKept = WithKept s kept (AreFirstAsked s rules id)
+
+  abbrev Whole : List (List ℕ) → Type 0
+  Whole = AreWholeAsked s rules id
+
+  abbrev Stated : Reply → Type 0
+  Stated = LinesReply (AreFirstAsked s rules id) Whole (AreExplained s rules id) text_of s.count
+
   abbrev pub Fulfilled : Result Ending WriteFault → Type 0
-  Fulfilled r = Fulfils (λ input. LinesReply first whole text_of count) no_input
-      (record { old = s0; new = s1; was = was; failed = failed }) r
+  Fulfilled r = Fulfils (λ input. Stated) no_input (record { old = s0; new = s1; was = was; failed = failed }) r
 
   text_fulfils : (out err : List ℕ) (status : Status) (ending : Ending)
-      → LinesReply first whole text_of count (record { out = out; err = err; status = code_of status; taken = 0 })
+      → Stated (record { out = out; err = err; status = code_of status; taken = 0 })
       → Appends s0 s1 out → EndsWith err status ending → failed ≡ was → Fulfilled (Ok ending)
   text_fulfils out err status ending states more ends flag = record {
     stopped = (
@@ -45,20 +65,39 @@ module _ (first whole : List (List ℕ) → Type 0) (text_of : List ℕ → List
     flag = flag;
   }
 
-  pub halt_fulfils : (halt : Halt) (ending : Ending) → AreWritten first whole text_of count s0 s1 (Ok halt)
-      → HaltEnds halt ending → failed ≡ was → Fulfilled (Ok ending)
-  halt_fulfils Finished ending is ends =
-      text_fulfils (flat_map text_of is.0) [] Done ending (listed is.1 is.2) is.3 ends
+  explained_as : (ws : List (List ℕ)) (text : List ℕ) → item_lines kept ≡ explained_asked s ws
+      → AreRefusalsFrom s.letters rules id 1 (item_lines kept) text → AreExplained s rules id ws text
+  explained_as ws text same why =
+      subst (λ (v : List (List ℕ)). AreRefusalsFrom s.letters rules id 1 v text) same why
+
+  enough_within : (ws : List (List ℕ)) → AreEnough Whole s.count ws → length ws ≤ s.count
+  enough_within ws (inl all) = omega (arith, all)
+  enough_within ws (inr some) = some.1
+
+  -- there is no memory to explain the lines that were written
+  unroomed_fulfils : (ws : List (List ℕ)) (ending : Ending) → FirstKept ws → length ws ≤ s.count
+      → Appends s0 s1 (flat_map text_of ws) → EndsWith (message_of NoMemory) WithoutMemory ending → failed ≡ was
+      → Fulfilled (Ok ending)
+  unroomed_fulfils ws ending first le text ends =
+      text_fulfils (flat_map text_of ws) (message_of NoMemory) WithoutMemory ending (no_room first.0 le) text ends
+
+  pub halt_fulfils : (halt : Halt) (ending : Ending) → AreWritten FirstKept Whole text_of s.count s0 s1 (Ok halt)
+      → HaltEnds (AreRefusalsFrom s.letters rules id 1 (item_lines kept)) halt ending → failed ≡ was
+      → Fulfilled (Ok ending)
+  halt_fulfils Finished ending is (inl ends) =
+      text_fulfils (flat_map text_of is.0) ends.0 Done ending
+      (listed is.1.0 is.2 (explained_as is.0 ends.0 is.1.1 ends.1)) is.3
+      (ends.2.0 ∙ append-nil ends.0, ends.2.1)
+  halt_fulfils Finished ending is (inr ends) = unroomed_fulfils is.0 ending is.1 (enough_within is.0 is.2) is.3 ends
   halt_fulfils Nothing ending is ends = text_fulfils [] [] NoMatch ending (no_line is.0) is.1 ends
   halt_fulfils TooMany ending is (inl ends) =
-      text_fulfils (flat_map text_of is.0) (codes "too many stacks\n") Overlong ending (too_many is.1 is.2) is.3 ends
-  halt_fulfils TooMany ending is (inr ends) =
-      text_fulfils (flat_map text_of is.0) (message_of NoMemory) WithoutMemory ending (no_room is.1 is.2) is.3 ends
-  halt_fulfils HaltsUnroomed ending is ends =
-      text_fulfils (flat_map text_of is.0) (message_of NoMemory) WithoutMemory ending (no_room is.1 is.2) is.3 ends
+      text_fulfils (flat_map text_of is.0) (ends.0 ++ codes "too many stacks\n") Overlong ending
+      (too_many is.1.0 is.2 (explained_as is.0 ends.0 is.1.1 ends.1)) is.3 ends.2
+  halt_fulfils TooMany ending is (inr ends) = unroomed_fulfils is.0 ending is.1 is.2 is.3 ends
+  halt_fulfils HaltsUnroomed ending is ends = unroomed_fulfils is.0 ending is.1 is.2 is.3 ends
 
-  pub cut_fulfils : (fault : WriteFault) → AreWritten first whole text_of count s0 s1 (Err fault) → failed ≡ true
-      → Fulfilled (Err fault)
+  pub cut_fulfils : (fault : WriteFault) → AreWritten FirstKept Whole text_of s.count s0 s1 (Err fault)
+      → failed ≡ true → Fulfilled (Err fault)
   cut_fulfils fault is flag = record {
     stopped = (
       [],
@@ -67,7 +106,7 @@ module _ (first whole : List (List ℕ) → Type 0) (text_of : List ℕ → List
       is.3.2,
       record {
         stated = without_memory (flat_map text_of is.0) 0;
-        states = no_room is.1 is.2;
+        states = no_room is.1.0 is.2;
         written = is.3.1;
         within = omega arith;
         exact = tt;

@@ -2,3 +2,4 @@ pub mod ListAnswers
 pub mod ListWords
 pub mod ListedLines
 pub mod ListModes
+pub mod ListRefusals

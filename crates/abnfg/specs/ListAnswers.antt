@@ -2,7 +2,7 @@
 use Rattle.std.specs.Prelude.{◌≡◌, ◌≢◌, ℕ, List, [], Option, None, Some, option_copied}
 use Rattle.abnfg.specs.ListWords.{AskLines}
 use Rattle.abnfg.specs.ListedLines.{LinesReply, end_of, record_text}
-use Rattle.abnfg.specs.ListModes.{AreFirstAsked, AreWholeAsked}
+use Rattle.abnfg.specs.ListModes.{AreExplained, AreFirstAsked, AreWholeAsked}
 use Rattle.abnfg.specs.declared.lines.ListSettings.{ListSettings}
 use Rattle.abnfread.specs.AbnfReading.{IsFaultOf, Reads}
 use Rattle.abnfread.specs.Element.{Definition, Rule}
@@ -22,7 +22,7 @@ use Rattle.toolrun.specs.declared.stop.Stop.TheVariants as stop
 abbrev pub JudgedReply : ListSettings → List Rule → Option ℕ → Reply → Type 0
 JudgedReply settings rules None reply = reply ≡ stopped (stop.Quiet Refused)
 JudgedReply settings rules (Some id) reply = LinesReply (AreFirstAsked settings rules id)
-    (AreWholeAsked settings rules id)
+    (AreWholeAsked settings rules id) (AreExplained settings rules id)
     (record_text settings.letters (end_of settings.nul)) settings.count reply
 
 -- the text of the notes comes first

@@ -1,7 +1,9 @@
 -- Which lines each mode lists.
 use Rattle.std.specs.Prelude.{◌≡◌, ℕ, Bool, List, [], ◌∷◌, ◌++◌}
 use Rattle.std.specs.List.{All}
+use Rattle.std.proofs.Common.{Vec, Global}
 use Rattle.abnfg.specs.ListedLines.{AreFirstLines, AreListed, HoldAll, end_of}
+use Rattle.abnfg.specs.ListRefusals.{AreRefusalsFrom, explained_lines, explains_by}
 use Rattle.abnfg.specs.declared.lines.ListMode.{ListMode}
 use Rattle.abnfg.specs.declared.lines.ListMode.TheVariants.{All as InOrder, Miss, Random}
 use Rattle.abnfg.specs.declared.lines.ListSettings.{ListSettings}
@@ -11,6 +13,7 @@ use Rattle.abnfread.specs.Element.{Rule}
 use Rattle.letters.specs.declared.alphabet.Alphabet.{Alphabet}
 use Rattle.rulelines.specs.LineSets.{AreRuleLines, IsLineIn, IsRuleLine, LineSet}
 use Rattle.rulelines.specs.MissLists.{AreAllMisses, AreFirstMisses, AreLinesReported, AreOfRule, MissList}
+use Rattle.rulelines.specs.MissLists.{item_lines}
 use Rattle.rulelines.specs.MissSearch.{PrefixSet}
 use Rattle.rulelines.specs.declared.list.lines.NextLine.{NextLine}
 use Rattle.rulelines.specs.declared.list.lines.NextLine.TheVariants.{Line, Done}
@@ -44,6 +47,21 @@ prefixes_asked settings set = record {
   limit = settings.limit;
   edges = settings.edges;
 }
+
+-- the bytes of the lines that are explained
+abbrev pub explained_asked : ListSettings → List (List ℕ) → List (List ℕ)
+explained_asked settings ws = explained_lines (explains_by settings.mode settings.explain) settings.letters ws
+
+-- a text explains lines of a rule: it says why the rule rejects each that is explained
+abbrev pub AreExplained : ListSettings → List Rule → ℕ → List (List ℕ) → List ℕ → Type 0
+AreExplained settings rules id ws text = AreRefusalsFrom settings.letters rules id 1 (explained_asked settings ws) text
+
+-- the bytes of the lines that are explained were kept
+abbrev pub AreLinesKept : ListSettings → List (Vec ℕ Global) → List (List ℕ) → Type 0
+AreLinesKept settings kept ws = item_lines kept ≡ explained_asked settings ws
+
+abbrev pub WithKept : ListSettings → List (Vec ℕ Global) → (List (List ℕ) → Type 0) → List (List ℕ) → Type 0
+WithKept settings kept lists ws = lists ws × AreLinesKept settings kept ws
 
 module _ (settings : ListSettings) (rules : List Rule) (id : ℕ) where
   -- the lines are those that are asked for

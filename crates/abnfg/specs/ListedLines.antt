@@ -36,23 +36,27 @@ record_text alphabet end line = line_bytes alphabet line ++ end ∷ []
 abbrev pub AreEnough : (List (List ℕ) → Type 0) → ℕ → List (List ℕ) → Type 0
 AreEnough whole count ws = (length ws ≡ count) ⊎ ((ws ≢ []) × (length ws ≤ count) × whole ws)
 
--- of lists of lines the first ones, and the whole ones
-module _ (first whole : List (List ℕ) → Type 0) (text_of : List ℕ → List ℕ) (count : ℕ) where
-  -- The texts of first lines are written. The status is 0 if they are enough, and 1 if there is no line at all. Or
-  -- there are too many states of the grammar, or an allocation fails, after some first lines.
+-- of lists of lines the first ones, the whole ones, and what explains them
+module _ (first whole : List (List ℕ) → Type 0) (why : List (List ℕ) → List ℕ → Type 0) (text_of : List ℕ → List ℕ)
+    (count : ℕ) where
+  -- The texts of first lines are written, and then what explains them. The status is 0 if they are enough, and 1 if
+  -- there is no line at all. Or there are too many states of the grammar, after some first lines. Or an allocation
+  -- fails after some first lines, and none is explained.
   pub data LinesReply : Reply → Type 0 where
-    listed : {ws : List (List ℕ)} → first ws → AreEnough whole count ws
-        → LinesReply (record { out = flat_map text_of ws; err = []; status = code_of Done; taken = 0 })
+    listed : {ws : List (List ℕ)} {text : List ℕ} → first ws → AreEnough whole count ws → why ws text
+        → LinesReply (record { out = flat_map text_of ws; err = text; status = code_of Done; taken = 0 })
     no_line : whole [] → LinesReply (stopped (Quiet NoMatch))
-    too_many : {ws : List (List ℕ)} → first ws → length ws ≤ count → LinesReply (record {
+    too_many : {ws : List (List ℕ)} {text : List ℕ} → first ws → length ws ≤ count → why ws text → LinesReply (record {
       out = flat_map text_of ws;
-      err = codes "too many stacks\n";
+      err = text ++ codes "too many stacks\n";
       status = code_of Overlong;
       taken = 0;
     })
     no_room : {ws : List (List ℕ)} → first ws → length ws ≤ count
         → LinesReply (without_memory (flat_map text_of ws) 0)
 
+-- of lists of lines the first ones, and the whole ones
+module _ (first whole : List (List ℕ) → Type 0) (text_of : List ℕ → List ℕ) (count : ℕ) where
   -- first lines were written, at most so many, and why no more are; or a part of their text
   abbrev pub AreWritten : Option (List ℕ) → Option (List ℕ) → Result Halt WriteFault → Type 0
   AreWritten old new (Ok Finished) = (ws : List (List ℕ)) × first ws × AreEnough whole count ws
@@ -104,28 +108,34 @@ module _ (whole : List (List ℕ) → Type 0) (ws : List (List ℕ)) where
   IsHaltAt TooMany = Unit {0}
   IsHaltAt HaltsUnroomed = Unit {0}
 
--- of a source's lists of lines those that it has returned, and the whole ones
-module _ (returned whole : List (List ℕ) → Type 0) (text_of : List ℕ → List ℕ) (ws : List (List ℕ)) where
-  -- the next line after some was written; or none was, or a part of it
+-- of a source's lists of lines those that it has returned, those that were kept, and the whole ones
+module _ (returned kept whole : List (List ℕ) → Type 0) (text_of : List ℕ → List ℕ) (ws : List (List ℕ)) where
+  -- the next line after some was written, and kept; or none was, or a part of it was written
   abbrev pub IsWrittenNext : Option (List ℕ) → Option (List ℕ) → Result (Option Halt) WriteFault → Type 0
-  IsWrittenNext old new (Ok None) = (w : List ℕ) × returned (ws ++ w ∷ []) × Appends old new (text_of w)
-  IsWrittenNext old new (Ok (Some halt)) = IsHaltAt whole ws halt × Appends old new []
-  IsWrittenNext old new (Err fault) = (w : List ℕ) × returned (ws ++ w ∷ []) × AppendsPart old new (text_of w)
+  IsWrittenNext old new (Ok None) = (w : List ℕ) × returned (ws ++ w ∷ []) × kept (ws ++ w ∷ [])
+      × Appends old new (text_of w)
+  IsWrittenNext old new (Ok (Some halt)) = IsHaltAt whole ws halt × kept ws × Appends old new []
+  IsWrittenNext old new (Err fault) = (w : List ℕ) × returned (ws ++ w ∷ []) × kept (ws ++ w ∷ [])
+      × AppendsPart old new (text_of w)
 
--- the text of a line was written; or an allocation failed, or a part of it was written
-abbrev pub IsRecordWritten : (List ℕ → List ℕ) → List ℕ → Option (List ℕ) → Option (List ℕ)
-    → Result (Option Halt) WriteFault → Type 0
-IsRecordWritten text_of line old new (Ok None) = Appends old new (text_of line)
-IsRecordWritten text_of line old new (Ok (Some halt)) = (halt ≡ HaltsUnroomed) × Appends old new []
-IsRecordWritten text_of line old new (Err fault) = AppendsPart old new (text_of line)
+-- a text was written, and what was kept is more by that much; or an allocation failed, or a part of it was written
+module _ (was kept more : List (List ℕ)) (text : List ℕ) where
+  abbrev pub IsRecordWritten : Option (List ℕ) → Option (List ℕ) → Result (Option Halt) WriteFault → Type 0
+  IsRecordWritten old new (Ok None) = (kept ≡ was ++ more) × Appends old new text
+  IsRecordWritten old new (Ok (Some halt)) = (halt ≡ HaltsUnroomed) × (kept ≡ was) × Appends old new []
+  IsRecordWritten old new (Err fault) = (kept ≡ was ++ more) × AppendsPart old new text
 
 -- the message and the status of a run that writes no more lines; an allocation may fail in making the message
 abbrev pub EndsWith : List ℕ → Status → Ending → Type 0
 EndsWith text status ending = (ended_text ending ≡ text) × (ended_status ending ≡ status)
 
-abbrev pub HaltEnds : Halt → Ending → Type 0
-HaltEnds Finished ending = EndsWith [] Done ending
-HaltEnds Nothing ending = EndsWith [] NoMatch ending
-HaltEnds TooMany ending = EndsWith (codes "too many stacks\n") Overlong ending
+-- .. after a text that explains lines
+abbrev pub EndsExplained : (List ℕ → Type 0) → List ℕ → Status → Ending → Type 0
+EndsExplained why message status ending = ((text : List ℕ) × why text × EndsWith (text ++ message) status ending)
     ⊎ EndsWith (message_of NoMemory) WithoutMemory ending
-HaltEnds HaltsUnroomed ending = EndsWith (message_of NoMemory) WithoutMemory ending
+
+abbrev pub HaltEnds : (List ℕ → Type 0) → Halt → Ending → Type 0
+HaltEnds why Finished ending = EndsExplained why [] Done ending
+HaltEnds why Nothing ending = EndsWith [] NoMatch ending
+HaltEnds why TooMany ending = EndsExplained why (codes "too many stacks\n") Overlong ending
+HaltEnds why HaltsUnroomed ending = EndsWith (message_of NoMemory) WithoutMemory ending

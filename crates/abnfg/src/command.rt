@@ -28,6 +28,7 @@ Lines:
   -e, --edges           Also list lines of mode `miss` by wrong symbols next to those that can follow
   -g, --seed <SEED>     Draw lines of mode `random` by this number, from 0 to 18446744073709551615 [default: 1]
   -u, --letters <MODE>  Take bytes or code points of UTF-8 as symbols [default: bytes] [possible values: bytes, utf8]
+  -x, --explain         Explain why lines of mode `miss` are rejected
   -z, --null-data       End lines with NUL bytes in place of line feeds
 
 Other options:
@@ -46,12 +47,13 @@ Example:
   abnfg -c 20 date.abnf";
 
 /// The options and operands but for the seed.
-static PARAMETERS: [Parameter; 8] = [
+static PARAMETERS: [Parameter; 9] = [
     Parameter::Text("rule", 's', "RULE"),
     Parameter::Number("limit", 'l', 16_777_216, "256"),
     Parameter::Number("count", 'c', 4_294_967_295, "1000"),
     Parameter::Flag("null-data", 'z'),
     Parameter::Flag("edges", 'e'),
+    Parameter::Flag("explain", 'x'),
     Parameter::Operand("grammar", "GRAMMAR", true),
     Parameter::Choice("letters", 'u', "MODE", &["bytes", "utf8"], "bytes"),
     Parameter::Choice("mode", 'm', "MODE", &["all", "miss", "random"], "all"),
@@ -77,8 +79,8 @@ fn add_seed<'a>(command: Command<'a>, alloc: Global) -> Result<Command<'a>, Allo
     command.arg(seed_arg(alloc)?)
 }
 
-/// Returns the command `abnfg [-e] [-m MODE] [-l N] [-c N] [-g SEED] [-s RULE] [-u MODE] [-z] GRAMMAR`, or an error if
-/// an allocation fails.
+/// Returns the command `abnfg [-e] [-m MODE] [-l N] [-c N] [-g SEED] [-s RULE] [-u MODE] [-x] [-z] GRAMMAR`, or an
+/// error if an allocation fails.
 pub(crate) fn abnfg_command<'a>(alloc: Global) -> Result<Command<'a>, AllocError>
     ensures { (app : _) × IsAbnfgApp app × IfOk result (λ c. app_of c ≡ app) }
 {
@@ -116,6 +118,7 @@ pub(crate) fn settings_of<'a>(matches: &ArgMatches<'a>) -> ListSettings<'a>
         count: number_of(matches, "count", 1000),
         nul: is_given(matches, "null-data"),
         edges: is_given(matches, "edges"),
+        explain: is_given(matches, "explain"),
         seed: seed_of(matches),
     }
 }

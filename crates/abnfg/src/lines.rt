@@ -1,15 +1,19 @@
 //! The lines of a grammar, written one after another.
-ghost use Rattle.std.specs.Prelude.{◌≡◌, ◌∷◌, ◌++◌, ℕ, List, [], IfOk, MatchResult, false, length};
-ghost use Rattle.abnfg.specs.ListedLines.{AreWritten, HaltEnds, IsHaltAt, IsRecordWritten, IsWrittenNext, LinesReply};
-ghost use Rattle.abnfg.specs.ListedLines.{end_of, record_text};
-ghost use Rattle.abnfg.specs.ListModes.{AreFirstAsked, AreWholeAsked, HasReturned};
+ghost use Rattle.std.specs.Prelude.{◌≡◌, ◌∷◌, ◌++◌, ℕ, List, [], IfOk, MatchResult, OnErr, OnOk, false, length};
+ghost use Rattle.abnfg.specs.ListedLines.{AreWritten, EndsExplained, HaltEnds, IsHaltAt, IsRecordWritten};
+ghost use Rattle.abnfg.specs.ListedLines.{IsWrittenNext, LinesReply, end_of, record_text};
+ghost use Rattle.abnfg.specs.ListModes.{AreExplained, AreFirstAsked, AreLinesKept, AreWholeAsked, HasReturned};
+ghost use Rattle.abnfg.specs.ListModes.{WithKept, explained_asked};
+ghost use Rattle.abnfg.specs.ListRefusals.{AreRefusalsFrom, explains_by};
 ghost use Rattle.abnfg.specs.declared.lines.ListSettings.{ListSettings as the_settings};
 ghost use Rattle.abnfread.specs.AbnfViews.{rules_of};
 ghost use Rattle.abnfread.specs.Element.{Rule};
+ghost use Rattle.rulelines.specs.MissLists.{item_lines};
 ghost use Rattle.ruletable.specs.Writing.{Flags};
 ghost use Rattle.toolrun.specs.Stopped.{Fulfils};
 ghost use Rattle.toolrun.specs.Stream.{no_input, passed};
 
+use crate::refusals::explain_lines;
 use crate::source::LineSource;
 use abnfcheck::SoundAbnf;
 use letters::Alphabet;
@@ -44,6 +48,8 @@ pub(crate) struct ListSettings<'a> {
     pub(crate) nul: bool,
     /// Whether each symbol that cannot follow a prefix is listed after it, next to one that can.
     pub(crate) edges: bool,
+    /// Whether it is explained why lines that miss the rule are rejected.
+    pub(crate) explain: bool,
     /// The seed of lines by lot.
     pub(crate) seed: u64,
 }
@@ -92,20 +98,55 @@ fn next_line(source: &mut LineSource, done: u32) -> Result<Vec<u32>, Halt>
     }
 }
 
-// Writes a line with its end. Returns `NoMemory` if an allocation fails. `WriteFault` if the output fails; then a
-// prefix is written.
+// Returns whether the lines are explained.
+fn explains(settings: &ListSettings<'_>) -> bool
+    ensures { result ≡ explains_by settings.now.mode settings.now.explain }
+{
+    match settings.mode {
+        ListMode::Miss => settings.explain,
+        ListMode::All | ListMode::Random => false,
+    }
+}
+
+// Keeps the bytes of a line, if lines are explained. `Memory` if an allocation fails; then nothing is kept.
+fn keep_line(
+    alloc: Global,
+    settings: &ListSettings<'_>,
+    line: &[u32],
+    kept: &mut Vec<Vec<u8>>,
+) -> Result<(), Memory>
+    ensures ok { OnOk result (item_lines kept.new.items ≡ item_lines kept.old.items
+        ++ explained_asked settings.now (line.now ∷ [])) }
+    ensures err { OnErr result (item_lines kept.new.items ≡ item_lines kept.old.items) }
+{
+    if !explains(settings) {
+        return Ok(());
+    }
+    let bytes = line_bytes(alloc, settings.letters, line)?;
+    kept.push(bytes)?;
+    Ok(())
+}
+
+// Writes a line with its end, and keeps its bytes, if lines are explained. Returns `NoMemory` if an allocation fails;
+// then nothing is kept. `WriteFault` if the output fails; then a prefix is written.
 fn write_record<O: Sink>(
     alloc: Global,
     settings: &ListSettings<'_>,
     line: &[u32],
+    kept: &mut Vec<Vec<u8>>,
     out: &mut O,
 ) -> Result<Option<Halt>, WriteFault>
     requires { O.failed out.old ≡ false }
-    ensures next { IsRecordWritten (record_text settings.now.letters (end_of settings.now.nul)) line.now
-        (O.contents out.old) (O.contents out.new) result }
+    ensures next { IsRecordWritten (item_lines kept.old.items) (item_lines kept.new.items)
+        (explained_asked settings.now (line.now ∷ []))
+        (record_text settings.now.letters (end_of settings.now.nul) line.now) (O.contents out.old) (O.contents out.new)
+        result }
     ensures flag { Flags (O.failed out.old) (O.failed out.new) result }
 {
     let Ok(text) = line_text(alloc, settings, line) else {
+        return Ok(Some(Halt::NoMemory));
+    };
+    let Ok(()) = keep_line(alloc, settings, line, kept) else {
         return Ok(Some(Halt::NoMemory));
     };
     match write_whole(out, &text) {
@@ -114,46 +155,51 @@ fn write_record<O: Sink>(
     }
 }
 
-// Writes the next line after so many, and returns why there is none. `WriteFault` if the output fails; then a prefix of
-// the line is written.
+// Writes the next line after so many, and returns why there is none. Keeps its bytes, if lines are explained.
+// `WriteFault` if the output fails; then a prefix of the line is written.
 fn write_next<O: Sink>(
     alloc: Global,
     settings: &ListSettings<'_>,
     source: &mut LineSource,
     done: u32,
+    kept: &mut Vec<Vec<u8>>,
     out: &mut O,
 ) -> Result<Option<Halt>, WriteFault>
     requires { O.failed out.old ≡ false }
     ensures next { (rules : List Rule) (id : ℕ) (ws : List (List ℕ)) →
-        HasReturned settings.now rules id source.old ws → length ws ≡ done →
-        IsWrittenNext (HasReturned settings.now rules id source.new) (AreWholeAsked settings.now rules id)
-        (record_text settings.now.letters (end_of settings.now.nul)) ws (O.contents out.old) (O.contents out.new)
-        result }
+        HasReturned settings.now rules id source.old ws → AreLinesKept settings.now kept.old.items ws →
+        length ws ≡ done →
+        IsWrittenNext (HasReturned settings.now rules id source.new) (AreLinesKept settings.now kept.new.items)
+        (AreWholeAsked settings.now rules id) (record_text settings.now.letters (end_of settings.now.nul)) ws
+        (O.contents out.old) (O.contents out.new) result }
     ensures flag { Flags (O.failed out.old) (O.failed out.new) result }
 {
     match next_line(source, done) {
-        Ok(line) => write_record(alloc, settings, &line, out),
+        Ok(line) => write_record(alloc, settings, &line, kept, out),
         Err(halt) => Ok(Some(halt)),
     }
 }
 
-// Writes lines, as many as are asked for, and returns why no more are written. `WriteFault` if the output fails; then a
-// prefix of a line is written after whole lines.
+// Writes lines, as many as are asked for, and returns why no more are written. Keeps their bytes, if they are
+// explained. `WriteFault` if the output fails; then a prefix of a line is written after whole lines.
 fn write_lines<O: Sink>(
     alloc: Global,
     settings: &ListSettings<'_>,
     source: &mut LineSource,
+    kept: &mut Vec<Vec<u8>>,
     out: &mut O,
 ) -> Result<Halt, WriteFault>
     requires { O.failed out.old ≡ false }
     ensures lines { (rules : List Rule) (id : ℕ) → HasReturned settings.now rules id source.old [] →
-        AreWritten (AreFirstAsked settings.now rules id) (AreWholeAsked settings.now rules id)
+        AreLinesKept settings.now kept.old.items [] →
+        AreWritten (WithKept settings.now kept.new.items (AreFirstAsked settings.now rules id))
+        (AreWholeAsked settings.now rules id)
         (record_text settings.now.letters (end_of settings.now.nul)) settings.now.count (O.contents out.old)
         (O.contents out.new) result }
     ensures flag { Flags (O.failed out.old) (O.failed out.new) result }
 {
     for done in 0..settings.count {
-        match write_next(alloc, settings, source, done, out) {
+        match write_next(alloc, settings, source, done, kept, out) {
             Ok(None) => {}
             Ok(Some(halt)) => return Ok(halt),
             Err(fault) => return Err(fault),
@@ -162,58 +208,82 @@ fn write_lines<O: Sink>(
     Ok(Halt::All)
 }
 
-// Returns the end of a run that has too many stacks.
-fn too_many(alloc: Global) -> Result<Ending, Memory>
-    ensures { IfOk result (λ e. HaltEnds Halt.TooMany e) }
+// Returns the end of a run that explains lines, and then writes a message; or that has no memory for that.
+fn explained(
+    alloc: Global,
+    letters: Alphabet,
+    grammar: &SoundAbnf,
+    lines: &[Vec<u8>],
+    message: &[u8],
+    status: Status,
+) -> Ending
+    ensures { EndsExplained (AreRefusalsFrom letters (rules_of grammar.now.rules) grammar.now.judged 1
+        (item_lines lines.now)) message.now status result }
 {
     let mut why = Vec::new(alloc);
-    why.extend_from_slice(b"too many stacks\n")?;
-    Ok(Ending::Explained {
-        reported: ReportedRefusals::none(alloc),
-        stop: Stop::Quiet(Status::Overlong),
+    if why.extend_from_slice(message).is_err() {
+        return Ending::Plain(Stop::NoMemory);
+    }
+    let Ok(text) = explain_lines(alloc, letters, grammar, lines) else {
+        return Ending::Plain(Stop::NoMemory);
+    };
+    Ending::Explained {
+        reported: ReportedRefusals { text, more: 0 },
+        stop: Stop::Quiet(status),
         why,
-    })
+    }
 }
 
-// Returns the end of a run that writes no more lines.
-fn ending_of(alloc: Global, halt: Halt) -> Ending
-    ensures { HaltEnds halt result }
+// Returns the end of a run that writes no more lines, and explains those that were kept.
+fn ending_of(
+    alloc: Global,
+    letters: Alphabet,
+    grammar: &SoundAbnf,
+    halt: Halt,
+    kept: &[Vec<u8>],
+) -> Ending
+    ensures { HaltEnds (AreRefusalsFrom letters (rules_of grammar.now.rules) grammar.now.judged 1 (item_lines kept.now))
+        halt result }
 {
     match halt {
-        Halt::All => Ending::Plain(Stop::Quiet(Status::Done)),
+        Halt::All => explained(alloc, letters, grammar, kept, b"", Status::Done),
         Halt::Nothing => Ending::Plain(Stop::Quiet(Status::NoMatch)),
-        Halt::TooMany => match too_many(alloc) {
-            Ok(ending) => ending,
-            Err(Memory) => Ending::Plain(Stop::NoMemory),
-        },
+        Halt::TooMany => {
+            let message = b"too many stacks\n";
+            explained(alloc, letters, grammar, kept, message, Status::Overlong)
+        }
         Halt::NoMemory => Ending::Plain(Stop::NoMemory),
     }
 }
 
-// Writes the lines of a grammar that are asked for, and returns why no more are written. `WriteFault` if the output
-// fails; then a prefix of a line is written after whole lines.
+// Writes the lines of a grammar that are asked for, and returns why no more are written. Keeps the bytes of those that
+// are explained. `WriteFault` if the output fails; then a prefix of a line is written after whole lines.
 fn write_asked<O: Sink>(
     alloc: Global,
     settings: &ListSettings<'_>,
     grammar: &SoundAbnf,
+    kept: &mut Vec<Vec<u8>>,
     out: &mut O,
 ) -> Result<Halt, WriteFault>
-    requires { O.failed out.old ≡ false }
-    ensures lines { AreWritten (AreFirstAsked settings.now (rules_of grammar.now.rules) grammar.now.judged)
+    requires fresh { O.failed out.old ≡ false }
+    requires none { kept.old.items ≡ [] }
+    ensures lines { AreWritten (WithKept settings.now kept.new.items (AreFirstAsked settings.now
+        (rules_of grammar.now.rules) grammar.now.judged))
         (AreWholeAsked settings.now (rules_of grammar.now.rules) grammar.now.judged)
         (record_text settings.now.letters (end_of settings.now.nul)) settings.now.count (O.contents out.old)
         (O.contents out.new) result }
     ensures flag { Flags (O.failed out.old) (O.failed out.new) result }
 {
     match LineSource::new(alloc, settings, grammar) {
-        Ok(Some(mut source)) => write_lines(alloc, settings, &mut source, out),
+        Ok(Some(mut source)) => write_lines(alloc, settings, &mut source, kept, out),
         Ok(None) => Ok(Halt::TooMany),
         Err(Memory) => Ok(Halt::NoMemory),
     }
 }
 
 /// Writes the lines that are asked for of those by the judged rule of a grammar, each with its end, and returns how the
-/// run ends. `WriteFault` if the output fails; then a prefix of a line is written after whole lines.
+/// run ends: with the explanations of lines, if they are asked for. `WriteFault` if the output fails; then a prefix of
+/// a line is written after whole lines.
 pub(crate) fn list_lines<O: Sink>(
     alloc: Global,
     settings: &ListSettings<'_>,
@@ -223,11 +293,13 @@ pub(crate) fn list_lines<O: Sink>(
     requires { O.failed out.old ≡ false }
     ensures { Fulfils (λ input. LinesReply (AreFirstAsked settings.now (rules_of grammar.now.rules) grammar.now.judged)
         (AreWholeAsked settings.now (rules_of grammar.now.rules) grammar.now.judged)
+        (AreExplained settings.now (rules_of grammar.now.rules) grammar.now.judged)
         (record_text settings.now.letters (end_of settings.now.nul)) settings.now.count) no_input
         (passed O.contents O.failed out.old out.new) result }
 {
-    match write_asked(alloc, settings, grammar, out) {
-        Ok(halt) => Ok(ending_of(alloc, halt)),
+    let mut kept = Vec::new(alloc);
+    match write_asked(alloc, settings, grammar, &mut kept, out) {
+        Ok(halt) => Ok(ending_of(alloc, settings.letters, grammar, halt, &kept)),
         Err(fault) => Err(fault),
     }
 }

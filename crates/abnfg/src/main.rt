@@ -4,6 +4,7 @@
 mod command;
 mod grammar;
 mod lines;
+mod refusals;
 mod run;
 mod source;
 

@@ -41,7 +41,7 @@ fn list_asked<R: Files + AllocGlobal, O: Sink, E: Sink>(
 }
 
 /// Runs the program, whose words are its own name and `[-e] [-m MODE] [-l N] [-c N] [-g SEED] [-s RULE] [-u MODE]
-/// [-z] GRAMMAR`: it lists lines that a rule of the grammar in the file GRAMMAR derives.
+/// [-x] [-z] GRAMMAR`: it lists lines that a rule of the grammar in the file GRAMMAR derives.
 ///
 /// - `-h`: the help on `out`, `Done`.
 /// - Other words: what is wrong with them on `err`, `Refused`, and nothing is read.
@@ -50,6 +50,7 @@ fn list_asked<R: Files + AllocGlobal, O: Sink, E: Sink>(
 /// - Else the first lines of the rule on `out`, each with its end, `Done`. They come in the order of lines: shorter
 ///   ones first, and else by the first symbol that differs: %x21-7E, then the space, then others by number. Each stands
 ///   there once. They are as many as the words ask for, or all that have at most so many symbols.
+/// - With `-x` and `-m miss`: then on `err` why the rule rejects each of the lines.
 /// - There is no such line: `NoMatch`.
 /// - The states of the grammar are too many, or it bounds the repetitions of a nullable operand: `too many stacks`,
 ///   `Overlong`. What is written is right, and more may be missing.

@@ -14,5 +14,6 @@ returns c = record {
   count = c.number_of-2.ensures;
   nul = c.is_given.ensures;
   edges = c.is_given-2.ensures;
+  explain = c.is_given-3.ensures;
   seed = c.seed_of.ensures;
 }
