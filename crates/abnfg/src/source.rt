@@ -15,7 +15,7 @@ use ruletable::Memory;
 use std::alloc::Global;
 
 /// How many entries the states of a grammar may have.
-const ROOM: usize = 650_000;
+const ROOM: usize = 500_000;
 
 /// The lines that a rule derives, in order.
 #[derive(Drop)]
