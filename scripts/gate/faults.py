@@ -135,6 +135,9 @@ LISTED = listed("lines of a rule", b'd = 1*2BIT "x"\nu = d\n', [b"0X\n", b"0x\n"
                 b"rule 'u' defined but not used\n", words=["-c", "5"])
 ALL_LISTED = listed("all lines of a rule", b's = "a" / %s"bc"\n', [b"A\0", b"a\0", b"bc\0"], words=["-z"])
 DRAWN = listed("lines by lot", b's = %s"bc"\n', [b"bc\n"] * 3, words=["-m", "random", "-c", "3", "-l", "9"])
+MISSED = listed("rejected lines explained", b's = "0"\n', [b"\n", b"!\n", b"0!\n"],
+                b'line 1 ends too early: expected "0"\n  \n  ^\nline 2, letter 1: expected "0"\n  !\n  ^\n'
+                b'line 3, letter 2: expected the end of the line\n  0!\n   ^\n', words=["-m", "miss", "-x"])
 NONE_LISTED = listed("a rule without lines", b's = "a" s\n', [], status=1)
 UNLISTED = listed("a grammar whose lines are not listed", b's = <any>\n', [], b"prose in rule 's'\n", 2)
 
@@ -175,6 +178,7 @@ GROWING = [
     LISTED,
     ALL_LISTED,
     DRAWN,
+    MISSED,
     NONE_LISTED,
     UNLISTED,
     STOP_EXPLAINED,
@@ -240,7 +244,7 @@ def may_go_on(run, number):
     """Returns whether a run may go on without that growth. If an allocation of the automaton fails, Earley's sets
     answer. If one for the copy of a line fails, the window joins its two pieces. If one for the lines of notes fails,
     they are written by pieces. A unit that is kept may not be asked for."""
-    judges = run.program == "abnfi" and "-m" not in run.words or run.program == "abnfd" and "-x" in run.words
+    judges = run.program == "abnfi" and "-m" not in run.words or run.program in ("abnfd", "abnfg") and "-x" in run.words
     has_automaton = judges and run.name not in NO_AUTOMATON
     has_notes = bool(run.reported) and "-x" not in run.words and run.program != "abnfx"
     explains = run.program == "pegi" and "-x" in run.words and run.status == 0
