@@ -1,5 +1,5 @@
 -- The lines that explain a fault of ABNF are one text.
--- Serves: one_explanation_of_abnf
+-- Serves: one_explanation_of_abnf; one_joining of abnftexts
 use Rattle.std.proofs.Common.{◌≡◌, ℕ, ◌⊎◌, inl, inr, List, ◌++◌, codes, refl, sym, ◌∙◌, ap, arith, slice_get, Some}
 use Rattle.std.proofs.Common.{take, true, false, true≢false}
 use Rattle.lexer.proofs.ViabilityLemmas as viability
@@ -11,10 +11,12 @@ use Rattle.ruletable.specs.declared.fault.ReadFault.TheVariants as faults
 use Rattle.abnfread.specs.AbnfReading.{is_bracket}
 use Rattle.abnfread.specs.AbnfSays.{Says, Viable, AreWithin, IsHopeless, IsOver}
 use Rattle.abnfread.specs.AbnfSpelling.{Grammar}
-use Rattle.abnfread.specs.MarkedTokens.{Marked, AreMarked}
+use Rattle.lexer.specs.TokenLists.{Tok}
+use Rattle.abnfread.specs.declared.kind.AbnfKind.{AbnfKind}
+use Rattle.abnfread.specs.MarkedTokens.{Marked, AreMarked, tok_of}
 use Rattle.abnfread.proofs.AbnfFaultLemmas.{marked-one}
 use Rattle.abnfread.proofs.HasTakenLemmas.{within-take}
-use Rattle.abnfexplain.specs.AbnfDecisions.{first_marked, last_marked}
+use Rattle.abnfexplain.specs.AbnfDecisions.{IsFaultToken, first_marked, last_marked}
 use Rattle.abnfexplain.specs.AbnfExpected.{CanStand, phrases}
 use Rattle.abnfexplain.specs.AbnfExplained.{Why, too_long, hopeless, too_deep, too_large, Explains, token_position}
 use Rattle.abnfexplain.specs.AbnfExplained.{token_facts}
@@ -41,6 +43,13 @@ one-token text all others i j m n are are' at at' h k =
     let same : Some m ≡ Some n = sym at ∙ ap (λ (x : ℕ). slice_get all x) (sym numbers)
     ∙ ap (λ (ms : List Marked). slice_get ms j) (sym lists) ∙ at' in
     record { lists = lists; numbers = numbers; tokens = cc }
+
+-- one token of a text decides
+pub one-fault-token : (text : List ℕ) (x y : Tok AbnfKind) → IsFaultToken text x → IsFaultToken text y → x ≡ y
+one-fault-token text x y a b =
+    let one = one-token text a.all b.all a.number b.number a.token b.token a.are_tokens b.are_tokens a.there b.there
+    a.decides b.decides in
+    a.is ∙ ap tok_of one.tokens ∙ sym b.is
 
 -- no token is hopeless here and passes a limit there
 not-both : (text : List ℕ) (all others : List Marked) (i j : ℕ) (m n : Marked) → AreMarked text all

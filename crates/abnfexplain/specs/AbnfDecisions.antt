@@ -3,7 +3,9 @@ use Rattle.std.specs.Prelude.{◌≡◌, ℕ, ◌⊎◌, true, false, slice_get,
 use Rattle.std.specs.Option.{option_map}
 use Rattle.abnfread.specs.AbnfReading.{is_bracket}
 use Rattle.abnfread.specs.AbnfSays.{IsHopeless, IsOver}
-use Rattle.abnfread.specs.MarkedTokens.{Marked, marked_of, AreMarked}
+use Rattle.lexer.specs.TokenLists.{Tok}
+use Rattle.abnfread.specs.MarkedTokens.{Marked, tok_of, marked_of, AreMarked}
+use Rattle.abnfread.specs.declared.kind.AbnfKind.{AbnfKind}
 use Rattle.abnfexplain.specs.declared.abnf_decide.Decision.{Decision}
 use Rattle.abnfexplain.specs.declared.abnf_decide.Decision.TheVariants.{Hopeless, TooDeep, TooLarge}
 use Rattle.abnfexplain.specs.declared.abnf_decide.Refused.{Refused}
@@ -45,6 +47,16 @@ abbrev pub Decides : List ℕ → Decision → Type 0
 Decides text (Hopeless r) = IsTokenOf text (marked_of r.token) (IsRefused r)
 Decides text (TooDeep t) = IsTokenOf text (marked_of t) (λ ms i. IsOver ms i × (is_bracket (marked_of t) ≡ true))
 Decides text (TooLarge t) = IsTokenOf text (marked_of t) (λ ms i. IsOver ms i × (is_bracket (marked_of t) ≡ false))
+
+-- that token of the text decides: with it the tokens begin no grammar, or pass a limit
+pub record IsFaultToken (text : List ℕ) (x : Tok AbnfKind) : Type 0 where
+  pub all : List Marked
+  pub are_tokens : AreMarked text all
+  pub number : ℕ
+  pub token : Marked
+  pub there : slice_get all number ≡ Some token
+  pub is : x ≡ tok_of token
+  pub decides : IsHopeless all number ⊎ IsOver all number
 
 -- no token of the text decides
 abbrev pub NoneDecides : List ℕ → Type 0

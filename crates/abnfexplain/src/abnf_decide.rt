@@ -1,13 +1,13 @@
 //! The token that decides that a text is no grammar in ABNF.
 ghost use Rattle.std.specs.Prelude.{IfOk, List, MatchOption, ◌≡◌};
-ghost use Rattle.lexer.specs.TokenLists.{Tok};
+ghost use Rattle.lexer.specs.TokenLists.{Tok, tok_of};
 ghost use Rattle.abnfread.specs.MarkedTokens.{AreTokens};
-ghost use Rattle.abnfexplain.specs.AbnfDecisions.{Decides, NoneDecides};
+ghost use Rattle.abnfexplain.specs.AbnfDecisions.{Decides, IsFaultToken, NoneDecides};
 
 use crate::abnf_stand::{Form, Position};
 use crate::large::is_large;
 use abnfread::{AbnfKind, MarkedToken, abnf_tokens};
-use lexer::MAX_OPEN;
+use lexer::{MAX_OPEN, Token, have_tokens};
 use ruletable::Memory;
 use std::alloc::Global;
 
@@ -32,6 +32,24 @@ pub(crate) enum Decision<'a> {
     TooDeep(MarkedToken<'a>),
     /// It is a number over its limit.
     TooLarge(MarkedToken<'a>),
+}
+
+/// Returns the token of a text that decides that it is no grammar, if one does.
+///
+/// A text that is only too long may have none.
+///
+/// # Errors
+/// `Memory` if an allocation fails.
+pub fn fault_token(alloc: Global, text: &[u8]) -> Result<Option<Token<'_, AbnfKind>>, Memory>
+    ensures { IfOk result (λ o. MatchOption o (NoneDecides text.now) (λ x. IsFaultToken text.now (tok_of x))) }
+{
+    have_tokens::<AbnfKind>(text);
+    match deciding_token(alloc, text)? {
+        Some(Decision::Hopeless(refused)) => Ok(Some(refused.token.token)),
+        Some(Decision::TooDeep(token)) => Ok(Some(token.token)),
+        Some(Decision::TooLarge(token)) => Ok(Some(token.token)),
+        None => Ok(None),
+    }
 }
 
 fn form_of(token: MarkedToken<'_>) -> Form

@@ -11,6 +11,7 @@ mod large;
 mod laws;
 mod notes;
 
+pub use abnf_decide::fault_token;
 pub use abnf_explain::explain_abnf_fault;
 pub use chain_lines::{MAX_LAST, push_chain};
 pub use laws::{nothing_left_out_of_abnf, one_explanation_of_abnf};
