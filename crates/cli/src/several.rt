@@ -3,7 +3,7 @@ ghost use Rattle.std.specs.Prelude.{◌≡◌, ◌≢◌, ◌≤◌, ◌⊎◌, 
 ghost use Rattle.std.specs.Prelude.{string_bytes, true};
 ghost use Rattle.clap.specs.Words.{App, fault_of, matches_of};
 ghost use Rattle.cli.specs.FileRuns.{AllRun, AreFew, AreFewAsked, HasRunGrammar, HasRunOnInputs, HasRunSeveral};
-ghost use Rattle.cli.specs.FileRuns.{IsGrammarRun, IsInputRun, IsNamedReport};
+ghost use Rattle.cli.specs.FileRuns.{IsGrammarRun, IsInMode, IsNamedReport, IsRunOnInput};
 ghost use Rattle.toolrun.specs.Status.{code_of};
 ghost use Rattle.toolrun.specs.Stop.{message_of};
 ghost use Rattle.toolrun.specs.Stream.{passed};
@@ -102,6 +102,21 @@ fn run_grammar<P: Program, R: Files + AllocGlobal, O: BufferedSink, E: Sink>(
     }
 }
 
+// Returns the settings of a run on the input of that name.
+fn settings_on<'a, O: Copy>(settings: &Settings<'a, O>, input: &'a str) -> Settings<'a, O>
+    ensures same { IsInMode settings.now.mode settings.now result }
+    ensures input { result.input ≡ input.entry }
+{
+    Settings {
+        mode: settings.mode,
+        limit: settings.limit,
+        start: settings.start,
+        input,
+        explain: settings.explain,
+        options: settings.options,
+    }
+}
+
 // Runs a grammar on the input of that name, and writes the messages with the name before their lines.
 fn run_input<P: Program, R: Files + AllocGlobal, S: Read + Drop, O: BufferedSink, E: Sink>(
     rt: &R,
@@ -113,16 +128,17 @@ fn run_input<P: Program, R: Files + AllocGlobal, S: Read + Drop, O: BufferedSink
 ) -> Status
     requires out_is_fresh { O.failed out.old ≡ false }
     requires err_is_fresh { E.failed err.old ≡ false }
-    ensures { IsInputRun (P.states job.now.text.items job.now.settings) job.now.messages.items name.now
+    ensures { IsRunOnInput P.states job.now.text.items job.now.settings job.now.messages.items name.now
         (passed O.contents O.failed out.old out.new) (passed E.contents E.failed err.old err.new) (code_of result) }
 {
     let alloc = rt.alloc();
+    let settings = settings_on(&job.settings, name);
     match open_reader(rt, name, standard) {
         Ok(mut reader) => {
             let run = run_held::<P, _, O>(
                 alloc,
                 job.text.as_slice(),
-                &job.settings,
+                &settings,
                 &mut reader,
                 out,
             );
@@ -159,7 +175,7 @@ fn run_inputs<P: Program, R: Files + AllocGlobal, S: Read + Drop, O: BufferedSin
 ) -> Status
     requires out_is_fresh { O.failed out.old ≡ false }
     requires err_is_fresh { E.failed err.old ≡ false }
-    ensures { AllRun (IsInputRun (P.states job.now.text.items job.now.settings) job.now.messages.items)
+    ensures { AllRun (IsRunOnInput P.states job.now.text.items job.now.settings job.now.messages.items)
         (map (λ s. s.now) names.now)
         (passed O.contents O.failed out.old out.new) (passed E.contents E.failed err.old err.new) (code_of result) }
 {

@@ -1,12 +1,18 @@
 -- The input was opened, and the run on it was held.
-use Rattle.std.proofs.Common.{inl}
+use Rattle.std.proofs.Common.{ap, inl}
+use Rattle.std.specs.Borrow.{Bor}
+use Rattle.clap.specs.Words.{Text}
 use Rattle.std.specs.Io.Buffered.{reader_remaining}
 use Rattle.cli.specs.Inputs.{rest_of}
 use Rattle.toolrun.specs.Status.{code_of}
 use Rattle.cli.proofs.several.run_input.Goals as goal
 
 pub returns-in-Ok : goal.returns-in-Ok
-returns-in-Ok g c = inl (
+returns-in-Ok g c = (
+  c.settings_on-settings.result,
+  c.settings_on-settings.ensures.same,
+  ap (λ (s : Bor Text). s.now) c.settings_on-settings.ensures.input,
+  inl (
   c.run_held-run.result.messages.items,
   record {
     old = reader_remaining (rest_of g.S.Read.remaining g.R.File.Read.remaining) c.in-Ok.reader.inner;
@@ -20,4 +26,4 @@ returns-in-Ok g c = inl (
     right = rw c.as_slice.ensures.value at c.run_held-run.ensures;
     reported = rw c.as_slice-in-Ok.ensures.value at c.report_held.ensures;
   },
-)
+))
