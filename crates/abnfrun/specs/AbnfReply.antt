@@ -60,7 +60,8 @@ abbrev pub printed_by : Bool → Printed → Printed
 printed_by quiet printed = cond quiet Nothing printed
 
 -- how settings cut an input into lines, at LF, or at NUL if they ask for it; whether that end is judged with its line;
--- what they print for the lines, and the name before that; whether the run stops after a rejected one, and whether each line is answered at once
+-- what they print for the lines, and the name before that; whether the run stops after a rejected one, and whether each
+-- line is answered at once
 abbrev pub form_of : AbnfSettings → LineForm
 form_of settings = record {
   limit = settings.limit;

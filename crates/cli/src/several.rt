@@ -135,13 +135,7 @@ fn run_input<P: Program, R: Files + AllocGlobal, S: Read + Drop, O: BufferedSink
     let settings = settings_on(&job.settings, name);
     match open_reader(rt, name, standard) {
         Ok(mut reader) => {
-            let run = run_held::<P, _, O>(
-                alloc,
-                job.text.as_slice(),
-                &settings,
-                &mut reader,
-                out,
-            );
+            let run = run_held::<P, _, O>(alloc, job.text.as_slice(), &settings, &mut reader, out);
             report_held(alloc, name, job.messages.as_slice(), &run, err)
         }
         Err(why) => end_inputless(alloc, &why, out, err),

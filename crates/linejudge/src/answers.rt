@@ -200,8 +200,9 @@ pub fn answer_held<W, J: Judge<W>, R: Source>(
     ensures room { J.explains judge.now ≡ true → HasRoom reached.new.reported }
     ensures same { SameFeed feed.old feed.new }
     ensures at { reached.new.at ≡ reached.old.at }
-    ensures answered { IfOk result (Answered (J.reported judge.now) (J.explains judge.now) (J.refusal judge.now) form.entry
-        reached.old.at (take n (bytes_of feed.old)) reached.old.reported reached.new.reported reached.new.text.items) }
+    ensures answered { IfOk result (Answered (J.reported judge.now) (J.explains judge.now) (J.refusal judge.now)
+        form.entry reached.old.at (take n (bytes_of feed.old)) reached.old.reported reached.new.reported
+        reached.new.text.items) }
     ensures err { OnErr result (reached.new.reported ≡ reached.old.reported) }
 {
     let at = reached.at;

@@ -121,7 +121,8 @@ pub fn next_line<R: Source>(feed: &mut Feed<'_, R>, form: LineForm<'_>) -> Line
         IsNext form.entry input (length before) result ×
         (length (before ++ bytes_of feed.new) ≤ taken_at form.entry.limit input (length before)) }
     ensures still { (HasNoEnd form.entry.end (bytes_of feed.old) → ⊥) → SameFeed feed.old feed.new }
-    ensures reads { IsTrue form.entry.line_buffered → ReadsForLine form.entry.end (bytes_of feed.old) (bytes_of feed.new) }
+    ensures reads { IsTrue form.entry.line_buffered →
+        ReadsForLine form.entry.end (bytes_of feed.old) (bytes_of feed.new) }
     ensures filled { form.entry.line_buffered ≡ false → HasNoEnd form.entry.end (bytes_of feed.old) → (before : List ℕ)
         (input : Input) →
         capacity_of feed.new ≡ form.entry.limit + 1 → Agrees (before ++ bytes_of feed.new) (flow_of feed.new) input →

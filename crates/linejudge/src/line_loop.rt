@@ -63,9 +63,14 @@ fn step_of<O: Sink>(
 }
 
 /// Writes what is printed at the end of a run, and returns how it ends there.
-fn end_step<O: Sink>(form: LineForm<'_>, at: LinePosition, out: &mut O) -> Result<LineStep, WriteFault>
+fn end_step<O: Sink>(
+    form: LineForm<'_>,
+    at: LinePosition,
+    out: &mut O,
+) -> Result<LineStep, WriteFault>
     requires { O.failed out.old ≡ false }
-    ensures bytes { Writes (O.contents out.old) (O.contents out.new) (printed_last form.entry.name form.entry.printed at) result }
+    ensures bytes { Writes (O.contents out.old) (O.contents out.new) (printed_last form.entry.name
+        form.entry.printed at) result }
     ensures step { IfOk result (λ step. step ≡ LineStep.Stops (Stop.Quiet (status_after at.refused))) }
     ensures flag { Flags (O.failed out.old) (O.failed out.new) result }
 {
@@ -213,7 +218,8 @@ fn answer_lines<W, J: Judge<W>, R: Source, O: Sink>(
         (reader_of feed.new)) seen ×
         (allowance_of feed.new + length seen ≡ input_limit) ×
         ((input : Input) → Agrees seen (flow_of feed.new) input →
-        HasReportedRun (LinesTo (J.reported judge.now) form.entry input) (EndsAt form.entry input) (taken_by form.entry.limit input)
+        HasReportedRun (LinesTo (J.reported judge.now) form.entry input) (EndsAt form.entry input)
+        (taken_by form.entry.limit input)
         (ReportsTo (J.reported judge.now) (J.explains judge.now) (J.refusal judge.now) form.entry input)
         (WhyTo (J.explains judge.now) input) (NeverLacks input) (length seen) (O.contents out.old)
         (O.contents out.new) result) }

@@ -99,7 +99,12 @@ fn push_head(numbered: bool, number: usize, text: &mut Vec<u8>) -> Result<(), Me
 
 /// Adds what is printed after name and number: the answer, or the line and its end. `Memory` if an allocation fails.
 #[inline(always)]
-fn push_shown(form: LineForm<'_>, line: &[u8], said: Answer, text: &mut Vec<u8>) -> Result<(), Memory>
+fn push_shown(
+    form: LineForm<'_>,
+    line: &[u8],
+    said: Answer,
+    text: &mut Vec<u8>,
+) -> Result<(), Memory>
     ensures { OnOk result (text.new.items ≡ text.old.items ++ shown_text form.entry form.entry.printed line.now said) }
 {
     match form.printed {
@@ -215,7 +220,8 @@ pub(crate) fn write_end<O: Sink>(
     out: &mut O,
 ) -> Result<(), WriteFault>
     requires { O.failed out.old ≡ false }
-    ensures bytes { Writes (O.contents out.old) (O.contents out.new) (printed_last form.entry.name form.entry.printed at) result }
+    ensures bytes { Writes (O.contents out.old) (O.contents out.new) (printed_last form.entry.name
+        form.entry.printed at) result }
     ensures flag { Flags (O.failed out.old) (O.failed out.new) result }
 {
     match form.printed {

@@ -13,17 +13,18 @@ returns-in-Ok g c = (
   c.settings_on-settings.ensures.same,
   ap (λ (s : Bor Text). s.now) c.settings_on-settings.ensures.input,
   inl (
-  c.run_held-run.result.messages.items,
-  record {
-    old = reader_remaining (rest_of g.S.Read.remaining g.R.File.Read.remaining) c.in-Ok.reader.inner;
-    new = reader_remaining (rest_of g.S.Read.remaining g.R.File.Read.remaining) c.run_held-run.new.reader.inner;
-    was = c.in-Ok.reader.failed;
-    failed = c.run_held-run.new.reader.failed;
-  },
-  record {
-    held_all = c.run_held-run.result.held_all;
-    status = code_of c.run_held-run.result.status;
-    right = rw c.as_slice.ensures.value at c.run_held-run.ensures;
-    reported = rw c.as_slice-in-Ok.ensures.value at c.report_held.ensures;
-  },
-))
+    c.run_held-run.result.messages.items,
+    record {
+      old = reader_remaining (rest_of g.S.Read.remaining g.R.File.Read.remaining) c.in-Ok.reader.inner;
+      new = reader_remaining (rest_of g.S.Read.remaining g.R.File.Read.remaining) c.run_held-run.new.reader.inner;
+      was = c.in-Ok.reader.failed;
+      failed = c.run_held-run.new.reader.failed;
+    },
+    record {
+      held_all = c.run_held-run.result.held_all;
+      status = code_of c.run_held-run.result.status;
+      right = rw c.as_slice.ensures.value at c.run_held-run.ensures;
+      reported = rw c.as_slice-in-Ok.ensures.value at c.report_held.ensures;
+    },
+  ),
+)
