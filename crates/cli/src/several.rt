@@ -267,7 +267,8 @@ fn are_few(mode: Mode, names: &[&str]) -> bool
 /// one input of a run, or one grammar to check or print.
 ///
 /// - `-m run`: the grammar is checked first. Its messages are written once. If nothing rejects it, each file is an
-///   input of its own, in order. `-` is standard input, which is empty where it is named again.
+///   input of its own, in order, and the settings name it. `-` is standard input, which is empty where it is named
+///   again.
 /// - Other modes: each file is a grammar.
 /// - The name of the file, a colon and a space stand before each line of messages that no space begins.
 /// - A file that cannot be read ends the run: a message on `err`, `Fault`. So does a writer that fails, and a status of

@@ -1,5 +1,5 @@
--- The input was opened, and the run on it was held.
-use Rattle.std.proofs.Common.{ap, inl}
+-- The input was opened, and the run on it was held; or it was not opened.
+use Rattle.std.proofs.Common.{ap, inl, inr}
 use Rattle.std.specs.Borrow.{Bor}
 use Rattle.clap.specs.Words.{Text}
 use Rattle.std.specs.Io.Buffered.{reader_remaining}
@@ -27,4 +27,12 @@ returns-in-Ok g c = (
       reported = rw c.as_slice-in-Ok.ensures.value at c.report_held.ensures;
     },
   ),
+)
+
+pub returns-in-Err : goal.returns-in-Err
+returns-in-Err g c = (
+  c.settings_on-settings.result,
+  c.settings_on-settings.ensures.same,
+  ap (λ (s : Bor Text). s.now) c.settings_on-settings.ensures.input,
+  inr (c.in-Err.why, c.in-Err.ensures.named, c.end_inputless.ensures),
 )
