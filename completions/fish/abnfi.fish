@@ -28,6 +28,7 @@ complete -c abnfi -s u -l letters -x -a 'bytes utf8' -d 'Take bytes or code poin
 complete -c abnfi -s z -l null-data -d 'Cut the input at NUL bytes in place of line feeds'
 complete -c abnfi -s k -l keep-ends -d 'Judge each line with its line feed, or its NUL byte'
 complete -c abnfi -s p -l print -x -a 'answers derived refused count none' -d 'Choose what to print'
+complete -c abnfi -s H -l with-filename -d 'Print the name of the input before each line'
 complete -c abnfi -s n -l line-number -d 'Print the number of each line before it'
 complete -c abnfi -s q -l quiet -d 'Print nothing, and end at the first refused line'
 complete -c abnfi -l line-buffered -d 'Answer each line before more input is read'

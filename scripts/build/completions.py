@@ -84,6 +84,7 @@ PROGRAMS = (
         Option("k", "keep-ends", "", (), "Judge each line with its line feed, or its NUL byte"),
         Option("p", "print", "WHAT", ("answers", "derived", "refused", "count", "none"),
                "Choose what to print"),
+        Option("H", "with-filename", "", (), "Print the name of the input before each line"),
         Option("n", "line-number", "", (), "Print the number of each line before it"),
         Option("q", "quiet", "", (), "Print nothing, and end at the first refused line"),
         Option("", "line-buffered", "", (), "Answer each line before more input is read"),

@@ -7,11 +7,11 @@ A case is a unit that pegi tries, a line that abnfi judges, or a grammar that is
 half of them by each program; 20000 if it is not given. Cases and their order follow from the seed alone. Prints how
 many cases were compared; at the first disagreement it prints the case and ends with status 1. A program that is not
 built is skipped. With -u half of the runs of abnfi have its option `-u utf8`; so it is with -w, -z and -k, and its
-options of these names. With -p most of them have its option `-p` or `-n`, with -q some its option `-q`, with -b half of
-them `--line-buffered`. With -1 a third of the runs of pegi have its option `-1`. With -x half of the runs of both have
-the option `-x`, half of these with what explains their notes, with hints (slow_notes.py, slow_hints.py), how the run of
-pegi stops (slow_stops.py), and rejected lines (slow_refused.py), the others of a text with a fault (slow_faults.py): a
-grammar's, of which some bytes are changed.
+options of these names. With -p most of them have its option `-p`, `-n` or `-H`, with -q some its option `-q`, with -b
+half of them `--line-buffered`. With -1 a third of the runs of pegi have its option `-1`. With -x half of the runs of
+both have the option `-x`, half of these with what explains their notes, with hints (slow_notes.py, slow_hints.py), how
+the run of pegi stops (slow_stops.py), and rejected lines (slow_refused.py), the others of a text with a fault
+(slow_faults.py): a grammar's, of which some bytes are changed.
 """
 import argparse
 import collections
@@ -92,27 +92,31 @@ def peg_case(r, may):
     return case
 
 
-def printed(what, is_numbered, case, end, is_kept):
-    """Returns what `-p` and `-n` print in place of the answers of a run."""
+def printed(what, name, is_numbered, case, end, is_kept):
+    """Returns what `-p`, `-H` and `-n` print in place of the answers of a run; `name` is what `-H` adds."""
     out, _, status = case.wanted
     answers = out.splitlines(keepends=True)
     derived = answers.count(b"yes\n")
     if what == "count":
-        return b"%d derived, %d refused\n" % (derived, len(answers) - derived) if status in (0, 1) else b""
+        counts = b"%d derived, %d refused\n" % (derived, len(answers) - derived)
+        return name + counts if status in (0, 1) else b""
     text = b""
     lines = slow_abnf.lines_of(case.given, end, is_kept)
     for number, ((line, _), answer) in enumerate(zip(lines, answers), 1):
         is_shown = what == "answers" or what == ("derived" if answer == b"yes\n" else "refused")
-        head = b"%d:" % number if is_numbered else b""
+        head = name + b"%d:" % number if is_numbered else name
         text += head + (answer if what == "answers" else line + end * (not is_kept)) if is_shown else b""
     return text
 
 
 def printed_case(r, case, end, is_kept):
-    """Returns the run with `-p`, `-n` or both, or as it is."""
+    """Returns the run with some of `-p`, `-n` and `-H`, or as it is."""
     what, is_numbered = r.choice(["answers", "answers", "derived", "refused", "count", "none"]), r.random() < 0.5
-    words = [*case.words, *(["-p", what] if what != "answers" or r.random() < 0.2 else []), *["-n"] * is_numbered]
-    return case._replace(words=words, wanted=(printed(what, is_numbered, case, end, is_kept), *case.wanted[1:]))
+    is_named = r.random() < 0.3
+    words = [*case.words, *(["-p", what] if what != "answers" or r.random() < 0.2 else []), *["-n"] * is_numbered,
+             *["-H"] * is_named]
+    out = printed(what, b"-:" * is_named, is_numbered, case, end, is_kept)
+    return case._replace(words=words, wanted=(out, *case.wanted[1:]))
 
 
 def with_end(r, rules, end):
@@ -211,7 +215,7 @@ def main():
     words.add_argument("-w", action="store_true", help="half of the runs of abnfi by `-w`")
     words.add_argument("-z", action="store_true", help="half of the runs of abnfi by `-z`")
     words.add_argument("-k", action="store_true", help="half of the runs of abnfi by `-k`")
-    words.add_argument("-p", action="store_true", help="most of the runs of abnfi by `-p` or `-n`")
+    words.add_argument("-p", action="store_true", help="most of the runs of abnfi by `-p`, `-n` or `-H`")
     words.add_argument("-q", action="store_true", help="some of the runs of abnfi by `-q`")
     words.add_argument("-b", action="store_true", help="half of the runs of abnfi by `--line-buffered`")
     words.add_argument("-1", action="store_true", help="a third of the runs of pegi by `-1`")

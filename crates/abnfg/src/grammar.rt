@@ -27,6 +27,7 @@ fn opening_settings(rule: Option<&str>) -> Opening<'_, AbnfOptions>
         mode: Mode::Check,
         limit: DEFAULT_LIMIT,
         start: rule,
+        input: "-",
         explain: false,
         options: AbnfOptions {
             letters: Alphabet::Bytes,
@@ -34,6 +35,7 @@ fn opening_settings(rule: Option<&str>) -> Opening<'_, AbnfOptions>
             nul: false,
             keeps: false,
             printed: Printed::Answers,
+            named: false,
             numbered: false,
             quiet: false,
             line_buffered: false,

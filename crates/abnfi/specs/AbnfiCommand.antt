@@ -15,13 +15,14 @@ abbrev pub ArePrinted : Names → Type 0
 ArePrinted =
     AreNames (codes "answers" ∷ codes "derived" ∷ codes "refused" ∷ codes "count" ∷ codes "none" ∷ [])
 
--- `abnfi [-m MODE] [-l N] [-s RULE] [-u MODE] [-p WHAT] [-n] [-w] [-z] [-k] [-q] [--line-buffered] [-x] GRAMMAR
--- [FILE]..`
+-- `abnfi [-m MODE] [-l N] [-s RULE] [-u MODE] [-p WHAT] [-H] [-n] [-w] [-z] [-k] [-q] [--line-buffered] [-x]
+-- GRAMMAR [FILE]..`
 abbrev pub abnfi_app : Names → Names → Names → App
 abnfi_app names alphabets printed = tool_app names (codes "abnfi") (letters_rule alphabets
     ∷ flag_rule (codes "viable") (code "w")
     ∷ flag_rule (codes "null-data") (code "z")
     ∷ choice_rule (codes "print") (code "p") printed (codes "answers")
+    ∷ flag_rule (codes "with-filename") (code "H")
     ∷ flag_rule (codes "line-number") (code "n")
     ∷ flag_rule (codes "keep-ends") (code "k")
     ∷ flag_rule (codes "quiet") (code "q")
@@ -46,6 +47,7 @@ pub record AsksAbnfi (rows : List Row) (options : AbnfOptions) : Type 0 where
   pub nul : options.nul ≡ is_flagged (first_of (codes "null-data") rows)
   pub keeps : options.keeps ≡ is_flagged (first_of (codes "keep-ends") rows)
   pub printed : options.printed ≡ printed_named (first_of (codes "print") rows)
+  pub named : options.named ≡ is_flagged (first_of (codes "with-filename") rows)
   pub numbered : options.numbered ≡ is_flagged (first_of (codes "line-number") rows)
   pub quiet : options.quiet ≡ is_flagged (first_of (codes "quiet") rows)
   pub line_buffered : options.line_buffered ≡ is_flagged (first_of (codes "line-buffered") rows)

@@ -34,6 +34,7 @@ Input:
 
 Output:
   -p, --print <WHAT>   Choose what to print [default: answers] [possible values: answers, derived, refused, count, none]
+  -H, --with-filename  Print the name of the input before each line
   -n, --line-number    Print the number of each line before it
   -q, --quiet          Print nothing, and end at the first refused line
       --line-buffered  Answer each line before more input is read
@@ -56,7 +57,7 @@ Example:
   abnfi date.abnf dates.txt";
 
 /// The options of the program alone.
-static OWN: [Parameter; 8] = [
+static OWN: [Parameter; 9] = [
     Parameter::Choice("letters", 'u', "MODE", &["bytes", "utf8"], "bytes"),
     Parameter::Flag("viable", 'w'),
     Parameter::Flag("null-data", 'z'),
@@ -67,6 +68,7 @@ static OWN: [Parameter; 8] = [
         &["answers", "derived", "refused", "count", "none"],
         "answers",
     ),
+    Parameter::Flag("with-filename", 'H'),
     Parameter::Flag("line-number", 'n'),
     Parameter::Flag("keep-ends", 'k'),
     Parameter::Flag("quiet", 'q'),
@@ -85,8 +87,8 @@ fn printed_of(matches: &ArgMatches<'_>) -> Printed
     }
 }
 
-/// The program `abnfi [-m MODE] [-l N] [-s RULE] [-u MODE] [-p WHAT] [-n] [-w] [-z] [-k] [-q] [--line-buffered] [-x]
-/// GRAMMAR [FILE]..`.
+/// The program `abnfi [-m MODE] [-l N] [-s RULE] [-u MODE] [-p WHAT] [-H] [-n] [-w] [-z] [-k] [-q] [--line-buffered]
+/// [-x] GRAMMAR [FILE]..`.
 pub(crate) struct Abnfi;
 
 impl Program for Abnfi {
@@ -109,6 +111,7 @@ impl Program for Abnfi {
             nul: is_given(matches, "null-data"),
             keeps: is_given(matches, "keep-ends"),
             printed: printed_of(matches),
+            named: is_given(matches, "with-filename"),
             numbered: is_given(matches, "line-number"),
             quiet: is_given(matches, "quiet"),
             line_buffered: is_given(matches, "line-buffered"),

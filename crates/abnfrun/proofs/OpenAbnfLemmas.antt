@@ -75,7 +75,7 @@ module _ (Reported : List ℕ → Answer → Type 0) (asked : Bool) (Refusal : L
   shown = printed_line form 1 judged said
 
   abbrev last : List ℕ
-  last = printed_last form.printed after
+  last = printed_last form.name form.printed after
 
   abbrev reply_of : List ℕ → Reply
   reply_of reported = record {

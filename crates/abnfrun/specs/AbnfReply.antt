@@ -1,6 +1,6 @@
 -- What a run of a grammar on an input states.
 use Prim.Native.Char.{code}
-use Rattle.std.specs.Prelude.{◌≡◌, ℕ, Bool, true, false, cond, List, take}
+use Rattle.std.specs.Prelude.{◌≡◌, ℕ, Bool, true, false, cond, List, None, Some, take}
 use Rattle.abnfread.specs.Element.{Rule}
 use Rattle.abnfcheck.specs.Prefixes.{IsFurthest}
 use Rattle.abnfcheck.specs.Derivable.{RuleDerives}
@@ -60,13 +60,15 @@ abbrev pub printed_by : Bool → Printed → Printed
 printed_by quiet printed = cond quiet Nothing printed
 
 -- how settings cut an input into lines, at LF, or at NUL if they ask for it; whether that end is judged with its line;
--- what they print for the lines; whether the run stops after a rejected one, and whether each line is answered at once
+-- what they print for the lines, and the name before that; whether the run stops after a rejected one, and whether each
+-- line is answered at once
 abbrev pub form_of : AbnfSettings → LineForm
 form_of settings = record {
   limit = settings.limit;
   end = cond settings.options.nul 0 (code "\n");
   keeps = settings.options.keeps;
   printed = printed_by settings.options.quiet settings.options.printed;
+  name = cond settings.options.named (Some settings.input) None;
   numbered = settings.options.numbered;
   stops = settings.options.quiet;
   line_buffered = settings.options.line_buffered;

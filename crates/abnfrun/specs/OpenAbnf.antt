@@ -52,7 +52,8 @@ judged_line settings = kept_line (form_of settings)
 abbrev pub answer_alone : AbnfSettings → List ℕ → Answer → List ℕ → Reply
 answer_alone settings line said reported = record {
   out = printed_line (form_of settings) 1 (judged_line settings line) said
-      ++ printed_last (form_of settings).printed (next_position at_front (length line + 1) said);
+      ++ printed_last (form_of settings).name (form_of settings).printed
+      (next_position at_front (length line + 1) said);
   err = reported;
   status = code_of (status_after (refused_by said));
   taken = length line + 1;

@@ -34,8 +34,9 @@ use toolrun::{Status, run_tool};
 ///   so, its code points in UTF-8. Then a line that is not UTF-8 is not derived. The run ends after the last line with
 ///   `Done` if all answers are `yes`, else with `NoMatch`.
 /// - The settings may ask for other output than the answers: the lines that are derived, or those that are not, each
-///   with its end; the counts of both, at the end of the input; or nothing. If they ask for numbers, the number of a
-///   line from 1 and a colon stand before its output.
+///   with its end; the counts of both, at the end of the input; or nothing. If they ask for the name of the
+///   input, that name and a colon stand before the output for a line, and before the counts. If they ask for numbers,
+///   the number of a line from 1 and a colon stand before its output.
 /// - If the settings ask for quiet, nothing is printed, and the run ends after the first line that is not derived.
 /// - A line that is not derived is answered by `no`. If the settings ask for the longest viable prefix, it is answered
 ///   by `no N`, where that prefix has N symbols. Of a line that is not UTF-8 these symbols are those of its longest

@@ -328,7 +328,7 @@ fn automaton_of(alloc: Global, flat: &Flat) -> Option<Automaton>
 }
 
 /// Returns how settings cut an input into lines, and what they print for them.
-pub(crate) fn line_form(settings: &AbnfSettings<'_>) -> LineForm
+pub(crate) fn line_form<'a>(settings: &AbnfSettings<'a>) -> LineForm<'a>
     ensures { result ≡ form_of settings.now }
 {
     LineForm {
@@ -339,6 +339,11 @@ pub(crate) fn line_form(settings: &AbnfSettings<'_>) -> LineForm
             Printed::Nothing
         } else {
             settings.options.printed
+        },
+        name: if settings.options.named {
+            Some(settings.input)
+        } else {
+            None
         },
         numbered: settings.options.numbered,
         stops: settings.options.quiet,

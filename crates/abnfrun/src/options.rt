@@ -17,6 +17,8 @@ pub struct AbnfOptions {
     pub keeps: bool,
     /// The output for each line.
     pub printed: Printed,
+    /// Whether the name of the input and a colon stand before the output.
+    pub named: bool,
     /// Whether the number of a line and a colon stand before what is printed for it.
     pub numbered: bool,
     /// Whether nothing is printed, and the run ends after the first rejected line.

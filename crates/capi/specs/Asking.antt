@@ -41,6 +41,7 @@ pub record AbnfMeant (asked : CSettings) (options : AbnfOptions) : Type 0 where
   pub nul : options.nul ≡ asked.nul
   pub keeps : options.keeps ≡ false
   pub printed : options.printed ≡ Answers
+  pub named : options.named ≡ false
   pub numbered : options.numbered ≡ false
   pub quiet : options.quiet ≡ false
   pub line_buffered : options.line_buffered ≡ false

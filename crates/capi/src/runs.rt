@@ -33,6 +33,7 @@ pub(crate) fn run_input(alloc: Global, runner: &mut Runner, input: &[u8]) -> Out
         mode: Mode::Run,
         limit: runner.limit,
         start: None,
+        input: "-",
         explain: runner.explain,
         options: PegOptions {
             raw: runner.raw,

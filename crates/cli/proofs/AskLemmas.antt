@@ -6,7 +6,7 @@ use Rattle.std.specs.Borrow.{Bor}
 use Rattle.clap.specs.Words.{Row, Text, first_of, first_value, one_of, one_text, rows_of}
 use Rattle.clap.specs.declared.parser.matches.Found.{Found}
 use Rattle.clap.proofs.WalkLemmas.{first_value-rows, one_text-rows}
-use Rattle.cli.specs.Asked.{AreWhole, Ask, IsLimitOf, is_flagged, mode_named}
+use Rattle.cli.specs.Asked.{AreWhole, Ask, IsLimitOf, input_named, is_flagged, mode_named}
 use Rattle.cli.specs.declared.settings.Asked.{Asked}
 
 first_found : (f : Found) (rows : List Row) → rows_of f ≡ rows → (id : Text) → first_value f id ≡ first_of id rows
@@ -20,17 +20,19 @@ pub words_ask : {O : Type 0} (Asks : List Row → O → Type 0) (f : Found) (row
     → a.settings.mode ≡ mode_named (first_value f (codes "mode"))
     → IsLimitOf (one_text f (codes "limit")) a.settings.limit
     → option_map (λ s. s.now) a.settings.start ≡ first_value f (codes "rule")
+    → a.settings.input.now ≡ input_named (first_value f (codes "file"))
     → a.settings.explain ≡ is_flagged (first_of (codes "explain") (rows_of f))
     → Asks (rows_of f) a.settings.options
     → option_map (λ s. s.now) path ≡ first_value f (codes "grammar") → path ≡ Some a.path
     → option_map (λ s. s.now) a.file ≡ first_value f (codes "file") → Ask Asks rows a
-words_ask Asks f rows e whole a path mode limit start explain options word is file =
+words_ask Asks f rows e whole a path mode limit start input explain options word is file =
     let w = whole.limit in
     let number = subst (λ o. IsLimitOf o a.settings.limit) w.1 limit in
     record {
       mode = mode ∙ ap mode_named (first_found f rows e (codes "mode"));
       limit = (w.0, sym (one_found f rows e (codes "limit")) ∙ w.1, w.2, number w.2.0 w.2.1 w.2.2);
       start = start ∙ first_found f rows e (codes "rule");
+      input = input ∙ ap input_named (first_found f rows e (codes "file"));
       explain = explain ∙ ap (λ (r : List Row). is_flagged (first_of (codes "explain") r)) e;
       options = subst (λ r. Asks r a.settings.options) e options;
       grammar = sym (first_found f rows e (codes "grammar"))

@@ -53,12 +53,18 @@ is_flagged (Some text) = bytes_eq text (codes "true")
 abbrev pub files_in : List Row → List Text
 files_in rows = unwrap_or (all_of (codes "file") rows) []
 
+-- the name of the input, by the first file that words name; `-` where they name none
+abbrev pub input_named : Option Text → Text
+input_named None = codes "-"
+input_named (Some name) = name
+
 -- The matches ask for these settings and this grammar. Asks says what they ask for in the language alone.
 pub record Ask {O : Type 0} (Asks : List Row → O → Type 0) (rows : List Row) (asked : Asked O) : Type 0 where
   pub mode : asked.settings.mode ≡ mode_named (first_of (codes "mode") rows)
   pub limit : (text : Text) × (one_of (codes "limit") rows ≡ Some text) × IsLimitText text
       × (asked.settings.limit ≡ digits_value 10 (without_leading_plus text))
   pub start : option_map (λ s. s.now) asked.settings.start ≡ first_of (codes "rule") rows
+  pub input : asked.settings.input.now ≡ input_named (first_of (codes "file") rows)
   pub explain : asked.settings.explain ≡ is_flagged (first_of (codes "explain") rows)
   pub options : Asks rows asked.settings.options
   pub grammar : first_of (codes "grammar") rows ≡ Some asked.path.now

@@ -93,10 +93,17 @@ abbrev pub AllRun : (Text → Stream → Stream → ℕ → Type 0) → List Tex
 AllRun Runs names out err code = (ran rest : List Text) × (names ≡ ran ++ rest) × RunsInOrder Runs ran out err code
     × ((rest ≡ []) ⊎ ((4 ≤ code) ⊎ ((out.failed ≡ true) ⊎ (err.failed ≡ true))))
 
--- these are the settings, but for the mode
+-- these are the settings, but for the mode and the name of the input
 abbrev pub IsInMode : {O : Type 0} → Mode → Settings O → Settings O → Type 0
 IsInMode mode settings new = (new.mode ≡ mode) × (new.limit ≡ settings.limit) × (new.start ≡ settings.start)
     × (new.explain ≡ settings.explain) × (new.options ≡ settings.options)
+
+-- the run of a grammar on the input of that name, with these settings but for that name
+abbrev pub IsRunOnInput : {O : Type 0} → (List ℕ → Settings O → Input → List ℕ → Reply → Type 0) → List ℕ → Settings O
+    → List ℕ → Text → Stream → Stream → ℕ → Type 0
+IsRunOnInput {O = O} States grammar settings first name out err code =
+    (named : Settings O) × IsInMode settings.mode settings named × (named.input.now ≡ name)
+    × IsInputRun (States grammar named) first name out err code
 
 -- The grammar is checked, and its messages are written once. Where nothing rejects it, it is run on the inputs of these
 -- names.
@@ -109,7 +116,7 @@ pub data HasRunOnInputs {O : Type 0} (States : List ℕ → Settings O → Input
   runs : (checks judges : Settings O) (grammar first : List ℕ) (out out_next err err_next : Stream) (code : ℕ)
       → IsInMode Check settings checks → HasRunGrammar (λ g. States g checks) path grammar first out err 0
       → IsInMode Run settings judges
-      → AllRun (IsInputRun (States grammar judges) first) names out_next err_next code
+      → AllRun (IsRunOnInput States grammar judges first) names out_next err_next code
       → out.new ≡ out_next.old → err.new ≡ err_next.old
       → HasRunOnInputs States settings path names (both_calls out out_next) (both_calls err err_next) code
 

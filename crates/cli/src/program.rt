@@ -23,7 +23,7 @@ use toolrun::{Settings, Status};
 /// A program that runs grammars of a language.
 pub trait Program {
     /// The settings of the language alone.
-    type Options: Drop;
+    type Options: Copy + Drop;
 
     /// The program's command, as a parse reads it.
     ghost is_app: { App → Type 0 };

@@ -2,7 +2,7 @@
 ghost use Rattle.std.specs.Prelude.{◌≡◌, ◌≤◌, MatchResult, [], codes, map, option_map};
 ghost use Rattle.clap.specs.Words.{App, HasKind, fault_of, first_of, first_value, found_of, matches_of, one_text};
 ghost use Rattle.clap.specs.Words.{rows_of};
-ghost use Rattle.cli.specs.Asked.{Ask, IsLimitOf, is_flagged, mode_named};
+ghost use Rattle.cli.specs.Asked.{Ask, IsLimitOf, input_named, is_flagged, mode_named};
 ghost use Rattle.cli.specs.Parsing.{IsParsedBy};
 
 use crate::program::{Program, parse};
@@ -33,11 +33,21 @@ fn limit_of(matches: &ArgMatches<'_>) -> usize
     }
 }
 
+fn input_of<'a>(matches: &ArgMatches<'a>) -> &'a str
+    ensures { result.now ≡ input_named (first_value (found_of matches.now) (codes "file")) }
+{
+    match matches.get_str("file") {
+        Some(name) => name,
+        None => "-",
+    }
+}
+
 /// Returns the settings that the words ask for, and the defaults elsewhere.
 pub fn settings_of<'a, P: Program>(matches: &ArgMatches<'a>) -> Settings<'a, P::Options>
     ensures mode { result.mode ≡ mode_named (first_value (found_of matches.now) (codes "mode")) }
     ensures limit { IsLimitOf (one_text (found_of matches.now) (codes "limit")) result.limit }
     ensures start { option_map (λ s. s.now) result.start ≡ first_value (found_of matches.now) (codes "rule") }
+    ensures input { result.input.now ≡ input_named (first_value (found_of matches.now) (codes "file")) }
     ensures explain { result.explain ≡ is_flagged (first_of (codes "explain") (rows_of (found_of matches.now))) }
     ensures options { P.asks (rows_of (found_of matches.now)) result.options }
 {
@@ -45,6 +55,7 @@ pub fn settings_of<'a, P: Program>(matches: &ArgMatches<'a>) -> Settings<'a, P::
         mode: mode_of(matches),
         limit: limit_of(matches),
         start: matches.get_str("rule"),
+        input: input_of(matches),
         explain: is_given(matches, "explain"),
         options: P::options(matches),
     }

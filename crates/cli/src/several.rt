@@ -3,7 +3,7 @@ ghost use Rattle.std.specs.Prelude.{◌≡◌, ◌≢◌, ◌≤◌, ◌⊎◌, 
 ghost use Rattle.std.specs.Prelude.{string_bytes, true};
 ghost use Rattle.clap.specs.Words.{App, fault_of, matches_of};
 ghost use Rattle.cli.specs.FileRuns.{AllRun, AreFew, AreFewAsked, HasRunGrammar, HasRunOnInputs, HasRunSeveral};
-ghost use Rattle.cli.specs.FileRuns.{IsGrammarRun, IsInputRun, IsNamedReport};
+ghost use Rattle.cli.specs.FileRuns.{IsGrammarRun, IsInMode, IsNamedReport, IsRunOnInput};
 ghost use Rattle.toolrun.specs.Status.{code_of};
 ghost use Rattle.toolrun.specs.Stop.{message_of};
 ghost use Rattle.toolrun.specs.Stream.{passed};
@@ -102,6 +102,21 @@ fn run_grammar<P: Program, R: Files + AllocGlobal, O: BufferedSink, E: Sink>(
     }
 }
 
+// Returns the settings of a run on the input of that name.
+fn settings_on<'a, O: Copy>(settings: &Settings<'a, O>, input: &'a str) -> Settings<'a, O>
+    ensures same { IsInMode settings.now.mode settings.now result }
+    ensures input { result.input ≡ input.entry }
+{
+    Settings {
+        mode: settings.mode,
+        limit: settings.limit,
+        start: settings.start,
+        input,
+        explain: settings.explain,
+        options: settings.options,
+    }
+}
+
 // Runs a grammar on the input of that name, and writes the messages with the name before their lines.
 fn run_input<P: Program, R: Files + AllocGlobal, S: Read + Drop, O: BufferedSink, E: Sink>(
     rt: &R,
@@ -113,19 +128,14 @@ fn run_input<P: Program, R: Files + AllocGlobal, S: Read + Drop, O: BufferedSink
 ) -> Status
     requires out_is_fresh { O.failed out.old ≡ false }
     requires err_is_fresh { E.failed err.old ≡ false }
-    ensures { IsInputRun (P.states job.now.text.items job.now.settings) job.now.messages.items name.now
+    ensures { IsRunOnInput P.states job.now.text.items job.now.settings job.now.messages.items name.now
         (passed O.contents O.failed out.old out.new) (passed E.contents E.failed err.old err.new) (code_of result) }
 {
     let alloc = rt.alloc();
+    let settings = settings_on(&job.settings, name);
     match open_reader(rt, name, standard) {
         Ok(mut reader) => {
-            let run = run_held::<P, _, O>(
-                alloc,
-                job.text.as_slice(),
-                &job.settings,
-                &mut reader,
-                out,
-            );
+            let run = run_held::<P, _, O>(alloc, job.text.as_slice(), &settings, &mut reader, out);
             report_held(alloc, name, job.messages.as_slice(), &run, err)
         }
         Err(why) => end_inputless(alloc, &why, out, err),
@@ -159,7 +169,7 @@ fn run_inputs<P: Program, R: Files + AllocGlobal, S: Read + Drop, O: BufferedSin
 ) -> Status
     requires out_is_fresh { O.failed out.old ≡ false }
     requires err_is_fresh { E.failed err.old ≡ false }
-    ensures { AllRun (IsInputRun (P.states job.now.text.items job.now.settings) job.now.messages.items)
+    ensures { AllRun (IsRunOnInput P.states job.now.text.items job.now.settings job.now.messages.items)
         (map (λ s. s.now) names.now)
         (passed O.contents O.failed out.old out.new) (passed E.contents E.failed err.old err.new) (code_of result) }
 {
@@ -257,7 +267,8 @@ fn are_few(mode: Mode, names: &[&str]) -> bool
 /// one input of a run, or one grammar to check or print.
 ///
 /// - `-m run`: the grammar is checked first. Its messages are written once. If nothing rejects it, each file is an
-///   input of its own, in order. `-` is standard input, which is empty where it is named again.
+///   input of its own, in order, and the settings name it. `-` is standard input, which is empty where it is named
+///   again.
 /// - Other modes: each file is a grammar.
 /// - The name of the file, a colon and a space stand before each line of messages that no space begins.
 /// - A file that cannot be read ends the run: a message on `err`, `Fault`. So does a writer that fails, and a status of

@@ -73,12 +73,13 @@ module _ (Reported : List ℕ → Answer → Type 0) (asked : Bool) (Refusal : L
       (Ok (Stops (LongLine (at.count + 1) form.limit)))
   long_is goes next = (refl, inr ([], overlong goes next, Appends-same old))
 
-  pub end_is : (r : Result LineStep WriteFault) → LinesEnd form input at (printed_last form.printed at)
+  pub end_is : (r : Result LineStep WriteFault) → LinesEnd form input at (printed_last form.name form.printed at)
       (Quiet (status_after at.refused))
-      → Writes old new (printed_last form.printed at) r → IfOk r (λ s. s ≡ Stops (Quiet (status_after at.refused)))
+      → Writes old new (printed_last form.name form.printed at) r
+      → IfOk r (λ s. s ≡ Stops (Quiet (status_after at.refused)))
       → IsStep Reported asked Refusal form input at old new reported reported r
-  end_is (Ok step) ends writes same = rw same (refl, inr (printed_last form.printed at, ends, writes))
-  end_is (Err fault) ends part same = (printed_last form.printed at, of_end _ _ ends refl, part)
+  end_is (Ok step) ends writes same = rw same (refl, inr (printed_last form.name form.printed at, ends, writes))
+  end_is (Err fault) ends part same = (printed_last form.name form.printed at, of_end _ _ ends refl, part)
 
   pub broken_is : is_over form at ≡ false → IsNext form input at.position line.Broken
       → IsStep Reported asked Refusal form input at old old reported reported (Ok (Stops stop.Broken))

@@ -48,7 +48,7 @@ refused_by-one (NoAfter n) = omega arith
 
 -- at the end of the input a run ends so, whether it was over before or not
 pub ends_quietly : (form : LineForm) (input : Input) (at : LinePosition) (b : Bool) → is_over form at ≡ b
-    → IsEndAt form input at.position → LinesEnd form input at (printed_last form.printed at)
+    → IsEndAt form input at.position → LinesEnd form input at (printed_last form.name form.printed at)
     (Quiet (status_after at.refused))
 ends_quietly form input at true over is = rejected over
 ends_quietly form input at false goes is = finished goes is
@@ -107,7 +107,7 @@ module _ (Reported : List ℕ → Answer → Type 0) (form : LineForm) (input : 
         → input.fault ≡ false
         → Goes at.position text
     goes_at_end at text lines empty fine =
-        let last = printed_last form.printed at in
+        let last = printed_last form.name form.printed at in
         goes_from at.position at.position text last (omega arith)
         (goes_to_stop at text last (Quiet (status_after at.refused)) lines
         (ends_quietly form input at (is_over form at) refl (empty, fine)))
@@ -142,7 +142,7 @@ module _ (Reported : List ℕ → Answer → Type 0) (form : LineForm) (input : 
         → length (rest at.position) < fuel → Goes at.position text
     lines_go zero b at text lines is room = absurd (omega (arith, room))
     lines_go (suc fuel) true at text lines over room =
-        let last = printed_last form.printed at in
+        let last = printed_last form.name form.printed at in
         goes_from at.position at.position text last (omega arith)
         (goes_to_stop at text last (Quiet (status_after at.refused)) lines (rejected over))
     lines_go (suc fuel) false at text lines goes room = elim (split_line form.end (rest at.position)) [

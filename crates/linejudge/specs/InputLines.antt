@@ -1,6 +1,8 @@
 -- The lines of an input, the answers to them, and how a run of them ends. A byte ends a line: LF, or any other.
 use Rattle.std.specs.Prelude.{◌≡◌, ◌≢◌, ℕ, suc, ◌+◌, ◌-◌, ◌<◌, ◌≤◌, ◌==◌, nat_lt, ⊤, min, Bool, true, false, not, ◌&&◌}
 use Rattle.std.specs.Prelude.{List, [], ◌∷◌, ◌++◌, length, take, drop, codes, decimal, if◌then◌else◌}
+use Rattle.std.specs.Prelude.{Option, Some, None}
+use Rattle.std.specs.Borrow.{Bor}
 use Rattle.std.specs.List.{All}
 use Rattle.feed.specs.declared.held.Held.{Held}
 use Rattle.feed.specs.declared.held.Held.TheVariants as held
@@ -42,10 +44,19 @@ is_line_printed printed.Refused said = not (says_yes said)
 is_line_printed printed.Count said = false
 is_line_printed printed.Nothing said = false
 
+-- the name and a colon, if a name is given
+abbrev pub name_text : Option (Bor (List ℕ)) → List ℕ
+name_text (Some name) = name.now ++ codes ":"
+name_text None = []
+
 -- the number of a line and a colon, if lines are numbered
 abbrev pub number_text : Bool → ℕ → List ℕ
 number_text true number = decimal number ++ codes ":"
 number_text false number = []
+
+-- what stands before the output for the line of that number
+abbrev pub head_text : LineForm → ℕ → List ℕ
+head_text form number = name_text form.name ++ number_text form.numbered number
 
 -- what is judged of a line that has an end: the line alone, or with its end
 abbrev pub kept_line : LineForm → List ℕ → List ℕ
@@ -59,7 +70,7 @@ kept_size form n = if form.keeps then n + 1 else n
 abbrev pub ended_line : LineForm → List ℕ → List ℕ
 ended_line form line = if form.keeps then line else line ++ form.end ∷ []
 
--- what is printed after the number: the answer, or the line and its end
+-- what is printed after name and number: the answer, or the line and its end
 abbrev pub shown_text : LineForm → Printed → List ℕ → Answer → List ℕ
 shown_text form printed.Answers line said = answer_text said
 shown_text form printed.Derived line said = ended_line form line
@@ -70,7 +81,7 @@ shown_text form printed.Nothing line said = []
 -- what is printed for a line of that number with that answer, by what was judged of it
 abbrev pub printed_line : LineForm → ℕ → List ℕ → Answer → List ℕ
 printed_line form number line said = if is_line_printed form.printed said
-    then number_text form.numbered number ++ shown_text form form.printed line said else []
+    then head_text form number ++ shown_text form form.printed line said else []
 
 -- how many lines an answer rejects
 abbrev pub refused_by : Answer → ℕ
@@ -102,13 +113,13 @@ is_over form at = nat_lt 0 at.refused && form.stops
 abbrev pub count_text : LinePosition → List ℕ
 count_text at = decimal (at.count - at.refused) ++ codes " derived, " ++ decimal at.refused ++ codes " refused\n"
 
--- what is printed at the end of the input
-abbrev pub printed_last : Printed → LinePosition → List ℕ
-printed_last printed.Answers at = []
-printed_last printed.Derived at = []
-printed_last printed.Refused at = []
-printed_last printed.Count at = count_text at
-printed_last printed.Nothing at = []
+-- what is printed at the end of the input, where a name may be given
+abbrev pub printed_last : Option (Bor (List ℕ)) → Printed → LinePosition → List ℕ
+printed_last name printed.Answers at = []
+printed_last name printed.Derived at = []
+printed_last name printed.Refused at = []
+printed_last name printed.Count at = name_text name ++ count_text at
+printed_last name printed.Nothing at = []
 
 -- how many bytes are taken where the last line is looked for at s
 abbrev pub taken_at : ℕ → Input → ℕ → ℕ
@@ -202,6 +213,6 @@ pub data LinesEnd (form : LineForm) (input : Input) (at : LinePosition) : List �
   overlong : is_over form at ≡ false → IsOverlongAt form input at.position
       → LinesEnd form input at [] (stop.LongLine (at.count + 1) form.limit)
   finished : is_over form at ≡ false → IsEndAt form input at.position
-      → LinesEnd form input at (printed_last form.printed at) (stop.Quiet (status_after at.refused))
+      → LinesEnd form input at (printed_last form.name form.printed at) (stop.Quiet (status_after at.refused))
   rejected : is_over form at ≡ true
-      → LinesEnd form input at (printed_last form.printed at) (stop.Quiet (status_after at.refused))
+      → LinesEnd form input at (printed_last form.name form.printed at) (stop.Quiet (status_after at.refused))

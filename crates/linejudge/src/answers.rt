@@ -142,7 +142,7 @@ struct FoundLine<'a> {
     /// The position before it.
     at: LinePosition,
     /// The form of the input's lines.
-    form: LineForm,
+    form: LineForm<'a>,
 }
 
 /// Judges a line, puts what is printed for it into `text`, in place of what that holds, and adds its explanation, if it
@@ -186,7 +186,7 @@ fn is_copied<R: Source>(feed: &Feed<'_, R>, n: usize, line: &mut Vec<u8>) -> boo
 pub fn answer_held<W, J: Judge<W>, R: Source>(
     judge: &J,
     work: &mut W,
-    form: LineForm,
+    form: LineForm<'_>,
     feed: &mut Feed<'_, R>,
     n: usize,
     reached: &mut Reached,
@@ -200,8 +200,9 @@ pub fn answer_held<W, J: Judge<W>, R: Source>(
     ensures room { J.explains judge.now ≡ true → HasRoom reached.new.reported }
     ensures same { SameFeed feed.old feed.new }
     ensures at { reached.new.at ≡ reached.old.at }
-    ensures answered { IfOk result (Answered (J.reported judge.now) (J.explains judge.now) (J.refusal judge.now) form
-        reached.old.at (take n (bytes_of feed.old)) reached.old.reported reached.new.reported reached.new.text.items) }
+    ensures answered { IfOk result (Answered (J.reported judge.now) (J.explains judge.now) (J.refusal judge.now)
+        form.entry reached.old.at (take n (bytes_of feed.old)) reached.old.reported reached.new.reported
+        reached.new.text.items) }
     ensures err { OnErr result (reached.new.reported ≡ reached.old.reported) }
 {
     let at = reached.at;

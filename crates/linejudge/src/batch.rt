@@ -16,9 +16,9 @@ const MAX_ANSWER: usize = 45;
 
 /// Returns whether a run goes on at a position; with `is_plain` it does.
 #[inline(always)]
-fn goes_on(is_plain: bool, form: LineForm, at: LinePosition) -> bool
+fn goes_on(is_plain: bool, form: LineForm<'_>, at: LinePosition) -> bool
     requires { IsTrue is_plain → form.stops ≡ false }
-    ensures { IsTrue result → is_over form at ≡ false }
+    ensures { IsTrue result → is_over form.entry at ≡ false }
 {
     is_plain || !form.is_over(at)
 }
@@ -30,7 +30,7 @@ fn goes_on(is_plain: bool, form: LineForm, at: LinePosition) -> bool
 pub(crate) fn judge_front<W, J: Judge<W>>(
     judge: &J,
     work: &mut W,
-    form: LineForm,
+    form: LineForm<'_>,
     front: &[u8],
     at: LinePosition,
     text: &mut Vec<u8>,
@@ -46,7 +46,7 @@ pub(crate) fn judge_front<W, J: Judge<W>>(
     ensures counted { result.count ≤ result.position }
     ensures refused { result.refused ≤ result.count }
     ensures goes_on { (input : Input) (rest : List ℕ) → drop at.position input.bytes ≡ front.now ++ rest →
-        AddsLines (J.reported judge.now) (J.explains judge.now) (J.refusal judge.now) form input at result
+        AddsLines (J.reported judge.now) (J.explains judge.now) (J.refusal judge.now) form.entry input at result
         text.new.items }
 {
     text.clear();

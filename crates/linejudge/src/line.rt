@@ -12,7 +12,7 @@ use feed::{Feed, Held, Source};
 
 /// How an input is cut into lines, and what is printed for them.
 #[derive(Clone, Copy)]
-pub struct LineForm {
+pub struct LineForm<'a> {
     /// The greatest length of a line, in bytes.
     pub limit: usize,
     /// The byte that ends a line.
@@ -21,6 +21,8 @@ pub struct LineForm {
     pub keeps: bool,
     /// The output for each line.
     pub printed: Printed,
+    /// The name before the output, which a colon follows.
+    pub name: Option<&'a str>,
     /// Whether the number of a line and a colon stand before what is printed for it.
     pub numbered: bool,
     /// Whether the run ends after the first rejected line.
@@ -29,14 +31,14 @@ pub struct LineForm {
     pub line_buffered: bool,
 }
 
-impl LineForm {
+impl LineForm<'_> {
     /// Returns how many bytes are judged of a line that has an end, and `n` bytes before it.
     #[inline(always)]
     pub(crate) fn kept_size(self, n: usize) -> usize
         requires { n + 1 < 2 ^ 64 }
-        ensures size { result ≡ kept_size self n }
+        ensures size { result ≡ kept_size self.entry n }
         ensures most { result ≤ n + 1 }
-        ensures within { (limit : ℕ) → n ≤ limit → result ≤ kept_size self limit }
+        ensures within { (limit : ℕ) → n ≤ limit → result ≤ kept_size self.entry limit }
     {
         if self.keeps { n + 1 } else { n }
     }
@@ -44,7 +46,7 @@ impl LineForm {
     /// Returns whether a run ends at a position, after a rejected line.
     #[inline(always)]
     pub(crate) fn is_over(self, at: LinePosition) -> bool
-        ensures { result ≡ is_over self at }
+        ensures { result ≡ is_over self.entry at }
     {
         0 < at.refused && self.stops
     }
@@ -79,17 +81,17 @@ fn without_end(held: Held, len: usize) -> Line
 /// Finds the line at the front, as `next_line` does, and reads no further than to a line's end: before each read none
 /// is held. It stands apart, so that `next_line` stays small.
 #[inline(never)]
-fn line_at_once<R: Source>(feed: &mut Feed<'_, R>, form: LineForm) -> Line
+fn line_at_once<R: Source>(feed: &mut Feed<'_, R>, form: LineForm<'_>) -> Line
     requires { IsTrueOfReader R.remaining R.failed R.ended feed.old }
     ensures loan { SameLoan feed.old feed.new }
     ensures grows { Grows R.remaining feed.old feed.new }
     ensures reported { IsTrueOfReader R.remaining R.failed R.ended feed.new }
-    ensures follows { (before : List ℕ) (input : Input) → capacity_of feed.new ≡ form.limit + 1 →
+    ensures follows { (before : List ℕ) (input : Input) → capacity_of feed.new ≡ form.entry.limit + 1 →
         Agrees (before ++ bytes_of feed.new) (flow_of feed.new) input →
-        IsNext form input (length before) result ×
-        (length (before ++ bytes_of feed.new) ≤ taken_at form.limit input (length before)) }
-    ensures still { (HasNoEnd form.end (bytes_of feed.old) → ⊥) → SameFeed feed.old feed.new }
-    ensures reads { ReadsForLine form.end (bytes_of feed.old) (bytes_of feed.new) }
+        IsNext form.entry input (length before) result ×
+        (length (before ++ bytes_of feed.new) ≤ taken_at form.entry.limit input (length before)) }
+    ensures still { (HasNoEnd form.entry.end (bytes_of feed.old) → ⊥) → SameFeed feed.old feed.new }
+    ensures reads { ReadsForLine form.entry.end (bytes_of feed.old) (bytes_of feed.new) }
     ensures fits { LiesWithin (length (bytes_of feed.new)) result }
     ensures short { IsShort (capacity_of feed.new) result }
 {
@@ -109,21 +111,22 @@ fn line_at_once<R: Source>(feed: &mut Feed<'_, R>, form: LineForm) -> Line
 /// reads until the window is full, the input ends or a read fails; with `form.line_buffered` only until the end of a
 /// line is held. The window has room for one byte more than a line may have; a line that is returned has fewer bytes
 /// than there is room for.
-pub fn next_line<R: Source>(feed: &mut Feed<'_, R>, form: LineForm) -> Line
+pub fn next_line<R: Source>(feed: &mut Feed<'_, R>, form: LineForm<'_>) -> Line
     requires { IsTrueOfReader R.remaining R.failed R.ended feed.old }
     ensures loan { SameLoan feed.old feed.new }
     ensures grows { Grows R.remaining feed.old feed.new }
     ensures reported { IsTrueOfReader R.remaining R.failed R.ended feed.new }
-    ensures follows { (before : List ℕ) (input : Input) → capacity_of feed.new ≡ form.limit + 1 →
+    ensures follows { (before : List ℕ) (input : Input) → capacity_of feed.new ≡ form.entry.limit + 1 →
         Agrees (before ++ bytes_of feed.new) (flow_of feed.new) input →
-        IsNext form input (length before) result ×
-        (length (before ++ bytes_of feed.new) ≤ taken_at form.limit input (length before)) }
-    ensures still { (HasNoEnd form.end (bytes_of feed.old) → ⊥) → SameFeed feed.old feed.new }
-    ensures reads { IsTrue form.line_buffered → ReadsForLine form.end (bytes_of feed.old) (bytes_of feed.new) }
-    ensures filled { form.line_buffered ≡ false → HasNoEnd form.end (bytes_of feed.old) → (before : List ℕ)
+        IsNext form.entry input (length before) result ×
+        (length (before ++ bytes_of feed.new) ≤ taken_at form.entry.limit input (length before)) }
+    ensures still { (HasNoEnd form.entry.end (bytes_of feed.old) → ⊥) → SameFeed feed.old feed.new }
+    ensures reads { IsTrue form.entry.line_buffered →
+        ReadsForLine form.entry.end (bytes_of feed.old) (bytes_of feed.new) }
+    ensures filled { form.entry.line_buffered ≡ false → HasNoEnd form.entry.end (bytes_of feed.old) → (before : List ℕ)
         (input : Input) →
-        capacity_of feed.new ≡ form.limit + 1 → Agrees (before ++ bytes_of feed.new) (flow_of feed.new) input →
-        length (before ++ bytes_of feed.new) ≡ taken_at form.limit input (length before) }
+        capacity_of feed.new ≡ form.entry.limit + 1 → Agrees (before ++ bytes_of feed.new) (flow_of feed.new) input →
+        length (before ++ bytes_of feed.new) ≡ taken_at form.entry.limit input (length before) }
     ensures fits { LiesWithin (length (bytes_of feed.new)) result }
     ensures short { IsShort (capacity_of feed.new) result }
 {

@@ -63,13 +63,18 @@ fn step_of<O: Sink>(
 }
 
 /// Writes what is printed at the end of a run, and returns how it ends there.
-fn end_step<O: Sink>(form: LineForm, at: LinePosition, out: &mut O) -> Result<LineStep, WriteFault>
+fn end_step<O: Sink>(
+    form: LineForm<'_>,
+    at: LinePosition,
+    out: &mut O,
+) -> Result<LineStep, WriteFault>
     requires { O.failed out.old ≡ false }
-    ensures bytes { Writes (O.contents out.old) (O.contents out.new) (printed_last form.printed at) result }
+    ensures bytes { Writes (O.contents out.old) (O.contents out.new) (printed_last form.entry.name
+        form.entry.printed at) result }
     ensures step { IfOk result (λ step. step ≡ LineStep.Stops (Stop.Quiet (status_after at.refused))) }
     ensures flag { Flags (O.failed out.old) (O.failed out.new) result }
 {
-    match write_end(form.printed, at, out) {
+    match write_end(form, at, out) {
         Ok(()) => Ok(LineStep::Stops(Stop::Quiet(at.status()))),
         Err(fault) => Err(fault),
     }
@@ -79,7 +84,7 @@ fn end_step<O: Sink>(form: LineForm, at: LinePosition, out: &mut O) -> Result<Li
 fn next_step<W, J: Judge<W>, R: Source, O: Sink>(
     judge: &J,
     work: &mut W,
-    form: LineForm,
+    form: LineForm<'_>,
     feed: &mut Feed<'_, R>,
     reached: &mut Reached,
     out: &mut O,
@@ -101,9 +106,9 @@ fn next_step<W, J: Judge<W>, R: Source, O: Sink>(
     ensures grows { Grows R.remaining feed.old feed.new }
     ensures follows { (before : List ℕ) (input : Input) → length before ≡ reached.old.at.position → Agrees (before
         ++ bytes_of feed.new) (flow_of feed.new) input →
-        IsStep (J.reported judge.now) (J.explains judge.now) (J.refusal judge.now) form input reached.old.at
+        IsStep (J.reported judge.now) (J.explains judge.now) (J.refusal judge.now) form.entry input reached.old.at
         (O.contents out.old) (O.contents out.new) reached.old.reported reached.new.reported result ×
-        (length (before ++ bytes_of feed.new) ≤ taken_at form.limit input reached.old.at.position) }
+        (length (before ++ bytes_of feed.new) ≤ taken_at form.entry.limit input reached.old.at.position) }
     ensures fits { FitsIn (length (bytes_of feed.new)) result }
     ensures flag { Flags (O.failed out.old) (O.failed out.new) result }
 {
@@ -191,7 +196,7 @@ fn ending_at(asked: bool, reached: Reached, stop: Stop) -> Ending
 fn answer_lines<W, J: Judge<W>, R: Source, O: Sink>(
     judge: &J,
     work: &mut W,
-    form: LineForm,
+    form: LineForm<'_>,
     feed: &mut Feed<'_, R>,
     mut reached: Reached,
     out: &mut O,
@@ -213,8 +218,9 @@ fn answer_lines<W, J: Judge<W>, R: Source, O: Sink>(
         (reader_of feed.new)) seen ×
         (allowance_of feed.new + length seen ≡ input_limit) ×
         ((input : Input) → Agrees seen (flow_of feed.new) input →
-        HasReportedRun (LinesTo (J.reported judge.now) form input) (EndsAt form input) (taken_by form.limit input)
-        (ReportsTo (J.reported judge.now) (J.explains judge.now) (J.refusal judge.now) form input)
+        HasReportedRun (LinesTo (J.reported judge.now) form.entry input) (EndsAt form.entry input)
+        (taken_by form.entry.limit input)
+        (ReportsTo (J.reported judge.now) (J.explains judge.now) (J.refusal judge.now) form.entry input)
         (WhyTo (J.explains judge.now) input) (NeverLacks input) (length seen) (O.contents out.old)
         (O.contents out.new) result) }
     ensures flag { Flags (O.failed out.old) (O.failed out.new) result }
@@ -274,7 +280,7 @@ pub fn run_lines<W, J: Judge<W>, R: Source, O: Sink>(
     alloc: Global,
     judge: &J,
     work: &mut W,
-    form: LineForm,
+    form: LineForm<'_>,
     reader: &mut R,
     out: &mut O,
 ) -> Result<Ending, WriteFault>
@@ -284,7 +290,7 @@ pub fn run_lines<W, J: Judge<W>, R: Source, O: Sink>(
     requires reader_is_fresh { R.failed reader.old ≡ false }
     requires reader_is_open { R.ended reader.old ≡ false }
     requires out_is_fresh { O.failed out.old ≡ false }
-    ensures { Fulfils (LinesStates (J.reported judge.now) (J.explains judge.now) (J.refusal judge.now) form)
+    ensures { Fulfils (LinesStates (J.reported judge.now) (J.explains judge.now) (J.refusal judge.now) form.entry)
         (passed R.remaining R.failed reader.old reader.new) (passed O.contents O.failed out.old out.new) result }
 {
     judge.decided();

@@ -2,7 +2,7 @@
 ghost use Rattle.std.specs.Prelude.{◌≡◌, ◌++◌, ℕ, List, IsTrue, OnOk, codes, decimal, false};
 ghost use Rattle.ruletable.specs.Writing.{Flags, Writes};
 ghost use Rattle.linejudge.specs.InputLines.{answer_text, count_text, ended_line, is_line_printed, printed_last};
-ghost use Rattle.linejudge.specs.InputLines.{number_text, printed_line, shown_text};
+ghost use Rattle.linejudge.specs.InputLines.{name_text, number_text, printed_line, shown_text};
 ghost use Rattle.linejudge.specs.declared.answers.Answer.{Answer};
 
 use crate::answers::{Answer, is_yes};
@@ -64,12 +64,24 @@ fn push_answer(said: Answer, text: &mut Vec<u8>) -> Result<(), Memory>
 }
 
 /// Adds what was judged of a line, and the line's end, if the end is no part of it. `Memory` if an allocation fails.
-fn push_bytes(form: LineForm, line: &[u8], text: &mut Vec<u8>) -> Result<(), Memory>
-    ensures { OnOk result (text.new.items ≡ text.old.items ++ ended_line form line.now) }
+fn push_bytes(form: LineForm<'_>, line: &[u8], text: &mut Vec<u8>) -> Result<(), Memory>
+    ensures { OnOk result (text.new.items ≡ text.old.items ++ ended_line form.entry line.now) }
 {
     text.extend_from_slice(line)?;
     if !form.keeps {
         text.push(form.end)?;
+    }
+    Ok(())
+}
+
+/// Adds a name and a colon, if a name is given. `Memory` if an allocation fails.
+#[inline(always)]
+fn push_name(name: Option<&str>, text: &mut Vec<u8>) -> Result<(), Memory>
+    ensures { OnOk result (text.new.items ≡ text.old.items ++ name_text name.entry) }
+{
+    if let Some(name) = name {
+        text.extend_from_slice(name.as_bytes())?;
+        text.push(b':')?;
     }
     Ok(())
 }
@@ -85,10 +97,15 @@ fn push_head(numbered: bool, number: usize, text: &mut Vec<u8>) -> Result<(), Me
     Ok(())
 }
 
-/// Adds what is printed after the number: the answer, or the line and its end. `Memory` if an allocation fails.
+/// Adds what is printed after name and number: the answer, or the line and its end. `Memory` if an allocation fails.
 #[inline(always)]
-fn push_shown(form: LineForm, line: &[u8], said: Answer, text: &mut Vec<u8>) -> Result<(), Memory>
-    ensures { OnOk result (text.new.items ≡ text.old.items ++ shown_text form form.printed line.now said) }
+fn push_shown(
+    form: LineForm<'_>,
+    line: &[u8],
+    said: Answer,
+    text: &mut Vec<u8>,
+) -> Result<(), Memory>
+    ensures { OnOk result (text.new.items ≡ text.old.items ++ shown_text form.entry form.entry.printed line.now said) }
 {
     match form.printed {
         Printed::Answers => push_answer(said, text),
@@ -100,13 +117,13 @@ fn push_shown(form: LineForm, line: &[u8], said: Answer, text: &mut Vec<u8>) -> 
 }
 
 /// Returns whether the answer to a line is all that is printed for it, and a run goes on after each answer.
-pub(crate) fn has_plain_answers(form: LineForm) -> bool
+pub(crate) fn has_plain_answers(form: LineForm<'_>) -> bool
     ensures plain { IsTrue result → (number : ℕ) (line : List ℕ) (said : Answer) →
-        printed_line form number line said ≡ answer_text said }
-    ensures goes { IsTrue result → form.stops ≡ false }
+        printed_line form.entry number line said ≡ answer_text said }
+    ensures goes { IsTrue result → form.entry.stops ≡ false }
 {
     match form.printed {
-        Printed::Answers => !form.numbered && !form.stops,
+        Printed::Answers => form.name.is_none() && !form.numbered && !form.stops,
         Printed::Derived | Printed::Refused | Printed::Count | Printed::Nothing => false,
     }
 }
@@ -116,14 +133,14 @@ pub(crate) fn has_plain_answers(form: LineForm) -> bool
 #[inline(always)]
 pub(crate) fn push_if_plain(
     is_plain: bool,
-    form: LineForm,
+    form: LineForm<'_>,
     number: usize,
     line: &[u8],
     said: Answer,
     text: &mut Vec<u8>,
 ) -> Result<(), Memory>
     requires plain { IsTrue is_plain → printed_line form number line.now said ≡ answer_text said }
-    ensures { OnOk result (text.new.items ≡ text.old.items ++ printed_line form number line.now said) }
+    ensures { OnOk result (text.new.items ≡ text.old.items ++ printed_line form.entry number line.now said) }
 {
     if is_plain {
         return push_answer(said, text);
@@ -133,19 +150,32 @@ pub(crate) fn push_if_plain(
 
 /// Adds what is printed for a line of that number with that answer. `Memory` if an allocation fails.
 pub(crate) fn push_line(
-    form: LineForm,
+    form: LineForm<'_>,
     number: usize,
     line: &[u8],
     said: Answer,
     text: &mut Vec<u8>,
 ) -> Result<(), Memory>
-    ensures { OnOk result (text.new.items ≡ text.old.items ++ printed_line form number line.now said) }
+    ensures { OnOk result (text.new.items ≡ text.old.items ++ printed_line form.entry number line.now said) }
 {
     if !is_printed(form.printed, said) {
         return Ok(());
     }
+    push_name(form.name, text)?;
     push_head(form.numbered, number, text)?;
     push_shown(form, line, said, text)
+}
+
+/// Writes a name and a colon, if a name is given.
+fn write_name<O: Sink>(name: Option<&str>, out: &mut O) -> Result<(), WriteFault>
+    requires { O.failed out.old ≡ false }
+    ensures bytes { Writes (O.contents out.old) (O.contents out.new) (name_text name.entry) result }
+    ensures flag { Flags (O.failed out.old) (O.failed out.new) result }
+{
+    match name {
+        Some(name) => write_pieces(out, &[name.as_bytes(), b":"]),
+        None => Ok(()),
+    }
 }
 
 /// Writes how many lines before a position were derived, and how many rejected.
@@ -167,21 +197,38 @@ fn write_count<O: Sink>(at: LinePosition, out: &mut O) -> Result<(), WriteFault>
     write_pieces(out, &pieces)
 }
 
-/// Writes what is printed at the end of an input, after the lines before a position.
-pub(crate) fn write_end<O: Sink>(
-    printed: Printed,
+/// Writes a name, if one is given, and then the counts of lines before a position.
+fn write_named_count<O: Sink>(
+    name: Option<&str>,
     at: LinePosition,
     out: &mut O,
 ) -> Result<(), WriteFault>
     requires { O.failed out.old ≡ false }
-    ensures bytes { Writes (O.contents out.old) (O.contents out.new) (printed_last printed at) result }
+    ensures bytes { Writes (O.contents out.old) (O.contents out.new) (name_text name.entry ++ count_text at) result }
     ensures flag { Flags (O.failed out.old) (O.failed out.new) result }
 {
-    match printed {
+    match write_name(name, out) {
+        Ok(()) => write_count(at, out),
+        Err(fault) => Err(fault),
+    }
+}
+
+/// Writes what is printed at the end of an input, after the lines before a position.
+pub(crate) fn write_end<O: Sink>(
+    form: LineForm<'_>,
+    at: LinePosition,
+    out: &mut O,
+) -> Result<(), WriteFault>
+    requires { O.failed out.old ≡ false }
+    ensures bytes { Writes (O.contents out.old) (O.contents out.new) (printed_last form.entry.name
+        form.entry.printed at) result }
+    ensures flag { Flags (O.failed out.old) (O.failed out.new) result }
+{
+    match form.printed {
         Printed::Answers => Ok(()),
         Printed::Derived => Ok(()),
         Printed::Refused => Ok(()),
-        Printed::Count => write_count(at, out),
+        Printed::Count => write_named_count(form.name, at, out),
         Printed::Nothing => Ok(()),
     }
 }

@@ -79,6 +79,7 @@ pub const ABNF: AbnfOptions = AbnfOptions {
     nul: false,
     keeps: false,
     printed: Printed::Answers,
+    named: false,
     numbered: false,
     quiet: false,
     line_buffered: false,
@@ -111,6 +112,7 @@ impl Wanted {
             mode: self.mode,
             limit: self.limit.max(1).min(MAX_LIMIT),
             start: None,
+            input: "-",
             explain: self.explain,
             options,
         }

@@ -10,6 +10,7 @@ explained_by asked settings = record {
   mode = settings.mode;
   limit = settings.limit;
   start = settings.start;
+  input = settings.input;
   explain = asked;
   options = settings.options;
   in_range = settings.in_range;

@@ -1,6 +1,6 @@
 -- Lines that are comments.
 use Prim.Native.Char.{code}
-use Rattle.std.specs.Prelude.{◌≡◌, ℕ, false, List, Some, codes, slice_get}
+use Rattle.std.specs.Prelude.{◌≡◌, ℕ, false, List, None, Some, codes, slice_get}
 use Rattle.linejudge.specs.declared.answers.Answer.{Answer}
 use Rattle.linejudge.specs.declared.answers.Answer.TheVariants.{Yes, No, NoAfter}
 use Rattle.linejudge.specs.declared.line.LineForm.{LineForm}
@@ -23,6 +23,7 @@ comment_form = record {
   end = code "\n";
   keeps = false;
   printed = Answers;
+  name = None;
   numbered = false;
   stops = false;
   line_buffered = false;

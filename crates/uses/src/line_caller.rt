@@ -67,6 +67,7 @@ pub fn answer_comments<R: Source, O: Sink>(
         end: b'\n',
         keeps: false,
         printed: Printed::Answers,
+        name: None,
         numbered: false,
         stops: false,
         line_buffered: false,

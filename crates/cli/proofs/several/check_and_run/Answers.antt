@@ -3,6 +3,7 @@ use Rattle.std.proofs.Common.{◌≡◌, arith, inl, refl}
 use Rattle.cli.specs.FileRuns.{rejected, runs}
 use Rattle.toolrun.specs.Status.{code_of}
 use Rattle.toolrun.specs.Stream.{passed}
+use Rattle.toolrun.specs.declared.settings.Mode.TheVariants.{Run}
 use Rattle.cli.proofs.FileRunsLemmas.{over_some}
 use Rattle.cli.proofs.several.check_and_run.Goals as goal
 
@@ -26,7 +27,8 @@ pub returns : goal.returns
 returns g c =
     let none : code_of c.run_grammar-text.result.status ≡ 0 =
     omega (arith, c.code.ensures, c.if-code-gt0.false) in
-    runs _ _ c.run_grammar-text.result.text.items c.run_grammar-text.result.messages.items
+    runs _ (record c.args.asked.settings { mode = Run; }) c.run_grammar-text.result.text.items
+    c.run_grammar-text.result.messages.items
     (passed g.O.Sink.contents g.O.Sink.failed c.args.out.now c.run_grammar-text.new.out)
     (passed g.O.Sink.contents g.O.Sink.failed c.run_grammar-text.new.out c.run_inputs.new.out)
     (passed g.E.Sink.contents g.E.Sink.failed c.args.err.now c.run_grammar-text.new.err)

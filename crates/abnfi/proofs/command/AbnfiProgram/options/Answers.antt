@@ -13,7 +13,8 @@ returns c = record {
   keeps = c.is_given-3.ensures;
   printed = c.printed_of.ensures
       ∙ ap printed_named (first_value-rows (found_of c.args.matches.now) (codes "print"));
-  numbered = c.is_given-4.ensures;
-  quiet = c.is_given-5.ensures;
-  line_buffered = c.is_given-6.ensures;
+  named = c.is_given-4.ensures;
+  numbered = c.is_given-5.ensures;
+  quiet = c.is_given-6.ensures;
+  line_buffered = c.is_given-7.ensures;
 }
