@@ -76,10 +76,11 @@ PROGRAMS = {
 # The most functions that a crate has, and the crates that have more: so many each. Tests count for nothing.
 LARGEST_CRATE = 105
 # lazydfa: `States`, `expected` and `prune` need what `Automaton` has, and a crate of their own would make it public.
-LARGER = {"lazydfa": 125}
+# abnftexts: its functions on values and on the list need what `Gathered` has.
+LARGER = {"lazydfa": 125, "abnftexts": 125}
 # The most entries that a folder has, and the folders that have more.
 LARGEST_FOLDER = 40
-WIDER = {"crates": MOST_CRATES, "docs/crates": MOST_CRATES}
+WIDER = {"crates": MOST_CRATES, "docs/crates": MOST_CRATES, "scripts/oracles/rfc_texts": 48}
 # Folders that hold no sources.
 BUILT = {".git", "__pycache__", "bin", "out"}
 TEXTS = {".antt", ".edit", ".md", ".py", ".rt", ".sh"}

@@ -5,9 +5,9 @@ among them; and the grammar that several texts make up. It shares nothing with t
 
 usage: slow_abnfx.py [TEXT ..]
 
-Prints what is found in each text: `FROM-TO NAME` for the lines of a rule, and `FROM not ABNF: ` with the fault for a
-line that begins a rule of which nothing reads. Without texts it compares what is found in each of rfc_texts/*.txt with
-the file beside it, written by hand.
+Prints what is found in each text: `FROM-TO NAME` for the lines of a rule, `FROM not ABNF: ` with the fault for a line
+that begins a rule of which nothing reads, and `FROM-TO no ABNF` for lines that assign values. Without texts it compares
+what is found in each of rfc_texts/*.txt with the file beside it, written by hand.
 """
 import pathlib
 import re
@@ -265,15 +265,15 @@ BRACKETS = re.compile(rb'"[^"]*"|;.*|<([^>]*)>')
 
 
 # A byte that begins no token, where a rule goes wrong that is more than a value; and a word in hexadecimal digits.
-TELLING = b"|#\"<%'"
+MARKING = b"|#\"<%'"
 HEX = re.compile(rb"0x[0-9A-Fa-f]+|(?=[0-9A-Fa-f]*[0-9])(?:[0-9A-Fa-f]{2}){4,}")
 CLOSED = re.compile(rb'"[ !#-~]*"|<[ -=?-~]*>|([^;])')
 COMPACT = re.compile(rb"[ \t]*[A-Za-z][A-Za-z0-9-]*=[^ \t/]")
 
 
 class Sketch:
-    """What tells a rule from lines that assign values: its lines up to the end of the cut that reads, or all; their
-    places among those of the text; whether it reads; and whether a list is written out in it."""
+    """What distinguishes a rule from lines that assign values: its lines up to the end of the cut that reads, or all;
+    their positions among those of the text; whether it reads; and whether a list is written out in it."""
 
     def __init__(self, some, first, reads, has_list):
         self.rows, self.first, self.end, self.reads = some, first, first + len(some), reads
@@ -289,7 +289,7 @@ class Sketch:
             self.bad = text[tokens[number].start:][:1]
         kinds = {it.kind for it in self.words}
         counts = any(it.kind == "Repeat" and b"*" in it.text for it in self.words[:-1])
-        more = {"LParen", "LBrack"} & kinds or has_list if reads else self.bad and self.bad in TELLING
+        more = {"LParen", "LBrack"} & kinds or has_list if reads else self.bad and self.bad in MARKING
         adds = not self.is_long and tokens[1].kind == "Adds"
         self.is_marked = bool(self.is_long or adds or {"Text", "Num", "Prose", "Slash"} & kinds or counts or more)
         self.uses = {it.text.lower() for it in self.words if it.kind == "Name"}
@@ -305,14 +305,14 @@ class Sketch:
         return place == len(line) - 1 and line[place - 1:place] not in (b" ", b"\t")
 
     def is_compact(self):
-        """Returns whether nothing stands beside `=`, and a text alone or what is no ABNF stands behind it: `a="b",`."""
+        """Returns whether nothing stands beside `=`, and a text alone or what is no ABNF follows it: `a="b",`."""
         if not COMPACT.match(self.rows[0][1]):
             return False
         return [it.kind for it in self.words] == ["Text"] if self.reads else self.bad not in (b"|", b"#")
 
     def has_hex(self):
-        behind = text_of(self.rows).partition(b"=")[2]
-        return any(HEX.fullmatch(it) for it in re.split(rb"[ \t\n;,]", behind))
+        after = text_of(self.rows).partition(b"=")[2]
+        return any(HEX.fullmatch(it) for it in re.split(rb"[ \t\n;,]", after))
 
     def is_value(self, grounded):
         is_plain = not self.is_marked and not self.uses & grounded

@@ -1,7 +1,8 @@
 -- The least set of what rules need is that of the rules that are grounded.
 -- Serves: are_values
 use Rattle.std.proofs.Common.{◌≡◌, ◌⊎◌, ◌↔◌, ℕ, zero, suc, ◌+◌, ◌<◌, ◌||◌, Bool, true, false, cond, List, [], ◌∷◌, ◌++◌}
-use Rattle.std.proofs.Common.{length, map, slice_get, Option, None, Some, Contains, Vec, Global, refl, sym, ap, ◌∙◌, arith}
+use Rattle.std.proofs.Common.{length, map, slice_get, Option, None, Some, Contains, Vec, Global, refl, sym, ap, ◌∙◌}
+use Rattle.std.proofs.Common.{arith}
 use Rattle.std.proofs.Common.{append-nil, inl, inr, subst}
 use Rattle.std.specs.Prelude.{slice_index_or, option_map}
 use Rattle.std.specs.List.{filter_map, list_any, cons_option}
@@ -13,7 +14,7 @@ use Rattle.ruletable.specs.Rules.{HasUniqueNames, Rule, Rules, bodies_of, find_i
 use Rattle.ruletable.specs.declared.table.NameCase.TheVariants.{Fold}
 use Rattle.diagnostics.specs.NumberLists.{numbers_for, positions_from}
 use Rattle.diagnostics.proofs.NumberListsLemmas.{found-within, listed-found, listed-nowhere}
-use Rattle.rfcvalues.specs.AssignedValues.{IsGrounded, IsRuleGrounded, by_mark, by_word, is_core, is_named, of_core}
+use Rattle.rfcvalues.specs.AssignedValues.{IsGrounded, IsRuleGrounded, by_mark, by_word, is_core, goes_by, of_core}
 use Rattle.rfcvalues.specs.GroundedNeeds.{AreGroundedMarks, AreNumbersByName, all_demands, name_demands, rule_demand}
 use Rattle.rfcvalues.specs.GroundedNeeds.{word_numbers}
 use Rattle.rfcvalues.specs.RuleSketches.{SketchedRule}
@@ -77,7 +78,8 @@ module _ {A : Type 0} where
   position-there p m (x ∷ xs) k h = by (λ g. position-there p (suc m) xs k g) (p x) refl h
     where
       later : (Contains (positions_from (suc m) p xs) k
-          → (i : ℕ) × (y : A) × (k ≡ suc m + i) × (slice_get xs i ≡ Some y) × (p y ≡ true)) → Contains (positions_from (suc m) p xs) k
+          → (i : ℕ) × (y : A) × (k ≡ suc m + i) × (slice_get xs i ≡ Some y) × (p y ≡ true))
+          → Contains (positions_from (suc m) p xs) k
           → (i : ℕ) × (y : A) × (k ≡ m + i) × (slice_get (x ∷ xs) i ≡ Some y) × (p y ≡ true)
       later again g = (let r = again g in (suc r.0, r.1, (let e = r.2 in omega (arith, e)), r.3, r.4))
 
@@ -177,7 +179,7 @@ module _ (rules : List SketchedRule) (lists : Lists) (by_name : AreNumbersByName
   -- the list of a name
   name-body : (name : List ℕ) (id : ℕ) → find_in lists name ≡ Some id
       → (body : Vec ℕ Global) × (slice_get needs (length rules + id) ≡ Some (One body.items))
-      × (body.items ≡ positions_from 0 (is_named name) rules)
+      × (body.items ≡ positions_from 0 (goes_by name) rules)
   name-body name id e =
       let low = found-within (λ row. same_name lists.names name row.name) lists.rules id e in
       let got = get-there (bodies_of lists) id (omega (arith, length-map lists.rules (λ row. row.body), low)) in
@@ -195,7 +197,8 @@ module _ (rules : List SketchedRule) (lists : Lists) (by_name : AreNumbersByName
           → slice_get (name_demands lists) id ≡ Some (One body.items)
       name-need id body e =
           let named = get-left (λ (b : Vec ℕ Global). One b.items) (bodies_of lists) [] id body e in
-          let same : map (λ (b : Vec ℕ Global). One b.items) (bodies_of lists) ++ [] ≡ name_demands lists = append-nil _ in
+          let same : map (λ (b : Vec ℕ Global). One b.items) (bodies_of lists) ++ [] ≡ name_demands lists =
+          append-nil _ in
           subst (λ (ds : List Demand). slice_get ds id ≡ Some (One body.items)) same named
 
   decided-grounded : (rule : SketchedRule) → decided rule ≡ true → IsRuleGrounded rules rule
@@ -229,7 +232,8 @@ module _ (rules : List SketchedRule) (lists : Lists) (by_name : AreNumbersByName
   comes-good : {k : ℕ} → Comes needs k → Good k
   comes-good {k} (by_all {row = row} at f) = record {
     rule = λ r e. decided-grounded r (all-decided r row
-        (let same : Some (rule_demand lists (length rules) r) ≡ Some (All row) = sym (rule-need k r e) ∙ at in cc same));
+        (let same : Some (rule_demand lists (length rules) r) ≡ Some (All row) = sym (rule-need k r e) ∙ at in
+        cc same));
     name = λ name id e found.
         let body = name-body name id found in
         let same : Some (One body.0.items) ≡ Some (All row) =
@@ -248,15 +252,15 @@ module _ (rules : List SketchedRule) (lists : Lists) (by_name : AreNumbersByName
             let body = name-body name id found in
             let same : Some (One body.0.items) ≡ Some (One row) =
             sym body.1 ∙ ap (λ (n : ℕ). slice_get needs n) (sym e) ∙ at in
-            let rows : row ≡ positions_from 0 (is_named name) rules =
+            let rows : row ≡ positions_from 0 (goes_by name) rules =
             (let items : row ≡ body.0.items = cc same in items ∙ body.2) in
-            let r = position-there (is_named name) 0 rules m (subst (λ (ns : List ℕ). Contains ns m) rows has) in
+            let r = position-there (goes_by name) 0 rules m (subst (λ (ns : List ℕ). Contains ns m) rows has) in
             let there : slice_get rules m ≡ Some r.1 =
             ap (λ (n : ℕ). slice_get rules n) (let e = r.2 in omega (arith, e)) ∙ r.3 in
             by name m r.1 there r.4 (good.rule r.1 there);
       }
     where
-      by : (name : List ℕ) (m : ℕ) (rule : SketchedRule) → slice_get rules m ≡ Some rule → is_named name rule ≡ true
+      by : (name : List ℕ) (m : ℕ) (rule : SketchedRule) → slice_get rules m ≡ Some rule → goes_by name rule ≡ true
           → IsRuleGrounded rules rule → IsGrounded rules name
       by name m rule there named (inl marked) = by_mark m rule there named marked
       by name m rule there named (inr w) = by_word w.0 m rule there named w.1 w.2
@@ -292,17 +296,17 @@ module _ (rules : List SketchedRule) (lists : Lists) (by_name : AreNumbersByName
           by_one (rule-need k rule e ∙ ap Some is) (word-number lists (length rules) rule.uses word r.0 has r.1) r.2
 
   name-comes : (k : ℕ) (rule : SketchedRule) (name : List ℕ) → slice_get rules k ≡ Some rule
-      → is_named name rule ≡ true → Comes needs k → Reaches name
+      → goes_by name rule ≡ true → Comes needs k → Reaches name
   name-comes k rule name e named comes = by (find_in lists name) refl
     where
-      at : Contains (positions_from 0 (is_named name) rules) k
+      at : Contains (positions_from 0 (goes_by name) rules) k
       at = (let zero_more : 0 + k ≡ k = omega arith in
-          subst (λ (n : ℕ). Contains (positions_from 0 (is_named name) rules) n) zero_more
-          (position-of (is_named name) 0 rules k rule e named))
+          subst (λ (n : ℕ). Contains (positions_from 0 (goes_by name) rules) n) zero_more
+          (position-of (goes_by name) 0 rules k rule e named))
 
       by : (o : Option ℕ) → find_in lists name ≡ o → Reaches name
       by None none =
-          let empty : positions_from 0 (is_named name) rules ≡ [] =
+          let empty : positions_from 0 (goes_by name) rules ≡ [] =
           sym (by_name.1 name) ∙ listed-nowhere lists name none in
           absurd (in-none k (subst (λ (ns : List ℕ). Contains ns k) empty at))
       by (Some id) found =
@@ -378,7 +382,7 @@ module _ (rules : List SketchedRule) (lists : Lists) (by_name : AreNumbersByName
       let list = sym (listed-found lists row.name k row.body found body) ∙ by_name.1 row.name in
       let is : d ≡ One row.body.items = demand-at k row got.1 has.2 in
       let at : Contains row.body.items m = subst (λ (e : Demand). Contains (row_of e) m) is h in
-      let r = position-there (is_named row.name) 0 rules m (subst (λ (ns : List ℕ). Contains ns m) list at) in
+      let r = position-there (goes_by row.name) 0 rules m (subst (λ (ns : List ℕ). Contains ns m) list at) in
       let low = get-within rules r.0 r.1 r.3 in
       let e = r.2 in
       omega (arith, e, low)
@@ -444,7 +448,8 @@ module _ (words : List (Vec ℕ Global)) (i : ℕ) (d : Vec ℕ Global) (lt : i 
   pub core-none : list_any (λ word. is_core word.items) (take i words) ≡ false → d ≡ get_or words i d
       → is_core d.items ≡ false → list_any (λ word. is_core word.items) (take (i + 1) words) ≡ false
   core-none so_far is apart =
-      let here : is_core (get_or words i d).items ≡ false = ap (λ (w : Vec ℕ Global). is_core w.items) (sym is) ∙ apart in
+      let here : is_core (get_or words i d).items ≡ false =
+      ap (λ (w : Vec ℕ Global). is_core w.items) (sym is) ∙ apart in
       list_any_more (λ (word : Vec ℕ Global). is_core word.items) words i d lt ∙ (rw (so_far, here) refl)
 
   pub core-there : d ≡ get_or words i d → is_core d.items ≡ true

@@ -1,6 +1,7 @@
 -- A rule has one sketch, and rules have one list of values.
 -- Serves: one_joining of abnftexts
-use Rattle.std.proofs.Common.{◌≡◌, ◌↔◌, ℕ, zero, suc, ◌<◌, Bool, true, false, List, [], ◌∷◌, length, slice_get, Some, refl}
+use Rattle.std.proofs.Common.{◌≡◌, ◌↔◌, ℕ, zero, suc, ◌<◌, Bool, true, false, List, [], ◌∷◌, length, slice_get, Some}
+use Rattle.std.proofs.Common.{refl}
 use Rattle.std.proofs.Common.{sym, ap, ◌∙◌, arith, subst, true≢false}
 use Rattle.lexer.specs.TokenLists.{Tok, start_of}
 use Rattle.abnfread.specs.MarkedTokens.{AreTokens}

@@ -1,6 +1,7 @@
 -- What tokens of the code say of a rule, as the tokens of its text.
 -- Serves: rule_sketch
-use Rattle.std.proofs.Common.{◌≡◌, ℕ, ◌-◌, ◌+◌, get_or, ◌||◌, Bool, true, false, List, [], ◌∷◌, ◌++◌, length, take, drop, map, refl, sym}
+use Rattle.std.proofs.Common.{◌≡◌, ℕ, ◌-◌, ◌+◌, get_or, ◌||◌, Bool, true, false, List, [], ◌∷◌, ◌++◌, length, take}
+use Rattle.std.proofs.Common.{drop, map, refl, sym}
 use Rattle.std.proofs.Common.{ap, ◌∙◌, ◌<◌, ◌≤◌, arith, inl, inr, nat_lt, if◌then◌else◌, append-nil}
 use Rattle.std.specs.List.{filter, list_any}
 use Rattle.std.proofs.lemmas.Bool.{cases_Bool}
@@ -9,7 +10,8 @@ use Rattle.std.proofs.lemmas.List.{drop-map, length-map, map-append, take-map, t
 use Rattle.lexer.specs.TokenLists.{Tok, kind_of, slice_of, start_of, tok_of}
 use Rattle.lexer.specs.declared.token_iter.Token.{Token}
 use Rattle.abnfread.specs.declared.kind.AbnfKind.{AbnfKind}
-use Rattle.rfcvalues.specs.RuleSketches.{end_marks, has_count, has_mark, is_adding, is_marking, is_name_kind, is_starred}
+use Rattle.rfcvalues.specs.RuleSketches.{end_marks, has_count, has_mark, is_adding, is_marking, is_name_kind}
+use Rattle.rfcvalues.specs.RuleSketches.{is_starred}
 use Rattle.rfcvalues.specs.RuleSketches.{SketchedRule, names_among, tokens_before, words_after}
 use Rattle.rfcvalues.specs.declared.words.WordsEnd.{WordsEnd}
 

@@ -1,6 +1,7 @@
 -- Rules of the same name, and names that a table has.
 -- Serves: are_values, is_no_abnf
-use Rattle.std.proofs.Common.{◌≡◌, ℕ, ◌+◌, ◌<◌, ◌||◌, ◌&&◌, Bool, true, false, List, [], ◌∷◌, ◌++◌, length, take, drop, map}
+use Rattle.std.proofs.Common.{◌≡◌, ℕ, ◌+◌, ◌<◌, ◌||◌, ◌&&◌, Bool, true, false, List, [], ◌∷◌, ◌++◌, length, take}
+use Rattle.std.proofs.Common.{drop, map}
 use Rattle.std.proofs.Common.{Option, None, Some, ap, ◌∙◌, arith, get_or, inl, inr, position, refl, sym, suc, ◌≤◌, cond}
 use Rattle.std.proofs.Common.{nat_lt, not}
 use Rattle.std.specs.Option.{is_some}
@@ -14,7 +15,7 @@ use Rattle.ruletable.specs.declared.table.Defined.{Defined}
 use Rattle.ruletable.specs.declared.table.Defined.TheVariants.{Added, Duplicate}
 use Rattle.ruletable.specs.declared.table.NameCase.{NameCase}
 use Rattle.ruletable.specs.declared.table.NameCase.TheVariants.{Fold}
-use Rattle.rfcvalues.specs.AssignedValues.{has_same_names, is_named, is_no_abnf, is_test_vector}
+use Rattle.rfcvalues.specs.AssignedValues.{has_same_names, goes_by, is_no_abnf, is_test_vector}
 use Rattle.rfcvalues.specs.RuleSketches.{SketchedRule, rule_sketched}
 use Rattle.rfcvalues.specs.declared.sketch.RuleSketch.{RuleSketch}
 use Rattle.rfcvalues.proofs.RuleSketchLemmas.{any-map}
@@ -27,13 +28,13 @@ or-swap false false c d = refl
 
 -- one rule more
 pub same-snoc : (xs : List SketchedRule) (x : SketchedRule)
-    → has_same_names (xs ++ x ∷ []) ≡ (has_same_names xs || list_any (λ y. is_named x.name y) xs)
+    → has_same_names (xs ++ x ∷ []) ≡ (has_same_names xs || list_any (λ y. goes_by x.name y) xs)
 same-snoc [] x = refl
 same-snoc (y ∷ xs) x =
-    ap (λ (b : Bool). b || has_same_names (xs ++ x ∷ [])) (list_any-append (λ o. is_named o.name y) xs (x ∷ []))
-    ∙ ap (λ (b : Bool). (list_any (λ o. is_named o.name y) xs || (is_named x.name y || false)) || b) (same-snoc xs x)
-    ∙ or-swap (list_any (λ o. is_named o.name y) xs) (is_named x.name y) (has_same_names xs)
-    (list_any (λ z. is_named x.name z) xs)
+    ap (λ (b : Bool). b || has_same_names (xs ++ x ∷ [])) (list_any-append (λ o. goes_by o.name y) xs (x ∷ []))
+    ∙ ap (λ (b : Bool). (list_any (λ o. goes_by o.name y) xs || (goes_by x.name y || false)) || b) (same-snoc xs x)
+    ∙ or-swap (list_any (λ o. goes_by o.name y) xs) (goes_by x.name y) (has_same_names xs)
+    (list_any (λ z. goes_by x.name z) xs)
 
 or-right : (a b : Bool) → b ≡ true → (a || b) ≡ true
 or-right true b e = refl
@@ -42,14 +43,14 @@ or-right false b e = e
 -- two of the first ones are two of all
 pub same-longer : (xs ys : List SketchedRule) → has_same_names xs ≡ true → has_same_names (xs ++ ys) ≡ true
 same-longer [] ys e = absurd (cc e)
-same-longer (x ∷ xs) ys e = elim (cases_Bool (list_any (λ o. is_named o.name x) xs)) [
+same-longer (x ∷ xs) ys e = elim (cases_Bool (list_any (λ o. goes_by o.name x) xs)) [
   | inl a ↦
-      let here : list_any (λ o. is_named o.name x) (xs ++ ys) ≡ true =
-      list_any-append (λ o. is_named o.name x) xs ys ∙ ap (λ (b : Bool). b || list_any (λ o. is_named o.name x) ys) a in
+      let here : list_any (λ o. goes_by o.name x) (xs ++ ys) ≡ true =
+      list_any-append (λ o. goes_by o.name x) xs ys ∙ ap (λ (b : Bool). b || list_any (λ o. goes_by o.name x) ys) a in
       rw here refl
   | inr a ↦
       let rest : has_same_names xs ≡ true = rw a at e in
-      or-right (list_any (λ o. is_named o.name x) (xs ++ ys)) (has_same_names (xs ++ ys)) (same-longer xs ys rest)
+      or-right (list_any (λ o. goes_by o.name x) (xs ++ ys)) (has_same_names (xs ++ ys)) (same-longer xs ys rest)
 ]
 
 -- a position is found where some element passes
@@ -93,7 +94,7 @@ names-defined old new rule (Duplicate id) d none = absurd (cc (d.0, none))
 
 seen-any : (name : List ℕ) (rules : List RuleSketch)
     → list_any (same_name Fold name) (map (λ rule. rule.name.items) rules)
-    ≡ list_any (λ y. is_named name y) (map rule_sketched rules)
+    ≡ list_any (λ y. goes_by name y) (map rule_sketched rules)
 seen-any name [] = refl
 seen-any name (rule ∷ rules) = ap (λ (b : Bool). same_name Fold name rule.name.items || b) (seen-any name rules)
 
@@ -116,7 +117,7 @@ module _ (rules : List RuleSketch) (i : ℕ) (d : RuleSketch) (lt : i < length r
   next-same b e apart =
       ap has_same_names next-rule
       ∙ same-snoc (map rule_sketched (take i rules)) (rule_sketched (get_or rules i d))
-      ∙ ap (λ (c : Bool). c || list_any (λ y. is_named (get_or rules i d).name.items y)
+      ∙ ap (λ (c : Bool). c || list_any (λ y. goes_by (get_or rules i d).name.items y)
       (map rule_sketched (take i rules))) apart
       ∙ sym (e ∙ seen-any (get_or rules i d).name.items (take i rules))
 

@@ -9,8 +9,8 @@ use Rattle.abnfread.specs.CoreRules.{core_names}
 use Rattle.rfcvalues.specs.RuleSketches.{SketchedRule}
 
 -- a rule has that name, in whatever case
-abbrev pub is_named : List ℕ → SketchedRule → Bool
-is_named name rule = same_name Fold name rule.name
+abbrev pub goes_by : List ℕ → SketchedRule → Bool
+goes_by name rule = same_name Fold name rule.name
 
 abbrev pub is_core : List ℕ → Bool
 is_core name = list_any (same_name Fold name) core_names
@@ -19,14 +19,15 @@ is_core name = list_any (same_name Fold name) core_names
 -- appendix B.1), of rules with a mark, and of rules with such a name among their words.
 pub data IsGrounded (rules : List SketchedRule) : List ℕ → Type 0 where
   of_core : {name : List ℕ} → is_core name ≡ true → IsGrounded rules name
-  by_mark : {name : List ℕ} (n : ℕ) (rule : SketchedRule) → slice_get rules n ≡ Some rule → is_named name rule ≡ true
+  by_mark : {name : List ℕ} (n : ℕ) (rule : SketchedRule) → slice_get rules n ≡ Some rule → goes_by name rule ≡ true
       → rule.is_marked ≡ true → IsGrounded rules name
   by_word : {name : List ℕ} (word : List ℕ) (n : ℕ) (rule : SketchedRule) → slice_get rules n ≡ Some rule
-      → is_named name rule ≡ true → Contains rule.uses word → IsGrounded rules word → IsGrounded rules name
+      → goes_by name rule ≡ true → Contains rule.uses word → IsGrounded rules word → IsGrounded rules name
 
 -- the rule has a mark, or a grounded name among its words
 abbrev pub IsRuleGrounded : List SketchedRule → SketchedRule → Type 0
-IsRuleGrounded rules rule = (rule.is_marked ≡ true) ⊎ ((word : List ℕ) × Contains rule.uses word × IsGrounded rules word)
+IsRuleGrounded rules rule = (rule.is_marked ≡ true)
+    ⊎ ((word : List ℕ) × Contains rule.uses word × IsGrounded rules word)
 
 -- the rule assigns a value: it is not grounded, ends like a statement, or is written without blanks
 abbrev pub IsValue : List SketchedRule → SketchedRule → Type 0
@@ -40,7 +41,7 @@ pub record AreValueMarks (rules : List SketchedRule) (marks : List Bool) : Type 
 -- two of the rules have the same name
 abbrev pub has_same_names : List SketchedRule → Bool
 has_same_names [] = false
-has_same_names (rule ∷ rules) = list_any (λ other. is_named other.name rule) rules || has_same_names rules
+has_same_names (rule ∷ rules) = list_any (λ other. goes_by other.name rule) rules || has_same_names rules
 
 -- a rule that does not read, or has a word in hexadecimal digits
 abbrev pub is_test_vector : SketchedRule → Bool

@@ -8,13 +8,13 @@ use Rattle.fixpoint.specs.NumberMarks.{IsMarked}
 use Rattle.diagnostics.specs.NumberLists.{numbers_for, positions_from}
 use Rattle.ruletable.specs.Rules.{Rules, bodies_of, find_in}
 use Rattle.ruletable.specs.declared.table.NameCase.TheVariants.{Fold}
-use Rattle.rfcvalues.specs.AssignedValues.{IsRuleGrounded, is_core, is_named}
+use Rattle.rfcvalues.specs.AssignedValues.{IsRuleGrounded, is_core, goes_by}
 use Rattle.rfcvalues.specs.RuleSketches.{SketchedRule}
 
 -- the lists have, by name, the numbers of the rules that have it
 abbrev pub AreNumbersByName : List SketchedRule → Rules (Vec ℕ Global) → Type 0
 AreNumbersByName rules lists = (lists.names ≡ Fold)
-    × ((name : List ℕ) → numbers_for lists name ≡ positions_from 0 (is_named name) rules)
+    × ((name : List ℕ) → numbers_for lists name ≡ positions_from 0 (goes_by name) rules)
 
 -- the numbers of the names among words, from that number on
 abbrev pub word_numbers : Rules (Vec ℕ Global) → ℕ → List (List ℕ) → List ℕ

@@ -106,8 +106,8 @@ abbrev pub sign_position : List ℕ → ℕ
 sign_position text = prefix_len (λ b. not (b == code "=")) text
 
 -- what follows it
-abbrev pub after_sign : List ℕ → List ℕ
-after_sign text = drop (sign_position text + 1) text
+abbrev pub assigned_text : List ℕ → List ℕ
+assigned_text text = drop (sign_position text + 1) text
 
 -- the byte at that position, or a space past the end
 abbrev pub byte_at : List ℕ → ℕ → ℕ
@@ -153,7 +153,7 @@ sketch_of rule end ts = record {
   is_statement = ends_statement rule.first;
   is_compact = is_tight rule.first && is_odd end (words_after ts);
   reads = rule.reads;
-  has_hex = has_hex_word (after_sign rule.text);
+  has_hex = has_hex_word (assigned_text rule.text);
 }
 
 pub record IsSketch (rule : RuleSeen) (sketch : SketchedRule) : Type 0 where

@@ -1,6 +1,7 @@
 -- Lines that end as a statement of a program does: `x = a[i];`.
 use Prim.Native.Char.{code}
-use Rattle.std.specs.Prelude.{ℕ, suc, ◌-◌, ◌==◌, ◌||◌, ◌&&◌, nat_lt, not, Bool, true, false, List, [], ◌∷◌, length, drop}
+use Rattle.std.specs.Prelude.{ℕ, suc, ◌-◌, ◌==◌, ◌||◌, ◌&&◌, nat_lt, not, Bool, true, false, List, [], ◌∷◌, length}
+use Rattle.std.specs.Prelude.{drop}
 use Rattle.std.specs.Prelude.{◌+◌, slice_index, if◌then◌else◌}
 use Rattle.std.specs.List.{list_all}
 use Rattle.abnfread.specs.AbnfSlices.{is_quotable, is_prose}

@@ -53,8 +53,8 @@ fn is_hex_word(word: &[u8]) -> bool
     word.len() >= 8 && word.len() % 2 == 0 && are_hexadecimal(word) && has_digit(word)
 }
 
-/// Returns whether a word of the text is `0x` and hexadecimal digits, or an even number of them, at least 8, one of them
-/// decimal. Blanks, ends of lines, `;` and `,` stand between words.
+/// Returns whether a word of the text is `0x` and hexadecimal digits, or an even number of these, at least 8, one of
+/// them decimal. Blanks, ends of lines, `;` and `,` stand between words.
 pub(crate) fn has_hex_word(text: &[u8]) -> bool
     ensures { result ≡ has_hex text.now }
 {

@@ -117,7 +117,7 @@ fn ends_by(line: &[u8], size: usize) -> bool
 
 /// Returns whether a line ends as a statement of a program does.
 ///
-/// Its first `;` that stands in no text and no prose must be its last byte but blanks, and no blank may stand before it.
+/// Its first `;` that stands in no text and no prose must be its last byte but blanks. No blank may stand before it.
 pub(crate) fn ends_statement(line: &[u8]) -> bool
     ensures { result ≡ is_statement line.now }
 {

@@ -6,9 +6,9 @@ ghost use Rattle.rfcvalues.specs.AssignedValues.{is_test_vector as is_vector};
 ghost use Rattle.rfcvalues.specs.GroundedNeeds.{assigns_value};
 ghost use Rattle.rfcvalues.specs.RuleSketches.{rule_sketched};
 
-use rfcforms::items_after;
 use crate::grounded::grounded_rules;
 use crate::sketch::RuleSketch;
+use rfcforms::items_after;
 use ruletable::{Memory, NameCase, RuleTable, Span};
 use std::alloc::Global;
 
@@ -90,7 +90,7 @@ fn has_test_vector(run: &[RuleSketch]) -> bool
 /// # Errors
 /// `Memory` if an allocation fails.
 pub fn is_no_abnf(alloc: Global, run: &[RuleSketch]) -> Result<bool, Memory>
-    ensures { IfOk result (λ told. told ≡ no_abnf (map rule_sketched run.now)) }
+    ensures { IfOk result (λ found. found ≡ no_abnf (map rule_sketched run.now)) }
 {
     if has_statement(run) {
         return Ok(true);

@@ -4,12 +4,12 @@ ghost use Rattle.lexer.specs.TokenLists.{tok_of};
 ghost use Rattle.rfcvalues.specs.RuleSketches.{IsSketch, byte_at as byte_there, is_tight as tight, name_first};
 ghost use Rattle.rfcvalues.specs.RuleSketches.{is_odd as odd, rule_seen, rule_sketched, sign_position as signed_at};
 
-use rfcforms::{items_after, items_before};
 use crate::hex::has_hex_word;
 use crate::line::{ends_statement, is_gap};
 use crate::words::{WordsEnd, is_odd, names_among, rule_tokens};
 use abnfread::AbnfKind;
 use lexer::Token;
+use rfcforms::{items_after, items_before};
 use ruletable::Memory;
 use std::alloc::Global;
 
@@ -104,8 +104,9 @@ fn is_compact(line: &[u8], end: WordsEnd, words: &[Token<'_, AbnfKind>]) -> bool
 /// Returns what distinguishes a rule from lines that assign values.
 ///
 /// The words of a rule are its tokens after `=` or `=/`. If it does not read, they end before the token with which it
-/// goes wrong. A mark is `=/`, or a text, a number, prose, `/`, or a repeat with `*` before another, among the words. In
-/// a rule that reads it is a bracket or a list too, and in another one a byte of `| # " < % '` with which it goes wrong.
+/// goes wrong. A mark is `=/`, or a text, a number, prose, `/`, or a repeat with `*` before another, among the words.
+/// In a rule that reads it is a bracket or a list too, and in another one a byte of `| # " < % '` with which it goes
+/// wrong.
 ///
 /// # Errors
 /// `Memory` if an allocation fails.

@@ -7,11 +7,11 @@ ghost use Rattle.rfcvalues.specs.RuleSketches.{has_mark, is_name_kind, names_amo
 ghost use Rattle.rfcvalues.specs.RuleSketches.{end_marks as marks_at_end, is_adding as adds, is_marking as marks};
 ghost use Rattle.rfcvalues.specs.RuleSketches.{is_odd as odd, is_opening as opens, is_starred as starred};
 
-use rfcforms::{items_after, items_before};
 use crate::sketch::SeenRule;
 use abnfexplain::fault_token;
 use abnfread::AbnfKind;
 use lexer::{MAX_GRAMMAR, Token, tokens};
+use rfcforms::{items_after, items_before};
 use ruletable::Memory;
 use std::alloc::Global;
 

@@ -1,4 +1,5 @@
-use Rattle.std.proofs.Common.{◌≡◌, ◌≤◌, ◌∙◌, ◌++◌, ◌∷◌, [], ℕ, List, Vec, Global, ap, append_assoc, arith, length, map, sym, take}
+use Rattle.std.proofs.Common.{◌≡◌, ◌≤◌, ◌∙◌, ◌++◌, ◌∷◌, [], ℕ, List, Vec, Global, ap, append_assoc, arith, length}
+use Rattle.std.proofs.Common.{map, sym, take}
 use Rattle.std.proofs.lemmas.List.{length-map, map-append, take_all}
 use Rattle.fixpoint.specs.Demands.{Demand, One, owned_demand_of, owned_demands_of}
 use Rattle.fixpoint.specs.declared.owned.OwnedNeed.TheVariants as own

@@ -1,10 +1,12 @@
-use Rattle.std.proofs.Common.{◌≡◌, ◌∙◌, ◌++◌, ◌∷◌, [], ℕ, List, Option, None, ap, false, get_or, map, refl, sym, take, true, ◌+◌}
+use Rattle.std.proofs.Common.{◌≡◌, ◌∙◌, ◌++◌, ◌∷◌, [], ℕ, List, Option, None, ap, false, get_or, map, refl, sym, take}
+use Rattle.std.proofs.Common.{true, ◌+◌}
 use Rattle.std.specs.Option.{is_some}
 use Rattle.std.specs.List.{list_any}
 use Rattle.ruletable.specs.Rules.{find_in, same_name}
 use Rattle.ruletable.specs.declared.table.NameCase.TheVariants.{Fold}
 use Rattle.rfcvalues.specs.declared.sketch.RuleSketch.{RuleSketch}
-use Rattle.rfcvalues.proofs.SameNamesLemmas.{known-any, names-defined, next-name, next-same, none-found, same-first, same-none}
+use Rattle.rfcvalues.proofs.SameNamesLemmas.{known-any, names-defined, next-name, next-same, none-found, same-first}
+use Rattle.rfcvalues.proofs.SameNamesLemmas.{same-none}
 use Rattle.rfcvalues.proofs.run.has_same_names.Goals as goal
 
 pub loop-rule-init : goal.loop-rule-init

@@ -18,7 +18,7 @@ returns-then-has_test_vector c =
 
 pub returns : goal.returns
 returns c =
-    subst (λ (b : Bool). IfOk c.has_same_names.result (λ told. told ≡ b))
+    subst (λ (b : Bool). IfOk c.has_same_names.result (λ found. found ≡ b))
     (by-names c.args.run.now c.has_statement.result c.has_test_vector.result c.has_statement.ensures
     c.if-has_statement.false c.if-run-lt2.false c.has_test_vector.ensures c.if-has_test_vector.false)
     c.has_same_names.ensures

@@ -22,7 +22,8 @@ returns c =
           (c.in_ok-uses.ensures ∙ ap names_among words)
           c.has_mark.ensures
           c.ends_statement.ensures
-          (c.is_compact.ensures ∙ ap (λ (ts : List (Tok AbnfKind)). is_tight line && is_odd c.in_ok-all.all.end ts) words)
+          (c.is_compact.ensures
+          ∙ ap (λ (ts : List (Tok AbnfKind)). is_tight line && is_odd c.in_ok-all.all.end ts) words)
           (c.has_hex_word.ensures
           ∙ ap has_hex_word (c.items_after.ensures
           ∙ ap (λ (n : ℕ). drop (n + 1) text) c.sign_position-sign.ensures.position));
