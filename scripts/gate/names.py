@@ -63,7 +63,7 @@ WORD = re.compile(r"[A-Z]?[a-z]+|[A-Z]+(?![a-z])")
 NO_CODE = re.compile(r"""b?'(?:\\.|[^'\\\n])'|(?://|--)[^\n]*|["](?:\\.|[^"\\])*["]""")
 # The most crates of the workspace, and the most that a chain of uses has which ends in a program. A program is a crate
 # of its own, as `abnfd` and `abnfg`. `rfcforms` reads XML, since `abnfblocks` and `abnftexts` are full.
-MOST_CRATES = 52
+MOST_CRATES = 53
 LONGEST_CHAIN = 10
 # The programs, each with the parts of crates.txt of which it uses nothing, and the most crates below it.
 PROGRAMS = {
@@ -76,10 +76,11 @@ PROGRAMS = {
 # The most functions that a crate has, and the crates that have more: so many each. Tests count for nothing.
 LARGEST_CRATE = 105
 # lazydfa: `States`, `expected` and `prune` need what `Automaton` has, and a crate of their own would make it public.
-LARGER = {"lazydfa": 125}
+# abnftexts: its functions on values and on the list need what `Gathered` has.
+LARGER = {"lazydfa": 125, "abnftexts": 125}
 # The most entries that a folder has, and the folders that have more.
 LARGEST_FOLDER = 40
-WIDER = {"crates": MOST_CRATES, "docs/crates": MOST_CRATES}
+WIDER = {"crates": MOST_CRATES, "docs/crates": MOST_CRATES, "scripts/oracles/rfc_texts": 48}
 # Folders that hold no sources.
 BUILT = {".git", "__pycache__", "bin", "out"}
 TEXTS = {".antt", ".edit", ".md", ".py", ".rt", ".sh"}

@@ -40,6 +40,14 @@ PROSE = (
 )
 
 
+# Lines that assign values, or nearly.
+VALUES = (
+    "COUNT = 0", "KEY = 09ffa1b2", "KEY=deadbeef", "pt = 0x1f", "PT = a1b2c3d4 e5f6", "n = a", "n = m", "m =/ n",
+    "x = a[i];", "x = n ; a value", 'x = "a;";', 'realm="x",', "x=1*n", "x = 1* n", "x=(n", "a-1 = 3", "x = <n>;",
+    "b = |", "y=|", "y=;", "z = ", "z =  n  ;", "k = *", "v = 'a'", "w = %", "k=-1", "c-1 = c-1",
+)
+
+
 FENCES = ("```", "````", "~~~", "~~~~", "  ~~~", "    ~~~")
 TAGS = ("<t", " <t a", "<?x", "<t>", "< t", "b>", "c = <d>", "<1", "<", "<t b = c")
 INFORMATION = (
@@ -75,6 +83,10 @@ def text(made):
             found += rule(made, size) + [made.choice(("", " ", "\t "))] * made.choice((0, 0, 1, 2))
             if made.random() < 0.2:
                 found.append(" " * made.choice((0, size)) + made.choice(PROSE))
+        if made.random() < 0.4:
+            for _ in range(made.randrange(1, 5)):
+                found.append(" " * size + made.choice(VALUES))
+                found += [made.choice(("", " ", "    0a0b"))] * made.choice((0, 0, 1))
         if made.random() < 0.6:
             found += [""] * made.choice((0, 1)) + [" " * made.choice((0, 3)) + made.choice(PROSE)] + [""]
         if made.random() < 0.4:

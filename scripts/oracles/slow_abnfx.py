@@ -5,9 +5,9 @@ among them; and the grammar that several texts make up. It shares nothing with t
 
 usage: slow_abnfx.py [TEXT ..]
 
-Prints what is found in each text: `FROM-TO NAME` for the lines of a rule, and `FROM not ABNF: ` with the fault for a
-line that begins a rule of which nothing reads. Without texts it compares what is found in each of rfc_texts/*.txt with
-the file beside it, written by hand.
+Prints what is found in each text: `FROM-TO NAME` for the lines of a rule, `FROM not ABNF: ` with the fault for a line
+that begins a rule of which nothing reads, and `FROM-TO no ABNF` for lines that assign values. Without texts it compares
+what is found in each of rfc_texts/*.txt with the file beside it, written by hand.
 """
 import pathlib
 import re
@@ -264,6 +264,91 @@ def folded(tokens):
 BRACKETS = re.compile(rb'"[^"]*"|;.*|<([^>]*)>')
 
 
+# A byte that begins no token, where a rule goes wrong that is more than a value; and a word in hexadecimal digits.
+MARKING = b"|#\"<%'"
+HEX = re.compile(rb"0x[0-9A-Fa-f]+|(?=[0-9A-Fa-f]*[0-9])(?:[0-9A-Fa-f]{2}){4,}")
+CLOSED = re.compile(rb'"[ !#-~]*"|<[ -=?-~]*>|([^;])')
+COMPACT = re.compile(rb"[ \t]*[A-Za-z][A-Za-z0-9-]*=[^ \t/]")
+
+
+class Sketch:
+    """What distinguishes a rule from lines that assign values: its lines up to the end of the cut that reads, or all;
+    their positions among those of the text; whether it reads; and whether a list is written out in it."""
+
+    def __init__(self, some, first, reads, has_list):
+        self.rows, self.first, self.end, self.reads = some, first, first + len(some), reads
+        size = margin(some[0][1])
+        text = b"".join(line[min(size, margin(line)):] + b"\n" for _, line, _ in some)
+        self.spelled = NAME.match(text)[0]
+        self.name = self.spelled.lower()
+        self.is_long = len(text) > MAX_GRAMMAR
+        tokens, number = ([], 0) if self.is_long else slow_faults.abnf_decision(text)[:2]
+        self.words = [] if self.is_long else tokens[2:len(tokens) - 1 if number is None else number]
+        self.bad = None
+        if not self.is_long and number is not None and tokens[number].kind == "Bad":
+            self.bad = text[tokens[number].start:][:1]
+        kinds = {it.kind for it in self.words}
+        counts = any(it.kind == "Repeat" and b"*" in it.text for it in self.words[:-1])
+        more = {"LParen", "LBrack"} & kinds or has_list if reads else self.bad and self.bad in MARKING
+        adds = not self.is_long and tokens[1].kind == "Adds"
+        self.is_marked = bool(self.is_long or adds or {"Text", "Num", "Prose", "Slash"} & kinds or counts or more)
+        self.uses = {it.text.lower() for it in self.words if it.kind == "Name"}
+
+    def shown_name(self):
+        return self.spelled.decode()
+
+    def is_statement(self):
+        """Returns whether the first line ends like a statement: `x = a[i];`."""
+        line, place = self.rows[0][1].rstrip(MARGINS), 0
+        while it := CLOSED.match(line, place):
+            place = it.end()
+        return place == len(line) - 1 and line[place - 1:place] not in (b" ", b"\t")
+
+    def is_compact(self):
+        """Returns whether nothing stands beside `=`, and a text alone or what is no ABNF follows it: `a="b",`."""
+        if not COMPACT.match(self.rows[0][1]):
+            return False
+        return [it.kind for it in self.words] == ["Text"] if self.reads else self.bad not in (b"|", b"#")
+
+    def has_hex(self):
+        after = text_of(self.rows).partition(b"=")[2]
+        return any(HEX.fullmatch(it) for it in re.split(rb"[ \t\n;,]", after))
+
+    def is_value(self, grounded):
+        is_plain = not self.is_marked and not self.uses & grounded
+        return is_plain or self.is_statement() or self.is_compact()
+
+
+def grounded_names(sketches):
+    """Returns the names of core rules, and of rules that end at some terminal, as far as their words say."""
+    names = set(CORE) | {it.name for it in sketches if it.is_marked}
+    while more := {it.name for it in sketches if it.uses & names} - names:
+        names |= more
+    return names
+
+
+def runs_of(entries, rows, grounded):
+    """Returns the runs of values among what is found in a text."""
+    runs = []
+    for it in entries:
+        if not it.sketch.is_value(grounded):
+            continue
+        last = runs[-1][-1] if runs else None
+        if last and all(row[2] == "blank" for row in rows[last.sketch.end:it.sketch.first]):
+            runs[-1].append(it)
+        else:
+            runs.append([it])
+    return runs
+
+
+def is_no_abnf(run):
+    """Returns whether a run of values holds no rules of ABNF."""
+    sketches = [it.sketch for it in run]
+    names = {it.name for it in sketches}
+    return any(it.is_statement() for it in sketches) or len(run) > 1 and (
+        len(names) < len(run) or any(not it.reads or it.has_hex() for it in sketches))
+
+
 class Rule:
     """A rule as a text gives it: the name of the text, its lines without the margin, and what it says."""
 
@@ -384,8 +469,18 @@ def list_line(some):
     return changed[0] if changed and any(fault(new[:it]) is None for it in cuts(new)) else None
 
 
+class Fault:
+    """A rule of which no cut reads: the name of its text, its first line, what is wrong, and what explains it."""
+
+    def __init__(self, text, first, fault, why):
+        self.text, self.first, self.fault, self.why = text, first, fault, why
+
+    def reported(self, explains):
+        return f"{self.text}:{self.first}: not ABNF: {self.fault}\n" + explains * self.why
+
+
 def found(name, text, form=None):
-    """Returns for each line of a text that begins a rule the rule, or its number, the fault and what explains it."""
+    """Returns for each line of a text that begins a rule the rule or its fault, and the lines of the text."""
     bare, reported = text.removeprefix(b"\xEF\xBB\xBF"), []
     if is_xml(bare):
         shown = kept(lines(xml_text(bare)))
@@ -400,21 +495,35 @@ def found(name, text, form=None):
             if read:
                 after = rest[place + read[-1]:]
                 blanks = next((it for it, row in enumerate(after) if row[2] != "blank"), len(after))
-                reported.append(Rule(name, some[:read[-1]], blanks, sources[place:place + read[-1]]))
+                own = sources[place:place + read[-1]]
+                reported.append(Rule(name, some[:read[-1]], blanks, own))
+                reported[-1].sketch = Sketch(some[:read[-1]], place, True, own != some[:read[-1]])
             else:
                 whole = some[:cuts(some)[-1]]
                 listed = None if form else list_line(whole)
                 told = f"line {listed}: list of RFC 9110: use --expand" if listed else in_text(fault(whole), whole)
-                reported.append((number, told, explained(whole)))
-    return reported
+                reported.append(Fault(name, number, told, explained(whole)))
+                reported[-1].sketch = Sketch(whole, place, False, False)
+    return reported, rest
 
 
-def given(name, text, form, explains):
-    """Returns the rules of a text, and the reports on it."""
-    all_found = found(name, text, form)
-    rules = [it for it in all_found if isinstance(it, Rule)]
-    reported = [it for it in all_found if not isinstance(it, Rule)]
-    return rules, "".join(f"{name}:{number}: not ABNF: {fault}\n" + explains * why for number, fault, why in reported)
+def run_reported(run):
+    """Returns the report on lines that assign values."""
+    first, last = run[0], run[-1]
+    return f"{first.text}:{first.first}: no ABNF: {len(run)} lines up to line {last.first} assign values\n"
+
+
+def given(entries, rows, grounded, explains):
+    """Returns the rules of a text, the values, the reports on it, and whether a rule is no ABNF."""
+    runs = {id(run[0]): run for run in runs_of(entries, rows, grounded) if is_no_abnf(run)}
+    values = [it for run in runs.values() for it in run]
+    reported, is_faulty = "", False
+    for it in entries:
+        if id(it) in runs:
+            reported += run_reported(runs[id(it)])
+        elif it not in values and isinstance(it, Fault):
+            reported, is_faulty = reported + it.reported(explains), True
+    return [it for it in entries if it not in values and isinstance(it, Rule)], values, reported, is_faulty
 
 
 def fates(rules):
@@ -430,16 +539,19 @@ def fates(rules):
 
 def joined(texts, form=None, explains=False):
     """Returns the grammar that texts make up, the list of their rules, the messages, and the status."""
-    rules, reported = [], ""
-    for name, text in texts:
-        more, said = given(name, text, form, explains)
-        rules, reported = rules + more, reported + said
-    is_faulty = reported != ""
+    all_found = [found(name, text, form) for name, text in texts]
+    grounded = grounded_names([it.sketch for entries, _ in all_found for it in entries])
+    rules, values, reported, is_faulty = [], [], "", False
+    for entries, rows in all_found:
+        more, none, said, wrong = given(entries, rows, grounded, explains)
+        rules, values, reported, is_faulty = rules + more, values + none, reported + said, is_faulty or wrong
     known = {it.key for it in rules} | set(CORE)
     for it in rules:
         it.lose_brackets(known)
     becomes = fates(rules)
-    listed = "".join(f"{it.place()}: '{it.name}' {fate}\n" for it, fate in zip(rules, becomes))
+    lines = {id(it): f"{it.place()}: '{it.name}' {fate}\n" for it, fate in zip(rules, becomes)}
+    lines |= {id(it): f"{it.text}:{it.first}: '{it.sketch.shown_name()}' assigns a value\n" for it in values}
+    listed = "".join(lines[id(it)] for entries, _ in all_found for it in entries if id(it) in lines)
     stand = [it for it, fate in zip(rules, becomes) if fate == "stands"]
     first = {}
     for it in stand:
@@ -472,9 +584,17 @@ def joined(texts, form=None, explains=False):
     return grammar, listed, reported + ("" if stand else "no rules found\n"), status
 
 
-def shown(reported):
-    return "".join(f"{it.first}-{it.last} {it.name}\n" if isinstance(it, Rule) else f"{it[0]} not ABNF: {it[1]}\n"
-                   for it in reported)
+def shown(all_found):
+    """Returns a line for each rule that is found in a text, and for each that is no ABNF."""
+    entries, rows = all_found
+    runs = [run for run in runs_of(entries, rows, grounded_names([it.sketch for it in entries])) if is_no_abnf(run)]
+    values, lines = {id(it) for run in runs for it in run}, []
+    for it in entries:
+        lines += [f"{run[0].first}-{run[-1].first} no ABNF\n" for run in runs if run[0] is it]
+        if id(it) not in values:
+            lines.append(f"{it.first}-{it.last} {it.name}\n" if isinstance(it, Rule) else
+                         f"{it.first} not ABNF: {it.fault}\n")
+    return "".join(lines)
 
 
 def main():

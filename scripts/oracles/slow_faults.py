@@ -329,21 +329,31 @@ def mistake(text, tokens, number):
     return None
 
 
-def abnf(text):
-    """Returns the report on the fault of a grammar for abnfi, and explains it; None if it has none."""
+def abnf_decision(text):
+    """Returns the tokens of a text, the number of the first with which it is no grammar in ABNF, the prefixes before
+    it, and what is wrong with it; the last three are None if it is a grammar."""
     tokens, prefixes, depth = tokens_of(text, ABNF_WHITE, ABNF_TOKENS, False), Prefixes(ABNF_RULES), 0
     tokens = marked(text, tokens)
     for number, token in enumerate(tokens):
-        line, where = text.count(b"\n", 0, token.start) + 1, place(text, token, rb"\r?\n")
-        if not prefixes.can_stand(token.kind, token.gap, token.first):
-            reported = mistake(text, tokens, number)
-            facts = bad_fact(token, text, ABNF_FACTS) + line_facts(text, tokens, number)
-            facts = f"  {reported}\n" if reported else facts
-            return f"line {line}: syntax error\n{where}{expected(prefixes, ABNF_PHRASES)}{facts}"
-        if is_large(token):
-            return f"line {line}: number too large\n{where}above 4294967295\n"
         depth += opens(token)
-        if depth > MAX_OPEN:
-            return f"line {line}: nested too deeply\n{where}200 brackets are open before it\n"
+        if not prefixes.can_stand(token.kind, token.gap, token.first):
+            return tokens, number, prefixes, "syntax error"
+        if is_large(token) or depth > MAX_OPEN:
+            return tokens, number, prefixes, "number too large" if is_large(token) else "nested too deeply"
         prefixes.read(token)
-    return None
+    return tokens, None, None, None
+
+
+def abnf(text):
+    """Returns the report on the fault of a grammar for abnfi, and explains it; None if it has none."""
+    tokens, number, prefixes, fault = abnf_decision(text)
+    if number is None:
+        return None
+    token = tokens[number]
+    line, where = text.count(b"\n", 0, token.start) + 1, place(text, token, rb"\r?\n")
+    facts = {"number too large": "above 4294967295\n", "nested too deeply": "200 brackets are open before it\n"}
+    if fault not in facts:
+        reported = mistake(text, tokens, number)
+        facts = bad_fact(token, text, ABNF_FACTS) + line_facts(text, tokens, number)
+        facts = {fault: expected(prefixes, ABNF_PHRASES) + (f"  {reported}\n" if reported else facts)}
+    return f"line {line}: {fault}\n{where}{facts[fault]}"

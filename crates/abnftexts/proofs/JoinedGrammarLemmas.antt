@@ -13,7 +13,7 @@ use Rattle.abnftexts.specs.JoinedGrammar.{GrammarJoined, fate_reported, has_stay
 use Rattle.abnftexts.specs.JoinedGrammar.{printed_after, rule_printed}
 use Rattle.abnftexts.specs.JoinedGrammar.{rules_listed, standing}
 use Rattle.abnftexts.specs.JoinedViews.{IsGatheredJoined, IsStandingJoined}
-use Rattle.abnftexts.specs.RulesGathered.{ReportedRule, RuleLines, lines_placed}
+use Rattle.abnftexts.specs.RulesGathered.{ListEntry, ReportedRule, RuleLines, lines_placed}
 use Rattle.abnftexts.specs.declared.gathered.RulePosition.{RulePosition}
 use Rattle.abnftexts.proofs.RulesTakenLemmas.{one-after}
 
@@ -78,17 +78,19 @@ module _ (positions : List RuleLines) (order : List ℕ) (i : ℕ) where
 
 -- what stands of what was gathered is joined
 pub gathered-all : (positions sp : List RulePosition) (rules sr : List GivenRule) (reported : List ReportedRule)
-    (listed : List ℕ) (fates : List Fate) (joined : GrammarJoined) → fates ≡ fates_of (map text_rule rules)
-    → listed ≡ rules_listed (map lines_placed positions) (map text_rule rules) fates
+    (entries : List ListEntry) (listed : List ℕ) (fates : List Fate) (joined : GrammarJoined)
+    → fates ≡ fates_of (map text_rule rules)
+    → listed ≡ rules_listed (map lines_placed positions) (map text_rule rules) fates entries
     → sp ≡ standing fates positions → sr ≡ standing fates rules
     → IsStandingJoined (map lines_placed sp) (map text_rule sr) reported listed joined
     → IsGatheredJoined (record {
       positions = map lines_placed positions;
       rules = map text_rule rules;
       reported = reported;
+      list = entries;
     })
     joined
-gathered-all positions sp rules sr reported listed fates joined are list stand_positions stand_rules h =
+gathered-all positions sp rules sr reported entries listed fates joined are list stand_positions stand_rules h =
     let rows : List RuleLines = map lines_placed positions in
     let given : List RuleGiven = map text_rule rules in
     let a : map lines_placed sp ≡ standing (fates_of given) rows =
@@ -97,8 +99,8 @@ gathered-all positions sp rules sr reported listed fates joined are list stand_p
     let b : map text_rule sr ≡ standing (fates_of given) given =
     ap (λ (xs : List GivenRule). map text_rule xs) stand_rules ∙ standing-seen text_rule fates rules
     ∙ ap (λ (fs : List Fate). standing fs given) are in
-    let c : listed ≡ rules_listed rows given (fates_of given) =
-    list ∙ ap (λ (fs : List Fate). rules_listed rows given fs) are in
+    let c : listed ≡ rules_listed rows given (fates_of given) entries =
+    list ∙ ap (λ (fs : List Fate). rules_listed rows given fs entries) are in
     let one : IsStandingJoined (standing (fates_of given) rows) (map text_rule sr) reported listed joined =
     subst (λ (ps : List RuleLines). IsStandingJoined ps (map text_rule sr) reported listed joined) a h in
     let two : IsStandingJoined (standing (fates_of given) rows) (standing (fates_of given) given) reported listed joined

@@ -1,6 +1,6 @@
 -- Texts have one joined grammar, and a run that joins them has one reply.
 -- Serves: one_joining
-use Rattle.std.proofs.Common.{◌≡◌, ◌≢◌, ℕ, Bool, true, false, List, [], ◌++◌, Option, refl, sym, ap, ◌∙◌, subst}
+use Rattle.std.proofs.Common.{◌≡◌, ◌≢◌, ℕ, Bool, true, false, List, [], ◌++◌, Option, None, Some, refl, sym, ap, ◌∙◌, subst}
 use Rattle.ruletable.specs.declared.fault.ReadFault.{ReadFault}
 use Rattle.ruletable.specs.declared.fault.ReadFault.TheVariants as faults
 use Rattle.abnfread.specs.AbnfReading.{IsFaultOf}
@@ -86,10 +86,11 @@ module _ (one : OneReading) where
     text_why-same (it_reads reads) (its_fault {fault} g m y) = absurd (one.no_fault _ _ fault g m reads)
     text_why-same (it_reads reads) (it_reads reads_too) = refl
 
-    why-same : (explains : Bool) (text : List ℕ) {a b : List ℕ} → ExplainsIfAsked explains text a
-        → ExplainsIfAsked explains text b → a ≡ b
-    why-same true text x y = text_why-same x y
-    why-same false text x y = x ∙ sym y
+    why-same : (explains : Bool) (lines : Option (List ℕ)) {a b : List ℕ} → ExplainsIfAsked explains lines a
+        → ExplainsIfAsked explains lines b → a ≡ b
+    why-same true (Some text) x y = text_why-same x y
+    why-same true None x y = x ∙ sym y
+    why-same false lines x y = x ∙ sym y
 
     reports-same : {explains : Bool} {reports : List ReportedRule} {a b : List ℕ} → AreReports explains reports a
         → AreReports explains reports b → a ≡ b

@@ -22,3 +22,4 @@ pub mod ListNamesLemmas
 pub mod NamedRulesLemmas
 pub mod OneRenameLemmas
 pub mod WrittenRulesLemmas
+pub mod ValueRunsLemmas

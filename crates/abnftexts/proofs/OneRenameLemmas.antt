@@ -11,9 +11,13 @@ use Rattle.abnftexts.specs.NamedRules.{source_of}
 use Rattle.abnftexts.specs.NamedRules.{next_line, no_lines, no_more_positions, no_more_rules, one_position, one_rule}
 use Rattle.abnftexts.specs.NamedRules.{positions_end, read_again}
 use Rattle.abnftexts.specs.NamedRules.{rules_end, same_rule, stays, tokens_named, with_prose}
-use Rattle.abnftexts.specs.RulesGathered.{ReportedRule, RuleLines, RulesGathered}
+use Rattle.abnftexts.specs.RulesGathered.{ListEntry, ReportedRule, RuleLines, RulesGathered}
 use Rattle.abnftexts.specs.TextRules.{SpellRule, given_by}
 use Rattle.abnftexts.proofs.TextRulesLemmas.{OneReading}
+
+abbrev gathered_with : List RuleLines → List RuleGiven → List ReportedRule → List ListEntry → RulesGathered
+gathered_with positions rules reported list =
+    record { positions = positions; rules = rules; reported = reported; list = list }
 
 module _ (one : OneReading) where
   spelled-same : {text : List ℕ} {a b : RuleGiven} → SpellRule text a → SpellRule text b → a ≡ b
@@ -92,10 +96,13 @@ module _ (one : OneReading) where
       subst (λ (ps : List RuleLines). AreRulesNamed ps given.rules a.rules) positions x.rules in
       let rules : a.rules ≡ b.rules = rules-same here y.rules in
       let reported : a.reported ≡ b.reported = x.reported ∙ sym y.reported in
-      all-same a b positions rules reported
+      let list : a.list ≡ b.list = x.list ∙ sym y.list in
+      all-same a b positions rules reported list
     where
-      all-same : (a b : RulesGathered) → a.positions ≡ b.positions → a.rules ≡ b.rules → a.reported ≡ b.reported → a ≡ b
-      all-same a b positions rules reported =
-          ap (λ (ps : List RuleLines). record { positions = ps; rules = a.rules; reported = a.reported }) positions
-          ∙ ap (λ (rs : List RuleGiven). record { positions = b.positions; rules = rs; reported = a.reported }) rules
-          ∙ ap (λ (rs : List ReportedRule). record { positions = b.positions; rules = b.rules; reported = rs }) reported
+      all-same : (a b : RulesGathered) → a.positions ≡ b.positions → a.rules ≡ b.rules → a.reported ≡ b.reported
+          → a.list ≡ b.list → a ≡ b
+      all-same a b positions rules reported list =
+          ap (λ (ps : List RuleLines). gathered_with ps a.rules a.reported a.list) positions
+          ∙ ap (λ (rs : List RuleGiven). gathered_with b.positions rs a.reported a.list) rules
+          ∙ ap (λ (rs : List ReportedRule). gathered_with b.positions b.rules rs a.list) reported
+          ∙ ap (λ (es : List ListEntry). gathered_with b.positions b.rules b.reported es) list

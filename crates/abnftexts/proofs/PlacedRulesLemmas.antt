@@ -1,6 +1,7 @@
 -- Each rule that texts give has lines of its own, which alone spell it.
 -- Serves: join_texts, joined_reading
-use Rattle.std.proofs.Common.{◌≡◌, ℕ, Bool, Option, true, List, [], ◌∷◌, ◌++◌, take, drop, refl, sym, ap, ◌∙◌, subst}
+use Rattle.std.proofs.Common.{◌≡◌, ℕ, Bool, Option, true, List, [], ◌∷◌, ◌++◌, take, drop, map, cond, false, refl, sym}
+use Rattle.std.proofs.Common.{ap, ◌∙◌, subst}
 use Rattle.std.proofs.lemmas.List.{drop-drop}
 use Rattle.abnfread.specs.AbnfReading.{Reads}
 use Rattle.abnfread.specs.Element.{Definition}
@@ -13,8 +14,12 @@ use Rattle.abnfblocks.specs.declared.found.RuleSearch.{RuleSearch}
 use Rattle.abnfblocks.specs.declared.found.RuleSearch.TheVariants as found
 use Rattle.abnftexts.specs.GivenRules.{RuleGiven}
 use Rattle.abnftexts.specs.RulesGathered.{NamedText, RuleLines, RulesGathered}
-use Rattle.abnftexts.specs.TextRules.{GivesFound, GivesText, GiveTexts, SpellRule}
-use Rattle.abnftexts.specs.TextRules.{next_rule, next_text, no_rule, no_texts, none_found}
+use Rattle.std.specs.List.{flat_map}
+use Rattle.rfcvalues.specs.RuleSketches.{SketchedRule}
+use Rattle.abnftexts.specs.ValueRuns.{FoundRule, before_groups, found_rules, groups_of, join_values}
+use Rattle.abnftexts.specs.TextRules.{FindTexts, FindsText, GiveFound, GivesFound, GivesGroups, GiveTexts, SpellRule}
+use Rattle.abnftexts.specs.TextRules.{TextFound, a_run, each_alone, next_rule, next_text, next_there, no_groups}
+use Rattle.abnftexts.specs.TextRules.{no_rule, no_texts, none_found, none_there}
 use Rattle.abnftexts.proofs.ClearLinesLemmas.{IsClear, kept-clear}
 use Rattle.abnftexts.proofs.EachLemmas.{Each, each_none, each_next, each-drop, each-take}
 use Rattle.abnftexts.proofs.ExpandedLinesLemmas.{expanded-clear}
@@ -106,12 +111,73 @@ found-placed clear (next_rule {first} {count} spells h) (each_next r e) =
     }) (found-placed clear h e)
 found-placed clear (no_rule r h) (each_next s e) = found-placed clear h e
 
-text-placed : {lists : Option ListForm} (text : NamedText) {g : RulesGathered} → GivesText lists text g → Placed g
-text-placed text x =
+-- a part of what is found
+pub alone-front : {P : RuleSearch → Type 0} (xs ys : List RuleSearch) → Each P (xs ++ ys) → Each P xs
+alone-front [] ys h = each_none
+alone-front (x ∷ xs) ys (each_next p h) = each_next p (alone-front xs ys h)
+
+pub alone-back : {P : RuleSearch → Type 0} (xs ys : List RuleSearch) → Each P (xs ++ ys) → Each P ys
+alone-back [] ys h = h
+alone-back (x ∷ xs) ys (each_next p h) = alone-back xs ys h
+
+abbrev all_in : List (List FoundRule) → List RuleSearch
+all_in groups = flat_map (λ group. map (λ rule. rule.it) group) groups
+
+before-all : (lines : List NumberedLine) (rule : FoundRule) (groups : List (List FoundRule))
+    → all_in (before_groups lines rule groups) ≡ rule.it ∷ all_in groups
+before-all lines rule [] = refl
+before-all lines rule ([] ∷ groups) = refl
+before-all lines rule ((next ∷ run) ∷ groups) = by (join_values lines rule next)
+  where
+    by : (b : Bool) → all_in (cond b ((rule ∷ next ∷ run) ∷ groups) ((rule ∷ []) ∷ (next ∷ run) ∷ groups))
+        ≡ rule.it ∷ all_in ((next ∷ run) ∷ groups)
+    by true = refl
+    by false = refl
+
+groups-all : (lines : List NumberedLine) (rules : List FoundRule)
+    → all_in (groups_of lines rules) ≡ map (λ rule. rule.it) rules
+groups-all lines [] = refl
+groups-all lines (rule ∷ rules) =
+    before-all lines rule (groups_of lines rules)
+    ∙ ap (λ (its : List RuleSearch). rule.it ∷ its) (groups-all lines rules)
+
+-- those that have sketches and marks are the first of what is found
+zipped-front : (found : List RuleSearch) (sketches : List SketchedRule) (marks : List Bool) {P : RuleSearch → Type 0}
+    → Each P found → Each P (map (λ rule. rule.it) (found_rules found sketches marks))
+zipped-front [] sketches marks h = each_none
+zipped-front (it ∷ found) [] marks h = each_none
+zipped-front (it ∷ found) (s ∷ sketches) [] h = each_none
+zipped-front (it ∷ found) (s ∷ sketches) (m ∷ marks) (each_next p h) =
+    each_next p (zipped-front found sketches marks h)
+
+groups-placed : {asks : Bool} {name : List ℕ} {kept lines : List NumberedLine} {groups : List (List FoundRule)}
+    {g : RulesGathered} → Each IsClear kept → GivesGroups asks name kept lines groups g
+    → Each (IsReadAlone lines) (all_in groups) → Placed g
+groups-placed clear no_groups e = none_placed
+groups-placed clear (a_run {group} {groups} t h) e =
+    groups-placed clear h (alone-back (map (λ rule. rule.it) group) (all_in groups) e)
+groups-placed clear (each_alone {group} {groups} t x h) e =
+    placed-both (found-placed clear x (alone-front (map (λ rule. rule.it) group) (all_in groups) e))
+    (groups-placed clear h (alone-back (map (λ rule. rule.it) group) (all_in groups) e))
+
+text-placed : {lists : Option ListForm} (text : NamedText) {there : TextFound} (sketches : List SketchedRule)
+    (marks : List Bool) {asks : Bool} {g : RulesGathered} → FindsText lists text there
+    → GivesGroups asks there.name there.kept there.lines
+    (groups_of there.lines (found_rules there.all_found sketches marks)) g → Placed g
+text-placed text {there} sketches marks x h =
     let clear = kept-clear (after_mark text.bytes) x.keeps in
-    found-placed clear x.gives (found-alone (expanded-clear clear x.written) x.are_found refl)
+    let alone = found-alone (expanded-clear clear x.written) x.are_found refl in
+    groups-placed clear h (subst (λ (its : List RuleSearch). Each (IsReadAlone there.lines) its)
+    (sym (groups-all there.lines (found_rules there.all_found sketches marks)))
+    (zipped-front there.all_found sketches marks alone))
+
+given-placed : {lists : Option ListForm} {asks : Bool} {texts : List NamedText} {there : List TextFound}
+    {sketches : List SketchedRule} {marks : List Bool} {g : RulesGathered} → FindTexts lists texts there
+    → GiveFound asks there sketches marks g → Placed g
+given-placed no_texts none_there = none_placed
+given-placed (next_text {text} x h) (next_there {sketches} {marks} y k) =
+    placed-both (text-placed text sketches marks x y) (given-placed h k)
 
 pub texts-placed : {lists : Option ListForm} {texts : List NamedText} {g : RulesGathered} → GiveTexts lists texts g
     → ArePlaced g.positions g.rules
-texts-placed no_texts = none_placed
-texts-placed (next_text {text} x h) = placed-both (text-placed text x) (texts-placed h)
+texts-placed x = given-placed x.finds x.gives

@@ -17,12 +17,13 @@ use Rattle.abnfblocks.specs.declared.found.RuleSearch.{RuleSearch}
 use Rattle.abnfblocks.specs.declared.found.RuleSearch.TheVariants as found
 use Rattle.abnftexts.specs.RulesGathered.{ReportedRule, RuleLines, RulesGathered, NamedText, both_given, named_text}
 use Rattle.abnftexts.specs.RulesGathered.{none_given, one_rule, reported_alone}
-use Rattle.abnftexts.specs.TakenRules.{AddsReport, AreTextRows, TakesFound, TakesMore, TakesRule, TextRows}
+use Rattle.abnftexts.specs.TakenRules.{AddsReport, AreTextRows, FindsShown, TakesMore, TakesRule, TextRows, text_rows}
+use Rattle.abnftexts.specs.declared.gathered.FoundText.{FoundText}
 use Rattle.abnftexts.specs.WrittenLists.{AreExpanded, WritesLists, as_they_are, with_lists}
 use Rattle.rfcforms.specs.Lists.{Expands}
 use Rattle.rfcforms.specs.declared.lists.written.ListForm.{ListForm}
-use Rattle.abnftexts.specs.TextRules.{GivesFound, GivesText, GiveTexts, SpellRule, given_by, next_rule, next_text}
-use Rattle.abnftexts.specs.TextRules.{IsRuleReported, asks_lists, no_rule, no_texts, none_found, position_in}
+use Rattle.abnftexts.specs.TextRules.{GivesFound, SpellRule, given_by, next_rule}
+use Rattle.abnftexts.specs.TextRules.{IsRuleReported, asks_lists, no_rule, none_found, position_in}
 use Rattle.abnftexts.specs.TextRules.{report_with}
 use Rattle.abnftexts.specs.ShownTexts.{AreShown, IsShown, AreListsOut, asked, next_shown, none_shown, not_asked}
 use Rattle.abnftexts.specs.declared.gathered.ShownText.{ShownText}
@@ -44,16 +45,18 @@ both-assoc a b c =
       append_assoc a.positions b.positions c.positions,
       append_assoc a.rules b.rules c.rules,
       append_assoc a.reported b.reported c.reported,
+      append_assoc a.list b.list c.list,
     ) refl
 
 pub both-none : (a : RulesGathered) → both_given a none_given ≡ a
-both-none a = rw (append-nil a.positions, append-nil a.rules, append-nil a.reported) refl
+both-none a = rw (append-nil a.positions, append-nil a.rules, append-nil a.reported, append-nil a.list) refl
 
 -- something is reported, and all else is as it was
 with-reported : (g : RulesGathered) (reported : List ReportedRule) (more : ReportedRule)
     → reported ≡ g.reported ++ more ∷ []
-    → record { positions = g.positions; rules = g.rules; reported = reported } ≡ both_given g (reported_alone more)
-with-reported g reported more e = rw (e, append-nil g.positions, append-nil g.rules) refl
+    → record { positions = g.positions; rules = g.rules; reported = reported; list = g.list }
+    ≡ both_given g (reported_alone more)
+with-reported g reported more e = rw (e, append-nil g.positions, append-nil g.rules, append-nil g.list) refl
 
 -- nothing is taken
 none-taken : (Gives : RulesGathered → Type 0) (g : RulesGathered) → Gives none_given → TakesMore Gives g g
@@ -141,7 +144,7 @@ module _ (asks : Bool) (name : List ℕ) (kept lines : List NumberedLine) (all :
       → get_or all i d ≡ found.NotAbnf first count fault
       → rows ≡ take count (drop first lines) → AddsReport asks name rows fault g.reported reported
       → TakesMore (GivesFound asks name kept lines (drop (i + 1) all))
-      (record { positions = g.positions; rules = g.rules; reported = reported }) end
+      (record { positions = g.positions; rules = g.rules; reported = reported; list = g.list }) end
       → TakesMore (GivesFound asks name kept lines (drop i all)) g end
   no_rule-more first count fault rows g reported end lt is are adds more =
       let own = take count (drop first lines) in
@@ -154,7 +157,8 @@ module _ (asks : Bool) (name : List ℕ) (kept lines : List NumberedLine) (all :
       let more_is : reported ≡ g.reported ++ report ∷ [] =
       adds.2 ∙ ap (λ (xs : List NumberedLine). g.reported ++ report_with adds.0 xs ∷ []) are in
       let one : RulesGathered = reported_alone report in
-      let h : RulesGathered = record { positions = g.positions; rules = g.rules; reported = reported } in
+      let h : RulesGathered =
+      record { positions = g.positions; rules = g.rules; reported = reported; list = g.list } in
       subst (λ (xs : List RuleSearch). TakesMore (GivesFound asks name kept lines xs) g end) (sym here)
       (more-taken (λ x. x ≡ one) (GivesFound asks name kept lines others)
       (GivesFound asks name kept lines (found.NotAbnf first count fault ∷ others)) g h end
@@ -218,31 +222,22 @@ rows-without {shown} {kept} {lines} none same lists text is reads =
         → AreExpanded form kept lines × (true ≡ asks_lists form)
     go not_asked = (subst (λ (xs : List NumberedLine). AreExpanded None kept xs) (sym same) as_they_are, refl)
 
--- what a text gives is taken, where its lines are those that are read of what is shown
-pub text-taken : (lists : Option ListForm) (text : NamedText) (shown : ShownText) (kept : List NumberedLine)
-    (rows : TextRows) (all : List RuleSearch) (g h : RulesGathered) → IsShown lists text shown
-    → ReadsLines shown.of_xml shown.bytes.items kept → AreTextRows shown kept rows → AreFound 0 rows.lines all
-    → TakesFound rows all g h → TakesMore (GivesText lists text) g h
-text-taken lists text shown kept rows all g h is reads of finds takes =
-    let source : List ℕ = after_mark text.bytes in
-    let are : AreRead source rows.kept =
-    subst (λ (xs : List NumberedLine). AreRead source xs) (sym of.kept_are) (shown-read is reads) in
-    let both = of.lists_are lists text is reads in
-    let written : AreExpanded lists rows.kept rows.lines =
-    subst (λ (xs : List NumberedLine). AreExpanded lists xs rows.lines) (sym of.kept_are) both.0 in
-    let some = takes source lists are written finds in
-    let named : GivesFound rows.asks text.name rows.kept rows.lines all some.0 =
-    subst (λ (name : List ℕ). GivesFound rows.asks name rows.kept rows.lines all some.0) (of.name ∙ is.name) some.1 in
-    let gives : GivesText lists text some.0 = record {
-      kept = rows.kept;
-      keeps = are;
-      lines = rows.lines;
-      written = written;
-      all_found = all;
-      are_found = finds;
-      gives = subst (λ (asks : Bool). GivesFound asks text.name rows.kept rows.lines all some.0) both.1 named;
-    } in
-    (some.0, gives, some.2)
+-- what is found in a text that is shown
+pub shown-found : (shown : ShownText) (kept : List NumberedLine) (text : FoundText)
+    → ReadsLines shown.of_xml shown.bytes.items kept → AreTextRows shown kept (text_rows text.rows)
+    → AreFound 0 (map numbered text.rows.lines.items) text.found.items → FindsShown shown text
+shown-found shown kept text reads of finds lists named is =
+    let rows = text_rows text.rows in
+    let both = of.lists_are lists named is reads in (
+      record {
+        name = of.name ∙ is.name;
+        keeps = subst (λ (xs : List NumberedLine). AreRead (after_mark named.bytes) xs) (sym of.kept_are)
+            (shown-read is reads);
+        written = subst (λ (xs : List NumberedLine). AreExpanded lists xs rows.lines) (sym of.kept_are) both.0;
+        are_found = finds;
+      },
+      both.1,
+    )
 
 -- of texts that are shown, one that is left is shown, and so are those after it
 shown-there : {lists : Option ListForm} (i : ℕ) (d : ShownText) {named : List NamedText} {texts : List ShownText}
@@ -257,30 +252,6 @@ shown-length : {lists : Option ListForm} {named : List NamedText} {texts : List 
     → AreShown lists named texts → length named ≡ length texts
 shown-length none_shown = refl
 shown-length (next_shown is more) = omega (arith, shown-length more)
-
--- what one more text gives follows what was gathered
-pub text-more : (lists : Option ListForm) (named : List NamedText) (texts : List ShownText) (i : ℕ) (d : ShownText)
-    (g h more : RulesGathered) → i < length texts → AreShown lists named texts
-    → ((text : NamedText) → IsShown lists text (get_or texts i d) → TakesMore (GivesText lists text) g h)
-    → GiveTexts lists (drop (i + 1) named) more
-    → (all : RulesGathered) × GiveTexts lists (drop i named) all × (both_given g all ≡ both_given h more)
-text-more lists named texts i d g h more lt shown takes others =
-    let there = shown-there i d shown lt in
-    let next : suc i ≡ i + 1 = omega arith in
-    let here : drop i named ≡ there.0 ∷ drop (i + 1) named =
-    there.2 ∙ ap (λ (k : ℕ). there.0 ∷ drop k named) next in
-    let one = takes there.0 there.1 in (
-      both_given one.0 more,
-      subst (λ (xs : List NamedText). GiveTexts lists xs (both_given one.0 more)) (sym here) (next_text one.1 others),
-      sym (ap (λ (x : RulesGathered). both_given x more) one.2 ∙ both-assoc g one.0 more),
-    )
-
-pub texts-all : (lists : Option ListForm) (named : List NamedText) (texts : List ShownText) (i : ℕ)
-    → length texts ≤ i → AreShown lists named texts
-    → GiveTexts lists (drop i named) none_given
-texts-all lists named texts i le shown =
-    subst (λ (xs : List NamedText). GiveTexts lists xs none_given)
-    (sym (at_drop_all (λ xs. xs) named i (omega (arith, le, shown-length shown)))) no_texts
 
 -- a text is shown that has the bytes of a source
 pub shown-made : (lists : Option ListForm) (text : NamedText) (shown : ShownText) (source : List ℕ)

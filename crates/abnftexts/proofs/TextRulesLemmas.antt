@@ -1,7 +1,7 @@
 -- What texts give is one list of rules, and one text of reports; and the names that rules use are one list.
 -- Serves: one_joining
 use Rattle.std.proofs.Common.{◌≡◌, ◌≢◌, ℕ, suc, Bool, List, [], ◌∷◌, ◌++◌, Option, None, Some, drop, take, map}
-use Rattle.std.proofs.Common.{refl, sym, ap, ◌∙◌, subst}
+use Rattle.std.proofs.Common.{refl, sym, ap, ◌∙◌, subst, true≢false}
 use Rattle.std.specs.List.{flat_map}
 use Rattle.lexer.specs.TokenLists.{Tok}
 use Rattle.diagnostics.specs.BodyMentions.{mentions_in}
@@ -26,10 +26,19 @@ use Rattle.rfcforms.specs.declared.lists.written.ListForm.{ListForm}
 use Rattle.abnftexts.specs.TextPositions.{list_reported}
 use Rattle.abnftexts.specs.WrittenLists.{AreExpanded, IsFirstList, WritesLists, as_they_are, lines_alike}
 use Rattle.abnftexts.specs.WrittenLists.{lines_written, with_lists}
-use Rattle.abnftexts.specs.TextRules.{GivesFound, GivesText, GiveTexts, given_by, next_rule, next_text, no_rule}
+use Rattle.rfcvalues.specs.AssignedValues.{AreValueMarks}
+use Rattle.rfcvalues.specs.RuleSketches.{RuleSeen, SketchedRule}
+use Rattle.abnftexts.specs.ValueRuns.{FoundRule}
+use Rattle.abnftexts.specs.TextRules.{AreSketches, FindTexts, FindsText, GiveFound, GivesFound, GivesGroups, GiveTexts}
+use Rattle.abnftexts.specs.TextRules.{TextFound, a_run, each_alone, given_by, next_rule, next_sketch, next_text}
+use Rattle.abnftexts.specs.TextRules.{next_there, no_groups, no_rule, no_sketches, none_there, rules_seen}
 use Rattle.abnftexts.specs.TextRules.{IsRuleReported, asks_lists, for_fault, for_list, no_texts, none_found}
 use Rattle.abnftexts.specs.TextRules.{position_in, report_with}
+use Rattle.rfcvalues.proofs.OneSketchLemmas.{marks-same, sketch-same}
 use Rattle.abnftexts.specs.UsedNames.{AreRuleUses, AreNameUses, UsedName, next_uses, no_rules, used_at}
+
+abbrev found_with : List ℕ → List NumberedLine → List NumberedLine → List RuleSearch → TextFound
+found_with name kept lines its = record { name = name; kept = kept; lines = lines; all_found = its }
 
 both-same : (a b c d : RulesGathered) → a ≡ b → c ≡ d → both_given a c ≡ both_given b d
 both-same a b c d e f = rw (e, f) refl
@@ -95,28 +104,64 @@ module _ (one : OneReading) where
         reported_alone (report_with message (take count (drop first lines)))) (reported-same x y))
         (found-same h k)
 
-  text-same : (lists : Option ListForm) (text : NamedText) (a b : RulesGathered) → GivesText lists text a
-      → GivesText lists text b → a ≡ b
-  text-same lists text a b x y =
-      let asks : Bool = asks_lists lists in
-      let kept : x.kept ≡ y.kept = one.kept _ x.kept y.kept x.keeps y.keeps in
-      let written : AreExpanded lists y.kept x.lines =
-      subst (λ (rows : List NumberedLine). AreExpanded lists rows x.lines) kept x.written in
-      let lines : x.lines ≡ y.lines = expanded-same written y.written in
-      let here : AreFound 0 y.lines x.all_found =
-      subst (λ (rows : List NumberedLine). AreFound 0 rows x.all_found) lines x.are_found in
-      let all : x.all_found ≡ y.all_found = one.found 0 y.lines x.all_found y.all_found here y.are_found in
-      let gives : GivesFound asks text.name y.kept x.lines x.all_found a =
-      subst (λ (rows : List NumberedLine). GivesFound asks text.name rows x.lines x.all_found a) kept x.gives in
-      let there : GivesFound asks text.name y.kept y.lines x.all_found a =
-      subst (λ (rows : List NumberedLine). GivesFound asks text.name y.kept rows x.all_found a) lines gives in
-      found-same asks text.name
-      (subst (λ (found : List RuleSearch). GivesFound asks text.name y.kept y.lines found a) all there) y.gives
+    groups-same : {kept lines : List NumberedLine} {groups : List (List FoundRule)} {a b : RulesGathered}
+        → GivesGroups asks name kept lines groups a → GivesGroups asks name kept lines groups b → a ≡ b
+    groups-same no_groups no_groups = refl
+    groups-same (a_run e h) (a_run f k) = both-same _ _ _ _ refl (groups-same h k)
+    groups-same (a_run e h) (each_alone f x k) = absurd (true≢false (sym e ∙ f))
+    groups-same (each_alone e x h) (a_run f k) = absurd (true≢false (sym f ∙ e))
+    groups-same (each_alone e x h) (each_alone f y k) = both-same _ _ _ _ (found-same x y) (groups-same h k)
+
+  finds-same : {lists : Option ListForm} {text : NamedText} (a b : TextFound) → FindsText lists text a
+      → FindsText lists text b → a ≡ b
+  finds-same {lists} {text} a b x y =
+      let kept : a.kept ≡ b.kept = one.kept _ a.kept b.kept x.keeps y.keeps in
+      let written : AreExpanded lists b.kept a.lines =
+      subst (λ (rows : List NumberedLine). AreExpanded lists rows a.lines) kept x.written in
+      let lines : a.lines ≡ b.lines = expanded-same written y.written in
+      let here : AreFound 0 b.lines a.all_found =
+      subst (λ (rows : List NumberedLine). AreFound 0 rows a.all_found) lines x.are_found in
+      let all : a.all_found ≡ b.all_found = one.found 0 b.lines a.all_found b.all_found here y.are_found in
+      ap (λ (name : List ℕ). found_with name a.kept a.lines a.all_found) (x.name ∙ sym y.name)
+      ∙ ap (λ (rows : List NumberedLine). found_with b.name rows a.lines a.all_found) kept
+      ∙ ap (λ (rows : List NumberedLine). found_with b.name b.kept rows a.all_found) lines
+      ∙ ap (λ (its : List RuleSearch). found_with b.name b.kept b.lines its) all
+
+  find-same : {lists : Option ListForm} {texts : List NamedText} {a b : List TextFound} → FindTexts lists texts a
+      → FindTexts lists texts b → a ≡ b
+  find-same no_texts no_texts = refl
+  find-same (next_text {there} {others} x h) (next_text {there = other} {others = more} y k) =
+      ap (λ (t : TextFound). t ∷ others) (finds-same there other x y)
+      ∙ ap (λ (ts : List TextFound). other ∷ ts) (find-same h k)
+
+  sketches-same : {rules : List RuleSeen} {a b : List SketchedRule} → AreSketches rules a → AreSketches rules b → a ≡ b
+  sketches-same no_sketches no_sketches = refl
+  sketches-same (next_sketch {sketch} {sketches} x h) (next_sketch {sketch = other} {sketches = others} y k) =
+      ap (λ (s : SketchedRule). s ∷ sketches) (sketch-same one.tokens x y)
+      ∙ ap (λ (ss : List SketchedRule). other ∷ ss) (sketches-same h k)
+
+  given-same : {asks : Bool} {texts : List TextFound} {sketches : List SketchedRule} {marks : List Bool}
+      {a b : RulesGathered} → GiveFound asks texts sketches marks a → GiveFound asks texts sketches marks b → a ≡ b
+  given-same none_there none_there = refl
+  given-same {asks} (next_there {there} x h) (next_there y k) =
+      both-same _ _ _ _ (groups-same asks there.name x y) (given-same h k)
 
   pub texts-same : {lists : Option ListForm} {texts : List NamedText} {a b : RulesGathered} → GiveTexts lists texts a
       → GiveTexts lists texts b → a ≡ b
-  texts-same no_texts no_texts = refl
-  texts-same (next_text x h) (next_text y k) = both-same _ _ _ _ (text-same _ _ _ _ x y) (texts-same h k)
+  texts-same {lists} {a = a} x y =
+      let there : x.there ≡ y.there = find-same x.finds y.finds in
+      let seen : AreSketches (rules_seen y.there) x.sketches =
+      subst (λ (ts : List TextFound). AreSketches (rules_seen ts) x.sketches) there x.are_sketches in
+      let sketches : x.sketches ≡ y.sketches = sketches-same seen y.are_sketches in
+      let values : AreValueMarks y.sketches x.marks =
+      subst (λ (ss : List SketchedRule). AreValueMarks ss x.marks) sketches x.are_values in
+      let marks : x.marks ≡ y.marks = marks-same y.sketches x.marks y.marks values y.are_values in
+      let asks = asks_lists lists in
+      let first : GiveFound asks y.there x.sketches x.marks a =
+      subst (λ (ts : List TextFound). GiveFound asks ts x.sketches x.marks a) there x.gives in
+      let second : GiveFound asks y.there y.sketches x.marks a =
+      subst (λ (ss : List SketchedRule). GiveFound asks y.there ss x.marks a) sketches first in
+      given-same (subst (λ (ms : List Bool). GiveFound asks y.there y.sketches ms a) marks second) y.gives
 
   rule-uses : (position : RuleLines) (a b : List UsedName) → AreRuleUses position a → AreRuleUses position b → a ≡ b
   rule-uses position a b x y =

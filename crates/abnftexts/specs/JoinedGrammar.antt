@@ -2,13 +2,13 @@
 use Prim.Native.Char.{code}
 use Rattle.std.specs.Prelude.{◌≡◌, ℕ, ◌+◌, ◌==◌, ◌&&◌, ◌||◌, bytes_eq, nat_lt, Bool, true, false, List, [], ◌∷◌}
 use Rattle.std.specs.Prelude.{◌++◌, length, map, replicate, Option, None, Some, codes, slice_get, if◌then◌else◌}
-use Rattle.std.specs.List.{enumerate_from, filter_map, flat_map, zip}
+use Rattle.std.specs.List.{filter_map, flat_map, list_any, zip}
 use Rattle.abnftexts.specs.GivenRules.{RuleGiven, fates_of}
 use Rattle.abnftexts.specs.JoinedRules.{clashes_of, joined_order}
 use Rattle.abnftexts.specs.declared.join.fate.Fate.{Fate}
 use Rattle.abnftexts.specs.declared.join.fate.Fate.TheVariants.{Stands, Again, Yields}
 use Rattle.abnftexts.specs.declared.join.order.Clash.{Clash}
-use Rattle.abnftexts.specs.RulesGathered.{NamedText, ReportedRule, RuleLines, RulesGathered}
+use Rattle.abnftexts.specs.RulesGathered.{ListEntry, NamedText, OfRule, OfValue, ReportedRule, RuleLines, RulesGathered}
 use Rattle.rfcforms.specs.declared.lists.written.ListForm.{ListForm}
 use Rattle.abnftexts.specs.NamedRules.{AreRenamed}
 use Rattle.abnftexts.specs.TextRules.{GiveTexts}
@@ -92,17 +92,29 @@ abbrev pub rule_listed : List RuleLines → List RuleGiven → ℕ → Fate → 
 rule_listed positions rules n fate = numbered_position positions n ++ (codes ": '" ++ (numbered_name rules n
     ++ (codes "' " ++ (fate_reported positions fate ++ codes "\n"))))
 
--- the lines of the rules, where these are their fates
-abbrev pub rules_listed : List RuleLines → List RuleGiven → List Fate → List ℕ
-rules_listed positions rules fates = flat_map (λ p. rule_listed positions rules p.0 p.1) (enumerate_from 0 fates)
+-- The lines of the list, where these are the fates of the rules from that number on: each entry of a rule stands for
+-- the next one.
+abbrev pub listed_from : List RuleLines → List RuleGiven → ℕ → List Fate → List ListEntry → List ℕ
+listed_from positions rules n fates [] = []
+listed_from positions rules n fates (OfValue line ∷ list) = line ++ listed_from positions rules n fates list
+listed_from positions rules n [] (OfRule ∷ list) = []
+listed_from positions rules n (fate ∷ fates) (OfRule ∷ list) =
+    rule_listed positions rules n fate ++ listed_from positions rules (n + 1) fates list
+
+abbrev pub rules_listed : List RuleLines → List RuleGiven → List Fate → List ListEntry → List ℕ
+rules_listed positions rules fates list = listed_from positions rules 0 fates list
 
 -- the report where there is no rule
 abbrev pub none_reported : List RuleGiven → List ℕ
 none_reported [] = codes "no rules found\n"
 none_reported (rule ∷ rules) = []
 
--- the grammar, the reports of rules that are no ABNF, the other reports, a line for each rule that is given, and
--- whether a rule is no ABNF or a name has two definitions
+-- the report is that of a rule that is no ABNF
+abbrev pub has_lines : ReportedRule → Bool
+has_lines report = elim report.lines [ None ↦ false | Some lines ↦ true ]
+
+-- the grammar, the reports of rules that are no ABNF and of lines that assign values, the other reports, a line for each
+-- rule that is given or assigns a value, and whether a rule is no ABNF or a name has two definitions
 pub record GrammarJoined : Type 0 where
   pub grammar : List ℕ
   pub reports : List ReportedRule
@@ -119,7 +131,7 @@ joined_of positions rules uses reports listed = record {
   reported = flat_map (clash_reported positions rules) (clashes_of rules) ++ undefined_reported rules uses
       ++ none_reported rules;
   listed = listed;
-  is_faulty = nat_lt 0 (length reports) || nat_lt 0 (length (clashes_of rules));
+  is_faulty = list_any has_lines reports || nat_lt 0 (length (clashes_of rules));
 }
 
 -- the rules that stand of what was gathered
@@ -137,7 +149,7 @@ UsesPrinted positions rules uses = AreNameUses (ordered_rules positions (joined_
 -- of what was gathered: the rules are joined that stand
 abbrev pub gathered_joined : RulesGathered → List UsedName → GrammarJoined
 gathered_joined g uses = joined_of (standing_positions g) (standing_rules g) uses g.reported
-    (rules_listed g.positions g.rules (fates_of g.rules))
+    (rules_listed g.positions g.rules (fates_of g.rules) g.list)
 
 -- that of all texts: what they give, with lists in that form, where names lose angle brackets
 pub record AreTextsJoined (lists : Option ListForm) (texts : List NamedText) (joined : GrammarJoined) : Type 0 where

@@ -8,6 +8,7 @@ pub mod RulesGathered
 pub mod SpelledRules
 pub mod TakenRules
 pub mod TextPositions
+pub mod ValueRuns
 pub mod TextRules
 pub mod UsedNames
 pub mod WrittenLists

@@ -122,3 +122,4 @@ pub record AreRenamed (given named : RulesGathered) : Type 0 where
   pub positions : ArePositionsNamed (is_known_name given.rules) given.rules given.positions named.positions
   pub rules : AreRulesNamed named.positions given.rules named.rules
   pub reported : named.reported ≡ given.reported
+  pub list : named.list ≡ given.list

@@ -1,5 +1,5 @@
 -- The reports of rules that are no ABNF, with what explains each.
-use Rattle.std.specs.Prelude.{◌≡◌, ◌≢◌, ℕ, Bool, true, false, List, [], ◌∷◌, ◌++◌}
+use Rattle.std.specs.Prelude.{◌≡◌, ◌≢◌, ℕ, Bool, true, false, Option, None, Some, List, [], ◌∷◌, ◌++◌}
 use Rattle.ruletable.specs.declared.fault.ReadFault.{ReadFault}
 use Rattle.ruletable.specs.declared.fault.ReadFault.TheVariants as faults
 use Rattle.abnfread.specs.AbnfReading.{Reads, IsFaultOf}
@@ -13,10 +13,11 @@ pub data ExplainsText (text : List ℕ) : List ℕ → Type 0 where
       → Explains text fault why → ExplainsText text why
   it_reads : {definitions : List Definition} → Reads text definitions → ExplainsText text []
 
--- where that is asked for
-abbrev pub ExplainsIfAsked : Bool → List ℕ → List ℕ → Type 0
-ExplainsIfAsked true text why = ExplainsText text why
-ExplainsIfAsked false text why = why ≡ []
+-- where that is asked for, and the report has lines
+abbrev pub ExplainsIfAsked : Bool → Option (List ℕ) → List ℕ → Type 0
+ExplainsIfAsked true (Some text) why = ExplainsText text why
+ExplainsIfAsked true None why = why ≡ []
+ExplainsIfAsked false lines why = why ≡ []
 
 -- The messages of reports, each followed by what explains the lines of its rule, where that is asked for.
 pub data AreReports (explains : Bool) : List ReportedRule → List ℕ → Type 0 where

@@ -1,5 +1,5 @@
 -- What stands after what was gathered so far. It serves private helpers alone.
-use Rattle.std.specs.Prelude.{◌≡◌, ℕ, Bool, true, false, Option, None, Some, List, [], ◌∷◌, ◌++◌, map, take}
+use Rattle.std.specs.Prelude.{◌≡◌, ◌≤◌, ℕ, ◌+◌, drop, length, Bool, true, false, Option, None, Some, List, [], ◌∷◌, ◌++◌, map, take}
 use Rattle.abnfread.specs.AbnfReading.{Reads}
 use Rattle.abnfread.specs.Element.{Definition}
 use Rattle.abnfblocks.specs.MaskedLines.{AreRead, ReadsLines}
@@ -15,9 +15,12 @@ use Rattle.ruletable.specs.declared.fault.ReadFault.{ReadFault}
 use Rattle.abnftexts.specs.ShownTexts.{IsShown}
 use Rattle.abnftexts.specs.declared.gathered.ShownText.{ShownText}
 use Rattle.abnftexts.specs.declared.gathered.WrittenText.{WrittenText}
+use Rattle.abnftexts.specs.declared.gathered.FoundText.{FoundText}
 use Rattle.rfcforms.specs.declared.lists.written.ListForm.{ListForm}
-use Rattle.abnftexts.specs.TextRules.{GivesFound, IsRuleReported, SpellRule, asks_lists, given_by, position_in}
-use Rattle.abnftexts.specs.TextRules.{report_with}
+use Rattle.abnftexts.specs.TextRules.{AreSketches, FindsText, GivesFound, GivesGroups, IsRuleReported, SpellRule}
+use Rattle.abnftexts.specs.TextRules.{TextFound, asks_lists, given_by, position_in, report_with}
+use Rattle.abnftexts.specs.ValueRuns.{found_rules, groups_of, seen_at}
+use Rattle.rfcvalues.specs.RuleSketches.{SketchedRule}
 
 -- a text: its name, its lines, the same with lists written out, and whether lists are looked for
 pub record TextRows : Type 0 where
@@ -55,11 +58,48 @@ TakesRule name sources rest count old new = (d : Definition)
     → Reads (lines_text (margin_at (take count rest)) (take count rest)) (d ∷ [])
     → new ≡ both_given old (one_rule (position_in name sources rest count) (given_by d))
 
--- where the lines are read of a text, others are written for them, and that is found, what these give stands there
+-- where the lines are read of a text, others are written for them, and that is found after and before other things,
+-- what these give stands there
 abbrev pub TakesFound : TextRows → List RuleSearch → RulesGathered → RulesGathered → Type 0
 TakesFound rows found old new =
-    (text : List ℕ) (lists : Option ListForm) → AreRead text rows.kept → AreExpanded lists rows.kept rows.lines
-    → AreFound 0 rows.lines found → TakesMore (GivesFound rows.asks rows.name rows.kept rows.lines found) old new
+    (text : List ℕ) (lists : Option ListForm) (front back : List RuleSearch) → AreRead text rows.kept
+    → AreExpanded lists rows.kept rows.lines → AreFound 0 rows.lines (front ++ (found ++ back))
+    → TakesMore (GivesFound rows.asks rows.name rows.kept rows.lines found) old new
+
+-- the same for all that is found, with its sketches, and marks of values
+abbrev pub TakesGroups : TextRows → List RuleSearch → List SketchedRule → List Bool → RulesGathered → RulesGathered
+    → Type 0
+TakesGroups rows found sketches marks old new =
+    (text : List ℕ) (lists : Option ListForm) → AreRead text rows.kept
+    → AreExpanded lists rows.kept rows.lines → AreFound 0 rows.lines found
+    → length found ≤ length sketches → length found ≤ length marks
+    → TakesMore (GivesGroups rows.asks rows.name rows.kept rows.lines
+    (groups_of rows.lines (found_rules found sketches marks))) old new
+
+-- of what is found, so many from that one on are the first group of those that it begins
+abbrev pub BeginsGroup : TextRows → List RuleSearch → List SketchedRule → List Bool → ℕ → ℕ → Type 0
+BeginsGroup rows found sketches marks first size =
+    let rules = found_rules found sketches marks in groups_of rows.lines (drop first rules)
+    ≡ take size (drop first rules) ∷ groups_of rows.lines (drop (first + size) rules)
+
+-- the sketches of what is found follow others
+abbrev pub AddSketches : TextRows → List RuleSearch → List SketchedRule → List SketchedRule → Type 0
+AddSketches rows found old new = (more : List SketchedRule) × AreSketches (map (seen_at rows.kept rows.lines) found) more
+    × (new ≡ old ++ more)
+
+-- a text that is shown, its lines, and what is found among them
+abbrev pub text_found : FoundText → TextFound
+text_found text = record {
+  name = text.rows.name.now;
+  kept = map numbered text.rows.kept.items;
+  lines = map numbered text.rows.lines.items;
+  all_found = text.found.items;
+}
+
+-- what is found in a text that is shown
+abbrev pub FindsShown : ShownText → FoundText → Type 0
+FindsShown shown text = (lists : Option ListForm) (named : NamedText) → IsShown lists named shown
+    → FindsText lists named (text_found text) × (text.rows.asks ≡ asks_lists lists)
 
 -- the report of a rule that is no ABNF follows
 abbrev pub AddsReport : Bool → List ℕ → List NumberedLine → ReadFault → List ReportedRule → List ReportedRule → Type 0

@@ -1,6 +1,7 @@
 -- Which rules texts give, each with its own lines; and the reports of lines that begin a rule and are no ABNF.
 use Rattle.std.specs.Prelude.{◌≡◌, ℕ, ◌&&◌, not, Bool, true, false, Option, None, Some, List, [], ◌∷◌}
-use Rattle.std.specs.Prelude.{take, drop}
+use Rattle.std.specs.Prelude.{take, drop, length, map}
+use Rattle.std.specs.List.{flat_map}
 use Rattle.ruletable.specs.declared.fault.ReadFault.{ReadFault}
 use Rattle.abnfread.specs.AbnfReading.{Reads}
 use Rattle.abnfread.specs.AbnfTable.{first_body}
@@ -18,6 +19,9 @@ use Rattle.abnftexts.specs.RulesGathered.{NamedText, RuleLines, RulesGathered, b
 use Rattle.abnftexts.specs.RulesGathered.{ReportedRule, reported_alone}
 use Rattle.abnftexts.specs.TextPositions.{list_reported, not_abnf_reported}
 use Rattle.abnftexts.specs.WrittenLists.{AreExpanded, IsFirstList}
+use Rattle.abnftexts.specs.ValueRuns.{FoundRule, assigns_values, found_rules, groups_of, run_given, seen_at}
+use Rattle.rfcvalues.specs.AssignedValues.{AreValueMarks}
+use Rattle.rfcvalues.specs.RuleSketches.{IsSketch, RuleSeen, SketchedRule}
 use Rattle.rfcforms.specs.declared.lists.written.ListForm.{ListForm}
 
 -- The rule that a definition is, wherever its name stands: what adds to a core rule (RFC 5234, appendix B.1) has that
@@ -59,7 +63,7 @@ pub data IsRuleReported (asks : Bool) (name : List ℕ) (lines : List NumberedLi
 
 -- the report of a rule that has these lines, with that message
 abbrev pub report_with : List ℕ → List NumberedLine → ReportedRule
-report_with message lines = record { message = message; lines = lines_text 0 lines }
+report_with message lines = record { message = message; lines = Some (lines_text 0 lines) }
 
 -- What is found gives that, where the first lines are those that are read of a text, and these are as they are written:
 -- each rule what its lines alone spell, and each line that begins no ABNF a report.
@@ -83,18 +87,64 @@ abbrev pub asks_lists : Option ListForm → Bool
 asks_lists None = true
 asks_lists (Some form) = false
 
--- what a text gives, with its lists written out in that form, if there is one
-pub record GivesText (lists : Option ListForm) (text : NamedText) (given : RulesGathered) : Type 0 where
-  pub kept : List NumberedLine
-  pub keeps : AreRead (after_mark text.bytes) kept
-  pub lines : List NumberedLine
-  pub written : AreExpanded lists kept lines
-  pub all_found : List RuleSearch
-  pub are_found : AreFound 0 lines all_found
-  pub gives : GivesFound (asks_lists lists) text.name kept lines all_found given
+-- What the runs of values and the other rules of a text give: a run that is no ABNF its report, and else each rule what
+-- it gives alone.
+pub data GivesGroups (asks : Bool) (name : List ℕ) (kept lines : List NumberedLine)
+    : List (List FoundRule) → RulesGathered → Type 0 where
+  no_groups : GivesGroups asks name kept lines [] none_given
+  a_run : {group : List FoundRule} {groups : List (List FoundRule)} {after : RulesGathered}
+      → assigns_values group ≡ true → GivesGroups asks name kept lines groups after
+      → GivesGroups asks name kept lines (group ∷ groups) (both_given (run_given name lines group) after)
+  each_alone : {group : List FoundRule} {groups : List (List FoundRule)} {here after : RulesGathered}
+      → assigns_values group ≡ false → GivesFound asks name kept lines (map (λ rule. rule.it) group) here
+      → GivesGroups asks name kept lines groups after
+      → GivesGroups asks name kept lines (group ∷ groups) (both_given here after)
 
--- what texts give, one after another
-pub data GiveTexts (lists : Option ListForm) : List NamedText → RulesGathered → Type 0 where
-  no_texts : GiveTexts lists [] none_given
-  next_text : {text : NamedText} {texts : List NamedText} {here after : RulesGathered} → GivesText lists text here
-      → GiveTexts lists texts after → GiveTexts lists (text ∷ texts) (both_given here after)
+-- a text: its name, its lines, the same with lists written out, and what is found among these
+pub record TextFound : Type 0 where
+  pub name : List ℕ
+  pub kept : List NumberedLine
+  pub lines : List NumberedLine
+  pub all_found : List RuleSearch
+
+-- what is found in a text, with its lists written out in that form, if there is one
+pub record FindsText (lists : Option ListForm) (text : NamedText) (there : TextFound) : Type 0 where
+  pub name : there.name ≡ text.name
+  pub keeps : AreRead (after_mark text.bytes) there.kept
+  pub written : AreExpanded lists there.kept there.lines
+  pub are_found : AreFound 0 there.lines there.all_found
+
+pub data FindTexts (lists : Option ListForm) : List NamedText → List TextFound → Type 0 where
+  no_texts : FindTexts lists [] []
+  next_text : {text : NamedText} {texts : List NamedText} {there : TextFound} {others : List TextFound}
+      → FindsText lists text there → FindTexts lists texts others → FindTexts lists (text ∷ texts) (there ∷ others)
+
+-- the rules of texts as they are found
+abbrev pub rules_seen : List TextFound → List RuleSeen
+rules_seen texts = flat_map (λ there. map (seen_at there.kept there.lines) there.all_found) texts
+
+-- the sketches of rules
+pub data AreSketches : List RuleSeen → List SketchedRule → Type 0 where
+  no_sketches : AreSketches [] []
+  next_sketch : {rule : RuleSeen} {rules : List RuleSeen} {sketch : SketchedRule} {sketches : List SketchedRule}
+      → IsSketch rule sketch → AreSketches rules sketches → AreSketches (rule ∷ rules) (sketch ∷ sketches)
+
+-- what texts give one after another, where their rules have these sketches, of which values are marked
+pub data GiveFound (asks : Bool) : List TextFound → List SketchedRule → List Bool → RulesGathered → Type 0 where
+  none_there : {sketches : List SketchedRule} {marks : List Bool} → GiveFound asks [] sketches marks none_given
+  next_there : {there : TextFound} {texts : List TextFound} {sketches : List SketchedRule} {marks : List Bool}
+      {here after : RulesGathered}
+      → GivesGroups asks there.name there.kept there.lines
+      (groups_of there.lines (found_rules there.all_found sketches marks)) here
+      → GiveFound asks texts (drop (length there.all_found) sketches) (drop (length there.all_found) marks) after
+      → GiveFound asks (there ∷ texts) sketches marks (both_given here after)
+
+-- what texts give: the rules of all of them say which of them assign values
+pub record GiveTexts (lists : Option ListForm) (texts : List NamedText) (given : RulesGathered) : Type 0 where
+  pub there : List TextFound
+  pub finds : FindTexts lists texts there
+  pub sketches : List SketchedRule
+  pub are_sketches : AreSketches (rules_seen there) sketches
+  pub marks : List Bool
+  pub are_values : AreValueMarks sketches marks
+  pub gives : GiveFound (asks_lists lists) there sketches marks given

@@ -1,7 +1,7 @@
 //! The rules and reports that texts give.
 
 use crate::join::GivenRule;
-use abnfblocks::TextLine;
+use abnfblocks::{RuleSearch, TextLine};
 
 /// A text with its name.
 #[derive(Clone, Copy)]
@@ -57,13 +57,31 @@ pub(crate) struct RulePosition<'a> {
     pub(crate) text: Vec<u8>,
 }
 
-/// The report of a rule that is no ABNF.
+/// The report of a rule that is no ABNF, or of lines that assign values.
 #[derive(Drop)]
 pub struct RuleReport {
     /// The line that reports it, with LF.
     pub message: Vec<u8>,
-    /// The lines of the rule as they stand, each with LF.
-    pub lines: Vec<u8>,
+    /// The lines of the rule as they stand, each with LF; none for lines that assign values.
+    pub lines: Option<Vec<u8>>,
+}
+
+/// A line of the list.
+#[derive(Drop)]
+pub(crate) enum ListLine {
+    /// That of the next rule.
+    Rule,
+    /// That of a rule that assigns a value.
+    Value(Vec<u8>),
+}
+
+/// A text with its lines, and what is found among them.
+#[derive(Drop)]
+pub(crate) struct FoundText<'a> {
+    /// The text with its lines.
+    pub(crate) rows: WrittenText<'a>,
+    /// What is found among the lines.
+    pub(crate) found: Vec<RuleSearch>,
 }
 
 /// The rules of texts, in order.
@@ -75,4 +93,6 @@ pub(crate) struct Gathered<'a> {
     pub(crate) rules: Vec<GivenRule>,
     /// The reports of rules that are no ABNF.
     pub(crate) reported: Vec<RuleReport>,
+    /// What the lines of the list say, in order.
+    pub(crate) list: Vec<ListLine>,
 }

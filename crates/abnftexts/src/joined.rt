@@ -56,7 +56,7 @@ fn join_standing(
     ensures { IfOk result (λ joined. IsStandingJoined (map lines_placed positions.now) (map text_rule rules.now)
         (map reported_rule reports.items) listed.items (grammar_joined joined)) }
 {
-    let is_abnf = reports.is_empty();
+    let is_abnf = reports.iter().all(|report| report.lines.is_none());
     let mut reported = Vec::new(alloc);
     let order = find_order(alloc, rules)?;
     let grammar = printed_text(alloc, positions, &order)?;
@@ -82,9 +82,10 @@ fn join_gathered(alloc: Global, gathered: Gathered<'_>) -> Result<JoinedTexts, M
         positions,
         rules,
         reported,
+        list,
     } = gathered;
     let fates = find_fates(alloc, &rules)?;
-    let listed = listed_text(alloc, &positions, &rules, &fates)?;
+    let listed = listed_text(alloc, &positions, &rules, &fates, &list)?;
     let standing_positions = kept_standing(alloc, &fates, positions)?;
     let standing_rules = kept_standing(alloc, &fates, rules)?;
     join_standing(

@@ -17,6 +17,7 @@ mod stands;
 mod taken;
 mod undefined;
 mod uses;
+mod values;
 
 pub use gathered::{RuleReport, SourceText};
 pub use join::{

@@ -2,9 +2,9 @@
 ghost use Rattle.std.specs.Prelude.{◌≡◌, ◌++◌, map, IfOk, OnOk};
 ghost use Rattle.abnftexts.specs.GivenRules.{text_rule};
 ghost use Rattle.abnftexts.specs.JoinedGrammar.{fate_reported, rule_listed, rules_listed};
-ghost use Rattle.abnftexts.specs.RulesGathered.{lines_placed};
+ghost use Rattle.abnftexts.specs.RulesGathered.{entry_listed, lines_placed};
 
-use crate::gathered::RulePosition;
+use crate::gathered::{ListLine, RulePosition};
 use crate::join::{Fate, GivenRule};
 use crate::printed::{push_rule_name, push_rule_position};
 use ruletable::Memory;
@@ -47,7 +47,7 @@ fn push_listed(
     Ok(())
 }
 
-/// Returns a line for each rule, where these are their fates.
+/// Returns the lines of the list, where these are the fates of the rules.
 ///
 /// # Errors
 /// `Memory` if an allocation fails.
@@ -56,13 +56,24 @@ pub(crate) fn listed_text(
     positions: &[RulePosition<'_>],
     rules: &[GivenRule],
     fates: &[Fate],
+    list: &[ListLine],
 ) -> Result<Vec<u8>, Memory>
-    ensures { IfOk result (λ text. text.items
-        ≡ rules_listed (map lines_placed positions.now) (map text_rule rules.now) fates.now) }
+    ensures { IfOk result (λ text. text.items ≡ rules_listed (map lines_placed positions.now)
+        (map text_rule rules.now) fates.now (map entry_listed list.now)) }
 {
     let mut out = Vec::new(alloc);
-    for number in 0..fates.len() {
-        push_listed(&mut out, positions, rules, number, fates[number])?;
+    let mut number = 0;
+    for line in list {
+        match line {
+            ListLine::Rule => {
+                let Some(fate) = fates.get(number) else {
+                    break;
+                };
+                push_listed(&mut out, positions, rules, number, *fate)?;
+                number += 1;
+            }
+            ListLine::Value(text) => out.extend_from_slice(text)?,
+        }
     }
     Ok(out)
 }

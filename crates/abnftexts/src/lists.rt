@@ -50,8 +50,8 @@ pub(crate) fn written_lines<'a>(
     Ok(written)
 }
 
-// The number of the first line that is written otherwise, from 1.
-fn first_changed(lines: &[TextLine<'_>], written: &[TextLine<'_>]) -> usize
+/// Returns the number of the first line that is written otherwise, from 1.
+pub(crate) fn first_changed(lines: &[TextLine<'_>], written: &[TextLine<'_>]) -> usize
     ensures { result ≡ suc (lines_alike (map numbered lines.now) (map numbered written.now)) }
 {
     let size = lines.len().min(written.len());

@@ -142,6 +142,7 @@ pub(crate) fn name_rules<'a>(alloc: Global, gathered: Gathered<'a>) -> Result<Ga
         positions,
         rules,
         reported,
+        list,
     } = gathered;
     let core = core_rules(alloc)?;
     let names = numbers_by_name(alloc, Listed::Rules, &rules)?;
@@ -151,5 +152,6 @@ pub(crate) fn name_rules<'a>(alloc: Global, gathered: Gathered<'a>) -> Result<Ga
         positions,
         rules,
         reported,
+        list,
     })
 }

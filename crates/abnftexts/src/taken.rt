@@ -5,19 +5,25 @@ ghost use Rattle.abnftexts.specs.GivenRules.{text_rule};
 ghost use Rattle.abnfblocks.specs.TextLines.{numbered};
 ghost use Rattle.abnftexts.specs.RulesGathered.{NamedText, both_given, lines_placed, one_rule, reported_rule};
 ghost use Rattle.abnftexts.specs.RulesGathered.{rules_gathered};
-ghost use Rattle.abnftexts.specs.ShownTexts.{AreShown, IsShown};
-ghost use Rattle.abnftexts.specs.TakenRules.{AddsReport, AreTextRows, TakesFound, TakesMore, TakesRule, text_rows};
-ghost use Rattle.abnftexts.specs.TextRules.{GivesText, GiveTexts, IsRuleReported, position_in};
+ghost use Rattle.abnftexts.specs.ShownTexts.{AreShown};
+ghost use Rattle.rfcvalues.specs.RuleSketches.{rule_sketched};
+ghost use Rattle.abnftexts.specs.TakenRules.{AddsReport, AreTextRows, FindsShown, TakesFound, TakesGroups, TakesRule};
+ghost use Rattle.abnftexts.specs.TakenRules.{text_rows};
+ghost use Rattle.abnftexts.specs.TextRules.{GiveTexts, IsRuleReported, position_in};
 
-use crate::gathered::{Gathered, RulePosition, RuleReport, ShownText, WrittenText};
+use crate::gathered::{
+    FoundText, Gathered, ListLine, RulePosition, RuleReport, ShownText, WrittenText,
+};
 use crate::join::GivenRule;
 use crate::lists::{first_list, written_lines};
 use crate::own::read_rule;
 use crate::reported::{fault_message, list_message};
+use crate::values::{group_size, push_sketches, take_run};
 use abnfblocks::{
     RuleSearch, TextLine, blank_count, find_rules, joined_text, margin, one_masking, read_lines,
 };
 use rfcforms::{ListForm, items_after, items_before};
+use rfcvalues::{RuleSketch, are_values, is_no_abnf};
 use ruletable::{Memory, ReadFault};
 use std::alloc::Global;
 
@@ -32,6 +38,7 @@ fn push_rule<'a>(
 {
     gathered.positions.push(position)?;
     gathered.rules.push(rule)?;
+    gathered.list.push(ListLine::Rule)?;
     Ok(())
 }
 
@@ -126,13 +133,13 @@ fn push_no_rule(
     let own = joined_text(alloc, 0, lines)?;
     reported.push(RuleReport {
         message,
-        lines: own,
+        lines: Some(own),
     })?;
     Ok(())
 }
 
 // Takes what is found there among the lines of a text.
-fn take_found<'a>(
+fn take_each<'a>(
     alloc: Global,
     gathered: &mut Gathered<'a>,
     text: &WrittenText<'a>,
@@ -158,6 +165,32 @@ fn take_found<'a>(
                 push_no_rule(alloc, reported, text.asks, text.name, lines, fault)?;
             }
         }
+    }
+    Ok(())
+}
+
+// Takes what is found in a text, where its sketches and the marks of its values are these.
+fn take_found<'a>(
+    alloc: Global,
+    gathered: &mut Gathered<'a>,
+    text: &FoundText<'a>,
+    sketches: &[RuleSketch],
+    values: &[bool],
+) -> Result<(), Memory>
+    ensures { OnOk result (TakesGroups (text_rows text.now.rows) text.now.found.items
+        (map rule_sketched sketches.now) values.now (rules_gathered gathered.old) (rules_gathered gathered.new)) }
+{
+    let mut at = 0;
+    while at < text.found.len() {
+        let size = group_size(text, values, at);
+        let group = items_before(items_after(&text.found, at), size);
+        let own = items_before(items_after(sketches, at), size);
+        if is_no_abnf(alloc, own)? {
+            take_run(alloc, gathered, &text.rows, group, own)?;
+        } else {
+            take_each(alloc, gathered, &text.rows, group)?;
+        }
+        at += size;
     }
     Ok(())
 }
@@ -193,19 +226,14 @@ fn with_lines<'a>(
     }
 }
 
-// Takes a text.
-fn take_text<'a>(
-    alloc: Global,
-    gathered: &mut Gathered<'a>,
-    text: &'a ShownText<'_>,
-) -> Result<(), Memory>
-    ensures { OnOk result ((lists : Option ListForm) (named : NamedText) → IsShown lists named text.now
-        → TakesMore (GivesText lists named) (rules_gathered gathered.old) (rules_gathered gathered.new)) }
+// Finds the rules of a text.
+fn found_text<'a>(alloc: Global, text: &'a ShownText<'_>) -> Result<FoundText<'a>, Memory>
+    ensures { IfOk result (λ found. FindsShown text.now found) }
 {
     let kept = read_lines(alloc, &text.bytes, text.of_xml)?;
     let rows = with_lines(alloc, text, kept)?;
     let found = find_rules(alloc, &rows.lines)?;
-    take_found(alloc, gathered, &rows, &found)
+    Ok(FoundText { rows, found })
 }
 
 /// Takes the rules of texts, one text after another.
@@ -223,9 +251,21 @@ pub(crate) fn take_texts<'a>(
         positions: Vec::new(alloc),
         rules: Vec::new(alloc),
         reported: Vec::new(alloc),
+        list: Vec::new(alloc),
     };
+    let mut all = Vec::new(alloc);
+    let mut sketches = Vec::new(alloc);
     for text in texts {
-        take_text(alloc, &mut gathered, text)?;
+        let found = found_text(alloc, text)?;
+        push_sketches(alloc, &mut sketches, &found)?;
+        all.push(found)?;
+    }
+    let values = are_values(alloc, &sketches)?;
+    let mut first = 0;
+    for text in &all {
+        let own = items_after(&sketches, first);
+        take_found(alloc, &mut gathered, text, own, items_after(&values, first))?;
+        first += text.found.len();
     }
     Ok(gathered)
 }

@@ -42,9 +42,11 @@ fn push_report(
     ensures { OnOk result ((why : List ℕ) × ExplainsIfAsked explains (reported_rule report.now).lines why
         × (out.new.items ≡ out.old.items ++ ((reported_rule report.now).message ++ why))) }
 {
-    let why = explained_if(alloc, explains, &report.lines)?;
     out.extend_from_slice(&report.message)?;
-    out.extend_from_slice(&why)?;
+    if let Some(lines) = &report.lines {
+        let why = explained_if(alloc, explains, lines)?;
+        out.extend_from_slice(&why)?;
+    }
     Ok(())
 }
 

@@ -17,4 +17,5 @@ returns c =
           (names-known given.rules.items c.in_ok-names.names listed) positions;
       rules = rules;
       reported = refl;
+      list = refl;
     }
