@@ -1,5 +1,5 @@
--- No more evaluations are begun than there are nodes at positions.
--- Serves: Packrat::match_unit
+-- No more evaluations are begun than there are cells of all visited ones, nor than nodes at positions.
+-- Serves: steps_hold, Packrat::match_unit
 use Rattle.std.proofs.Common.{◌≡◌, inl, inr, ℕ, ◌+◌, ◌*◌, ◌≤◌, Bool, true, false, if◌then◌else◌, List, [], ◌∷◌}
 use Rattle.std.proofs.Common.{length, Some, None, Option, refl, sym, subst, arith}
 use Rattle.std.specs.Prelude.{slice_get}
@@ -12,6 +12,7 @@ use Rattle.memo.specs.declared.found.Found.TheVariants.{Failed}
 use Rattle.memo.proofs.FoundAtLemmas.{is_of, is_own}
 use Rattle.pegmatch.proofs.AsksLemmas.{visited_there}
 use Rattle.pegmatch.proofs.CodeLemmas.{cells_at_most}
+use Rattle.pegmatch.specs.VisitedCells.{AreVisitedCells}
 use Rattle.pegnodes.specs.KeyMarks.{AreMarks}
 use Rattle.memo.specs.Parts.{IsIn, in_here, in_later, Distinct, distinct_none, distinct_more, Reach}
 use Rattle.memo.specs.Run.{total}
@@ -21,7 +22,8 @@ use Rattle.packrat.specs.MatchTasks.{Leads, Kids, is_key}
 use Rattle.packrat.specs.View.{weight, IsVisitedEval, AreVisitedEvals}
 use Rattle.packrat.proofs.EndsLemmas.{reached_ends}
 use Rattle.packrat.proofs.TaskReachLemmas.{reached_is_visited}
-use Rattle.packrat.specs.MachineSteps.{State, held, start_at}
+use Rattle.packrat.proofs.SameCellsLemmas.{no_more}
+use Rattle.packrat.specs.MachineSteps.{State, held, start_at, IsGood}
 use Rattle.packrat.specs.TaskSteps.{NextOf, TaskSteps}
 use Rattle.packrat.proofs.GoodLemmas.{in_front, not_in, steps_are_good}
 use Rattle.packrat.proofs.NextOfLemmas.{is_next, forest_of}
@@ -155,18 +157,38 @@ module _ (rules : List Rule) (start : ℕ) (nodes : List Shape) (bodies ranks x 
         subst (λ v. IsIn v begun) (sym h.is) h.there;
   }
 
-  -- no more are begun than nodes at positions
-  pub begun_at_positions : (s : State MatchTask) → TaskSteps rules nodes bodies x marks tails
-      (start_at MatchTask (Eval root 0)) s
-      → T (held MatchTask s).begun ≤ length nodes * (length x + 1)
-  begun_at_positions s steps =
-      let forest = forest_of rules start nodes bodies ranks x more sound root is_root marks tails are in
-      let next = is_next rules start nodes bodies ranks x more sound root is_root marks tails are in
-      let g = steps_are_good MatchTask (Leads rules nodes bodies x) (Eval root 0) (Kids rules nodes bodies x)
-      (NextOf rules nodes bodies x) (is_key marks tails) forest next
-      (λ a r. reached_ends rules start nodes bodies ranks x sound root is_root r) s steps in
-      let h = evals_begun (held MatchTask s).begun g.once g.reached in
-      let most = visited_few h.evals (length x) h.visited
-      (λ m q i. (visited_there rules start nodes bodies ranks x sound m q (h.visited.visited (Eval m q) i)).1) in
-      let same = h.count in
-      omega (arith, most, same)
+  module _ (s : State MatchTask)
+      (steps : TaskSteps rules nodes bodies x marks tails (start_at MatchTask (Eval root 0)) s) where
+    pub held_good : IsGood MatchTask (Leads rules nodes bodies x) (Eval root 0) (is_key marks tails) (held MatchTask s)
+    held_good = steps_are_good MatchTask (Leads rules nodes bodies x) (Eval root 0) (Kids rules nodes bodies x)
+        (NextOf rules nodes bodies x) (is_key marks tails)
+        (forest_of rules start nodes bodies ranks x more sound root is_root marks tails are)
+        (is_next rules start nodes bodies ranks x more sound root is_root marks tails are)
+        (λ a r. reached_ends rules start nodes bodies ranks x sound root is_root r) s steps
+
+    held_evals : HasEvals (held MatchTask s).begun
+    held_evals = evals_begun (held MatchTask s).begun held_good.once held_good.reached
+
+    -- no evaluation stands beyond the window
+    held_within : (n p : ℕ) → IsIn (Eval n p) held_evals.evals → p ≤ length x
+    held_within n p i =
+        (visited_there rules start nodes bodies ranks x sound n p (held_evals.visited.visited (Eval n p) i)).1
+
+    -- no more are begun than nodes at positions
+    pub begun_at_positions : T (held MatchTask s).begun ≤ length nodes * (length x + 1)
+    begun_at_positions =
+        let most = visited_few held_evals.evals (length x) held_evals.visited held_within in
+        let same = held_evals.count in
+        omega (arith, most, same)
+
+    -- no more are begun than cells of all visited ones
+    pub begun_in_cells : (cells : List Entry) → AreVisitedCells rules start nodes bodies x more cells
+        → T (held MatchTask s).begun ≤ length cells
+    begun_in_cells cells every =
+        let h = held_evals in
+        let most = no_more (cells_for h.evals) cells (length x) (for_different h.visited.once)
+        (λ n p c. held_within n p (for_among n p c.0 h.evals c.1))
+        (λ n p c. every.whole n p (h.visited.visited (Eval n p) (for_among n p c.0 h.evals c.1))) in
+        let one = for_length h.evals h.visited.visited in
+        let two = h.count in
+        omega (arith, most, one, two)

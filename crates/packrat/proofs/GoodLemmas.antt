@@ -1,5 +1,5 @@
 -- On its way the machine begins reached vertices, each once, of which none that is stored is on the stack.
--- Serves: Packrat::match_unit
+-- Serves: steps_hold, Packrat::match_unit
 use Rattle.std.proofs.Common.{◌≡◌, ◌⊎◌, inl, inr, Bool, true, false, List, []}
 use Rattle.std.proofs.Common.{◌∷◌, ◌++◌, refl, sym, subst}
 use Rattle.memo.specs.Parts.{IsIn, in_here, in_later, Distinct, distinct_none, distinct_more, Reach, reach_root}

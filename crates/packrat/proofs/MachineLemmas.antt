@@ -1,5 +1,5 @@
 -- Where the machine ends, it has made an evaluation.
--- Serves: Packrat::match_unit
+-- Serves: steps_run, Packrat::match_unit
 use Rattle.std.proofs.Common.{◌≡◌, ℕ, ◌+◌, Bool, true, false, List, [], ◌∷◌, ◌++◌, refl, sym, subst}
 use Rattle.std.proofs.Common.{arith}
 use Rattle.memo.specs.Parts.{IsIn}

@@ -1,11 +1,11 @@
 -- Steps over bytes that decide what is evaluated.
--- Serves: one_byte_decides, fresh_above_mark, Packrat::match_unit
+-- Serves: one_byte_decides, iterations_run, iterations_close, iterations_whole, fresh_above_mark, Packrat::match_unit
 use Rattle.std.proofs.Common.{◌≡◌, inl, inr, ℕ, zero, suc, ◌+◌, ◌<◌, ◌≤◌, Bool, true, false, List, [], ◌∷◌, ◌++◌}
 use Rattle.std.proofs.Common.{Some, refl, sym, subst, ap, arith}
 use Rattle.std.specs.Prelude.{slice_get}
 use Rattle.pegread.specs.Pattern.{Rule}
-use Rattle.pegnodes.specs.ByByte.{ByByte, by_shape, ByShape, by_no_iteration, AreIterations, iterations_none}
-use Rattle.pegnodes.specs.ByByte.{iterations_more}
+use Rattle.pegnodes.specs.ByByte.{ByByte, by_shape, ByShape, by_no_iteration, below, AreIterations}
+use Rattle.pegnodes.specs.ByByte.{iterations_none, iterations_more}
 use Rattle.pegnodes.specs.Nodes as node
 use Rattle.pegnodes.specs.Nodes.{Shape}
 use Rattle.gramcheck.specs.Sound.{IsRanked}
@@ -66,18 +66,18 @@ in_tasks task (s ∷ stored) i = elim (in_front i) [
 pub not_beyond : (stored : List Stored) (task : MatchTask)
     → ((s : Stored) → IsIn s stored → row_of s.task ≡ row_of task → position_of s.task < position_of task)
     → IsIn task (tasks_of stored) → ⊥
-not_beyond stored task below i =
+not_beyond stored task under i =
     let r = in_tasks task stored i in
-    let less = below r.0 r.1 (ap row_of r.2) in
+    let less = under r.0 r.1 (ap row_of r.2) in
     let position : position_of r.0.task ≡ position_of task = ap position_of r.2 in
     omega (arith, less, position)
 
 pub fresh_above : (key : Bool) (m a n mark : ℕ) (stored : List Stored)
     → ((s : Stored) → IsIn s stored → row_of s.task ≡ m → position_of s.task < mark) → mark ≤ a
     → AreFresh key m a n (tasks_of stored)
-fresh_above key m a n mark stored below le i lt is there =
+fresh_above key m a n mark stored under le i lt is there =
     let r = in_tasks (Eval m (a + i)) stored there in
-    let less = below r.0 r.1 (ap row_of r.2) in
+    let less = under r.0 r.1 (ap row_of r.2) in
     let position : position_of r.0.task ≡ a + i = ap position_of r.2 in
     omega (arith, less, position, le)
 
@@ -371,3 +371,35 @@ module _ (rules : List Rule) (start : ℕ) (nodes : List Shape) (bodies ranks x 
               }))) (sym (append_other last.front before.front begun))
               (both_steps (both_steps before.steps last.steps) end);
         }
+
+    -- the iterations, and then a byte that the repetition stays before
+    pub whole_comes : {a n c : ℕ} (b d : ℕ) → Turned a n c → slice_get x (a + n) ≡ Some b
+        → ByByte nodes bodies marks tails b s Stays d → (levels : List (Level MatchTask))
+        (stored begun : List MatchTask)
+        → AreFresh (marks s) s a (suc n) stored → AreFresh (marks k) k a n stored
+        → Comes (Asks (Eval s a) (record { levels = levels; stored = stored; begun = begun }))
+        (λ front. Works (record {
+          levels = levels;
+          stored = iterations_closed (marks s) s a (suc n) (operands_on (marks k) k a n stored);
+          begun = front ++ begun;
+        })) ((a + n) + 1) (c + d)
+    whole_comes {a = a} {n = n} {c = c} b d iterations here (by_shape {s = sh} there h) levels stored begun fresh free =
+        let same : sh ≡ node.Star k = cc (there, at) in
+        by d (subst (λ w. ByShape nodes bodies marks tails b s w Stays d) same h)
+      where
+        by : (d : ℕ) → ByShape nodes bodies marks tails b s (node.Star k) Stays d
+            → Comes (Asks (Eval s a) (record { levels = levels; stored = stored; begun = begun }))
+            (λ front. Works (record {
+              levels = levels;
+              stored = iterations_closed (marks s) s a (suc n) (operands_on (marks k) k a n stored);
+              begun = front ++ begun;
+            })) ((a + n) + 1) (c + d)
+        by d (by_no_iteration (below {c = e} plain fails)) =
+            subst (λ v. Comes (Asks (Eval s a) (record { levels = levels; stored = stored; begun = begun }))
+            (λ front. Works (record {
+              levels = levels;
+              stored = iterations_closed (marks s) s a (suc n)
+                  (store MatchTask v (Eval k (a + n)) (operands_on (marks k) k a n stored));
+              begun = front ++ begun;
+            })) ((a + n) + 1) (c + (1 + e))) plain
+            (iterations_stop b e iterations here fails levels stored begun fresh (λ i lt t. absurd (cc (plain, t))))

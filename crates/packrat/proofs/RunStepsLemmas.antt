@@ -1,11 +1,11 @@
 -- To each evaluation the machine comes, from wherever it stands; what it begins stands in front.
--- Serves: one_byte_decides, Packrat::match_unit
+-- Serves: one_byte_decides, iterations_run, iterations_whole, steps_run, Packrat::match_unit
 use Rattle.std.proofs.Common.{◌≡◌, inl, inr, ℕ, ◌+◌, Bool, true, List, [], ◌∷◌, ◌++◌, refl, sym, subst}
 use Rattle.std.proofs.Common.{arith, append-nil}
 use Rattle.memo.specs.Parts.{IsIn, in_here, in_later}
 use Rattle.memo.specs.Run.{Run, run_stored, run_key, run_plain, RunAll, run_none, run_more, total}
 use Rattle.packrat.specs.MachineSteps.{Level, State, Asks, Works, store, step_stored, step_begin}
-use Rattle.packrat.specs.MachineSteps.{step_next, step_last, Steps, steps_none, steps_more}
+use Rattle.packrat.specs.MachineSteps.{step_next, step_last, Steps, steps_none, steps_more, start_at}
 use Rattle.memo.proofs.PartsLemmas.{in_either}
 use Rattle.packrat.proofs.TaskKidsLemmas.{one_in}
 
@@ -120,3 +120,14 @@ module _ (V : Type 0) (Kids : V → List V → Type 0) (Next : V → List V → 
                 }))) whole
                 (steps_then (steps_then (steps_more steps_none (step_next (all a b before ks k))) h.steps) g.steps));
           }
+
+  -- likewise from where nothing is begun
+  pub steps_of_run : (root : V) (st : List V) (c : ℕ) → Run V Kids key weight [] root st c → (bg : List V) × (T bg ≡ c)
+      × St (start_at V root) (Works (record { levels = []; stored = st; begun = bg }))
+  steps_of_run root st c r =
+      let h = run_goes (λ _. Unit {0}) (λ a b ks here k i. tt) r tt [] [] in (
+        h.front,
+        h.count,
+        subst (λ v. St (start_at V root) (Works (record { levels = []; stored = st; begun = v })))
+            (append-nil h.front) h.steps,
+      )

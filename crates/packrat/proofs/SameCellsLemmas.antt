@@ -1,5 +1,5 @@
 -- Lists of cells that are exactly those of the visited evaluations hold the same.
--- Serves: implied_cells, same_cells
+-- Serves: implied_cells, same_cells, steps_hold
 use Rattle.std.proofs.Common.{◌≡◌, ℕ, ◌+◌, ◌≤◌, Bool, true, false, if◌then◌else◌}
 use Rattle.std.proofs.Common.{List, [], ◌∷◌, length, Option, Some, None, refl, sym, ◌∙◌, ap, subst, arith}
 use Rattle.pegread.specs.Pattern.{Rule}
@@ -33,7 +33,7 @@ code_among w (c ∷ cells) n p h = by (is_of c n p) refl h.1 (code_among w cells
     by false own is rest = on (rest (h.0, is))
 
 -- cells whose evaluations have other cells are no more than those
-no_more : (cs ds : List Entry) (k : ℕ) → AreDifferent cs → ((n p : ℕ) → HasCell cs n p → p ≤ k)
+pub no_more : (cs ds : List Entry) (k : ℕ) → AreDifferent cs → ((n p : ℕ) → HasCell cs n p → p ≤ k)
     → ((n p : ℕ) → HasCell cs n p → HasCell ds n p) → length cs ≤ length ds
 no_more cs ds k different low there =
     let w = k + 1 in

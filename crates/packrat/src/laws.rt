@@ -1,5 +1,6 @@
-//! Laws of widths, of evaluations that are asked for once, and of the cells that a few stored keys imply.
-ghost use Rattle.std.specs.Prelude.{◌≡◌, ℕ, ◌+◌, Bool, List, length, slice_get, Some};
+//! Laws of widths, of evaluations that are asked for once, of the cells that a few stored keys imply, and of the
+//! machine's steps.
+ghost use Rattle.std.specs.Prelude.{◌≡◌, ℕ, ◌+◌, ◌≤◌, Bool, List, [], length, slice_get, Some};
 ghost use Rattle.pegread.specs.Pattern.{Rule};
 ghost use Rattle.pegnodes.specs.Nodes.{Shape};
 ghost use Rattle.gramcheck.specs.Outcome.{Outcome};
@@ -7,10 +8,15 @@ ghost use Rattle.gramcheck.specs.Sound.{IsRanked};
 ghost use Rattle.memo.specs.Entries.{Entry};
 ghost use Rattle.pegmatch.specs.Answers.{WasEnough};
 ghost use Rattle.pegmatch.specs.Visits.{NodeGives, NodeTakes, Visits};
+ghost use Rattle.memo.specs.Run.{total};
 ghost use Rattle.memo.specs.declared.task.MatchTask.{MatchTask};
+ghost use Rattle.memo.specs.declared.task.MatchTask.TheVariants.{Eval};
+ghost use Rattle.packrat.specs.MachineSteps.{State, Works, held, start_at, IsGood};
 ghost use Rattle.pegnodes.specs.KeyMarks.{AreMarks};
 ghost use Rattle.packrat.specs.Offset.{Offset, IsAskedBy};
-ghost use Rattle.packrat.specs.View.{AreStored, AreImplied, AreBegun, Evaluates};
+ghost use Rattle.packrat.specs.MatchTasks.{Leads, Kids, is_key};
+ghost use Rattle.packrat.specs.TaskSteps.{TaskSteps};
+ghost use Rattle.packrat.specs.View.{weight, AreStored, AreImplied, AreBegun, Evaluates};
 ghost use Rattle.pegmatch.specs.VisitedCells.{AreVisitedCells};
 ghost use Rattle.pegnodes.specs.Width.{Width};
 
@@ -77,4 +83,40 @@ pub fn one_view()
         IsRanked rules start nodes bodies ranks → (marks : ℕ → Bool) (tails : ℕ → ℕ → Bool) (stored : List MatchTask)
         (cs ds : List Entry) → AreImplied rules start nodes bodies x more marks tails stored cs →
         AreImplied rules start nodes bodies x more marks tails stored ds → cs ≡ ds }
+{}
+
+/// States that the machine ends with what an evaluation stores and begins, and that it comes to each such end.
+pub fn steps_run()
+    ensures run { (rules : List Rule) (nodes : List Shape) (bodies x : List ℕ) (more : Bool) (root start : ℕ)
+        (marks : ℕ → Bool) (tails : ℕ → ℕ → Bool) (stored begun : List MatchTask) →
+        TaskSteps rules nodes bodies x marks tails (start_at MatchTask (Eval root 0))
+        (Works (record { levels = []; stored = stored; begun = begun })) →
+        Evaluates rules start nodes bodies x more marks tails root stored
+        (total MatchTask (Kids rules nodes bodies x) (is_key marks tails) weight begun) }
+    ensures reach { (rules : List Rule) (start : ℕ) (nodes : List Shape) (bodies ranks x : List ℕ) (more : Bool) →
+        IsRanked rules start nodes bodies ranks → (root : ℕ) → slice_get bodies start ≡ Some root →
+        (marks : ℕ → Bool) (tails : ℕ → ℕ → Bool) → AreMarks start nodes bodies marks tails →
+        (stored : List MatchTask) (count : ℕ) →
+        Evaluates rules start nodes bodies x more marks tails root stored count →
+        (begun : List MatchTask)
+        × (total MatchTask (Kids rules nodes bodies x) (is_key marks tails) weight begun ≡ count)
+        × TaskSteps rules nodes bodies x marks tails (start_at MatchTask (Eval root 0))
+        (Works (record { levels = []; stored = stored; begun = begun })) }
+{}
+
+/// States what holds on the way. The tasks that were begun are reached, each once. Those of the levels are among them,
+/// each once, and none of these is stored. No more evaluations were begun than there are visited ones.
+pub fn steps_hold()
+    ensures good { (rules : List Rule) (start : ℕ) (nodes : List Shape) (bodies ranks x : List ℕ) →
+        IsRanked rules start nodes bodies ranks → (root : ℕ) → slice_get bodies start ≡ Some root →
+        (marks : ℕ → Bool) (tails : ℕ → ℕ → Bool) → AreMarks start nodes bodies marks tails → (s : State MatchTask) →
+        TaskSteps rules nodes bodies x marks tails (start_at MatchTask (Eval root 0)) s →
+        IsGood MatchTask (Leads rules nodes bodies x) (Eval root 0) (is_key marks tails) (held MatchTask s) }
+    ensures begun { (rules : List Rule) (start : ℕ) (nodes : List Shape) (bodies ranks x : List ℕ) (more : Bool) →
+        IsRanked rules start nodes bodies ranks → (root : ℕ) → slice_get bodies start ≡ Some root →
+        (marks : ℕ → Bool) (tails : ℕ → ℕ → Bool) → AreMarks start nodes bodies marks tails → (s : State MatchTask) →
+        TaskSteps rules nodes bodies x marks tails (start_at MatchTask (Eval root 0)) s →
+        (cells : List Entry) → AreVisitedCells rules start nodes bodies x more cells →
+        total MatchTask (Kids rules nodes bodies x) (is_key marks tails) weight (held MatchTask s).begun
+        ≤ length cells }
 {}

@@ -14,7 +14,12 @@ mod onward;
 mod packrat;
 mod skips;
 
-pub use byte_laws::{fresh_above_mark, one_byte_decides};
+pub use byte_laws::{
+    fresh_above_mark, iterations_close, iterations_give, iterations_run, iterations_whole,
+    one_byte_decides,
+};
 pub use frames::{Frame, Wait};
-pub use laws::{asked_once, evaluated_once, implied_cells, one_view, one_width};
+pub use laws::{
+    asked_once, evaluated_once, implied_cells, one_view, one_width, steps_hold, steps_run,
+};
 pub use packrat::Packrat;
