@@ -1,5 +1,6 @@
 #!/usr/bin/env python3
-"""Measures how long programs take to judge lines by a grammar, beside grep where an expression says the rule.
+"""Measures how long programs take to judge lines by a grammar, beside grep and ripgrep where an expression
+says the rule.
 
 usage: line_bench.py [PROGRAM ..]
 
@@ -10,6 +11,7 @@ lines are part of it.
 """
 import os
 import pathlib
+import shutil
 import subprocess
 import sys
 import tempfile
@@ -19,10 +21,12 @@ DATE = "[0-9]{4}-[0-9]{2}-[0-9]{2}[Tt][0-9]{2}:[0-9]{2}:[0-9]{2}([.][0-9]+)?([Zz
 # Names of lines.py, each with how many letters a line has in place of its own, options, and an expression of its rule.
 ROWS = [
     ("date", None, "", DATE), ("uri", None, "", None), ("alpha", None, "", "[A-Za-z]+"), ("right", 1000, "", "[Aa]+"),
-    ("right", 10000, "", "[Aa]+"), ("kw", None, "", None), ("json", None, "", None), ("ss50", None, "", "[Aa]+"),
+    ("right", 10000, "", "[Aa]+"), ("short", None, "", "[A-Za-z]+"), ("kw", None, "", None), ("json", None, "", None),
+    ("nested", None, "", None), ("ss50", None, "", "[Aa]+"),
     ("left", 1000, "", "[Aa]+"), ("date", None, "-w", None), ("uri", None, "-w", None), ("date", None, "-u utf8", None),
     ("uri", None, "-u utf8", None), ("right", 10000, "-u utf8 -w", None),
 ]
+GREPS = [["grep", "-cixE", "-f"]] + [["rg", "--no-config", "-cixaN", "--no-unicode", "-f"]] * bool(shutil.which("rg"))
 ENOUGH, MOST = 0.2, 32_000_000
 
 
@@ -73,8 +77,8 @@ def main(programs):
             reported = [measure([it, *options.split(), folder / "grammar"], lines, folder / "lines") for it in programs]
             if said:
                 (folder / "words").write_text(said + "\n")
-                words = ["grep", "-cixE", "-f", folder / "words"]
-                reported.append(measure(words, lines, folder / "lines", 1_000_000))
+                for words in GREPS:
+                    reported.append(measure([*words, folder / "words"], lines, folder / "lines", 1_000_000))
             row = " | ".join(f"{ns:,.1f} | {mb:,.0f}" for ns, mb in reported)
             what = ", ".join(filter(None, (name, letters and f"{letters:,} letters", options)))
             print(f"| {what} | {row} |", flush=True)

@@ -1,5 +1,6 @@
 #!/usr/bin/env python3
 """lines.py NAME: writes a grammar in ABNF, a byte 0, and lines to judge by it, for the program beside it."""
+import json
 import random
 import sys
 
@@ -117,6 +118,15 @@ G['kw']='k = '+' / '.join('"%s"'%k for k in kws)+'\n'
 G['kwx']='x = 1*(k ",")\nk = '+' / '.join('"%s"'%k for k in kws)+'\n'
 
 
+def nested(r, depth):
+    """Returns a value of JSON by lot, in which values nest so deep."""
+    if depth == 0:
+        return r.choice([1, 22, 333, "a", True, [], {}])
+    if r.random() < .6:
+        return [nested(r, depth - 1) if r.random() < .6 else r.randrange(1000) for _ in range(r.randrange(1, 4))]
+    return {"k": nested(r, depth - 1), "n": r.randrange(100)}
+
+
 def lines(name):
     """Returns the lines of a benchmark."""
     r = random.Random(1)
@@ -134,6 +144,10 @@ def lines(name):
         return ["a" * (10001 if name == "both" else 10000)]
     if name == "left":
         return ["a" * 10000] * 10
+    if name == "short":
+        return ["".join(r.choices("abcXYZ7", k=r.randrange(1, 9))) for _ in range(20000)]
+    if name == "nested":
+        return [json.dumps(nested(r, r.randrange(3, 12)), separators=(",", ":")) for _ in range(2000)]
     if name == "kw":
         return [r.choice(kws) for _ in range(200)]
     if name == "kwx":
@@ -154,7 +168,8 @@ def lines(name):
 
 def main():
     name = sys.argv[1]
-    grammar = G[{"ss50": "ss", "ss200": "ss", "dense2500": "dense", "right10k": "right"}.get(name, name)]
+    others = {"ss50": "ss", "ss200": "ss", "dense2500": "dense", "right10k": "right", "short": "alpha", "nested": "json"}
+    grammar = G[others.get(name, name)]
     own = {line.split("=")[0].strip().lower() for line in grammar.splitlines()}
     core = [line for line in CORE.splitlines() if line.split("=")[0].strip().lower() not in own]
     sys.stdout.write(grammar + "\n".join(core) + "\n\0" + "".join(line + "\n" for line in lines(name)))
