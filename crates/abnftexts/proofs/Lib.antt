@@ -11,10 +11,8 @@ pub mod RulesTakenLemmas
 pub mod SpelledRulesLemmas
 pub mod TextRulesLemmas
 pub mod UndefinedLemmas
-pub mod AllSameLemmas
 pub mod PlacedRulesLemmas
 pub mod FatesLemmas
-pub mod JoinedLemmas
 pub mod LinkedTextLemmas
 pub mod LinkedTokenLemmas
 pub mod MovedWordLemmas

@@ -17,8 +17,9 @@ use Rattle.abnftexts.specs.RulesGathered.{NamedText, RuleLines, RulesGathered}
 use Rattle.std.specs.List.{flat_map}
 use Rattle.rfcvalues.specs.RuleSketches.{SketchedRule}
 use Rattle.abnftexts.specs.ValueRuns.{FoundRule, before_groups, found_rules, groups_of, join_values}
-use Rattle.abnftexts.specs.TextRules.{FindTexts, FindsText, GiveFound, GivesFound, GivesGroups, GiveTexts, SpellRule}
-use Rattle.abnftexts.specs.TextRules.{TextFound, a_run, each_alone, next_rule, next_text, next_there, no_groups}
+use Rattle.abnftexts.specs.TextRules.{FindTexts, FindsText, GiveFound, GivesFound, GivesGroup, GivesGroups, GiveTexts}
+use Rattle.abnftexts.specs.TextRules.{SpellRule, TextFound, a_run, each_alone, next_group, next_rule, next_text}
+use Rattle.abnftexts.specs.TextRules.{next_there, no_groups}
 use Rattle.abnftexts.specs.TextRules.{no_rule, no_texts, none_found, none_there}
 use Rattle.abnftexts.proofs.ClearLinesLemmas.{IsClear, kept-clear}
 use Rattle.abnftexts.proofs.EachLemmas.{Each, each_none, each_next, each-drop, each-take}
@@ -150,14 +151,18 @@ zipped-front (it ∷ found) (s ∷ sketches) [] h = each_none
 zipped-front (it ∷ found) (s ∷ sketches) (m ∷ marks) (each_next p h) =
     each_next p (zipped-front found sketches marks h)
 
+group-placed : {asks : Bool} {name : List ℕ} {kept lines : List NumberedLine} {group : List FoundRule}
+    {g : RulesGathered} → Each IsClear kept → GivesGroup asks name kept lines group g
+    → Each (IsReadAlone lines) (map (λ rule. rule.it) group) → Placed g
+group-placed clear (a_run t) e = none_placed
+group-placed clear (each_alone t x) e = found-placed clear x e
+
 groups-placed : {asks : Bool} {name : List ℕ} {kept lines : List NumberedLine} {groups : List (List FoundRule)}
     {g : RulesGathered} → Each IsClear kept → GivesGroups asks name kept lines groups g
     → Each (IsReadAlone lines) (all_in groups) → Placed g
 groups-placed clear no_groups e = none_placed
-groups-placed clear (a_run {group} {groups} t h) e =
-    groups-placed clear h (alone-back (map (λ rule. rule.it) group) (all_in groups) e)
-groups-placed clear (each_alone {group} {groups} t x h) e =
-    placed-both (found-placed clear x (alone-front (map (λ rule. rule.it) group) (all_in groups) e))
+groups-placed clear (next_group {group} {groups} x h) e =
+    placed-both (group-placed clear x (alone-front (map (λ rule. rule.it) group) (all_in groups) e))
     (groups-placed clear h (alone-back (map (λ rule. rule.it) group) (all_in groups) e))
 
 text-placed : {lists : Option ListForm} (text : NamedText) {there : TextFound} (sketches : List SketchedRule)

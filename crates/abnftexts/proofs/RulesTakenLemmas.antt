@@ -4,8 +4,9 @@ use Rattle.std.proofs.Common.{◌≡◌, ℕ, Bool, true, false, Option, None, S
 use Rattle.std.proofs.Common.{[], ◌∷◌, ◌++◌, length, get_or, map, take}
 use Rattle.std.proofs.Common.{drop, refl, sym, ap, ◌∙◌, append-nil, append_assoc, arith, subst}
 use Rattle.std.proofs.Math.Seq.{drop-cons}
-use Rattle.std.proofs.lemmas.Grind.{take_at_read}
-use Rattle.std.proofs.lemmas.List.{at_drop_all, drop-map, map-append, take-map, take_all}
+use Rattle.std.proofs.lemmas.Grind.{flat_map-append, take_at_read}
+use Rattle.std.proofs.lemmas.List.{at_drop_all, drop-map, drop_all, length-append, length-drop, length-map, map-append}
+use Rattle.std.proofs.lemmas.List.{take-map, take_all}
 use Rattle.ruletable.specs.declared.fault.ReadFault.{ReadFault}
 use Rattle.abnfblocks.specs.TextLines.{NumberedLine, after_mark, numbered}
 use Rattle.abnfblocks.specs.FoundRules.{AreFound}
@@ -17,14 +18,20 @@ use Rattle.abnfblocks.specs.declared.found.RuleSearch.{RuleSearch}
 use Rattle.abnfblocks.specs.declared.found.RuleSearch.TheVariants as found
 use Rattle.abnftexts.specs.RulesGathered.{ReportedRule, RuleLines, RulesGathered, NamedText, both_given, named_text}
 use Rattle.abnftexts.specs.RulesGathered.{none_given, one_rule, reported_alone}
-use Rattle.abnftexts.specs.TakenRules.{AddsReport, AreTextRows, FindsShown, TakesMore, TakesRule, TextRows, text_rows}
+use Rattle.abnftexts.specs.TakenRules.{AddSketches, AddsReport, AreTextRows, AreTextsFound, FindsShown, TakesGroups}
+use Rattle.abnftexts.specs.TakenRules.{TakesMore, TakesRule, TextRows, next_found, none_found as no_text_found}
+use Rattle.abnftexts.specs.TakenRules.{rule_count, text_found, text_rows}
 use Rattle.abnftexts.specs.declared.gathered.FoundText.{FoundText}
 use Rattle.abnftexts.specs.WrittenLists.{AreExpanded, WritesLists, as_they_are, with_lists}
 use Rattle.rfcforms.specs.Lists.{Expands}
 use Rattle.rfcforms.specs.declared.lists.written.ListForm.{ListForm}
-use Rattle.abnftexts.specs.TextRules.{GivesFound, SpellRule, given_by, next_rule}
-use Rattle.abnftexts.specs.TextRules.{IsRuleReported, asks_lists, no_rule, none_found, position_in}
-use Rattle.abnftexts.specs.TextRules.{report_with}
+use Rattle.abnftexts.specs.TextRules.{AreSketches, FindTexts, FindsText, GiveFound, GivesFound, GivesGroups}
+use Rattle.abnftexts.specs.TextRules.{IsRuleReported, SpellRule, TextFound, asks_lists, given_by, next_rule}
+use Rattle.abnftexts.specs.TextRules.{next_sketch, next_text, next_there, no_rule, no_sketches, no_texts, none_found}
+use Rattle.abnftexts.specs.TextRules.{none_there, position_in, report_with, rules_seen}
+use Rattle.abnftexts.specs.ValueRuns.{found_rules, groups_of, seen_at}
+use Rattle.rfcvalues.specs.RuleSketches.{IsSketch, RuleSeen, SketchedRule, rule_sketched}
+use Rattle.rfcvalues.specs.declared.sketch.RuleSketch.{RuleSketch}
 use Rattle.abnftexts.specs.ShownTexts.{AreShown, IsShown, AreListsOut, asked, next_shown, none_shown, not_asked}
 use Rattle.abnftexts.specs.declared.gathered.ShownText.{ShownText}
 use Rattle.abnftexts.specs.declared.gathered.SourceText.{SourceText}
@@ -59,11 +66,11 @@ with-reported : (g : RulesGathered) (reported : List ReportedRule) (more : Repor
 with-reported g reported more e = rw (e, append-nil g.positions, append-nil g.rules, append-nil g.list) refl
 
 -- nothing is taken
-none-taken : (Gives : RulesGathered → Type 0) (g : RulesGathered) → Gives none_given → TakesMore Gives g g
+pub none-taken : (Gives : RulesGathered → Type 0) (g : RulesGathered) → Gives none_given → TakesMore Gives g g
 none-taken Gives g none = (none_given, none, sym (both-none g))
 
 -- one thing is taken, and then another
-more-taken : (One Other Both : RulesGathered → Type 0) (g h end : RulesGathered)
+pub more-taken : (One Other Both : RulesGathered → Type 0) (g h end : RulesGathered)
     → ((a b : RulesGathered) → One a → Other b → Both (both_given a b)) → TakesMore One g h → TakesMore Other h end
     → TakesMore Both g end
 more-taken One Other Both g h end join one other =
@@ -294,3 +301,152 @@ pub shown-all : (lists : Option ListForm) (texts : List SourceText) (i : ℕ) (a
     → AreShown lists (map named_text (take i texts)) all → AreShown lists (map named_text texts) all
 shown-all lists texts i all le so_far =
     subst (λ (xs : List SourceText). AreShown lists (map named_text xs) all) (take_all i texts le) so_far
+
+-- so it is with what is found in them
+take-next : {X : Type 0} (i : ℕ) (xs : List X) (x : X) (rest : List X) → drop i xs ≡ x ∷ rest
+    → take (suc i) xs ≡ take i xs ++ x ∷ []
+take-next zero xs x rest e = rw e refl
+take-next (suc i) [] x rest e = absurd (cc)
+take-next {X} (suc i) (y ∷ ys) x rest e = ap (λ (zs : List X). y ∷ zs) (take-next i ys x rest e)
+
+found-more : {lists : Option ListForm} {named : List NamedText} {texts : List FoundText} (text : NamedText)
+    (there : FoundText) → AreTextsFound lists named texts → FindsText lists text (text_found there)
+    → there.rows.asks ≡ asks_lists lists → AreTextsFound lists (named ++ text ∷ []) (texts ++ there ∷ [])
+found-more text there no_text_found finds asks = next_found finds asks no_text_found
+found-more text there (next_found x a more) finds asks = next_found x a (found-more text there more finds asks)
+
+pub found-next : (lists : Option ListForm) (named : List NamedText) (texts : List ShownText) (i : ℕ) (d : ShownText)
+    (there : FoundText) (all new : List FoundText) → AreShown lists named texts → i < length texts
+    → FindsShown (get_or texts i d) there → AreTextsFound lists (take i named) all → new ≡ all ++ there ∷ []
+    → AreTextsFound lists (take (i + 1) named) new
+found-next lists named texts i d there all new shown lt finds are e =
+    let it = shown-there i d shown lt in
+    let both = finds lists it.0 it.1 in
+    let next : suc i ≡ i + 1 = omega arith in
+    let rows : take (i + 1) named ≡ take i named ++ it.0 ∷ [] =
+    ap (λ (k : ℕ). take k named) (sym next) ∙ take-next i named it.0 (drop (suc i) named) it.2 in
+    let more : AreTextsFound lists (take (i + 1) named) (all ++ there ∷ []) =
+    subst (λ (ns : List NamedText). AreTextsFound lists ns (all ++ there ∷ [])) (sym rows)
+    (found-more it.0 there are both.0 both.1) in
+    subst (λ (ts : List FoundText). AreTextsFound lists (take (i + 1) named) ts) (sym e) more
+
+pub found-in_all : (lists : Option ListForm) (named : List NamedText) (texts : List ShownText) (i : ℕ)
+    (all : List FoundText) → AreShown lists named texts → length texts ≤ i → AreTextsFound lists (take i named) all
+    → AreTextsFound lists named all
+found-in_all lists named texts i all shown le are =
+    subst (λ (ns : List NamedText). AreTextsFound lists ns all)
+    (take_all i named (omega (arith, shown-length shown, le))) are
+
+pub find-texts : {lists : Option ListForm} {named : List NamedText} {texts : List FoundText}
+    → AreTextsFound lists named texts → FindTexts lists named (map text_found texts)
+find-texts no_text_found = no_texts
+find-texts (next_found x a more) = next_text x (find-texts more)
+
+found-there : {lists : Option ListForm} (i : ℕ) (d : FoundText) {named : List NamedText} {texts : List FoundText}
+    → AreTextsFound lists named texts → i < length texts → (text : NamedText)
+    × FindsText lists text (text_found (get_or texts i d)) × ((get_or texts i d).rows.asks ≡ asks_lists lists)
+found-there i d no_text_found lt = absurd (omega (arith, lt))
+found-there zero d (next_found {named} x a more) lt = (named, x, a)
+found-there (suc i) d (next_found x a more) lt = found-there i d more (omega (arith, lt))
+
+-- the sketches of what is found
+sketches-both : {rules others : List RuleSeen} {xs ys : List SketchedRule} → AreSketches rules xs
+    → AreSketches others ys → AreSketches (rules ++ others) (xs ++ ys)
+sketches-both no_sketches k = k
+sketches-both (next_sketch is h) k = next_sketch is (sketches-both h k)
+
+pub sketch-count : {rules : List RuleSeen} {xs : List SketchedRule} → AreSketches rules xs → length rules ≡ length xs
+sketch-count no_sketches = refl
+sketch-count (next_sketch is h) = ap suc (sketch-count h)
+
+pub sketch-more : (rows : TextRows) (all : List RuleSearch) (i : ℕ) (d : RuleSearch) (sketch : SketchedRule)
+    (old now new : List SketchedRule) → i < length all → IsSketch (seen_at rows.kept rows.lines (get_or all i d)) sketch
+    → AddSketches rows (take i all) old now → new ≡ now ++ sketch ∷ [] → AddSketches rows (take (i + 1) all) old new
+sketch-more rows all i d sketch old now new lt is adds e =
+    let seen : RuleSearch → RuleSeen = seen_at rows.kept rows.lines in
+    let front : map seen (take (i + 1) all) ≡ map seen (take i all) ++ seen (get_or all i d) ∷ [] =
+    ap (λ (its : List RuleSearch). map seen its) (take_at_read all i d lt).1
+    ∙ map-append seen (take i all) (get_or all i d ∷ []) in
+    let both = sketches-both adds.1 (next_sketch is no_sketches) in (
+      adds.0 ++ sketch ∷ [],
+      subst (λ (rs : List RuleSeen). AreSketches rs (adds.0 ++ sketch ∷ [])) (sym front) both,
+      e ∙ ap (λ (xs : List SketchedRule). xs ++ sketch ∷ []) adds.2 ∙ append_assoc old adds.0 (sketch ∷ []),
+    )
+
+pub text-sketched : (texts : List FoundText) (i : ℕ) (d : FoundText) (old new : List SketchedRule) → i < length texts
+    → AreSketches (rules_seen (map text_found (take i texts))) old
+    → AddSketches (text_rows (get_or texts i d).rows) (get_or texts i d).found.items old new
+    → AreSketches (rules_seen (map text_found (take (i + 1) texts))) new
+text-sketched texts i d old new lt are adds =
+    let text = get_or texts i d in
+    let front = map text_found (take i texts) in
+    let here : List RuleSeen = map (seen_at (text_rows text.rows).kept (text_rows text.rows).lines) text.found.items in
+    let seen : TextFound → List RuleSeen = λ there. map (seen_at there.kept there.lines) there.all_found in
+    let all : rules_seen (map text_found (take (i + 1) texts)) ≡ rules_seen front ++ here =
+    ap (λ (ts : List FoundText). rules_seen (map text_found ts)) (take_at_read texts i d lt).1
+    ∙ ap (λ (ts : List TextFound). rules_seen ts) (map-append text_found (take i texts) (text ∷ []))
+    ∙ flat_map-append seen front (text_found text ∷ [])
+    ∙ ap (λ (rs : List RuleSeen). rules_seen front ++ rs) (append-nil here) in
+    subst (λ (xs : List SketchedRule). AreSketches (rules_seen (map text_found (take (i + 1) texts))) xs) (sym adds.2)
+    (subst (λ (rs : List RuleSeen). AreSketches rs (old ++ adds.0)) (sym all) (sketches-both are adds.1))
+
+-- what is found in one text after another is taken
+module _ (lists : Option ListForm) (texts : List FoundText) (i : ℕ) (own : List RuleSketch) (marks : List Bool) where
+  -- what these texts give from that one on, where these are the sketches and marks that are left
+  abbrev pub GivesLeft : RulesGathered → Type 0
+  GivesLeft g = GiveFound (asks_lists lists) (map text_found (drop i texts)) (map rule_sketched own) marks g
+
+  pub texts-end : (g : RulesGathered) → length texts ≤ i → TakesMore GivesLeft g g
+  texts-end g le =
+      subst (λ (ts : List FoundText). TakesMore (GiveFound (asks_lists lists) (map text_found ts)
+      (map rule_sketched own) marks) g g)
+      (sym (drop_all i texts le))
+      (none-taken (GiveFound (asks_lists lists) [] (map rule_sketched own) marks) g none_there)
+
+  count-there : (d : FoundText) → i < length texts → rule_count (drop i texts)
+      ≡ length (get_or texts i d).found.items + rule_count (drop (i + 1) texts)
+  count-there d lt =
+      let text = get_or texts i d in
+      let seen = seen_at (text_rows text.rows).kept (text_rows text.rows).lines in
+      ap rule_count (one-after texts i d lt)
+      ∙ length-append (map seen text.found.items) (rules_seen (map text_found (drop (i + 1) texts)))
+      ∙ ap (λ (n : ℕ). n + rule_count (drop (i + 1) texts)) (length-map text.found.items seen)
+
+  pub room-next : (d : FoundText) → i < length texts → rule_count (drop i texts) ≤ length own
+      → rule_count (drop i texts) ≤ length marks
+      → (rule_count (drop (i + 1) texts) ≤ length (drop (length (get_or texts i d).found.items) own))
+      × (rule_count (drop (i + 1) texts) ≤ length (drop (length (get_or texts i d).found.items) marks))
+  room-next d lt many enough =
+      let n = length (get_or texts i d).found.items in (
+        omega (arith, count-there d lt, length-drop n own, many),
+        omega (arith, count-there d lt, length-drop n marks, enough),
+      )
+
+  pub text-more : (named : List NamedText) (d : FoundText) (g h end : RulesGathered)
+      → AreTextsFound lists named texts → i < length texts → rule_count (drop i texts) ≤ length own
+      → rule_count (drop i texts) ≤ length marks
+      → TakesGroups (text_rows (get_or texts i d).rows) (get_or texts i d).found.items (map rule_sketched own) marks g h
+      → TakesMore (GiveFound (asks_lists lists) (map text_found (drop (i + 1) texts))
+      (map rule_sketched (drop (length (get_or texts i d).found.items) own))
+      (drop (length (get_or texts i d).found.items) marks)) h end
+      → TakesMore GivesLeft g end
+  text-more named d g h end are lt many enough takes more =
+      let text = get_or texts i d in
+      let n = length text.found.items in
+      let others = map text_found (drop (i + 1) texts) in
+      let sketches = map rule_sketched own in
+      let asks = asks_lists lists in
+      let it = found-there i d are lt in
+      let few : n ≤ length sketches = omega (arith, count-there d lt, length-map own rule_sketched, many) in
+      let marked : n ≤ length marks = omega (arith, count-there d lt, enough) in
+      let taken = takes (after_mark it.0.bytes) lists it.1.keeps it.1.written it.1.are_found few marked in
+      let Here : Bool → RulesGathered → Type 0 = λ b. GivesGroups b text.rows.name.now (text_rows text.rows).kept
+      (text_rows text.rows).lines
+      (groups_of (text_rows text.rows).lines (found_rules text.found.items sketches marks)) in
+      let After : List SketchedRule → RulesGathered → Type 0 = λ xs. GiveFound asks others xs (drop n marks) in
+      let Both : RulesGathered → Type 0 = GiveFound asks (text_found text ∷ others) sketches marks in
+      subst (λ (ts : List FoundText). TakesMore (GiveFound asks (map text_found ts) sketches marks) g end)
+      (sym (one-after texts i d lt))
+      (more-taken (Here asks) (After (drop n sketches)) Both g h end (λ a b x y. next_there x y)
+      (subst (λ (b : Bool). TakesMore (Here b) g h) it.2 taken)
+      (subst (λ (xs : List SketchedRule). TakesMore (After xs) h end) (sym (drop-map rule_sketched n own)) more))

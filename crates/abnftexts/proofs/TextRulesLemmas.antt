@@ -29,9 +29,10 @@ use Rattle.abnftexts.specs.WrittenLists.{lines_written, with_lists}
 use Rattle.rfcvalues.specs.AssignedValues.{AreValueMarks}
 use Rattle.rfcvalues.specs.RuleSketches.{RuleSeen, SketchedRule}
 use Rattle.abnftexts.specs.ValueRuns.{FoundRule}
-use Rattle.abnftexts.specs.TextRules.{AreSketches, FindTexts, FindsText, GiveFound, GivesFound, GivesGroups, GiveTexts}
-use Rattle.abnftexts.specs.TextRules.{TextFound, a_run, each_alone, given_by, next_rule, next_sketch, next_text}
-use Rattle.abnftexts.specs.TextRules.{next_there, no_groups, no_rule, no_sketches, none_there, rules_seen}
+use Rattle.abnftexts.specs.TextRules.{AreSketches, FindTexts, FindsText, GiveFound, GivesFound, GivesGroup, GivesGroups}
+use Rattle.abnftexts.specs.TextRules.{GiveTexts, TextFound, a_run, each_alone, given_by, next_rule, next_sketch}
+use Rattle.abnftexts.specs.TextRules.{next_group, next_text, next_there, no_groups, no_rule, no_sketches, none_there}
+use Rattle.abnftexts.specs.TextRules.{rules_seen}
 use Rattle.abnftexts.specs.TextRules.{IsRuleReported, asks_lists, for_fault, for_list, no_texts, none_found}
 use Rattle.abnftexts.specs.TextRules.{position_in, report_with}
 use Rattle.rfcvalues.proofs.OneSketchLemmas.{marks-same, sketch-same}
@@ -104,13 +105,17 @@ module _ (one : OneReading) where
         reported_alone (report_with message (take count (drop first lines)))) (reported-same x y))
         (found-same h k)
 
+    group-same : {kept lines : List NumberedLine} {group : List FoundRule} {a b : RulesGathered}
+        → GivesGroup asks name kept lines group a → GivesGroup asks name kept lines group b → a ≡ b
+    group-same (a_run e) (a_run f) = refl
+    group-same (a_run e) (each_alone f x) = absurd (true≢false (sym e ∙ f))
+    group-same (each_alone e x) (a_run f) = absurd (true≢false (sym f ∙ e))
+    group-same (each_alone e x) (each_alone f y) = found-same x y
+
     groups-same : {kept lines : List NumberedLine} {groups : List (List FoundRule)} {a b : RulesGathered}
         → GivesGroups asks name kept lines groups a → GivesGroups asks name kept lines groups b → a ≡ b
     groups-same no_groups no_groups = refl
-    groups-same (a_run e h) (a_run f k) = both-same _ _ _ _ refl (groups-same h k)
-    groups-same (a_run e h) (each_alone f x k) = absurd (true≢false (sym e ∙ f))
-    groups-same (each_alone e x h) (a_run f k) = absurd (true≢false (sym f ∙ e))
-    groups-same (each_alone e x h) (each_alone f y k) = both-same _ _ _ _ (found-same x y) (groups-same h k)
+    groups-same (next_group x h) (next_group y k) = both-same _ _ _ _ (group-same x y) (groups-same h k)
 
   finds-same : {lists : Option ListForm} {text : NamedText} (a b : TextFound) → FindsText lists text a
       → FindsText lists text b → a ≡ b

@@ -93,11 +93,11 @@ rule_listed positions rules n fate = numbered_position positions n ++ (codes ": 
     ++ (codes "' " ++ (fate_reported positions fate ++ codes "\n"))))
 
 -- The lines of the list, where these are the fates of the rules from that number on: each entry of a rule stands for
--- the next one.
+-- the next one, and for none where there are no more.
 abbrev pub listed_from : List RuleLines → List RuleGiven → ℕ → List Fate → List ListEntry → List ℕ
 listed_from positions rules n fates [] = []
 listed_from positions rules n fates (OfValue line ∷ list) = line ++ listed_from positions rules n fates list
-listed_from positions rules n [] (OfRule ∷ list) = []
+listed_from positions rules n [] (OfRule ∷ list) = listed_from positions rules n [] list
 listed_from positions rules n (fate ∷ fates) (OfRule ∷ list) =
     rule_listed positions rules n fate ++ listed_from positions rules (n + 1) fates list
 
@@ -113,8 +113,8 @@ none_reported (rule ∷ rules) = []
 abbrev pub has_lines : ReportedRule → Bool
 has_lines report = elim report.lines [ None ↦ false | Some lines ↦ true ]
 
--- the grammar, the reports of rules that are no ABNF and of lines that assign values, the other reports, a line for each
--- rule that is given or assigns a value, and whether a rule is no ABNF or a name has two definitions
+-- the grammar, the reports of rules that are no ABNF and of lines that assign values, the other reports, a line for
+-- each rule that is given or assigns a value, and whether a rule is no ABNF or a name has two definitions
 pub record GrammarJoined : Type 0 where
   pub grammar : List ℕ
   pub reports : List ReportedRule

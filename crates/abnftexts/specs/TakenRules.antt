@@ -1,5 +1,6 @@
 -- What stands after what was gathered so far. It serves private helpers alone.
-use Rattle.std.specs.Prelude.{◌≡◌, ◌≤◌, ℕ, ◌+◌, drop, length, Bool, true, false, Option, None, Some, List, [], ◌∷◌, ◌++◌, map, take}
+use Rattle.std.specs.Prelude.{◌≡◌, ◌≤◌, ℕ, drop, length, Bool, true, false, Option, None, Some, List, [], ◌∷◌}
+use Rattle.std.specs.Prelude.{◌++◌, map, take}
 use Rattle.abnfread.specs.AbnfReading.{Reads}
 use Rattle.abnfread.specs.Element.{Definition}
 use Rattle.abnfblocks.specs.MaskedLines.{AreRead, ReadsLines}
@@ -17,9 +18,9 @@ use Rattle.abnftexts.specs.declared.gathered.ShownText.{ShownText}
 use Rattle.abnftexts.specs.declared.gathered.WrittenText.{WrittenText}
 use Rattle.abnftexts.specs.declared.gathered.FoundText.{FoundText}
 use Rattle.rfcforms.specs.declared.lists.written.ListForm.{ListForm}
-use Rattle.abnftexts.specs.TextRules.{AreSketches, FindsText, GivesFound, GivesGroups, IsRuleReported, SpellRule}
-use Rattle.abnftexts.specs.TextRules.{TextFound, asks_lists, given_by, position_in, report_with}
-use Rattle.abnftexts.specs.ValueRuns.{found_rules, groups_of, seen_at}
+use Rattle.abnftexts.specs.TextRules.{AreSketches, FindsText, GivesFound, GivesGroup, GivesGroups, IsRuleReported}
+use Rattle.abnftexts.specs.TextRules.{SpellRule, TextFound, asks_lists, given_by, position_in, report_with, rules_seen}
+use Rattle.abnftexts.specs.ValueRuns.{FoundRule, found_rules, groups_of, join_values, seen_at}
 use Rattle.rfcvalues.specs.RuleSketches.{SketchedRule}
 
 -- a text: its name, its lines, the same with lists written out, and whether lists are looked for
@@ -66,7 +67,15 @@ TakesFound rows found old new =
     → AreExpanded lists rows.kept rows.lines → AreFound 0 rows.lines (front ++ (found ++ back))
     → TakesMore (GivesFound rows.asks rows.name rows.kept rows.lines found) old new
 
--- the same for all that is found, with its sketches, and marks of values
+-- the same for a group of what is found, with its sketches and marks
+abbrev pub TakesGroup : TextRows → List RuleSearch → List SketchedRule → RulesGathered → RulesGathered → Type 0
+TakesGroup rows group sketches old new =
+    (text : List ℕ) (lists : Option ListForm) (front back : List RuleSearch) (marks : List Bool)
+    → AreRead text rows.kept → AreExpanded lists rows.kept rows.lines → AreFound 0 rows.lines (front ++ (group ++ back))
+    → length group ≡ length sketches → length group ≤ length marks
+    → TakesMore (GivesGroup rows.asks rows.name rows.kept rows.lines (found_rules group sketches marks)) old new
+
+-- and for all groups
 abbrev pub TakesGroups : TextRows → List RuleSearch → List SketchedRule → List Bool → RulesGathered → RulesGathered
     → Type 0
 TakesGroups rows found sketches marks old new =
@@ -76,16 +85,21 @@ TakesGroups rows found sketches marks old new =
     → TakesMore (GivesGroups rows.asks rows.name rows.kept rows.lines
     (groups_of rows.lines (found_rules found sketches marks))) old new
 
--- of what is found, so many from that one on are the first group of those that it begins
-abbrev pub BeginsGroup : TextRows → List RuleSearch → List SketchedRule → List Bool → ℕ → ℕ → Type 0
-BeginsGroup rows found sketches marks first size =
-    let rules = found_rules found sketches marks in groups_of rows.lines (drop first rules)
-    ≡ take size (drop first rules) ∷ groups_of rows.lines (drop (first + size) rules)
+-- so many of what is found are the first group
+abbrev pub IsGroupSize : List NumberedLine → List RuleSearch → List SketchedRule → List Bool → ℕ → Type 0
+IsGroupSize lines found sketches marks size =
+    let rules = found_rules found sketches marks in groups_of lines rules
+    ≡ take size rules ∷ groups_of lines (drop size rules)
+
+-- the first two are values of one run
+abbrev pub join_first : List NumberedLine → List FoundRule → Bool
+join_first lines (before ∷ rule ∷ rules) = join_values lines before rule
+join_first lines _ = false
 
 -- the sketches of what is found follow others
 abbrev pub AddSketches : TextRows → List RuleSearch → List SketchedRule → List SketchedRule → Type 0
-AddSketches rows found old new = (more : List SketchedRule) × AreSketches (map (seen_at rows.kept rows.lines) found) more
-    × (new ≡ old ++ more)
+AddSketches rows found old new = (more : List SketchedRule)
+    × AreSketches (map (seen_at rows.kept rows.lines) found) more × (new ≡ old ++ more)
 
 -- a text that is shown, its lines, and what is found among them
 abbrev pub text_found : FoundText → TextFound
@@ -100,6 +114,17 @@ text_found text = record {
 abbrev pub FindsShown : ShownText → FoundText → Type 0
 FindsShown shown text = (lists : Option ListForm) (named : NamedText) → IsShown lists named shown
     → FindsText lists named (text_found text) × (text.rows.asks ≡ asks_lists lists)
+
+-- and in several
+pub data AreTextsFound (lists : Option ListForm) : List NamedText → List FoundText → Type 0 where
+  none_found : AreTextsFound lists [] []
+  next_found : {named : NamedText} {text : FoundText} {others : List NamedText} {texts : List FoundText}
+      → FindsText lists named (text_found text) → text.rows.asks ≡ asks_lists lists
+      → AreTextsFound lists others texts → AreTextsFound lists (named ∷ others) (text ∷ texts)
+
+-- how many rules are found in them
+abbrev pub rule_count : List FoundText → ℕ
+rule_count texts = length (rules_seen (map text_found texts))
 
 -- the report of a rule that is no ABNF follows
 abbrev pub AddsReport : Bool → List ℕ → List NumberedLine → ReadFault → List ReportedRule → List ReportedRule → Type 0

@@ -87,17 +87,19 @@ abbrev pub asks_lists : Option ListForm → Bool
 asks_lists None = true
 asks_lists (Some form) = false
 
--- What the runs of values and the other rules of a text give: a run that is no ABNF its report, and else each rule what
--- it gives alone.
+-- What a run of values or another rule gives: a run that is no ABNF its report, and else each rule what it gives alone.
+pub data GivesGroup (asks : Bool) (name : List ℕ) (kept lines : List NumberedLine) (group : List FoundRule)
+    : RulesGathered → Type 0 where
+  a_run : assigns_values group ≡ true → GivesGroup asks name kept lines group (run_given name lines group)
+  each_alone : {here : RulesGathered} → assigns_values group ≡ false
+      → GivesFound asks name kept lines (map (λ rule. rule.it) group) here → GivesGroup asks name kept lines group here
+
+-- what these give one after another
 pub data GivesGroups (asks : Bool) (name : List ℕ) (kept lines : List NumberedLine)
     : List (List FoundRule) → RulesGathered → Type 0 where
   no_groups : GivesGroups asks name kept lines [] none_given
-  a_run : {group : List FoundRule} {groups : List (List FoundRule)} {after : RulesGathered}
-      → assigns_values group ≡ true → GivesGroups asks name kept lines groups after
-      → GivesGroups asks name kept lines (group ∷ groups) (both_given (run_given name lines group) after)
-  each_alone : {group : List FoundRule} {groups : List (List FoundRule)} {here after : RulesGathered}
-      → assigns_values group ≡ false → GivesFound asks name kept lines (map (λ rule. rule.it) group) here
-      → GivesGroups asks name kept lines groups after
+  next_group : {group : List FoundRule} {groups : List (List FoundRule)} {here after : RulesGathered}
+      → GivesGroup asks name kept lines group here → GivesGroups asks name kept lines groups after
       → GivesGroups asks name kept lines (group ∷ groups) (both_given here after)
 
 -- a text: its name, its lines, the same with lists written out, and what is found among these

@@ -1,5 +1,5 @@
 -- Runs of rules that assign values, and what is given for one that is no ABNF.
-use Rattle.std.specs.Prelude.{ℕ, ◌+◌, ◌&&◌, nat_le, nat_lt, Bool, true, false, List, [], ◌∷◌, ◌++◌, codes, decimal}
+use Rattle.std.specs.Prelude.{ℕ, suc, ◌-◌, ◌&&◌, nat_le, Bool, true, false, List, [], ◌∷◌, ◌++◌, codes, decimal}
 use Rattle.std.specs.Prelude.{drop, take, length, map, None, if◌then◌else◌}
 use Rattle.abnfblocks.specs.FoundRules.{found_line}
 use Rattle.abnfblocks.specs.RuleCuts.{blanks_first, lines_text, margin_at}
@@ -22,8 +22,8 @@ does_read (found.Rule first count) = true
 does_read (found.NotAbnf first count fault) = false
 
 -- its lines
-abbrev pub lines_of : List NumberedLine → RuleSearch → List NumberedLine
-lines_of lines it = take (line_count it) (drop (found_line it) lines)
+abbrev pub found_lines : List NumberedLine → RuleSearch → List NumberedLine
+found_lines lines it = take (line_count it) (drop (found_line it) lines)
 
 abbrev pub first_bytes : List NumberedLine → List ℕ
 first_bytes [] = []
@@ -32,10 +32,10 @@ first_bytes (line ∷ lines) = line.bytes
 -- the rule that is found there, where the first lines are those of the text, and the others have lists written out
 abbrev pub seen_at : List NumberedLine → List NumberedLine → RuleSearch → RuleSeen
 seen_at kept lines it = record {
-  first = first_bytes (lines_of lines it);
-  text = lines_text (margin_at (lines_of lines it)) (lines_of lines it);
+  first = first_bytes (found_lines lines it);
+  text = lines_text (margin_at (found_lines lines it)) (found_lines lines it);
   reads = does_read it;
-  has_list = nat_lt (lines_alike (lines_of kept it) (lines_of lines it)) (length (lines_of lines it));
+  has_list = nat_le (suc (lines_alike (found_lines kept it) (found_lines lines it))) (length (found_lines lines it));
 }
 
 -- what is found, its sketch, and whether it assigns a value
@@ -49,10 +49,14 @@ found_rules (it ∷ others) (sketch ∷ sketches) (mark ∷ marks) =
     record { it = it; sketch = sketch; is_value = mark } ∷ found_rules others sketches marks
 found_rules _ _ _ = []
 
+-- the lines after its own
+abbrev pub lines_after : List NumberedLine → RuleSearch → List NumberedLine
+lines_after lines it = drop (line_count it) (drop (found_line it) lines)
+
 -- only blank lines stand between the lines of both
 abbrev pub stand_together : List NumberedLine → RuleSearch → RuleSearch → Bool
 stand_together lines before it =
-    let end = found_line before + line_count before in nat_le (found_line it) (end + blanks_first (drop end lines))
+    nat_le (found_line it - found_line before - line_count before) (blanks_first (lines_after lines before))
 
 -- both are values, and only blank lines stand between them
 abbrev pub join_values : List NumberedLine → FoundRule → FoundRule → Bool
@@ -74,31 +78,35 @@ abbrev pub assigns_values : List FoundRule → Bool
 assigns_values group = is_no_abnf (map (λ rule. rule.sketch) group)
 
 -- the number in the text of its first line
-abbrev pub rule_number : List NumberedLine → FoundRule → ℕ
-rule_number lines rule = number_at (drop (found_line rule.it) lines) 1
+abbrev pub rule_number : List NumberedLine → RuleSearch → ℕ
+rule_number lines it = number_at (drop (found_line it) lines) 1
 
-abbrev pub last_number_of : List NumberedLine → List FoundRule → ℕ
-last_number_of lines [] = 0
-last_number_of lines (rule ∷ []) = rule_number lines rule
-last_number_of lines (rule ∷ next ∷ run) = last_number_of lines (next ∷ run)
+-- the last of what is found, of which that stands first
+abbrev pub last_found : RuleSearch → List RuleSearch → RuleSearch
+last_found it [] = it
+last_found it (next ∷ others) = last_found next others
 
 -- the message on such a run: where it begins, how many rules it has, and where the last one begins
-abbrev pub run_reported : List ℕ → List NumberedLine → List FoundRule → List ℕ
+abbrev pub run_reported : List ℕ → List NumberedLine → List RuleSearch → List ℕ
 run_reported name lines [] = []
-run_reported name lines (rule ∷ run) = position_shown name (rule_number lines rule) ++ (codes ": no ABNF: "
-    ++ (decimal (length (rule ∷ run)) ++ (codes " lines up to line "
-    ++ (decimal (last_number_of lines (rule ∷ run)) ++ codes " assign values\n"))))
+run_reported name lines (it ∷ others) = position_shown name (rule_number lines it) ++ (codes ": no ABNF: "
+    ++ (decimal (length (it ∷ others)) ++ (codes " lines up to line "
+    ++ (decimal (rule_number lines (last_found it others)) ++ codes " assign values\n"))))
 
--- the line of the list for one of its rules
-abbrev pub value_listed : List ℕ → List NumberedLine → FoundRule → List ℕ
-value_listed name lines rule = position_shown name (rule_number lines rule) ++ (codes ": '"
-    ++ (rule.sketch.name ++ codes "' assigns a value\n"))
+-- the line of the list for one of its rules, which has that name
+abbrev pub value_listed : List ℕ → List NumberedLine → RuleSearch → List ℕ → List ℕ
+value_listed name lines it own = position_shown name (rule_number lines it) ++ (codes ": '"
+    ++ (own ++ codes "' assigns a value\n"))
+
+-- and its entry
+abbrev pub value_entry : List ℕ → List NumberedLine → RuleSearch → SketchedRule → ListEntry
+value_entry name lines it sketch = OfValue (value_listed name lines it sketch.name)
 
 -- what such a run gives: no rule, a report without lines, and a line of the list for each of its rules
 abbrev pub run_given : List ℕ → List NumberedLine → List FoundRule → RulesGathered
 run_given name lines run = record {
   positions = [];
   rules = [];
-  reported = record { message = run_reported name lines run; lines = None } ∷ [];
-  list = map (λ rule. OfValue (value_listed name lines rule)) run;
+  reported = record { message = run_reported name lines (map (λ rule. rule.it) run); lines = None } ∷ [];
+  list = map (λ rule. value_entry name lines rule.it rule.sketch) run;
 }

@@ -1,12 +1,13 @@
 //! The grammar of several texts.
-ghost use Rattle.std.specs.Prelude.{map, IfOk};
+ghost use Rattle.std.specs.Prelude.{◌≡◌, ◌||◌, length, map, nat_lt, IfOk};
+ghost use Rattle.std.specs.List.{list_any};
 ghost use Rattle.abnftexts.specs.GivenRules.{text_rule};
-ghost use Rattle.abnftexts.specs.JoinedGrammar.{AreTextsJoined};
+ghost use Rattle.abnftexts.specs.JoinedGrammar.{AreTextsJoined, has_lines};
 ghost use Rattle.abnftexts.specs.JoinedViews.{IsGatheredJoined, IsStandingJoined, grammar_joined};
 ghost use Rattle.abnftexts.specs.RulesGathered.{lines_placed, named_text, reported_rule, rules_gathered};
 
 use crate::gathered::{Gathered, RulePosition, RuleReport, SourceText};
-use crate::join::{GivenRule, find_clashes, find_fates, find_order};
+use crate::join::{Clash, GivenRule, find_clashes, find_fates, find_order};
 use crate::listed::listed_text;
 use crate::printed::{printed_text, push_clashes, push_none};
 use crate::renamed::name_rules;
@@ -45,6 +46,31 @@ pub struct JoinedTexts {
     pub is_faulty: bool,
 }
 
+fn is_fault(report: &RuleReport) -> bool
+    ensures { result ≡ has_lines (reported_rule report.now) }
+{
+    report.lines.is_some()
+}
+
+fn has_fault(reports: &[RuleReport]) -> bool
+    ensures { result ≡ list_any (λ report. has_lines (reported_rule report)) reports.now }
+{
+    reports.iter().any(|report| is_fault(report))
+}
+
+fn either(has_fault: bool, has_clash: bool) -> bool
+    ensures { result ≡ (has_fault || has_clash) }
+{
+    has_fault || has_clash
+}
+
+// Whether a rule is no ABNF, or a name has two definitions.
+fn are_faulty(reports: &[RuleReport], clashes: &[Clash]) -> bool
+    ensures { result ≡ (list_any has_lines (map reported_rule reports.now) || nat_lt 0 (length clashes.now)) }
+{
+    either(has_fault(reports), clashes.len() > 0)
+}
+
 // Joins rules that stand, where these are their lines.
 fn join_standing(
     alloc: Global,
@@ -56,7 +82,6 @@ fn join_standing(
     ensures { IfOk result (λ joined. IsStandingJoined (map lines_placed positions.now) (map text_rule rules.now)
         (map reported_rule reports.items) listed.items (grammar_joined joined)) }
 {
-    let is_abnf = reports.iter().all(|report| report.lines.is_none());
     let mut reported = Vec::new(alloc);
     let order = find_order(alloc, rules)?;
     let grammar = printed_text(alloc, positions, &order)?;
@@ -65,12 +90,13 @@ fn join_standing(
     let uses = uses_in(alloc, positions, &order)?;
     push_undefined(alloc, &mut reported, rules, &uses)?;
     push_none(&mut reported, rules)?;
+    let is_faulty = are_faulty(&reports, &clashes);
     Ok(JoinedTexts {
         grammar,
         reports,
         reported,
         listed,
-        is_faulty: !is_abnf || !clashes.is_empty(),
+        is_faulty,
     })
 }
 

@@ -1,8 +1,8 @@
 //! The list of the rules that texts give.
-ghost use Rattle.std.specs.Prelude.{◌≡◌, ◌++◌, map, IfOk, OnOk};
+ghost use Rattle.std.specs.Prelude.{◌≡◌, ◌++◌, ◌∷◌, List, drop, map, IfOk, OnOk};
 ghost use Rattle.abnftexts.specs.GivenRules.{text_rule};
-ghost use Rattle.abnftexts.specs.JoinedGrammar.{fate_reported, rule_listed, rules_listed};
-ghost use Rattle.abnftexts.specs.RulesGathered.{entry_listed, lines_placed};
+ghost use Rattle.abnftexts.specs.JoinedGrammar.{fate_reported, listed_from, rule_listed, rules_listed};
+ghost use Rattle.abnftexts.specs.RulesGathered.{ListEntry, entry_listed, lines_placed};
 
 use crate::gathered::{ListLine, RulePosition};
 use crate::join::{Fate, GivenRule};
@@ -47,6 +47,35 @@ fn push_listed(
     Ok(())
 }
 
+// Adds an entry of the list, where the next rule has that number, and returns the number of the rule after it.
+fn push_entry(
+    out: &mut Vec<u8>,
+    positions: &[RulePosition<'_>],
+    rules: &[GivenRule],
+    fates: &[Fate],
+    number: usize,
+    line: &ListLine,
+) -> Result<usize, Memory>
+    ensures { IfOk result (λ next. (list : List ListEntry) → out.new.items
+        ++ listed_from (map lines_placed positions.now) (map text_rule rules.now) next (drop next fates.now) list
+        ≡ out.old.items ++ listed_from (map lines_placed positions.now) (map text_rule rules.now) number
+        (drop number fates.now) (entry_listed line.now ∷ list)) }
+{
+    match line {
+        ListLine::Value(text) => {
+            out.extend_from_slice(text)?;
+            Ok(number)
+        }
+        ListLine::Rule => match fates.get(number) {
+            Some(fate) => {
+                push_listed(out, positions, rules, number, *fate)?;
+                Ok(number + 1)
+            }
+            None => Ok(number),
+        },
+    }
+}
+
 /// Returns the lines of the list, where these are the fates of the rules.
 ///
 /// # Errors
@@ -64,16 +93,7 @@ pub(crate) fn listed_text(
     let mut out = Vec::new(alloc);
     let mut number = 0;
     for line in list {
-        match line {
-            ListLine::Rule => {
-                let Some(fate) = fates.get(number) else {
-                    break;
-                };
-                push_listed(&mut out, positions, rules, number, *fate)?;
-                number += 1;
-            }
-            ListLine::Value(text) => out.extend_from_slice(text)?,
-        }
+        number = push_entry(&mut out, positions, rules, fates, number, line)?;
     }
     Ok(out)
 }

@@ -1,11 +1,14 @@
 //! The rule that a text spells.
-ghost use Rattle.std.specs.Prelude.{◌≡◌, option_map, IfOk};
+ghost use Rattle.std.specs.Prelude.{◌≡◌, map, option_map, IfOk};
+ghost use Rattle.abnfblocks.specs.RuleCuts.{margin_at};
+ghost use Rattle.abnfblocks.specs.TextLines.{numbered};
 ghost use Rattle.abnfread.specs.AbnfViews.{definition_from};
 ghost use Rattle.abnftexts.specs.GivenRules.{text_rule};
 ghost use Rattle.abnftexts.specs.TakenRules.{IsRuleOf};
 ghost use Rattle.abnftexts.specs.TextRules.{given_by};
 
 use crate::join::{GivenRule, is_only_prose};
+use abnfblocks::{TextLine, margin};
 use abnfread::{Definition, begun_body, one_reading, read_definitions};
 use ruletable::{Memory, ReadFault};
 use std::alloc::Global;
@@ -24,6 +27,16 @@ fn given_rule(alloc: Global, definition: Definition<'_>) -> Result<GivenRule, Me
         body,
         is_prose,
     })
+}
+
+/// Returns the margin of the first of these lines.
+pub(crate) fn margin_in(lines: &[TextLine<'_>]) -> usize
+    ensures { result ≡ margin_at (map numbered lines.now) }
+{
+    match lines.first() {
+        Some(line) => margin(line.bytes),
+        None => 0,
+    }
 }
 
 /// Returns the rule that the text alone spells, if it spells one.

@@ -1,26 +1,26 @@
 //! The rules that texts give.
-ghost use Rattle.std.specs.Prelude.{◌≡◌, List, Option, map, IfOk, OnOk};
-ghost use Rattle.abnfblocks.specs.RuleCuts.{margin_at};
-ghost use Rattle.abnftexts.specs.GivenRules.{text_rule};
+ghost use Rattle.std.specs.Prelude.{◌≡◌, ◌≤◌, List, Option, length, map, IfOk, OnOk};
 ghost use Rattle.abnfblocks.specs.TextLines.{numbered};
+ghost use Rattle.abnftexts.specs.GivenRules.{text_rule};
 ghost use Rattle.abnftexts.specs.RulesGathered.{NamedText, both_given, lines_placed, one_rule, reported_rule};
 ghost use Rattle.abnftexts.specs.RulesGathered.{rules_gathered};
 ghost use Rattle.abnftexts.specs.ShownTexts.{AreShown};
+ghost use Rattle.abnftexts.specs.TakenRules.{AddsReport, AreTextRows, AreTextsFound, FindsShown, TakesFound};
+ghost use Rattle.abnftexts.specs.TakenRules.{TakesGroup, TakesGroups, TakesRule, rule_count, text_found, text_rows};
+ghost use Rattle.abnftexts.specs.TextRules.{AreSketches, GiveFound, GiveTexts, IsRuleReported, asks_lists, position_in};
+ghost use Rattle.abnftexts.specs.TextRules.{rules_seen};
 ghost use Rattle.rfcvalues.specs.RuleSketches.{rule_sketched};
-ghost use Rattle.abnftexts.specs.TakenRules.{AddsReport, AreTextRows, FindsShown, TakesFound, TakesGroups, TakesRule};
-ghost use Rattle.abnftexts.specs.TakenRules.{text_rows};
-ghost use Rattle.abnftexts.specs.TextRules.{GiveTexts, IsRuleReported, position_in};
 
 use crate::gathered::{
     FoundText, Gathered, ListLine, RulePosition, RuleReport, ShownText, WrittenText,
 };
 use crate::join::GivenRule;
 use crate::lists::{first_list, written_lines};
-use crate::own::read_rule;
+use crate::own::{margin_in, read_rule};
 use crate::reported::{fault_message, list_message};
-use crate::values::{group_size, push_sketches, take_run};
+use crate::values::{push_sketches, run_size, take_run};
 use abnfblocks::{
-    RuleSearch, TextLine, blank_count, find_rules, joined_text, margin, one_masking, read_lines,
+    RuleSearch, TextLine, blank_count, find_rules, joined_text, one_masking, read_lines,
 };
 use rfcforms::{ListForm, items_after, items_before};
 use rfcvalues::{RuleSketch, are_values, is_no_abnf};
@@ -40,16 +40,6 @@ fn push_rule<'a>(
     gathered.rules.push(rule)?;
     gathered.list.push(ListLine::Rule)?;
     Ok(())
-}
-
-// The margin of the first of these lines.
-fn margin_in(lines: &[TextLine<'_>]) -> usize
-    ensures { result ≡ margin_at (map numbered lines.now) }
-{
-    match lines.first() {
-        Some(line) => margin(line.bytes),
-        None => 0,
-    }
 }
 
 // Where the rule stands that has so many of these lines, the first ones as their text has them.
@@ -169,7 +159,25 @@ fn take_each<'a>(
     Ok(())
 }
 
-// Takes what is found in a text, where its sketches and the marks of its values are these.
+// Takes what is found there: a run of values, or a rule. It has these sketches.
+fn take_group<'a>(
+    alloc: Global,
+    gathered: &mut Gathered<'a>,
+    text: &WrittenText<'a>,
+    group: &[RuleSearch],
+    sketches: &[RuleSketch],
+) -> Result<(), Memory>
+    ensures { OnOk result (TakesGroup (text_rows text.now) group.now (map rule_sketched sketches.now)
+        (rules_gathered gathered.old) (rules_gathered gathered.new)) }
+{
+    let is_none = is_no_abnf(alloc, sketches)?;
+    if is_none {
+        return take_run(alloc, gathered, text, group, sketches);
+    }
+    take_each(alloc, gathered, text, group)
+}
+
+// Takes what is found in a text. These are its sketches, and the marks of its values, and those of later texts.
 fn take_found<'a>(
     alloc: Global,
     gathered: &mut Gathered<'a>,
@@ -182,14 +190,13 @@ fn take_found<'a>(
 {
     let mut at = 0;
     while at < text.found.len() {
-        let size = group_size(text, values, at);
-        let group = items_before(items_after(&text.found, at), size);
-        let own = items_before(items_after(sketches, at), size);
-        if is_no_abnf(alloc, own)? {
-            take_run(alloc, gathered, &text.rows, group, own)?;
-        } else {
-            take_each(alloc, gathered, &text.rows, group)?;
-        }
+        let found = items_after(&text.found, at);
+        let marks = items_after(values, at);
+        let size = run_size(&text.rows.lines, found, marks);
+        let group = items_before(found, size);
+        let left = items_after(sketches, at);
+        let own = items_before(left, size);
+        take_group(alloc, gathered, &text.rows, group, own)?;
         at += size;
     }
     Ok(())
@@ -236,6 +243,59 @@ fn found_text<'a>(alloc: Global, text: &'a ShownText<'_>) -> Result<FoundText<'a
     Ok(FoundText { rows, found })
 }
 
+// Finds the rules of texts.
+fn found_texts<'a>(alloc: Global, texts: &'a [ShownText<'_>]) -> Result<Vec<FoundText<'a>>, Memory>
+    ensures { IfOk result (λ all. (lists : Option ListForm) (named : List NamedText)
+        → AreShown lists named texts.now → AreTextsFound lists named all.items) }
+{
+    let mut all = Vec::new(alloc);
+    for text in texts {
+        let found = found_text(alloc, text)?;
+        all.push(found)?;
+    }
+    Ok(all)
+}
+
+// The sketches of what is found in texts.
+fn text_sketches(alloc: Global, texts: &[FoundText<'_>]) -> Result<Vec<RuleSketch>, Memory>
+    ensures { IfOk result (λ sketches. AreSketches (rules_seen (map text_found texts.now))
+        (map rule_sketched sketches.items)) }
+{
+    let mut sketches = Vec::new(alloc);
+    for text in texts {
+        push_sketches(alloc, &mut sketches, &text.rows, &text.found)?;
+    }
+    Ok(sketches)
+}
+
+// Takes what is found in texts. These are its sketches, and the marks of its values.
+fn take_all<'a>(
+    alloc: Global,
+    texts: &[FoundText<'a>],
+    sketches: &[RuleSketch],
+    values: &[bool],
+) -> Result<Gathered<'a>, Memory>
+    ensures { IfOk result (λ gathered. (lists : Option ListForm) (named : List NamedText)
+        → AreTextsFound lists named texts.now → rule_count texts.now ≤ length sketches.now
+        → rule_count texts.now ≤ length values.now → GiveFound (asks_lists lists) (map text_found texts.now)
+        (map rule_sketched sketches.now) values.now (rules_gathered gathered)) }
+{
+    let mut gathered = Gathered {
+        positions: Vec::new(alloc),
+        rules: Vec::new(alloc),
+        reported: Vec::new(alloc),
+        list: Vec::new(alloc),
+    };
+    let mut own = sketches;
+    let mut marks = values;
+    for text in texts {
+        take_found(alloc, &mut gathered, text, own, marks)?;
+        own = items_after(own, text.found.len());
+        marks = items_after(marks, text.found.len());
+    }
+    Ok(gathered)
+}
+
 /// Takes the rules of texts, one text after another.
 ///
 /// # Errors
@@ -247,25 +307,8 @@ pub(crate) fn take_texts<'a>(
     ensures { IfOk result (λ gathered. (lists : Option ListForm) (named : List NamedText)
         → AreShown lists named texts.now → GiveTexts lists named (rules_gathered gathered)) }
 {
-    let mut gathered = Gathered {
-        positions: Vec::new(alloc),
-        rules: Vec::new(alloc),
-        reported: Vec::new(alloc),
-        list: Vec::new(alloc),
-    };
-    let mut all = Vec::new(alloc);
-    let mut sketches = Vec::new(alloc);
-    for text in texts {
-        let found = found_text(alloc, text)?;
-        push_sketches(alloc, &mut sketches, &found)?;
-        all.push(found)?;
-    }
+    let all = found_texts(alloc, texts)?;
+    let sketches = text_sketches(alloc, &all)?;
     let values = are_values(alloc, &sketches)?;
-    let mut first = 0;
-    for text in &all {
-        let own = items_after(&sketches, first);
-        take_found(alloc, &mut gathered, text, own, items_after(&values, first))?;
-        first += text.found.len();
-    }
-    Ok(gathered)
+    take_all(alloc, &all, &sketches, &values)
 }

@@ -21,14 +21,16 @@ fn explained(alloc: Global, text: &[u8]) -> Result<Vec<u8>, Memory>
     }
 }
 
-// Returns what explains these lines, where that is asked for.
-fn explained_if(alloc: Global, explains: bool, text: &[u8]) -> Result<Vec<u8>, Memory>
-    ensures { IfOk result (λ why. ExplainsIfAsked explains text.now why.items) }
+// Returns what explains the lines of a report, where that is asked for.
+fn explained_if(alloc: Global, explains: bool, report: &RuleReport) -> Result<Vec<u8>, Memory>
+    ensures { IfOk result (λ why. ExplainsIfAsked explains (reported_rule report.now).lines why.items) }
 {
-    if explains {
-        explained(alloc, text)
-    } else {
-        Ok(Vec::new(alloc))
+    if !explains {
+        return Ok(Vec::new(alloc));
+    }
+    match &report.lines {
+        Some(lines) => explained(alloc, lines),
+        None => Ok(Vec::new(alloc)),
     }
 }
 
@@ -42,11 +44,9 @@ fn push_report(
     ensures { OnOk result ((why : List ℕ) × ExplainsIfAsked explains (reported_rule report.now).lines why
         × (out.new.items ≡ out.old.items ++ ((reported_rule report.now).message ++ why))) }
 {
+    let why = explained_if(alloc, explains, report)?;
     out.extend_from_slice(&report.message)?;
-    if let Some(lines) = &report.lines {
-        let why = explained_if(alloc, explains, lines)?;
-        out.extend_from_slice(&why)?;
-    }
+    out.extend_from_slice(&why)?;
     Ok(())
 }
 

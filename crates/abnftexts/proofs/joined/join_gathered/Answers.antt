@@ -20,4 +20,5 @@ returns c =
     (λ j. IsGatheredJoined (rules_gathered c.args.gathered) (grammar_joined j)) c.join_standing.result
     (λ j h. gathered-all c.args.gathered.positions.items c.in_ok-standing_positions.standing_positions.items
     c.args.gathered.rules.items c.in_ok-standing_rules.standing_rules.items
-    reports (map entry_listed c.args.gathered.list.items) c.in_ok-listed.listed.items c.in_ok-fates.fates.items (grammar_joined j) fates list positions rules h) joins
+    reports (map entry_listed c.args.gathered.list.items) c.in_ok-listed.listed.items c.in_ok-fates.fates.items
+    (grammar_joined j) fates list positions rules h) joins

@@ -1,7 +1,7 @@
 use Rattle.std.proofs.Common.{map}
 use Rattle.abnftexts.specs.GivenRules.{text_rule}
 use Rattle.abnftexts.specs.JoinedRules.{clash_at}
-use Rattle.abnftexts.proofs.JoinedLemmas.{one-more}
+use Rattle.abnftexts.proofs.FatesLemmas.{one-more}
 use Rattle.abnftexts.proofs.join.order.find_clashes.Goals as goal
 
 pub loop-number-preserved : goal.loop-number-preserved

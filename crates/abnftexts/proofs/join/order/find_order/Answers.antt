@@ -4,7 +4,7 @@ use Rattle.abnftexts.specs.GivenRules.{text_rule}
 use Rattle.abnftexts.specs.JoinedRules.{printed_at}
 use Rattle.abnftexts.specs.ListedRules.{is_listed_for}
 use Rattle.abnftexts.specs.declared.join.by_name.Listed.TheVariants.{Additions}
-use Rattle.abnftexts.proofs.JoinedLemmas.{one-more}
+use Rattle.abnftexts.proofs.FatesLemmas.{one-more}
 use Rattle.diagnostics.proofs.NumberListsLemmas.{lists-more, lists-none}
 use Rattle.abnftexts.proofs.join.order.find_order.Goals as goal
 

@@ -1,7 +1,7 @@
 use Rattle.std.proofs.Common.{◌∙◌, List, ap, take, ℕ}
 use Rattle.diagnostics.specs.NumberLists.{numbers_for}
 use Rattle.abnftexts.specs.GivenRules.{text_rule}
-use Rattle.abnftexts.proofs.JoinedLemmas.{printed-first}
+use Rattle.abnftexts.proofs.FatesLemmas.{printed-first}
 use Rattle.abnftexts.proofs.ListNamesLemmas.{adding-listed}
 use Rattle.abnftexts.proofs.join.order.push_printed.Goals as goal
 

@@ -1,9 +1,30 @@
-use Rattle.std.proofs.Common.{◌∙◌, List, ap, sym, ℕ}
-use Rattle.abnfread.specs.AbnfViews.{element_of}
+use Rattle.std.proofs.Common.{◌≡◌, ◌∙◌, ◌&&◌, Bool, true, false, List, [], ◌∷◌, ap, arith, length, refl, sym, ℕ}
+use Rattle.abnfread.specs.AbnfViews.{element_of, elements_of}
 use Rattle.abnfread.specs.Element as element
+use Rattle.abnfread.specs.Element.{Element}
+use Rattle.abnfread.specs.declared.elem.Elem.{Elem}
 use Rattle.abnfread.proofs.ElementLemmas.{element-Name, element-Range, element-Text, element-Values}
-use Rattle.abnftexts.proofs.AllSameLemmas.{leaf-same, unlike-lengths}
+use Rattle.abnftexts.specs.SameElements.{same_as, all_same}
 use Rattle.abnftexts.proofs.join.same.+comparing.Goals as goal
+
+and-false : (b : Bool) → (b && false) ≡ false
+and-false true = refl
+and-false false = refl
+
+module _ (named : Bool) where
+  -- an element without operands, whatever counts for prose
+  leaf-same : (a b : Elem) (x : Element) (r : Bool) → element_of a ≡ x
+      → ((n : Bool) → r ≡ same_as n x (element_of b)) → r ≡ same_as named (element_of a) (element_of b)
+  leaf-same a b x r is h = h named ∙ ap (λ (e : Element). same_as named e (element_of b)) (sym is)
+
+  unlike-lengths : (a b : List Elem) → (length a ≡ length b → ⊥)
+      → all_same named (elements_of a) (elements_of b) ≡ false
+  unlike-lengths [] [] h = absurd (h refl)
+  unlike-lengths [] (y ∷ ys) h = refl
+  unlike-lengths (x ∷ xs) [] h = refl
+  unlike-lengths (x ∷ xs) (y ∷ ys) h =
+      let rest = unlike-lengths xs ys (λ e. h (omega arith)) in
+      rw rest (and-false (same_as named (element_of x) (element_of y)))
 
 pub are_same-returns-then-a-b : goal.are_same-returns-then-a-b
 are_same-returns-then-a-b t c = sym (unlike-lengths c.args.named c.args.a.now c.args.b.now c.if-a-b.true)
