@@ -168,7 +168,8 @@ def lines(name):
 
 def main():
     name = sys.argv[1]
-    others = {"ss50": "ss", "ss200": "ss", "dense2500": "dense", "right10k": "right", "short": "alpha", "nested": "json"}
+    others = {"ss50": "ss", "ss200": "ss", "dense2500": "dense", "right10k": "right", "short": "alpha",
+              "nested": "json"}
     grammar = G[others.get(name, name)]
     own = {line.split("=")[0].strip().lower() for line in grammar.splitlines()}
     core = [line for line in CORE.splitlines() if line.split("=")[0].strip().lower() not in own]
