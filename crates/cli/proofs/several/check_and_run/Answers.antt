@@ -27,7 +27,7 @@ pub returns : goal.returns
 returns g c =
     let none : code_of c.run_grammar-text.result.status ≡ 0 =
     omega (arith, c.code.ensures, c.if-code-gt0.false) in
-    runs _ (record c.args.asked.settings { mode = Run; }) c.run_grammar-text.result.text.items
+    runs _ (record c.args.asked.settings { mode = Run }) c.run_grammar-text.result.text.items
     c.run_grammar-text.result.messages.items
     (passed g.O.Sink.contents g.O.Sink.failed c.args.out.now c.run_grammar-text.new.out)
     (passed g.O.Sink.contents g.O.Sink.failed c.run_grammar-text.new.out c.run_inputs.new.out)
