@@ -251,17 +251,18 @@ module _ (tables : code_flat.Tables) (samples : List ℕ) where
           subst (λ v. IsStart tables conts v state.ended) (sym is.1)
           (subst (λ v. IsStart tables conts tops v) (sym is.2) (start is.0))
 
-      which : (i d : ℕ) (cell : Cell) → slice_get samples (i % length samples) ≡ Some d
-          → (slice_get cells i ≡ Some cell) ⊎ (cell ≡ Unknown) → IsCell tables d conts new (i / length samples) cell
+      which : (i d : ℕ) (cell : Cell) → slice_get samples (i % (length samples + 1)) ≡ Some d
+          → (slice_get cells i ≡ Some cell) ⊎ (cell ≡ Unknown)
+          → IsCell tables d conts new (i / (length samples + 1)) cell
       which i d cell sample (inl is) =
           cell_kept tables d conts conts old new _ cell (kept_same conts) interned.grown h.within
           (h.filled i d cell is sample)
-      which i d cell sample (inr is) = subst (λ v. IsCell tables d conts new (i / length samples) v) (sym is) tt
+      which i d cell sample (inr is) = subst (λ v. IsCell tables d conts new (i / (length samples + 1)) v) (sym is) tt
 
   -- a cell was written
   pub cached_cell : (conts : List Cont) (states : List State) (cells : List Cell) (at_i : ℕ) (new : Cell)
-      → at_i < length cells → ((d : ℕ) → slice_get samples (at_i % length samples) ≡ Some d
-      → IsCell tables d conts states (at_i / length samples) new) → AreCached tables samples conts states cells
+      → at_i < length cells → ((d : ℕ) → slice_get samples (at_i % (length samples + 1)) ≡ Some d
+      → IsCell tables d conts states (at_i / (length samples + 1)) new) → AreCached tables samples conts states cells
       → AreCached tables samples conts states (set cells at_i new)
   cached_cell conts states cells at_i new lt is h = record {
     older = h.older;
@@ -271,12 +272,13 @@ module _ (tables : code_flat.Tables) (samples : List ℕ) where
   }
     where
       other : (i d : ℕ) (cell : Cell) → (i ≡ at_i → ⊥) → slice_get (set cells at_i new) i ≡ Some cell
-          → slice_get samples (i % length samples) ≡ Some d → IsCell tables d conts states (i / length samples) cell
+          → slice_get samples (i % (length samples + 1)) ≡ Some d
+          → IsCell tables d conts states (i / (length samples + 1)) cell
       other i d cell not there sample = h.filled i d cell (sym (set_other cells at_i i new not) ∙ there) sample
 
       by : (i d : ℕ) (cell : Cell) → slice_get (set cells at_i new) i ≡ Some cell
-          → slice_get samples (i % length samples) ≡ Some d → (i < at_i) ⊎ (at_i ≤ i) → (at_i < i) ⊎ (i ≤ at_i)
-          → IsCell tables d conts states (i / length samples) cell
+          → slice_get samples (i % (length samples + 1)) ≡ Some d → (i < at_i) ⊎ (at_i ≤ i) → (at_i < i) ⊎ (i ≤ at_i)
+          → IsCell tables d conts states (i / (length samples + 1)) cell
       by i d cell there sample (inl less) _ = other i d cell (λ e. omega (arith, less, e)) there sample
       by i d cell there sample (inr le) (inl more) = other i d cell (λ e. omega (arith, more, e)) there sample
       by i d cell there sample (inr le) (inr ge) =
@@ -284,9 +286,9 @@ module _ (tables : code_flat.Tables) (samples : List ℕ) where
           let both : Some new ≡ Some cell = sym (set_same cells at_i new lt)
           ∙ subst (λ v. slice_get (set cells at_i new) v ≡ Some cell) (sym here) there in
           let same : new ≡ cell = cc both in
-          subst (λ v. IsCell tables d conts states (v / length samples) cell) here
-          (subst (λ v. IsCell tables d conts states (at_i / length samples) v) same
-          (is d (subst (λ v. slice_get samples (v % length samples) ≡ Some d) (sym here) sample)))
+          subst (λ v. IsCell tables d conts states (v / (length samples + 1)) cell) here
+          (subst (λ v. IsCell tables d conts states (at_i / (length samples + 1)) v) same
+          (is d (subst (λ v. slice_get samples (v % (length samples + 1)) ≡ Some d) (sym here) sample)))
 
 module _ (tables : code_flat.Tables) (c : ℕ) (conts : List Cont) (ids : List ℕ) where
   abbrev pub NoneReads : ℕ → Type 0
@@ -357,21 +359,21 @@ module _ (s k n i : ℕ) (lt : k < n) (is : i ≡ s * n + k) where
       ap (λ v. v % n) is ∙ m
 
 module _ (tables : code_flat.Tables) (samples : List ℕ) (conts : List Cont) (states : List State) (cells : List Cell)
-    (cached : AreCached tables samples conts states cells) (s k i : ℕ) (cell : Cell) (lt : k < length samples)
-    (at_i : i ≡ s * length samples + k) where
+    (cached : AreCached tables samples conts states cells) (s k i : ℕ) (cell : Cell) (lt : k < length samples + 1)
+    (at_i : i ≡ s * (length samples + 1) + k) where
   pub cell_there : slice_get cells i ≡ Some cell → (d : ℕ) → slice_get samples k ≡ Some d
       → IsCell tables d conts states s cell
   cell_there there d sample =
-      subst (λ v. IsCell tables d conts states v cell) (row_is s k (length samples) i lt at_i)
+      subst (λ v. IsCell tables d conts states v cell) (row_is s k (length samples + 1) i lt at_i)
       (cached.filled i d cell there
-      (subst (λ v. slice_get samples v ≡ Some d) (sym (class_is s k (length samples) i lt at_i)) sample))
+      (subst (λ v. slice_get samples v ≡ Some d) (sym (class_is s k (length samples + 1) i lt at_i)) sample))
 
   pub cell_written : i < length cells → ((d : ℕ) → slice_get samples k ≡ Some d → IsCell tables d conts states s cell)
       → AreCached tables samples conts states (set cells i cell)
   cell_written within is =
       cached_cell tables samples conts states cells i cell within (λ d sample.
-      subst (λ v. IsCell tables d conts states v cell) (sym (row_is s k (length samples) i lt at_i))
-      (is d (subst (λ v. slice_get samples v ≡ Some d) (class_is s k (length samples) i lt at_i) sample))) cached
+      subst (λ v. IsCell tables d conts states v cell) (sym (row_is s k (length samples + 1) i lt at_i))
+      (is d (subst (λ v. slice_get samples v ≡ Some d) (class_is s k (length samples + 1) i lt at_i) sample))) cached
 
 -- a state was added after others
 module _ (tables : code_flat.Tables) (samples : List ℕ) (conts mid new : List Cont) (states more : List State)

@@ -19,7 +19,9 @@ use Rattle.letterclasses.specs.ClassBounds.{AreClasses, IsClassOf}
 use Rattle.lazydfa.specs.declared.glide.Track.{Track}
 use Rattle.lazydfa.specs.declared.memo.Memo.{Memo}
 use Rattle.lazydfa.specs.Transitions.{IsEndAt, IsTransitionTo, IsTaken, StaysBy, StaysOver, last_word}
-use Rattle.lazydfa.specs.Memos.{IsEndOf, IsMemo, IsOver, IsSettled, IsRunStop, IsTrack}
+use Rattle.lazydfa.specs.declared.run.RunStep.{RunStep}
+use Rattle.lazydfa.specs.declared.run.RunStep.TheVariants as steps
+use Rattle.lazydfa.specs.Memos.{IsEndOf, IsMemo, IsOver, IsSettled, IsRunStop, IsStepTaken, IsStepTo, IsTrack}
 use Rattle.lazydfa.specs.RunVerdicts.{IsReached, IsRunVerdict}
 use Rattle.lazydfa.specs.StackSuffixes.{below_of}
 use Rattle.lazydfa.proofs.ContsLemmas.{kept_same}
@@ -243,27 +245,13 @@ module _ (tables : code_flat.Tables) (samples : List ℕ) (memo : Memo) (x : Lis
     reached = reached;
   }
 
-  pub runs_by_row : (row stride j : ℕ) → stride ≡ length samples + 1
-      → IsTrack tables samples memo x (record { row = row; at = j })
-      → IsSettled tables memo.cache.conts.items.items memo.cache.states.items memo.suffixes.items (row / stride) x j
-  runs_by_row row stride j wide track =
-      let first : row ≡ track.state * (length samples + 1) + 0 = let r = track.row in omega (arith, r) in
-      subst (λ v. IsSettled tables memo.cache.conts.items.items memo.cache.states.items memo.suffixes.items v x j)
-      (sym (row_is track.state 0 (length samples + 1) row (omega arith) first) ∙ ap (λ v. row / v) (sym wide))
-      track.runs
-
-  -- .. and over another memo, if the state does
-  pub stays_at : (new : Memo) (track : Track) → IsTrack tables samples memo x track
-      → IsSettled tables new.cache.conts.items.items new.cache.states.items new.suffixes.items
-      (track.row / (length samples + 1)) x track.at → IsTrack tables samples new x track
-  stays_at new track t runs = record {
-    state = t.state;
-    row = t.row;
-    runs = let first : track.row ≡ t.state * (length samples + 1) + 0 = let r = t.row in omega (arith, r) in
-        subst (λ v. IsSettled tables new.cache.conts.items.items new.cache.states.items new.suffixes.items v x track.at)
-        (row_is t.state 0 (length samples + 1) track.row (omega arith) first) runs;
-    reached = t.reached;
-  }
+  -- .. and a step to a state leads to its row
+  pub step_taken : (s row j : ℕ) (step : RunStep) → IsStepTo s (length samples + 1) step
+      → IsSettled tables memo.cache.conts.items.items memo.cache.states.items memo.suffixes.items s x (j + 1)
+      → IsReached (flat_of tables) (last_of tables) x (j + 1) → IsStepTaken tables samples memo x row j step
+  step_taken s row j (steps.To r) is runs reached = record { state = s; row = is; runs = runs; reached = λ _. reached }
+  step_taken s row j steps.Dead is runs reached = absurd is
+  step_taken s row j steps.Over is runs reached = tt
 
   -- .. and where a run stops after all symbols, ended says the verdict
   pub stop_verdict : IsMemo tables samples memo → (stop : Track) → IsRunStop tables samples memo x stop

@@ -1,6 +1,6 @@
 -- States and cells that are kept.
-use Rattle.std.specs.Prelude.{◌≡◌, ◌↔◌, ◌⊎◌, ℕ, ◌≤◌, ◌/◌, ◌%◌, Bool, true, false, List, [], ◌++◌, length, slice_get}
-use Rattle.std.specs.Prelude.{Some, Contains}
+use Rattle.std.specs.Prelude.{◌≡◌, ◌↔◌, ◌⊎◌, ℕ, ◌+◌, ◌≤◌, ◌/◌, ◌%◌, Bool, true, false, List, [], ◌++◌, length}
+use Rattle.std.specs.Prelude.{slice_get, Some, Contains}
 use Rattle.flatgrammar.specs.Flat.{Dot}
 use Rattle.flatgrammar.specs.ItemClosures.{begin_count}
 use Rattle.flatgrammar.specs.TableViews.{start_target}
@@ -82,15 +82,16 @@ IsCell tables d conts states s Dead = IsDead tables d conts states s
 IsCell tables d conts states s (To t) = IsStep tables d conts states s t
 IsCell tables d conts states s (Push t suffix) = IsPush tables d conts states s t suffix
 
--- the cell i is that of the state i / n and the class i % n, where n classes have samples
+-- the cell i is that of the state i / (n + 1) and the class i % (n + 1), where n classes have samples
 pub record AreCached (tables : code_flat.Tables) (samples : List ℕ) (conts : List Cont) (states : List State)
     (cells : List Cell) : Type 0 where
   pub older : AreOlder conts
   pub within : (s : ℕ) (state : State) → slice_get states s ≡ Some state → (id : ℕ) → Contains state.tops.items id
       → id ≤ length conts
   pub start : (state : State) → slice_get states 0 ≡ Some state → IsStart tables conts state.tops.items state.ended
-  pub filled : (i d : ℕ) (cell : Cell) → slice_get cells i ≡ Some cell → slice_get samples (i % length samples) ≡ Some d
-      → IsCell tables d conts states (i / length samples) cell
+  pub filled : (i d : ℕ) (cell : Cell) → slice_get cells i ≡ Some cell
+      → slice_get samples (i % (length samples + 1)) ≡ Some d
+      → IsCell tables d conts states (i / (length samples + 1)) cell
 
 abbrev pub IsCache : code_flat.Tables → List ℕ → Cache → Type 0
 IsCache tables samples cache =

@@ -72,6 +72,10 @@ pub record IsTrack (tables : code_flat.Tables) (samples : List ℕ) (memo : Memo
     pub runs : RunsAt tables memo state x track.at
     pub reached : 0 < track.at → IsReached (flat_of tables) (last_of tables) x track.at
 
+-- .. from a row, after the first j symbols
+abbrev pub TracksAt : code_flat.Tables → List ℕ → Memo → List ℕ → ℕ → ℕ → Type 0
+TracksAt tables samples memo x row j = IsTrack tables samples memo x (record { row = row; at = j })
+
 -- where a run goes on, it goes on to there, by any grammar that the memo is of
 abbrev pub GlidesOver : List ℕ → List ℕ → Memo → List ℕ → Track → Track → Type 0
 GlidesOver low samples memo x from to = (tables : code_flat.Tables) → GiveTargets (flat_of tables) tables.targets.items
@@ -84,13 +88,18 @@ IsEndOf samples memo row ended = (tables : code_flat.Tables) → IsMemo tables s
     → row ≡ s * (length samples + 1) → (got : State) → slice_get memo.cache.states.items s ≡ Some got
     → ended ≡ got.ended
 
--- what the symbol after the first j leads to from a state
-abbrev pub IsStepTaken : code_flat.Tables → Memo → ℕ → List ℕ → ℕ → RunStep → Type 0
-IsStepTaken tables memo s x j (To t) = RunsAt tables memo t x (j + 1)
-    × IsReached (flat_of tables) (last_of tables) x (j + 1)
-IsStepTaken tables memo s x j Dead = RunsAt tables memo s x j
+-- what the symbol after the first j leads to from a row
+abbrev pub IsStepTaken : code_flat.Tables → List ℕ → Memo → List ℕ → ℕ → ℕ → RunStep → Type 0
+IsStepTaken tables samples memo x row j (To r) = TracksAt tables samples memo x r (j + 1)
+IsStepTaken tables samples memo x row j Dead = TracksAt tables samples memo x row j
     × ((m : ℕ) → j < m → IsReached (flat_of tables) (last_of tables) x m → ⊥)
-IsStepTaken tables memo s x j Over = Unit {0}
+IsStepTaken tables samples memo x row j Over = Unit {0}
+
+-- a step to the row of a state, where rows have so many words
+abbrev pub IsStepTo : ℕ → ℕ → RunStep → Type 0
+IsStepTo s stride (To r) = r ≡ s * stride
+IsStepTo s stride Dead = ⊥
+IsStepTo s stride Over = Unit {0}
 
 -- where a run stops: at the end of the line, or where one more symbol leads to nothing
 pub record IsRunStop (tables : code_flat.Tables) (samples : List ℕ) (memo : Memo) (x : List ℕ) (stop : Track) : Type 0

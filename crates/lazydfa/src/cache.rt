@@ -40,9 +40,10 @@ pub(crate) enum Cell {
 
 /// The states known so far with their transitions, and the budget for more. State 0 is the start.
 ///
-/// `cells` is a table by state and class: the cell of state `s` and class `c` is entry `s * classes + c`. A state is
-/// added with a row of cells that are `Unknown`. A cell is filled when a line first needs it. `forget` empties all
-/// together, since states name continuations, and cells name states.
+/// `cells` is a table by state and class: the cell of state `s` and class `c` is entry `s * (classes + 1) + c`, as in
+/// `transitions`. The last cell of a row is of no class. A state is added with a row of cells that are `Unknown`. A
+/// cell is filled when a line first needs it. `forget` empties all together, since states name continuations, and cells
+/// name states.
 #[derive(Drop)]
 pub(crate) struct Cache {
     /// The continuations that states, suffixes and cells name by id.
@@ -182,8 +183,9 @@ fn add_cells(count: usize, cells: &mut Vec<Cell>) -> Result<(), Memory>
     Ok(())
 }
 
-/// Returns the number of a state, which is added if it is not found. `Memory` if an allocation fails.
-pub(crate) fn state_of(cache: &mut Cache, classes: usize, closure: Closure) -> Result<usize, Memory>
+/// Returns the number of a state, which is added with so many cells if it is not found. `Memory` if an allocation
+/// fails.
+pub(crate) fn state_of(cache: &mut Cache, stride: usize, closure: Closure) -> Result<usize, Memory>
     ensures conts { IfOk result (λ t. cache.new.conts ≡ cache.old.conts) }
     ensures is { IfOk result
         (λ t. IsInterned cache.old.states.items cache.new.states.items closure.tops.items closure.ended
@@ -200,6 +202,6 @@ pub(crate) fn state_of(cache: &mut Cache, classes: usize, closure: Closure) -> R
         ended: closure.ended,
     })?;
     chain_last(&cache.states, &mut cache.chains)?;
-    add_cells(classes, &mut cache.cells)?;
+    add_cells(stride, &mut cache.cells)?;
     Ok(t)
 }

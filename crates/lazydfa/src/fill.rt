@@ -13,25 +13,23 @@ use flatgrammar::Tables;
 use ruletable::Memory;
 use std::alloc::Global;
 
-/// Returns where the cell of a state and a class stands.
+/// Returns where the cell of a state and a class stands, where rows have so many cells.
 #[inline(always)]
-pub(crate) fn dot(state: usize, classes: usize, class: usize) -> Option<usize>
-    ensures { IfSome result (λ at. at ≡ state * classes + class) }
+pub(crate) fn dot(state: usize, stride: usize, class: usize) -> Option<usize>
+    ensures { IfSome result (λ at. at ≡ state * stride + class) }
 {
-    let row = state.checked_mul(classes)?;
+    let row = state.checked_mul(stride)?;
     row.checked_add(class)
 }
 
-/// Returns the cell of a state and a class.
-pub(crate) fn look(samples: &[u32], cache: &Cache, state: usize, class: usize) -> Cell
-    ensures { (tables : the_tables) → IsCache tables samples.now cache.now → (d : ℕ)
-        → slice_get samples.now class ≡ Some d → IsCell tables d cache.now.conts.items.items cache.now.states.items
-        state result }
+/// Returns the cell of the state of a row and a class.
+#[inline(always)]
+pub(crate) fn look(cache: &Cache, row: usize, class: usize) -> Cell
+    ensures { (tables : the_tables) (samples : List ℕ) → IsCache tables samples cache.now → (s d : ℕ)
+        → row ≡ s * (length samples + 1) → slice_get samples class ≡ Some d
+        → IsCell tables d cache.now.conts.items.items cache.now.states.items s result }
 {
-    if class >= samples.len() {
-        return Cell::Over;
-    }
-    let Some(at) = dot(state, samples.len(), class) else {
+    let Some(at) = row.checked_add(class) else {
         return Cell::Over;
     };
     match cache.cells.get(at) {
@@ -51,7 +49,7 @@ fn write(samples: &[u32], cache: &mut Cache, state: usize, class: usize, cell: C
     if class >= samples.len() {
         return;
     }
-    if let Some(at) = dot(state, samples.len(), class) {
+    if let Some(at) = dot(state, samples.len() + 1, class) {
         if at < cache.cells.len() {
             cache.cells[at] = cell;
         }
@@ -92,10 +90,10 @@ fn lead(
             tops: split.tops,
             ended: false,
         };
-        let t = state_of(cache, samples.len(), base)?;
+        let t = state_of(cache, samples.len() + 1, base)?;
         return Ok(Cell::Push(t, split.suffix));
     }
-    let t = state_of(cache, samples.len(), kept)?;
+    let t = state_of(cache, samples.len() + 1, kept)?;
     Ok(Cell::To(t))
 }
 

@@ -86,38 +86,7 @@ fn stay_on<L: Letter>(
     at
 }
 
-// Runs as `glide` does, symbol by symbol; with `is_bare` there is no suffix.
-#[inline(always)]
-fn glide_short<L: Letter>(
-    memo: &Memo,
-    low: &[u8; 256],
-    samples: &[u32],
-    line: &[L],
-    from: Track,
-    is_bare: bool,
-) -> Track
-    requires bare { IsTrue is_bare → memo.now.suffixes.items ≡ [] }
-    requires within { from.at ≤ length line.now }
-    ensures within { result.at ≤ length line.now }
-    ensures further { from.at ≤ result.at }
-    ensures glides { GlidesOver low.now samples.now memo.now (map L.number line.now) from result }
-{
-    let transitions = memo.transitions.as_slice();
-    let mut track = from;
-    while track.at < line.len() {
-        let class = class_of(low, samples, line[track.at].value());
-        let Some(row) = next_row(transitions, samples.len(), is_bare, track.row, class) else {
-            return track;
-        };
-        track = Track {
-            row,
-            at: track.at + 1,
-        };
-    }
-    track
-}
-
-// Runs as `glide` does, and by four symbols at a time where a state stays.
+// Runs as `glide` does where there is no suffix, and by four symbols at a time where a state stays.
 #[inline(never)]
 fn glide_long<L: Letter>(
     memo: &Memo,
@@ -126,17 +95,17 @@ fn glide_long<L: Letter>(
     line: &[L],
     from: Track,
 ) -> Track
+    requires bare { memo.now.suffixes.items ≡ [] }
     requires within { from.at ≤ length line.now }
     ensures within { result.at ≤ length line.now }
     ensures further { from.at ≤ result.at }
     ensures glides { GlidesOver low.now samples.now memo.now (map L.number line.now) from result }
 {
-    let is_bare = memo.suffixes.len() == 0;
     let transitions = memo.transitions.as_slice();
     let mut track = from;
     while track.at < line.len() {
         let class = class_of(low, samples, line[track.at].value());
-        let Some(row) = next_row(transitions, samples.len(), is_bare, track.row, class) else {
+        let Some(row) = next_row(transitions, samples.len(), true, track.row, class) else {
             return track;
         };
         let is_tried = row == track.row;
@@ -152,8 +121,8 @@ fn glide_long<L: Letter>(
     track
 }
 
-/// Runs over symbols of a line while their transitions are cached and no suffix is pushed or put back, and returns
-/// where that stops.
+/// Runs over symbols of a line while their transitions are cached, where no suffix is pushed, and returns where that
+/// stops.
 #[inline(always)]
 pub(crate) fn glide<L: Letter>(
     memo: &Memo,
@@ -167,11 +136,23 @@ pub(crate) fn glide<L: Letter>(
     ensures further { from.at ≤ result.at }
     ensures glides { GlidesOver low.now samples.now memo.now (map L.number line.now) from result }
 {
+    if memo.suffixes.len() > 0 {
+        return from;
+    }
     if line.len() >= LONG {
         return glide_long(memo, low, samples, line, from);
     }
-    if memo.suffixes.len() == 0 {
-        return glide_short(memo, low, samples, line, from, true);
+    let transitions = memo.transitions.as_slice();
+    let mut track = from;
+    while track.at < line.len() {
+        let class = class_of(low, samples, line[track.at].value());
+        let Some(row) = next_row(transitions, samples.len(), true, track.row, class) else {
+            return track;
+        };
+        track = Track {
+            row,
+            at: track.at + 1,
+        };
     }
-    glide_short(memo, low, samples, line, from, false)
+    track
 }

@@ -133,7 +133,7 @@ fn state_over(
     };
     cache.budget.spend(cache.ids.items.len().saturating_add(1));
     cache.budget.note(0);
-    let t = state_of(cache, samples.len(), closure)?;
+    let t = state_of(cache, samples.len() + 1, closure)?;
     Ok(Some(t))
 }
 

@@ -1,12 +1,13 @@
 //! The run over a line.
-ghost use Rattle.std.specs.Prelude.{◌≡◌, ◌↔◌, ◌≤◌, ◌<◌, ◌+◌, ℕ, true, List, [], IsTrue, IfOk, IfSome, length};
+ghost use Rattle.std.specs.Prelude.{◌≡◌, ◌↔◌, ◌≤◌, ◌<◌, ◌+◌, ◌*◌, ℕ, true, List, [], IsTrue, IfOk, IfSome, length};
 ghost use Rattle.std.specs.Prelude.{slice_get, Some, Contains, map};
 ghost use Rattle.flatgrammar.specs.NodeSteps.{flat_of};
 ghost use Rattle.flatgrammar.specs.TableViews.{GiveTargets};
 ghost use Rattle.flatgrammar.specs.declared.tables.Tables.{Tables as the_tables};
 ghost use Rattle.lazydfa.specs.Conts.{AreKept, AreOlder, last_of};
 ghost use Rattle.lazydfa.specs.Cached.{IsCache, IsCell, Grows, IsStart, IsStartAt};
-ghost use Rattle.lazydfa.specs.Memos.{IsEndOf, IsMemo, IsStepTaken, IsRunStop, IsTrack, RunsAt, RunsOver};
+ghost use Rattle.lazydfa.specs.Memos.{IsEndOf, IsMemo, IsStepTaken, IsStepTo, IsRunStop, IsTrack};
+ghost use Rattle.lazydfa.specs.Memos.{RunsAt, RunsOver, TracksAt};
 ghost use Rattle.letterclasses.specs.ClassBounds.{AreClasses, IsClassOf};
 ghost use Rattle.lazydfa.specs.declared.cache.State.{State};
 ghost use Rattle.lazydfa.specs.RunVerdicts.{IsRunVerdict};
@@ -18,7 +19,7 @@ use crate::fill::{dot, fill, look, may_fill};
 use crate::glide::{Track, glide};
 use crate::memo::{Memo, forget_all, resumed};
 use crate::transition::{Closure, readers};
-use crate::transitions::{end_of, note_transition};
+use crate::transitions::{end_of, next_row, note_transition};
 use flatgrammar::{Tables, Verdict, start_target};
 use letterclasses::class_of;
 use letters::Letter;
@@ -75,7 +76,7 @@ fn make_start(
         cache.budget.is_shut = true;
         return Ok(false);
     };
-    state_of(cache, samples.len(), closure)?;
+    state_of(cache, samples.len() + 1, closure)?;
     Ok(true)
 }
 
@@ -100,25 +101,64 @@ pub(crate) fn begin(
     make_start(alloc, tables, samples, cache)
 }
 
-/// Returns the cell of a state and a class, which is filled if it is not known.
+/// Fills the cell of the state of a row and a class, if that may be, and returns it. It keeps the transition, if that
+/// leads to a state. `Memory` if an allocation fails.
+#[cold]
+#[inline(never)]
+fn fill_at(
+    alloc: Global,
+    tables: &Tables,
+    samples: &[u32],
+    memo: &mut Memo,
+    row: usize,
+    class: usize,
+) -> Result<Cell, Memory>
+    requires memo { IsMemo tables.now samples.now memo.old }
+    ensures memo { IfOk result (λ cell. IsMemo tables.now samples.now memo.new) }
+    ensures grows { IfOk result (λ cell. Grows memo.old.cache memo.new.cache) }
+    ensures suffixes { memo.new.suffixes ≡ memo.old.suffixes }
+    ensures is { IfOk result (λ cell. (s d : ℕ) → row ≡ s * (length samples.now + 1)
+        → slice_get samples.now class ≡ Some d → IsCell tables.now d memo.new.cache.conts.items.items
+        memo.new.cache.states.items s cell) }
+{
+    let state = row / (samples.len() + 1);
+    let cell = fill(alloc, tables, samples, &mut memo.cache, state, class)?;
+    let Cell::To(t) = cell else {
+        return Ok(cell);
+    };
+    note_transition(
+        &memo.cache,
+        samples.len(),
+        &mut memo.transitions,
+        state,
+        class,
+        t,
+    )?;
+    Ok(cell)
+}
+
+/// Returns the cell of the state of a row and a class, which is filled if it is not known. `Memory` if an allocation
+/// fails.
 #[inline(always)]
 fn cell_of(
     alloc: Global,
     tables: &Tables,
     samples: &[u32],
-    cache: &mut Cache,
-    state: usize,
+    memo: &mut Memo,
+    row: usize,
     class: usize,
 ) -> Result<Cell, Memory>
-    requires cached { IsCache tables.now samples.now cache.old }
-    ensures cached { IfOk result (λ cell. IsCache tables.now samples.now cache.new) }
-    ensures grows { IfOk result (λ cell. Grows cache.old cache.new) }
-    ensures is { IfOk result (λ cell. (d : ℕ) → slice_get samples.now class ≡ Some d → IsCell tables.now d
-        cache.new.conts.items.items cache.new.states.items state cell) }
+    requires memo { IsMemo tables.now samples.now memo.old }
+    ensures memo { IfOk result (λ cell. IsMemo tables.now samples.now memo.new) }
+    ensures grows { IfOk result (λ cell. Grows memo.old.cache memo.new.cache) }
+    ensures suffixes { memo.new.suffixes ≡ memo.old.suffixes }
+    ensures is { IfOk result (λ cell. (s d : ℕ) → row ≡ s * (length samples.now + 1)
+        → slice_get samples.now class ≡ Some d → IsCell tables.now d memo.new.cache.conts.items.items
+        memo.new.cache.states.items s cell) }
 {
-    let cell = look(samples, cache, state, class);
+    let cell = look(&memo.cache, row, class);
     match cell {
-        Cell::Unknown => fill(alloc, tables, samples, cache, state, class),
+        Cell::Unknown => fill_at(alloc, tables, samples, memo, row, class),
         Cell::Over | Cell::Dead | Cell::To(_) | Cell::Push(_, _) => Ok(cell),
     }
 }
@@ -155,7 +195,7 @@ fn settle(
     Ok(Some(now))
 }
 
-/// A step of a run. `To`: the next state. `Dead`: the symbol cannot follow. `Over`: a bound is exceeded.
+/// A step of a run. `To`: the row of the next state. `Dead`: the symbol cannot follow. `Over`: a bound is exceeded.
 #[derive(Clone, Copy)]
 pub(crate) enum RunStep {
     To(usize),
@@ -163,41 +203,47 @@ pub(crate) enum RunStep {
     Over,
 }
 
-/// Takes a transition from a state by a class, and pushes or pops shared suffixes. `Memory` if an allocation fails.
+// Returns the step to a state, where rows have so many words.
+#[inline(always)]
+fn step_to(state: usize, stride: usize) -> RunStep
+    ensures { IsStepTo state stride result }
+{
+    match dot(state, stride, 0) {
+        Some(row) => RunStep::To(row),
+        None => RunStep::Over,
+    }
+}
+
+/// Takes a transition from the state of a row by a class, and pushes or pops shared suffixes. It is looked up among
+/// `transitions` first. `Memory` if an allocation fails.
 #[inline(always)]
 fn take_step(
     alloc: Global,
     tables: &Tables,
     samples: &[u32],
     memo: &mut Memo,
-    state: usize,
+    row: usize,
     class: usize,
 ) -> Result<RunStep, Memory>
     requires targets { GiveTargets (flat_of tables.now) tables.now.targets.items }
     requires memo { IsMemo tables.now samples.now memo.old }
     ensures memo { IfOk result (λ step. IsMemo tables.now samples.now memo.new) }
     ensures taken { IfOk result (λ step. (x : List ℕ) (j c : ℕ) → slice_get x j ≡ Some c →
-        IsClassOf (flat_of tables.now) samples.now c class → RunsAt tables.now memo.old state x j →
-        IsStepTaken tables.now memo.new state x j step) }
+        IsClassOf (flat_of tables.now) samples.now c class → TracksAt tables.now samples.now memo.old x row j →
+        IsStepTaken tables.now samples.now memo.new x row j step) }
 {
-    match cell_of(alloc, tables, samples, &mut memo.cache, state, class)? {
-        Cell::To(t) => {
-            note_transition(
-                &memo.cache,
-                samples.len(),
-                &mut memo.transitions,
-                state,
-                class,
-                t,
-            )?;
-            match settle(alloc, tables, samples, memo, t)? {
-                Some(settled) => Ok(RunStep::To(settled)),
-                None => Ok(RunStep::Over),
-            }
-        }
+    let stride = samples.len() + 1;
+    if let Some(next) = next_row(&memo.transitions, samples.len(), false, row, class) {
+        return Ok(RunStep::To(next));
+    }
+    match cell_of(alloc, tables, samples, memo, row, class)? {
+        Cell::To(t) => match settle(alloc, tables, samples, memo, t)? {
+            Some(settled) => Ok(step_to(settled, stride)),
+            None => Ok(RunStep::Over),
+        },
         Cell::Push(t, suffix) => {
             memo.suffixes.push(suffix)?;
-            Ok(RunStep::To(t))
+            Ok(step_to(t, stride))
         }
         Cell::Dead => Ok(RunStep::Dead),
         Cell::Unknown | Cell::Over => Ok(RunStep::Over),
@@ -275,15 +321,11 @@ fn go_on<L: Letter>(
 {
     let low = classes.low;
     let samples = classes.samples;
-    let stride = samples.len() + 1;
     let mut track = from;
     while track.at < line.len() {
         let class = class_of(low, samples, line[track.at].value());
-        match take_step(alloc, tables, samples, memo, track.row / stride, class)? {
-            RunStep::To(t) => {
-                let Some(row) = dot(t, stride, 0) else {
-                    return Ok(None);
-                };
+        match take_step(alloc, tables, samples, memo, track.row, class)? {
+            RunStep::To(row) => {
                 let next = Track {
                     row,
                     at: track.at + 1,

@@ -9,7 +9,7 @@ ghost use Rattle.lazydfa.specs.Transitions.{
   last_word,
 };
 
-use crate::cache::{Cache, State};
+use crate::cache::Cache;
 use crate::fill::dot;
 use ruletable::Memory;
 
@@ -99,13 +99,6 @@ fn put_transition(transitions: &mut Vec<u32>, at: usize, word: u32) -> Result<()
     Ok(())
 }
 
-// Returns the last word of a state's row.
-fn end_word(state: &State) -> u32
-    ensures { result ≡ last_word state.now.ended }
-{
-    if state.ended { 1 } else { 0 }
-}
-
 /// Keeps that a class leads from a state to another, and whether that has ended, if that is not known and the dotted
 /// rule of its row is below 2 ^ 32. `Memory` if an allocation fails.
 #[inline(always)]
@@ -141,6 +134,6 @@ pub(crate) fn note_transition(
         return Ok(());
     }
     put_transition(transitions, at, word)?;
-    put_transition(transitions, last, end_word(there))?;
+    put_transition(transitions, last, u32::from(there.ended))?;
     Ok(())
 }

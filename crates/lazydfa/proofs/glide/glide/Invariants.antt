@@ -1,6 +1,6 @@
 use Rattle.std.proofs.Common.{◌≤◌, ◌-◌, length, map}
 use Rattle.lazydfa.specs.Memos.{GlidesOver}
-use Rattle.lazydfa.proofs.glide.glide_short.Given as goal
+use Rattle.lazydfa.proofs.glide.glide.Given as goal
 
 abbrev pub invariant-loop-track : goal.invariant-loop-track
 invariant-loop-track g l = record {
