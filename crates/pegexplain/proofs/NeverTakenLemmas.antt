@@ -10,13 +10,16 @@ use Rattle.std.specs.Prelude.{slice_get}
 use Rattle.gramcheck.specs.Left.{AllNullable, Nullable, SomeNullable, a_choice, a_close, a_name, a_not, a_seq, a_star}
 use Rattle.gramcheck.specs.Left.{a_plus, all_more, all_none, an_act, an_and, an_open, an_opt, no_bytes, some_first}
 use Rattle.gramcheck.specs.Left.{some_later}
-use Rattle.gramcheck.specs.Outcome.{Event, Fails, Gives, GivesAll, GivesFirst, Takes, act, all_done, and_fails, and_takes}
+use Rattle.gramcheck.specs.Outcome.{Event, Fails, Gives, GivesAll, GivesFirst, Takes, act, all_done, and_fails}
+use Rattle.gramcheck.specs.Outcome.{and_takes}
 use Rattle.gramcheck.specs.Outcome.{any_at_end, any_takes, begins_with, bytes_fail, bytes_take, choice, close_at}
 use Rattle.gramcheck.specs.Outcome.{first_fails, first_takes, name, not_takes, one_fails, open_at, opt_none, opt_takes}
-use Rattle.gramcheck.specs.Outcome.{plus_fails, plus_takes, rest_fails, rest_takes, seq, set_takes, star_more, star_none}
+use Rattle.gramcheck.specs.Outcome.{plus_fails, plus_takes, rest_fails, rest_takes, seq, set_takes, star_more}
+use Rattle.gramcheck.specs.Outcome.{star_none}
 use Rattle.pegread.specs.Pattern.{Pattern, Patterns, Any, Bytes, Set, Name, Seq, Choice, Star, Plus, Opt, And, Not, Act}
 use Rattle.pegread.specs.Pattern.{Open, Close, Rule, body_of, more}
-use Rattle.pegexplain.specs.FailsNowhere.{AllFailNowhere, FailsNowhere, SettlesSure, SomeFailsNowhere, sure_act, sure_and}
+use Rattle.pegexplain.specs.FailsNowhere.{AllFailNowhere, FailsNowhere, SettlesSure, SomeFailsNowhere, sure_act}
+use Rattle.pegexplain.specs.FailsNowhere.{sure_and}
 use Rattle.pegexplain.specs.FailsNowhere.{sure_bytes, sure_choice, sure_close, sure_first, sure_later, sure_more}
 use Rattle.pegexplain.specs.FailsNowhere.{sure_name, sure_none, sure_open, sure_opt, sure_plus, sure_seq, sure_star}
 use Rattle.pegexplain.specs.HiddenAlternatives.{HiddenBy, described, first_member, hidden_by, hidden_if}
@@ -385,7 +388,8 @@ module _ (rules : List Rule) (sure null : Pattern → Bool) (is_sure : SettlesSu
         → (by_first before ≡ Some hidden → IsFirstHiding before hidden) → IsFirstHiding (d ∷ before) hidden
     step-first d before hidden None is h ih =
         let w = ih h in
-        let bars : (why : Why) → Hides rules d e why → ⊥ = λ why hd. (let f : Some why ≡ None = sym (hides-why hd) ∙ is in
+        let bars : (why : Why) → Hides rules d e why → ⊥ =
+        λ why hd. (let f : Some why ≡ None = sym (hides-why hd) ∙ is in
         absurd (cc f)) in
         record {
           position = suc w.position;

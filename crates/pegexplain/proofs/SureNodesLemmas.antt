@@ -10,9 +10,9 @@ use Rattle.pegnodes.specs.Bodies.{AreBodies, IsBuilt, IsOperand}
 use Rattle.fixpoint.specs.Demands.{Demand, All, One, row_of, AreNeedsWithin}
 use Rattle.fixpoint.specs.Least.{Comes, by_all, by_one, AreMarksOfThose}
 use Rattle.gramcheck.specs.GrammarNotes.{AreMarks}
-use Rattle.pegexplain.specs.FailsNowhere.{AllFailNowhere, FailsNowhere, SomeFailsNowhere, sure_act, sure_and, sure_bytes}
-use Rattle.pegexplain.specs.FailsNowhere.{sure_choice, sure_close, sure_first, sure_later, sure_more, sure_name}
-use Rattle.pegexplain.specs.FailsNowhere.{sure_none, sure_open, sure_opt, sure_plus, sure_seq, sure_star}
+use Rattle.pegexplain.specs.FailsNowhere.{AllFailNowhere, FailsNowhere, SomeFailsNowhere, sure_act, sure_and}
+use Rattle.pegexplain.specs.FailsNowhere.{sure_bytes, sure_choice, sure_close, sure_first, sure_later, sure_more}
+use Rattle.pegexplain.specs.FailsNowhere.{sure_name, sure_none, sure_open, sure_opt, sure_plus, sure_seq, sure_star}
 use Rattle.fixpoint.specs.NumberMarks.{AreBelow}
 use Rattle.pegnodes.specs.Nodes as node
 use Rattle.pegnodes.specs.Nodes.{Shape, id_of, Spells, spells_any, spells_bytes, spells_set, spells_name, spells_seq}
@@ -73,7 +73,8 @@ module _ (rules : List Rule) (nodes : List Shape) (bodies : List ℕ) (are : Are
       sure_more (old n p (in_first n ns) s) (all_of (λ m q h k. old m q (in_later n m ns h) k) ss)
 
   some_of : {ms : List ℕ} {ps : Patterns} (m : ℕ) → Contains ms m →
-      ((q : Pattern) → Spells rules nodes m q → FailsNowhere rules q) → SpellAll rules nodes ms ps → SomeFailsNowhere rules ps
+      ((q : Pattern) → Spells rules nodes m q → FailsNowhere rules q) → SpellAll rules nodes ms ps
+      → SomeFailsNowhere rules ps
   some_of m h old spell_none = absurd (none_of m h)
   some_of m h old (spell_more {n = n} {ns = ns} {p = p} s ss) = ⊎_elim
       (λ is. sure_first (old p (subst (λ v. Spells rules nodes v p) is s)))

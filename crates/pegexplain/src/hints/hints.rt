@@ -161,8 +161,8 @@ fn add_rule_hints<'a>(
     found: &mut Vec<Hint<'a>>,
 ) -> Result<(), Memory>
     ensures { OnOk result (map hint_found found.new.items ≡ map hint_found found.old.items
-        ++ hints_in (known_literal known.entry) (sure_in known.entry) (null_in known.entry) rule.now (pattern_of body.now)
-        [] (pattern_of body.now)) }
+        ++ hints_in (known_literal known.entry) (sure_in known.entry) (null_in known.entry) rule.now
+        (pattern_of body.now) [] (pattern_of body.now)) }
 {
     let within = Within { known, rule, body };
     let mut marks = Vec::new(alloc);

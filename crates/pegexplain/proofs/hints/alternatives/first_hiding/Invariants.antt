@@ -8,5 +8,6 @@ use Rattle.pegexplain.proofs.hints.alternatives.first_hiding.Given as goal
 
 abbrev pub invariant-loop-earlier : goal.invariant-loop-earlier
 invariant-loop-earlier l =
-    hidden_by (pattern_of l.e) l.null (option_map (λ b. b.now) l.whole) (alternatives_found (drop l.earlier-index l.before))
+    hidden_by (pattern_of l.e) l.null (option_map (λ b. b.now) l.whole)
+    (alternatives_found (drop l.earlier-index l.before))
     ≡ hidden_by (pattern_of l.e) l.null (option_map (λ b. b.now) l.whole) (alternatives_found l.before)
