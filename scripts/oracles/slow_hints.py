@@ -153,7 +153,8 @@ def abnf_hints(text, start, letters, end):
     if may_be_reported and some[judged] < math.inf == spared[judged] and is_whole(rules, judged):
         last = (f"rule '{cut(rules.spelled.get(judged, judged).encode())}' derives no line\n"
                 f"  all that it derives holds %x{end:02X}\n"
-                + ("  with -z, records end with %x00 and may hold %x0A\n" if end == 10 else ""))
+                + ("  with -k, a line keeps its %x0A\n  with -z, records end with %x00 and may hold %x0A\n"
+                   if end == 10 else ""))
     return (reported(barren) + reported(turned) + last).encode("latin-1")
 
 

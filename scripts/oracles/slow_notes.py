@@ -11,7 +11,9 @@ KINDS = [("rule '", "' redefined", "redefined"), ("rule '", "' extended before i
          ("rule '", "' used but not defined", "undefined"), ("prose in rule '", "'", "prose"),
          ("rule '", "' defined but not used", "unused"), ("possible infinite loop in rule '", "'", "loop"),
          ("possible infinite left recursion in rule '", "'", "left")]
-SHOWN, AGAIN, CHAIN, STEPS, WAYS, HINTS = 60, 8, 8, 8, 8, 16
+SHOWN, AGAIN, CHAIN, STEPS, WAYS, HINTS, MEANT = 60, 8, 8, 8, 8, 16, 16
+# The tokens that are expressions, names left out.
+LEAVES = ("Literal", "Class", "Dot", "Action", "Begin", "EndCap")
 
 
 def cut(name):
@@ -32,7 +34,7 @@ class Places:
                 self.bodies[within].append((token.kind == "Prose", token.text, line))
             elif token.kind in ("Star", "Plus") and within is not None:
                 self.repeats.setdefault(within, []).append(line)
-            elif token.kind == "Literal" and within is not None:
+            elif token.kind in LEAVES and within is not None:
                 self.literals.setdefault(within, []).append(line)
 
     def begin(self, name, line, adds):
@@ -117,21 +119,37 @@ def repeats(e):
         yield e
 
 
-def first_that_takes(alternatives, later):
-    """Returns the first of the alternatives before a later one that is a literal and takes wherever that does, since
-    it takes at the front of the literal with which the later one begins; none if none does."""
-    first = later[1][0] if later[0] == "seq" and later[1] else later
-    return next((it[1] for it in alternatives if it[0] == first[0] == "bytes"
-                 and slow_peg.Matcher({}, first[1]).match(it, 0) is not None), None)
+def marks(e):
+    """Yields what stands in an expression: "use" for a name, "literal" for all else that takes or does something."""
+    if e[0] == "name":
+        yield "use"
+    elif e[0] in ("any", "bytes", "set", "act", "open", "close"):
+        yield "literal"
+    for part in slow_peg.parts(e):
+        yield from marks(part)
 
 
-def literals(e, after=None):
-    """Yields the literals in an expression, each with that after which its alternative is never taken."""
+def is_sure(e, names):
+    """Returns whether an expression fails nowhere, given the rules that do."""
+    if e[0] == "name":
+        return e[1] in names
     if e[0] == "bytes":
-        yield e[1], after
-    for number, part in enumerate(slow_peg.parts(e)):
-        before = first_that_takes(e[1][:number], part) if e[0] == "choice" else None
-        yield from literals(part, after if e[0] == "seq" and number == 0 else before)
+        return not e[1]
+    if e[0] == "seq":
+        return all(is_sure(it, names) for it in e[1])
+    if e[0] == "choice":
+        return any(is_sure(it, names) for it in e[1])
+    return e[0] in ("act", "open", "close", "opt", "star") or e[0] in ("plus", "and") and is_sure(e[1], names)
+
+
+def sure_rules(rules):
+    """Returns the names of the rules that fail nowhere: by rounds, until no round finds one more."""
+    names = set()
+    while True:
+        more = {it for it, e in rules.items() if is_sure(e, names)}
+        if more == names:
+            return names
+        names = more
 
 
 class PegPositions(Places):
@@ -140,7 +158,7 @@ class PegPositions(Places):
     def __init__(self, text, tokens, grammar):
         super().__init__(text, tokens, ("Arrow",), rb"\r\n|\r|\n", lambda name: name)
         self.rules, _ = slow_peg.first_bodies(grammar)
-        self.nullable, self.ways = slow_peg.nullable_rules(self.rules), 0
+        self.nullable, self.ways, self.sure = slow_peg.nullable_rules(self.rules), 0, sure_rules(self.rules)
 
     def loop(self, name):
         line, e = next((line, e) for line, e in zip(self.repeats[name], repeats(self.rules[name.decode()]))
@@ -184,14 +202,49 @@ class PegPositions(Places):
         reported = "".join(self.step(*it) for it in list(zip(way, way[1:] + way[:1]))[:STEPS])
         return reported + (f"  and {len(way) - STEPS} more\n" if len(way) > STEPS else "")
 
+    def literal(self, e):
+        """Returns the bytes of a literal, or of a name whose rule is one; none of anything else."""
+        e = self.rules.get(e[1], e) if e[0] == "name" else e
+        return e[1] if e[0] == "bytes" else None
+
+    def shown(self, e):
+        """Returns how a literal is shown: a name is shown with its literal."""
+        literal = cut(canonical(("bytes", self.literal(e))).encode())
+        return f"{cut(canonical(e).encode())} ({literal})" if e[0] == "name" else literal
+
+    def reason(self, alternatives, later):
+        """Returns what a hint says of the first alternative that is taken wherever a later one would be, if one is."""
+        front, text = later[1][0] if later[0] == "seq" and later[1] else later, cut(canonical(later).encode())
+        for it in alternatives:
+            earlier = cut(canonical(it).encode()) or "an empty alternative"
+            if is_sure(it, self.sure):
+                return f"{text} after {earlier}, which cannot fail"
+            if it[0] == "any" and not slow_peg.is_nullable(later, self.nullable):
+                return f"{text} after {earlier}, which takes any byte"
+            literals = self.literal(it), self.literal(front)
+            if None not in literals and literals[1].startswith(literals[0]):
+                return f"{self.shown(front)} after {self.shown(it)}"
+        return None
+
+    def hidden(self, e, before):
+        """Yields the marks before each alternative that is never taken, its own first mark, and the reason."""
+        for number, part in enumerate(slow_peg.parts(e)):
+            own = list(marks(part))
+            reason = self.reason(e[1][:number], part) if e[0] == "choice" and own else None
+            if reason:
+                yield before, own[0], reason
+            yield from self.hidden(part, before)
+            before = before + own
+
     def hints(self):
         """Returns the report on alternatives that are never taken."""
-        reported = [f"alternative never taken in rule '{cut(name.encode())}'\n"
-                f"  line {line}: {cut(canonical(('bytes', later)).encode())}"
-                f" after {cut(canonical(('bytes', earlier)).encode())}\n"
-                for name, e in self.rules.items()
-                for line, (later, earlier) in zip(self.literals.get(name.encode(), []), literals(e))
-                if earlier is not None]
+        reported = []
+        for name, e in self.rules.items():
+            lines = {"use": [line for _, _, line in self.bodies.get(name.encode(), [])],
+                     "literal": self.literals.get(name.encode(), [])}
+            reported += [f"alternative never taken in rule '{cut(name.encode())}'\n"
+                         f"  line {lines[mark][before.count(mark)]}: {reason}\n"
+                         for before, mark, reason in self.hidden(e, [])]
         return "".join(reported[:HINTS]) + (f"  and {len(reported) - HINTS} more\n" if len(reported) > HINTS else "")
 
     def lines_on(self, kind, name, start):
@@ -200,8 +253,29 @@ class PegPositions(Places):
         return self.loop(name) if kind == "loop" else super().lines_on(kind, name, start)
 
 
+def without_one(name):
+    return {name[:it] + name[it + 1:] for it in range(len(name))}
+
+
+def is_near(a, b):
+    """Returns whether names of three bytes or more are at most one insertion, deletion, replacement or swap apart."""
+    swaps = {a[:it] + a[it:it + 2][::-1] + a[it + 2:] for it in range(len(a) - 1)}
+    others = len(a) == len(b) and sum(x != y for x, y in zip(a, b))
+    return min(len(a), len(b)) > 2 and (
+        a == b or others == 1 or b in swaps or b in without_one(a) or a in without_one(b))
+
+
 class AbnfPositions(Places):
     """Of a text in ABNF also by which rules the judged one reaches names. Keys are names in small letters."""
+
+    noted = 0
+
+    def meant(self, name):
+        """Returns which rule is perhaps meant by one of the first names that no rule has; core rules come last."""
+        self.noted += 1
+        rules = [*self.named, *(it for it in (it.lower().encode() for it in slow_abnf.CORE) if it not in self.named)]
+        near = next((it for it in rules if is_near(it, self.key(name))), None)
+        return f"  perhaps '{cut(self.spelled(near, near))}' is meant\n" if near and self.noted <= MEANT else ""
 
     def names_in(self, rule):
         """Returns the keys of the names in a rule's body."""
@@ -240,8 +314,9 @@ class AbnfPositions(Places):
         return f"  reached by {' > '.join(reported)}\n"
 
     def lines_on(self, kind, name, start):
+        meant = self.meant(name) if kind == "undefined" else ""
         after = self.reached(name, start) if kind in ("undefined", "prose") else ""
-        return super().lines_on(kind, name, start) + after
+        return super().lines_on(kind, name, start) + meant + after
 
 
 def kind_of(line):

@@ -4,6 +4,7 @@ mod AreReversedLemmas
 mod BarrenNamesLemmas
 mod DerivesOnlyWithLemmas
 mod DigitsValueLemmas
+pub mod NearNamesLemmas
 mod IsReversedLemmas
 mod RulesWithoutLemmas
 mod ReportedFirstLemmas

@@ -89,9 +89,9 @@ module _ (definitions : List DefinedAt) where
       ++ (cut (name_of_head (find (λ d. d.start == m.within) definitions)) ++ (codes "'\n  line "
       ++ (decimal m.line ++ (codes ": " ++ (cut m.text ++ codes " derives nothing\n")))))
 
--- the byte that ends a line, and the option by which another one does
+-- the byte that ends a line, and the options by which a line may hold it
 abbrev pub end_reported : LineEnd → List ℕ
-end_reported AtLf = codes "%x0A\n  with -z, records end with %x00 and may hold %x0A\n"
+end_reported AtLf = codes "%x0A\n  with -k, a line keeps its %x0A\n  with -z, records end with %x00 and may hold %x0A\n"
 end_reported AtNul = codes "%x00\n"
 
 -- a rule that derives no line

@@ -18,12 +18,14 @@ use diagnostics::push_cut;
 use ruletable::{Memory, NameCase};
 use std::alloc::Global;
 
-// Returns the byte that ends a line, as it is reported, and the option by which another one does.
+// Returns the byte that ends a line, as it is reported, and the options by which a line may hold it.
 fn reported_end(end: LineEnd) -> &'static [u8]
     ensures { result.now ≡ end_reported end }
 {
     match end {
-        LineEnd::Lf => b"%x0A\n  with -z, records end with %x00 and may hold %x0A\n",
+        LineEnd::Lf => {
+            b"%x0A\n  with -k, a line keeps its %x0A\n  with -z, records end with %x00 and may hold %x0A\n"
+        }
         LineEnd::Nul => b"%x00\n",
     }
 }

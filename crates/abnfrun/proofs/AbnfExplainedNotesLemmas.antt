@@ -1,23 +1,36 @@
 -- What explains a note is one text.
 -- Serves: one_statement_of_abnf, run_abnf (right)
-use Rattle.std.proofs.Common.{◌≡◌, ◌⊎◌, inl, inr, ℕ, List, ◌++◌, length, Option, sym, ◌∙◌, ap, subst}
+use Rattle.std.proofs.Common.{◌≡◌, ℕ, Bool, true, false, List, [], ◌∷◌, ◌++◌, length, take, Option}
+use Rattle.std.proofs.Common.{refl, sym, ◌∙◌, ap, subst}
+use Rattle.std.specs.Prelude.{position}
 use Rattle.std.proofs.lemmas.List.{length-map}
+use Rattle.ruletable.proofs.TableLemmas.{position-map}
 use Rattle.ruletable.specs.Notes.{Said}
 use Rattle.ruletable.specs.declared.note.NoteKind.{NoteKind}
 use Rattle.ruletable.specs.declared.note.NoteKind.TheVariants.{Redefined, ExtendedEarly, Undefined, Prose, Unused}
 use Rattle.ruletable.specs.declared.note.NoteKind.TheVariants.{LeftRecursion, Loop}
 use Rattle.ruletable.specs.Rules as table
+use Rattle.ruletable.specs.Rules.{find_in, names_of, same_name}
+use Rattle.ruletable.specs.declared.table.NameCase.{NameCase}
+use Rattle.ruletable.specs.declared.table.NameCase.TheVariants.{Fold}
 use Rattle.abnfread.specs.AbnfReading.{Reads}
 use Rattle.abnfread.specs.AbnfTable.{IsCoreTable, IsTableOf}
 use Rattle.abnfread.specs.AbnfViews.{rule_of, rules_of}
 use Rattle.abnfread.specs.declared.elem.Elem.{Elem}
 use Rattle.abnfread.specs.Element.{Definition, Rule}
-use Rattle.abnfcheck.specs.NameChains.{IsNameChain}
+use Rattle.abnfcheck.specs.AbnfUses.{rule_names}
+use Rattle.abnfcheck.specs.NameChains.{AreNameChains, IsNameChain}
+use Rattle.abnfcheck.specs.NameIds.{all_names}
 use Rattle.abnfcheck.specs.WithCore.{with_core}
+use Rattle.abnfcheck.specs.declared.reached_names.NameChains.{NameChains}
 use Rattle.abnfexplain.specs.AbnfNoteLines.{ExplainsNote}
 use Rattle.abnfexplain.specs.ChainLines.{chain_reported}
+use Rattle.abnfhints.proofs.NearNamesLemmas.{meant-one}
+use Rattle.abnfhints.specs.NearNames.{IsMeant}
 use Rattle.abnfrun.specs.AbnfNoted.{all_rules}
-use Rattle.abnfrun.specs.AbnfExplainedNotes.{AreAllRules, ExplainsAbnfNote, IsReachAfter, IsReachLine}
+use Rattle.abnfrun.specs.AbnfExplainedNotes.{AreAllRules, AreUndefinedLines, ExplainsAbnfNote, IsMeantIf, IsMeantLine}
+use Rattle.abnfrun.specs.AbnfExplainedNotes.{IsReachAfter, IsReachLine, is_before_limit, is_early_name}
+use Rattle.abnfrun.specs.AbnfExplainedNotes.{meant_reported}
 use Rattle.abnfrun.proofs.AllRulesLemmas.{all_same}
 
 -- the lines of positions are one text
@@ -34,6 +47,12 @@ abbrev ChainsAreOne : Type 0
 ChainsAreOne = (rules : List Rule) (given : Option (List ℕ)) (name : List ℕ) (a b : Option (List (List ℕ)))
     → IsNameChain rules given name a → IsNameChain rules given name b → a ≡ b
 
+meant_is_one : (rules : List Rule) (name : List ℕ) (early : Bool) (a b : List ℕ) → IsMeantIf early rules name a
+    → IsMeantIf early rules name b → a ≡ b
+meant_is_one rules name false a b g h = g ∙ sym h
+meant_is_one rules name true a b g h =
+    g.2 ∙ ap meant_reported (meant-one name (rule_names rules) g.0 h.0 g.1 h.1) ∙ sym h.2
+
 module _ (reading : ReadingsAreOne) (one : ChainsAreOne) (text : List ℕ) (start : Option (List ℕ)) where
   reach_is_one : (name a b : List ℕ) → IsReachLine text start name a → IsReachLine text start name b → a ≡ b
   reach_is_one name a b g h =
@@ -41,11 +60,21 @@ module _ (reading : ReadingsAreOne) (one : ChainsAreOne) (text : List ℕ) (star
       let moved = subst (λ z. IsNameChain (all_rules z) start name h.chain) same h.is_chain in
       g.is ∙ (ap chain_reported (one (all_rules g.definitions) start name g.chain h.chain g.is_chain moved) ∙ sym h.is)
 
+  undefined_is_one : (name a b : List ℕ) → AreUndefinedLines text start name a → AreUndefinedLines text start name b
+      → a ≡ b
+  undefined_is_one name a b g h =
+      let same = reading text h.definitions g.definitions h.reads g.reads in
+      let moved = subst (λ z. IsMeantLine (all_rules z) start name h.meant) same h.is_meant in
+      g.is
+      ∙ ap (λ (z : List ℕ). z ++ g.reach) (meant_is_one (all_rules g.definitions) name
+      (is_early_name (all_rules g.definitions) start name) g.meant h.meant g.is_meant moved)
+      ∙ ap (λ (z : List ℕ). h.meant ++ z) (reach_is_one name g.reach h.reach g.is_reach h.is_reach) ∙ sym h.is
+
   after_is_one : (kind : NoteKind) (name a b : List ℕ) → IsReachAfter text start kind name a
       → IsReachAfter text start kind name b → a ≡ b
   after_is_one Redefined name a b g h = g ∙ sym h
   after_is_one ExtendedEarly name a b g h = g ∙ sym h
-  after_is_one Undefined name a b g h = reach_is_one name a b g h
+  after_is_one Undefined name a b g h = undefined_is_one name a b g h
   after_is_one Prose name a b g h = reach_is_one name a b g h
   after_is_one Unused name a b g h = g ∙ sym h
   after_is_one LeftRecursion name a b g h = g ∙ sym h
@@ -72,8 +101,49 @@ rules_are_all text file core again early rules count many (ds, reads, t) c is = 
   counted = many ∙ sym (length-map file.rules rule_of) ∙ ap length t.kept;
 }
 
--- the line of a chain stands after notes of two kinds
+-- the line of a chain stands after notes of one kind
 pub reach_stands : (text : List ℕ) (start : Option (List ℕ)) (kind : NoteKind) (name line : List ℕ)
-    → (kind ≡ Undefined) ⊎ (kind ≡ Prose) → IsReachLine text start name line → IsReachAfter text start kind name line
-reach_stands text start kind name line (inl is) r = rw is r
-reach_stands text start kind name line (inr is) r = rw is r
+    → kind ≡ Prose → IsReachLine text start name line → IsReachAfter text start kind name line
+reach_stands text start kind name line is r = rw is r
+
+-- and with the line of a rule that is meant after those of another
+pub undefined_stands : (text : List ℕ) (start : Option (List ℕ)) (kind : NoteKind) (name line : List ℕ)
+    → kind ≡ Undefined → AreUndefinedLines text start name line → IsReachAfter text start kind name line
+undefined_stands text start kind name line is r = rw is r
+
+take-front : (xs ys : List (List ℕ)) → take (length xs) (xs ++ ys) ≡ xs
+take-front [] ys = refl
+take-front (x ∷ xs) ys = ap (λ (zs : List (List ℕ)). x ∷ zs) (take-front xs ys)
+
+-- the first names of a grammar are those of its rules
+pub rules_first : (rules : List Rule) (given : Option (List ℕ)) (names : List (List ℕ)) (count : ℕ)
+    → names ≡ all_names rules given → count ≡ length rules → take count names ≡ rule_names rules
+rules_first rules given names count is many =
+    ap (λ (k : ℕ). take k names) (many ∙ sym (length-map rules (λ (r : Rule). r.name)))
+    ∙ ap (λ (ns : List (List ℕ)). take (length (rule_names rules)) ns) is
+    ∙ take-front (rule_names rules) _
+
+module _ (rules : List Rule) (given : Option (List ℕ)) (found : NameChains) (name : List ℕ) (count : ℕ) (early : Bool)
+    (are : AreNameChains rules given found) (many : count ≡ length rules)
+    (is : early ≡ is_before_limit count (find_in found.names name)) where
+  early_same : is_early_name rules given name ≡ early
+  early_same = sym (is
+      ∙ ap (λ (o : Option ℕ). is_before_limit count o)
+      (sym (position-map (λ (r : table.Rule (Unit {0})). r.name) (same_name found.names.names name) found.names.rules)
+      ∙ ap (λ (c : NameCase). position (same_name c name) (names_of found.names)) are.folds
+      ∙ ap (λ (ns : List (List ℕ)). position (same_name Fold name) ns) are.graph.all)
+      ∙ ap (λ (n : ℕ). is_before_limit n (position (same_name Fold name) (all_names rules given))) many)
+
+  -- nothing follows where the name is not early
+  pub meant_none : early ≡ false → IsMeantLine rules given name []
+  meant_none late = subst (λ (b : Bool). IsMeantIf b rules name []) (sym (early_same ∙ late)) refl
+
+  -- and else the rule that is meant
+  pub meant_some : (o : Option (List ℕ)) → early ≡ true → IsMeant name (take count (names_of found.names)) o
+      → IsMeantLine rules given name (meant_reported o)
+  meant_some o soon meant = subst (λ (b : Bool). IsMeantIf b rules name (meant_reported o)) (sym (early_same ∙ soon)) (
+    o,
+    subst (λ (ns : List (List ℕ)). IsMeant name ns o)
+        (rules_first rules given (names_of found.names) count are.graph.all many) meant,
+    refl,
+  )

@@ -1,5 +1,9 @@
--- What explains a note on the grammar of a text: its lines, and by which rules the judged one reaches its name.
-use Rattle.std.specs.Prelude.{◌≡◌, ℕ, List, [], ◌++◌, length, Option}
+-- What explains a note on the grammar of a text: its lines, which rule is perhaps meant, and by which rules the judged
+-- one reaches its name.
+use Rattle.std.specs.Prelude.{◌≡◌, ℕ, ◌-◌, nat_lt, Bool, true, false, List, [], ◌++◌, length, position, Option, Some}
+use Rattle.std.specs.Prelude.{None, codes}
+use Rattle.diagnostics.specs.ShownBytes.{cut}
+use Rattle.ruletable.specs.Rules.{same_name}
 use Rattle.ruletable.specs.Notes.{Said}
 use Rattle.ruletable.specs.Rules as table
 use Rattle.ruletable.specs.declared.note.NoteKind.{NoteKind}
@@ -7,11 +11,14 @@ use Rattle.ruletable.specs.declared.note.NoteKind.TheVariants.{Undefined, Prose}
 use Rattle.ruletable.specs.declared.table.NameCase.TheVariants.{Fold}
 use Rattle.abnfread.specs.AbnfReading.{Reads}
 use Rattle.abnfread.specs.AbnfViews.{rules_of}
-use Rattle.abnfread.specs.Element.{Definition}
+use Rattle.abnfread.specs.Element.{Definition, Rule}
 use Rattle.abnfread.specs.declared.elem.Elem.{Elem}
+use Rattle.abnfcheck.specs.AbnfUses.{rule_names}
 use Rattle.abnfcheck.specs.NameChains.{AreNameChains, IsNameChain}
+use Rattle.abnfcheck.specs.NameIds.{all_names}
 use Rattle.abnfexplain.specs.AbnfNoteLines.{AreAbnfPositions, ExplainsNote}
 use Rattle.abnfexplain.specs.ChainLines.{chain_reported}
+use Rattle.abnfhints.specs.NearNames.{IsMeant}
 use Rattle.abnfprint.specs.AbnfReadBack.{file_rules}
 use Rattle.abnfrun.specs.AbnfNoted.{all_rules}
 use Rattle.abnfrun.specs.declared.abnf_positions.AbnfPositions.{AbnfPositions}
@@ -24,9 +31,45 @@ pub record IsReachLine (text : List ℕ) (start : Option (List ℕ)) (name line 
   pub is_chain : IsNameChain (all_rules definitions) start name chain
   pub is : line ≡ chain_reported chain
 
--- it follows notes on names that no rule has, and on rules that hold prose
+-- whether an id is among the first 16 after so many
+abbrev pub is_before_limit : ℕ → Option ℕ → Bool
+is_before_limit count None = false
+is_before_limit count (Some id) = nat_lt (id - count) 16
+
+-- whether a name is among the first 16 that no rule has, by first use
+abbrev pub is_early_name : List Rule → Option (List ℕ) → List ℕ → Bool
+is_early_name rules start name = is_before_limit (length rules) (position (same_name Fold name) (all_names rules start))
+
+-- the line of the rule that is meant
+abbrev pub meant_line : List ℕ → List ℕ
+meant_line rule = codes "  perhaps '" ++ (cut rule ++ codes "' is meant\n")
+
+abbrev pub meant_reported : Option (List ℕ) → List ℕ
+meant_reported None = []
+meant_reported (Some rule) = meant_line rule
+
+-- the line of the first rule whose name is one slip away from a name, if that is early and there is one
+abbrev pub IsMeantIf : Bool → List Rule → List ℕ → List ℕ → Type 0
+IsMeantIf false rules name line = line ≡ []
+IsMeantIf true rules name line = (found : Option (List ℕ)) × IsMeant name (rule_names rules) found
+    × (line ≡ meant_reported found)
+
+abbrev pub IsMeantLine : List Rule → Option (List ℕ) → List ℕ → List ℕ → Type 0
+IsMeantLine rules start name line = IsMeantIf (is_early_name rules start name) rules name line
+
+-- the lines after those of a note on a name that no rule has
+pub record AreUndefinedLines (text : List ℕ) (start : Option (List ℕ)) (name lines : List ℕ) : Type 0 where
+  pub definitions : List Definition
+  pub reads : Reads text definitions
+  pub meant : List ℕ
+  pub reach : List ℕ
+  pub is_meant : IsMeantLine (all_rules definitions) start name meant
+  pub is_reach : IsReachLine text start name reach
+  pub is : lines ≡ meant ++ reach
+
+-- they follow notes on names that no rule has, and the line of the chain those on rules that hold prose
 abbrev pub IsReachAfter : List ℕ → Option (List ℕ) → NoteKind → List ℕ → List ℕ → Type 0
-IsReachAfter text start Undefined name line = IsReachLine text start name line
+IsReachAfter text start Undefined name line = AreUndefinedLines text start name line
 IsReachAfter text start Prose name line = IsReachLine text start name line
 IsReachAfter text start _ name line = line ≡ []
 

@@ -1,20 +1,35 @@
 //! Explanations of notes on a grammar in ABNF.
-ghost use Rattle.std.specs.Prelude.{◌≡◌, ◌++◌, ℕ, List, Option, IfOk, OnOk, option_copied};
+ghost use Rattle.std.specs.Prelude.{◌≡◌, ◌++◌, ℕ, List, Option, length, option_copied, option_map, IfOk, OnOk};
 ghost use Rattle.ruletable.specs.Notes.{said_of};
+ghost use Rattle.ruletable.specs.Rules.{find_in};
 ghost use Rattle.abnfread.specs.AbnfReading.{Reads};
 ghost use Rattle.abnfread.specs.Element.{Definition, Rule};
 ghost use Rattle.abnfcheck.specs.NameChains.{AreNameChains, IsNameChain};
 ghost use Rattle.abnfexplain.specs.AbnfNoteLines.{AreAbnfPositions};
 ghost use Rattle.abnfexplain.specs.ChainLines.{chain_reported};
-ghost use Rattle.abnfrun.specs.AbnfExplainedNotes.{AreAllRules, AreNotePositions, ExplainsAbnfNote, IsReachAfter};
+ghost use Rattle.abnfrun.specs.AbnfExplainedNotes.{
+  AreAllRules,
+  AreNotePositions,
+  AreUndefinedLines,
+  ExplainsAbnfNote,
+  IsMeantLine,
+  IsReachAfter,
+  is_before_limit,
+  meant_line,
+  meant_reported,
+};
 ghost use Rattle.abnfrun.specs.AbnfNoted.{all_rules};
 
 use crate::abnf_positions::AbnfPositions;
 use abnfcheck::{AllRules, NameChains, name_chains};
 use abnfexplain::push_chain;
-use diagnostics::{Positions, explain_note};
+use abnfhints::meant_rule;
+use diagnostics::{Positions, explain_note, push_cut};
 use ruletable::{Memory, Note, NoteKind};
 use std::alloc::Global;
+
+/// Of how many names that no rule has the rule is reported that is perhaps meant.
+const MAX_MEANT: usize = 16;
 
 /// Returns where a text says what explains notes on its grammar, by where it defines rules and mentions them. It takes
 /// the text's rules, with the core rules that it leaves alone, and holds them.
@@ -56,20 +71,95 @@ fn push_reached(
     Ok(())
 }
 
-// Adds the line that follows those of a note, if one does.
+// Returns whether a name is among the first ones after those of so many rules. `Memory` if an allocation fails.
+fn is_early(chains: &NameChains, count: usize, name: &[u8]) -> Result<bool, Memory>
+    ensures { IfOk result (λ early. early ≡ is_before_limit count (find_in chains.now.names name.now)) }
+{
+    match chains.names.find(name)? {
+        Some(id) => Ok(id.saturating_sub(count) < MAX_MEANT),
+        None => Ok(false),
+    }
+}
+
+// Adds the line of a rule that is meant.
+fn push_meant_name(out: &mut Vec<u8>, rule: &[u8]) -> Result<(), Memory>
+    ensures { OnOk result (out.new.items ≡ out.old.items ++ meant_line rule.now) }
+{
+    out.extend_from_slice(b"  perhaps '")?;
+    push_cut(out, rule)?;
+    out.extend_from_slice(b"' is meant\n")?;
+    Ok(())
+}
+
+// Adds the line of the rule that is meant, if there is one.
+fn push_meant_rule(out: &mut Vec<u8>, rule: Option<&[u8]>) -> Result<(), Memory>
+    ensures { OnOk result (out.new.items ≡ out.old.items ++ meant_reported (option_map (λ b. b.now) rule.entry)) }
+{
+    match rule {
+        Some(rule) => push_meant_name(out, rule),
+        None => Ok(()),
+    }
+}
+
+// Adds the line of the rule that is perhaps meant by a name that no rule has, if the name is among the first ones, of
+// so many rules.
+fn push_meant(
+    alloc: Global,
+    out: &mut Vec<u8>,
+    chains: &NameChains,
+    count: usize,
+    name: &[u8],
+) -> Result<(), Memory>
+    ensures { OnOk result ((rules : List Rule) (given : Option (List ℕ)) → AreNameChains rules given chains.now
+        → count ≡ length rules → (line : List ℕ) × IsMeantLine rules given name.now line
+        × (out.new.items ≡ out.old.items ++ line)) }
+{
+    if !is_early(chains, count, name)? {
+        return Ok(());
+    }
+    let rule = meant_rule(alloc, &chains.names, count, name)?;
+    push_meant_rule(out, rule)?;
+    Ok(())
+}
+
+// Adds the lines that follow those of a note on a name that no rule has.
+fn push_undefined(
+    alloc: Global,
+    out: &mut Vec<u8>,
+    chains: &NameChains,
+    count: usize,
+    name: &[u8],
+) -> Result<(), Memory>
+    ensures { OnOk result ((text : List ℕ) (start : Option (List ℕ)) (definitions : List Definition)
+        → Reads text definitions → AreNameChains (all_rules definitions) start chains.now
+        → count ≡ length (all_rules definitions) → (line : List ℕ) × AreUndefinedLines text start name.now line
+        × (out.new.items ≡ out.old.items ++ line)) }
+{
+    push_meant(alloc, out, chains, count, name)?;
+    push_reached(alloc, out, chains, name)?;
+    Ok(())
+}
+
+// Adds the lines that follow those of a note, if any do, of so many rules.
 fn push_after(
     alloc: Global,
     out: &mut Vec<u8>,
     chains: &NameChains,
+    count: usize,
     note: &Note,
 ) -> Result<(), Memory>
     ensures { OnOk result ((text : List ℕ) (start : Option (List ℕ)) (definitions : List Definition)
-        → Reads text definitions → AreNameChains (all_rules definitions) start chains.now → (line : List ℕ)
+        → Reads text definitions → AreNameChains (all_rules definitions) start chains.now
+        → count ≡ length (all_rules definitions) → (line : List ℕ)
         × IsReachAfter text start note.now.kind note.now.name.items line
         × (out.new.items ≡ out.old.items ++ line)) }
 {
     match note.kind {
-        NoteKind::Undefined | NoteKind::Prose => {
+        NoteKind::Undefined => {
+            push_undefined(alloc, out, chains, count, note.name.as_slice())?;
+            Ok(())
+        }
+        NoteKind::Prose => {
             push_reached(alloc, out, chains, note.name.as_slice())?;
             Ok(())
         }
@@ -77,8 +167,8 @@ fn push_after(
     }
 }
 
-/// Returns the lines that explain a note: those of positions, and by which rules the judged one reaches a name that no
-/// rule has, or a rule that holds prose.
+/// Returns the lines that explain a note: those of positions, which rule is perhaps meant by a name that no rule has,
+/// and by which rules the judged one reaches that name, or a rule that holds prose.
 ///
 /// `Memory` if an allocation fails.
 pub(crate) fn explain_reached(
@@ -91,6 +181,12 @@ pub(crate) fn explain_reached(
         → ExplainsAbnfNote text (option_copied start.entry) (said_of note.now) why.items) }
 {
     let mut why = explain_note(alloc, &positions.positions, start, note)?;
-    push_after(alloc, &mut why, &positions.chains, note)?;
+    push_after(
+        alloc,
+        &mut why,
+        &positions.chains,
+        positions.all.rules.len(),
+        note,
+    )?;
     Ok(why)
 }

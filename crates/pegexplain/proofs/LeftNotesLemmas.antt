@@ -48,7 +48,7 @@ use Rattle.pegexplain.proofs.LeftWithinLemmas.{found-below}
 use Rattle.pegexplain.proofs.NullTestsLemmas.{null-reported, reported-null}
 
 -- one truth value holds as the other does
-bits-same : (a b : Bool) → (a ≡ true → b ≡ true) → (b ≡ true → a ≡ true) → a ≡ b
+pub bits-same : (a b : Bool) → (a ≡ true → b ≡ true) → (b ≡ true → a ≡ true) → a ≡ b
 bits-same true b f g = sym (f refl)
 bits-same false true f g = g refl
 bits-same false false f g = refl

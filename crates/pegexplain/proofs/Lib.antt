@@ -1,4 +1,6 @@
 mod NullTestsLemmas
+mod SureNodesLemmas
+mod SureTestsLemmas
 pub mod ExplainedLoopLemmas
 mod RepeatsLemmas
 mod NamesInLemmas

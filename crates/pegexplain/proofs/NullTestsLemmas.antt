@@ -26,20 +26,20 @@ use Rattle.pegexplain.specs.NullTests.{IsLoopBy, all_nullable_by, loops_by, null
 use Rattle.pegexplain.specs.NullTests.{nullable_by, some_nullable_by}
 use Rattle.pegexplain.specs.PegLoops.{IsLoopOf, RepeatAt, RepeatsNothing, starred, repeated}
 
-both-true : (a b : Bool) → a && b ≡ true → (a ≡ true) × (b ≡ true)
+pub both-true : (a b : Bool) → a && b ≡ true → (a ≡ true) × (b ≡ true)
 both-true true b h = (refl, h)
 both-true false b h = absurd (cc h)
 
-one-of : {P : Type 0} (a b : Bool) → a || b ≡ true → (a ≡ true → P) → (b ≡ true → P) → P
+pub one-of : {P : Type 0} (a b : Bool) → a || b ≡ true → (a ≡ true → P) → (b ≡ true → P) → P
 one-of true b h f g = f refl
 one-of false b h f g = g h
 
-true-both : (a b : Bool) → a ≡ true → b ≡ true → a && b ≡ true
+pub true-both : (a b : Bool) → a ≡ true → b ≡ true → a && b ≡ true
 true-both a b g h = rw (g, h) refl
 
 module _ (rules : table.Rules Expr) (exact : rules.names ≡ Exact) where
   -- the position that the table finds for a name
-  is-id : (name : List ℕ) (found : Option ℕ) → find_in rules name ≡ found
+  pub is-id : (name : List ℕ) (found : Option ℕ) → find_in rules name ≡ found
       → unwrap_or found (length rules.rules) ≡ id_of (rules_of rules) name
   is-id name found is = id_found rules name found (length rules.rules) exact (sym is) refl
 

@@ -1,39 +1,44 @@
 -- What is reported of hints, and that it is one text.
 -- Serves: peg_hints, one_text_of_hints
-use Rattle.std.proofs.Common.{◌≡◌, ℕ, zero, suc, ◌+◌, ◌-◌, ◌<◌, min, List, [], ◌∷◌, ◌++◌, length, get_or, map, take}
-use Rattle.std.proofs.Common.{refl, Option}
-use Rattle.std.proofs.Common.{sym, ap, ◌∙◌, append_assoc, append-nil, arith, add-one}
+use Rattle.std.proofs.Common.{◌≡◌, ℕ, zero, suc, ◌+◌, ◌-◌, ◌<◌, min, Bool, List, [], ◌∷◌, ◌++◌, length, get_or, map}
+use Rattle.std.proofs.Common.{take, refl, Option, Some, None}
+use Rattle.std.proofs.Common.{sym, ap, subst, ◌∙◌, append_assoc, append-nil, arith, add-one}
 use Rattle.std.proofs.lemmas.List.{length-map, take-map, take_min}
+use Rattle.std.proofs.lemmas.Option.{slice_get-map}
 use Rattle.std.specs.List.{flat_map}
-use Rattle.std.specs.Prelude.{slice_get}
+use Rattle.std.specs.Prelude.{option_map, slice_get}
+use mathlib.Core.Path.{fun_ext}
 use Rattle.diagnostics.specs.MentionLines.{mention_lines_by}
 use Rattle.diagnostics.specs.NoteLines.{more_reported}
-use Rattle.diagnostics.specs.declared.noteplaces.mentions.MentionKind.TheVariants.{Literal}
+use Rattle.diagnostics.specs.declared.noteplaces.mentions.MentionKind.{MentionKind}
 use Rattle.diagnostics.proofs.ExplainedNoteLemmas.{positions-mention}
+use Rattle.pegnodes.proofs.OwnIdLemmas.{body_at_id}
 use Rattle.pegread.specs.Definitions.{firsts}
 use Rattle.pegread.specs.Kinds.{is_end}
-use Rattle.pegread.specs.Pattern.{Rule}
-use Rattle.pegread.specs.PegViews.{rules_of}
+use Rattle.pegread.specs.Pattern.{Pattern, Rule, body_of}
+use Rattle.pegread.specs.PegViews.{pattern_of, rule_of, rules_of}
 use Rattle.pegread.specs.Reading.{Reads}
 use Rattle.pegread.specs.Slices.{White, First}
 use Rattle.pegread.specs.Tokens.{Tok, AreTokens}
+use Rattle.pegread.specs.declared.expr.Expr.{Expr}
+use Rattle.ruletable.specs.Rules as table
+use Rattle.ruletable.specs.Rules.{bodies_of, find_in}
 use Rattle.ruletable.specs.declared.lines.LineRule.TheVariants.{Any}
 use Rattle.ruletable.specs.declared.table.NameCase.TheVariants.{Exact}
+use Rattle.pegexplain.specs.CodeHints.{hint_found, literal_at, pattern_at}
+use Rattle.pegexplain.specs.FailsNowhere.{SettlesSure}
+use Rattle.pegexplain.specs.HiddenAlternatives.{HiddenBy, HintAt, literal_if, named_literal}
+use Rattle.pegexplain.specs.LeftNotes.{SettlesNullable}
+use Rattle.pegexplain.specs.NullTests.{null_mark_of, nullable_by}
+use Rattle.pegexplain.specs.PegHints.{ArePegHints, hint_line, hints_of, hints_reported, kind_lines, rule_reported}
 use Rattle.pegexplain.specs.PegNotes.{ArePegPositions, sign_of}
-use Rattle.pegexplain.specs.declared.positions.PegPositions.{PegPositions}
-use Rattle.pegexplain.specs.CodeHints.{hint_found}
-use Rattle.pegexplain.specs.PegHints.{
-  ArePegHints,
-  HintAt,
-  hint_line,
-  hint_reported,
-  hints_of,
-  hints_reported,
-  literal_lines,
-}
-use Rattle.pegexplain.specs.PegHints.{rule_reported}
+use Rattle.pegexplain.specs.SureNodes.{sure_by}
 use Rattle.pegexplain.specs.declared.hints.hints.Hint.{Hint}
 use Rattle.pegexplain.specs.declared.hints.reported.TheConstants.{MAX_HINTS}
+use Rattle.pegexplain.specs.declared.positions.PegPositions.{PegPositions}
+use Rattle.pegexplain.proofs.LeftNotesLemmas.{bits-same}
+use Rattle.pegexplain.proofs.NullTestsLemmas.{body-none, is-id, null-reported, reported-null}
+use Rattle.pegexplain.proofs.SureTestsLemmas.{reported-sure, sure-reported}
 
 reported-after : (f : HintAt → List ℕ) (hints : List Hint) (n : ℕ) (d : Hint) → n < length hints
     → flat_map f (map hint_found (take (suc n) hints))
@@ -61,72 +66,116 @@ min-turned : (a b : ℕ) → min a b ≡ min b a
 min-turned a b = omega arith
 
 -- the first ones, and how many more there are
-pub first-reported : (lines : List ℕ → List ℕ) (hints : List Hint) (k : ℕ) (old out new : List ℕ)
-    → k ≡ min (length hints) MAX_HINTS → out ≡ old ++ flat_map (hint_reported lines) (map hint_found (take k hints))
-    → new ≡ out ++ more_reported (length hints - k) → new ≡ old ++ hints_reported lines (map hint_found hints)
-first-reported lines hints k old out new shown first rest =
+pub first-reported : (f : HintAt → List ℕ) (hints : List Hint) (k : ℕ) (old out new : List ℕ)
+    → k ≡ min (length hints) MAX_HINTS → out ≡ old ++ flat_map f (map hint_found (take k hints))
+    → new ≡ out ++ more_reported (length hints - k)
+    → new ≡ old ++ (flat_map f (take MAX_HINTS (map hint_found hints))
+    ++ more_reported (length (map hint_found hints) - MAX_HINTS))
+first-reported f hints k old out new shown first rest =
     let long = length-map hints hint_found in
     let left : length hints - k ≡ length (map hint_found hints) - MAX_HINTS = omega (arith, shown, long) in
-    let front : flat_map (hint_reported lines) (map hint_found (take k hints))
-    ≡ flat_map (hint_reported lines) (take MAX_HINTS (map hint_found hints)) =
-    ap (λ (n : ℕ). flat_map (hint_reported lines) (map hint_found (take n hints))) (shown
-    ∙ min-turned (length hints) MAX_HINTS)
-    ∙ ap (λ (hs : List Hint). flat_map (hint_reported lines) (map hint_found hs)) (take_min MAX_HINTS hints)
-    ∙ ap (λ (hs : List HintAt). flat_map (hint_reported lines) hs) (sym (take-map hint_found MAX_HINTS hints)) in
+    let front : flat_map f (map hint_found (take k hints))
+    ≡ flat_map f (take MAX_HINTS (map hint_found hints)) =
+    ap (λ (n : ℕ). flat_map f (map hint_found (take n hints))) (shown ∙ min-turned (length hints) MAX_HINTS)
+    ∙ ap (λ (hs : List Hint). flat_map f (map hint_found hs)) (take_min MAX_HINTS hints)
+    ∙ ap (λ (hs : List HintAt). flat_map f hs) (sym (take-map hint_found MAX_HINTS hints)) in
     rest ∙ ap (λ (z : List ℕ). z ++ more_reported (length hints - k)) (first
     ∙ ap (λ (z : List ℕ). old ++ z) front)
-    ∙ append_assoc old (flat_map (hint_reported lines) (take MAX_HINTS (map hint_found hints)))
-    (more_reported (length hints - k))
-    ∙ ap (λ (n : ℕ). old ++ (flat_map (hint_reported lines) (take MAX_HINTS (map hint_found hints)) ++ more_reported n))
-    left
+    ∙ append_assoc old (flat_map f (take MAX_HINTS (map hint_found hints))) (more_reported (length hints - k))
+    ∙ ap (λ (n : ℕ). old ++ (flat_map f (take MAX_HINTS (map hint_found hints)) ++ more_reported n)) left
 
 -- the rule of a hint, and its line after it
-pub hint-join : (o a b rule later earlier known lines : List ℕ) (position : ℕ) (line : Option ℕ) → a ≡ o
-    ++ rule_reported rule
-    → b ≡ a ++ hint_line line later earlier → line ≡ slice_get known position → known ≡ lines
-    → b ≡ o ++ (rule_reported rule ++ hint_line (slice_get lines position) later earlier)
-hint-join o a b rule later earlier known lines position line f g is same =
-    g ∙ ap (λ (z : List ℕ). z ++ hint_line line later earlier) f
-    ∙ append_assoc o (rule_reported rule) (hint_line line later earlier)
-    ∙ ap (λ (l : Option ℕ). o ++ (rule_reported rule ++ hint_line l later earlier))
-    (is ∙ ap (λ (ls : List ℕ). slice_get ls position) same)
+pub hint-join : (named : List ℕ → Option (List ℕ)) (o a b rule : List ℕ) (hidden : HiddenBy) (line known : Option ℕ)
+    → a ≡ o ++ rule_reported rule → b ≡ a ++ hint_line named line hidden → line ≡ known
+    → b ≡ o ++ (rule_reported rule ++ hint_line named known hidden)
+hint-join named o a b rule hidden line known f g is =
+    g ∙ ap (λ (z : List ℕ). z ++ hint_line named line hidden) f
+    ∙ append_assoc o (rule_reported rule) (hint_line named line hidden)
+    ∙ ap (λ (l : Option ℕ). o ++ (rule_reported rule ++ hint_line named l hidden)) is
 
--- lines that are the same report the same
-module _ (f g : List ℕ → List ℕ) (same : (name : List ℕ) → f name ≡ g name) where
-  each-same : (hints : List HintAt) → flat_map (hint_reported f) hints ≡ flat_map (hint_reported g) hints
-  each-same [] = refl
-  each-same (h ∷ hints) =
-      ap (λ (ls : List ℕ). (rule_reported h.rule ++ hint_line (slice_get ls h.position) h.later h.earlier)
-      ++ flat_map (hint_reported f) hints) (same h.rule)
-      ∙ ap (λ (z : List ℕ). hint_reported g h ++ z) (each-same hints)
+-- a table's literals of names are those of its rules
+module _ (rules : table.Rules Expr) (exact : rules.names ≡ Exact) where
+  bodies-twice : (o : Option (table.Rule Expr)) → option_map (λ (r : Rule). r.body) (option_map rule_of o)
+      ≡ option_map pattern_of (option_map (λ (r : table.Rule Expr). r.body) o)
+  bodies-twice None = refl
+  bodies-twice (Some r) = refl
 
-  pub reported-same : (hints : List HintAt) → hints_reported f hints ≡ hints_reported g hints
-  reported-same hints =
-      ap (λ (z : List ℕ). z ++ more_reported (length hints - MAX_HINTS)) (each-same (take MAX_HINTS hints))
+  body-same : (name : List ℕ) (o : Option ℕ) → find_in rules name ≡ o
+      → pattern_at (bodies_of rules) o ≡ body_of (rules_of rules) name
+  body-same name None is = sym (body-none rules exact name is)
+  body-same name (Some id) is =
+      ap (option_map pattern_of) (slice_get-map (λ (r : table.Rule Expr). r.body) rules.rules id)
+      ∙ sym (bodies-twice (slice_get rules.rules id))
+      ∙ sym (ap (option_map (λ (r : Rule). r.body)) (slice_get-map rule_of rules.rules id))
+      ∙ sym (slice_get-map (λ (r : Rule). r.body) (rules_of rules) id)
+      ∙ ap (slice_get (map (λ (r : Rule). r.body) (rules_of rules))) (is-id rules exact name (Some id) is)
+      ∙ sym (body_at_id (rules_of rules) name)
+
+  literals-same : literal_at rules ≡ named_literal (rules_of rules)
+  literals-same = fun_ext (λ (name : List ℕ). ap literal_if (body-same name (find_in rules name) refl))
 
 -- what the code reports by its positions
-pub positions-hint : (text : List ℕ) (found : PegPositions) (reported : List ℕ) → ArePegPositions text found
-    → reported ≡ hints_reported (mention_lines_by found.positions Literal) (hints_of (rules_of found.rules))
-    → ArePegHints text reported
-positions-hint text found reported are e = record {
-  tokens = are.positions.tokens;
-  are_tokens = are.positions.are_tokens;
-  definitions = are.rules.definitions;
-  reads = are.rules.reads;
-  is = e ∙ reported-same (mention_lines_by found.positions Literal) (literal_lines text are.positions.tokens)
-      (λ name. positions-mention White First is_end sign_of Any Exact text found.positions Literal name are.positions)
-      (hints_of (rules_of found.rules))
-      ∙ ap (λ (rules : List Rule). hints_reported (literal_lines text are.positions.tokens) (hints_of rules))
-      are.rules.rules_are;
-}
+module _ (text : List ℕ) (found : PegPositions) (are : ArePegPositions text found) where
+  abbrev sure_found : Pattern → Bool
+  sure_found = sure_by (null_mark_of found.rules found.sure.items)
+
+  abbrev null_found : Pattern → Bool
+  null_found = nullable_by (null_mark_of found.rules found.nulls.items)
+
+  lines-same : mention_lines_by found.positions ≡ kind_lines text are.positions.tokens
+  lines-same = fun_ext (λ (kind : MentionKind). fun_ext (λ (name : List ℕ).
+      positions-mention White First is_end sign_of Any Exact text found.positions kind name are.positions))
+
+  pub positions-hint : (reported : List ℕ)
+      → reported ≡ hints_reported (literal_at found.rules) (mention_lines_by found.positions)
+      (hints_of (literal_at found.rules) sure_found null_found (rules_of found.rules)) → ArePegHints text reported
+  positions-hint reported e = record {
+    tokens = are.positions.tokens;
+    are_tokens = are.positions.are_tokens;
+    definitions = are.rules.definitions;
+    reads = are.rules.reads;
+    sure = sure_found;
+    is_sure = subst (λ (rs : List Rule). SettlesSure rs sure_found) are.rules.rules_are (λ d. (
+      sure-reported found.rules found.sure.items are.rules.exact are.sure d,
+      (λ t. reported-sure found.rules found.sure.items are.rules.exact are.sure t),
+    ));
+    null = null_found;
+    is_null = subst (λ (rs : List Rule). SettlesNullable rs null_found) are.rules.rules_are (λ d. (
+      null-reported found.rules found.nulls.items are.rules.exact are.marks d,
+      (λ t. reported-null found.rules found.nulls.items are.rules.exact are.marks t),
+    ));
+    is = e
+        ∙ ap (λ (named : List ℕ → Option (List ℕ)). hints_reported named (mention_lines_by found.positions)
+        (hints_of named sure_found null_found (rules_of found.rules))) (literals-same found.rules are.rules.exact)
+        ∙ ap (λ (lines : MentionKind → List ℕ → List ℕ). hints_reported (named_literal (rules_of found.rules)) lines
+        (hints_of (named_literal (rules_of found.rules)) sure_found null_found (rules_of found.rules))) lines-same
+        ∙ ap (λ (rules : List Rule). hints_reported (named_literal rules) (kind_lines text are.positions.tokens)
+        (hints_of (named_literal rules) sure_found null_found rules)) are.rules.rules_are;
+  }
 
 pub hints-one : ((text : List ℕ) (a b : List Tok) → AreTokens (length text) text a → AreTokens (length text) text b
     → a ≡ b) → ((text : List ℕ) (a b : List Rule) → Reads text a → Reads text b → a ≡ b)
     → (text a b : List ℕ) → ArePegHints text a → ArePegHints text b → a ≡ b
 hints-one listing reading text a b g h =
+    let rules = reading text g.definitions h.definitions g.reads h.reads in
+    let sure_too : SettlesSure (firsts [] g.definitions) h.sure =
+    subst (λ (ds : List Rule). SettlesSure (firsts [] ds) h.sure) (sym rules) h.is_sure in
+    let null_too : SettlesNullable (firsts [] g.definitions) h.null =
+    subst (λ (ds : List Rule). SettlesNullable (firsts [] ds) h.null) (sym rules) h.is_null in
+    let sures : g.sure ≡ h.sure = fun_ext (λ (e : Pattern). bits-same (g.sure e) (h.sure e)
+    (λ t. (sure_too e).1 ((g.is_sure e).0 t)) (λ t. (g.is_sure e).1 ((sure_too e).0 t))) in
+    let nulls : g.null ≡ h.null = fun_ext (λ (e : Pattern). bits-same (g.null e) (h.null e)
+    (λ t. (null_too e).1 ((g.is_null e).0 t)) (λ t. (g.is_null e).1 ((null_too e).0 t))) in
     g.is
-    ∙ ap (λ (ts : List Tok). hints_reported (literal_lines text ts) (hints_of (firsts [] g.definitions)))
+    ∙ ap (λ (ts : List Tok). hints_reported (named_literal (firsts [] g.definitions)) (kind_lines text ts)
+    (hints_of (named_literal (firsts [] g.definitions)) g.sure g.null (firsts [] g.definitions)))
     (listing text g.tokens h.tokens g.are_tokens h.are_tokens)
-    ∙ ap (λ (ds : List Rule). hints_reported (literal_lines text h.tokens) (hints_of (firsts [] ds)))
-    (reading text g.definitions h.definitions g.reads h.reads)
+    ∙ ap (λ (sure : Pattern → Bool). hints_reported (named_literal (firsts [] g.definitions))
+    (kind_lines text h.tokens)
+    (hints_of (named_literal (firsts [] g.definitions)) sure g.null (firsts [] g.definitions))) sures
+    ∙ ap (λ (null : Pattern → Bool). hints_reported (named_literal (firsts [] g.definitions))
+    (kind_lines text h.tokens)
+    (hints_of (named_literal (firsts [] g.definitions)) h.sure null (firsts [] g.definitions))) nulls
+    ∙ ap (λ (ds : List Rule). hints_reported (named_literal (firsts [] ds)) (kind_lines text h.tokens)
+    (hints_of (named_literal (firsts [] ds)) h.sure h.null (firsts [] ds))) rules
     ∙ sym h.is

@@ -7,6 +7,8 @@ pub mod NullTests
 pub mod PegLoops
 pub mod PegNotes
 pub mod CodeHints
-pub mod HiddenLiterals
+pub mod FailsNowhere
+pub mod HiddenAlternatives
+pub mod SureNodes
 pub mod NeverTaken
 pub mod PegHints

@@ -19,7 +19,8 @@ use Rattle.pegread.specs.Slices.{White, First}
 use Rattle.pegread.specs.Tokens.{Tok, AreTokens}
 use Rattle.pegread.specs.declared.expr.Expr.{Expr}
 use Rattle.pegread.specs.declared.kind.Kind.{Kind}
-use Rattle.pegread.specs.declared.kind.Kind.TheVariants.{Ident, Arrow, Star, Plus, Literal}
+use Rattle.pegread.specs.declared.kind.Kind.TheVariants.{Ident, Arrow, Star, Plus, Literal, Class, Dot, Action, Begin}
+use Rattle.pegread.specs.declared.kind.Kind.TheVariants.{EndCap}
 use Rattle.ruletable.specs.Notes.{Said}
 use Rattle.ruletable.specs.Rules as table
 use Rattle.ruletable.specs.declared.lines.LineRule.TheVariants.{Any}
@@ -29,18 +30,24 @@ use Rattle.ruletable.specs.declared.table.NameCase.TheVariants.{Exact}
 use Rattle.gramcheck.specs.GrammarNotes.{AreMarks}
 use Rattle.gramcheck.specs.Left.{IsLeftRecursive, Nullable}
 use Rattle.gramcheck.specs.Uses.{names_in}
+use Rattle.pegexplain.specs.FailsNowhere.{FailsNowhere}
 use Rattle.pegexplain.specs.LeftNotes.{AreLeftLines, EndsEarly, SettlesNullable}
 use Rattle.pegexplain.specs.PegLoops.{IsLoopLineIf}
 use Rattle.pegexplain.specs.declared.positions.PegPositions.{PegPositions}
 
 -- what a token is to the definitions of a grammar: a name right before an arrow is defined, and any other is used; `*`
--- and `+` repeat what stands before them
+-- and `+` repeat what stands before them; the other tokens that are expressions count as literals
 abbrev pub sign_of : Kind → Sign
 sign_of Ident = Name
 sign_of Arrow = Defines
 sign_of Star = Repeats
 sign_of Plus = Repeats
 sign_of Literal = signs.Literal
+sign_of Class = signs.Literal
+sign_of Dot = signs.Literal
+sign_of Action = signs.Literal
+sign_of Begin = signs.Literal
+sign_of EndCap = signs.Literal
 sign_of _ = Other
 
 -- the definitions, as the tokens report them
@@ -108,11 +115,12 @@ pub record IsPegRead (text : List ℕ) (rules : table.Rules Expr) : Type 0 where
   pub exact : rules.names ≡ Exact
   pub rules_are : rules_of rules ≡ firsts [] definitions
 
--- The code's positions are those of a text, with its rules, marks of those that may take nothing and of those that are
--- left-recursive, and where the first eight of these end.
+-- The code's positions are those of a text, with its rules, marks of those that may take nothing, of those that fail
+-- nowhere and of those that are left-recursive, and where the first eight of these end.
 pub record ArePegPositions (text : List ℕ) (found : PegPositions) : Type 0 where
   pub positions : AreTextPositions text found.positions
   pub rules : IsPegRead text found.rules
   pub marks : AreMarks (λ rule. Nullable (rules_of found.rules) rule.body) (rules_of found.rules) found.nulls.items
+  pub sure : AreMarks (λ rule. FailsNowhere (rules_of found.rules) rule.body) (rules_of found.rules) found.sure.items
   pub recursive : AreMarks (IsLeftRecursive (rules_of found.rules)) (rules_of found.rules) found.recursive.items
   pub ways : EndsEarly found.recursive.items found.ways

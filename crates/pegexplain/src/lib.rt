@@ -11,6 +11,7 @@ mod notes;
 mod nulls;
 mod positions;
 mod skipped;
+mod sure;
 mod ways;
 
 pub use hints::{MAX_HINTS, never_taken, one_text_of_hints, peg_hints};

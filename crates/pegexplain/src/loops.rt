@@ -77,8 +77,10 @@ fn first_loop<'a>(
     Ok(None)
 }
 
-// The canonical text of an expression.
-fn text_of(alloc: Global, e: &Expr) -> Result<Vec<u8>, Memory>
+/// Returns the canonical text of an expression.
+///
+/// `Memory` if an allocation fails.
+pub(crate) fn text_of(alloc: Global, e: &Expr) -> Result<Vec<u8>, Memory>
     ensures { IfOk result (λ text. text.items ≡ canonical (pattern_of e.now)) }
 {
     let mut text = SinkOf::new(Vec::new(alloc));

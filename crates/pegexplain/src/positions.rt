@@ -6,13 +6,15 @@ ghost use Rattle.pegread.specs.Pattern.{Rule};
 ghost use Rattle.pegread.specs.Reading.{IsFaultOf, Reads};
 
 use crate::left_notes::ways_end;
+use crate::sure::sure_rules;
 use diagnostics::{Positions, Sign, Signs, positions_by};
 use gramcheck::{left_recursive_rules, nullable_rules};
 use pegread::{Expr, KeptPeg, Kind, Peg, read_kept_peg};
 use ruletable::{LineRule, Memory, NameCase, ReadFault, RuleTable};
 use std::alloc::Global;
 
-/// The roles of the tokens of peg(1) in the definitions of a grammar.
+/// The roles of the tokens of peg(1) in the definitions of a grammar. Classes, dots, actions and the ends of captures
+/// are reported as literals are.
 pub struct PegSigns;
 
 impl Signs<Kind> for PegSigns {
@@ -23,7 +25,8 @@ impl Signs<Kind> for PegSigns {
             Kind::Ident => Sign::Name,
             Kind::Arrow => Sign::Defines,
             Kind::Star | Kind::Plus => Sign::Repeats,
-            Kind::Literal => Sign::Literal,
+            Kind::Literal | Kind::Class | Kind::Dot | Kind::Action | Kind::Begin | Kind::EndCap =>
+                Sign::Literal,
             _ => Sign::Other,
         }
     }
@@ -64,6 +67,8 @@ pub struct PegPositions {
     pub rules: RuleTable<Expr>,
     /// Of each rule whether its body may take nothing.
     pub nulls: Vec<bool>,
+    /// Of each rule whether its body fails nowhere.
+    pub sure: Vec<bool>,
     /// Of each rule whether it is left-recursive.
     pub recursive: Vec<bool>,
     /// Before which id the left-recursive rules stand whose steps are explained.
@@ -86,12 +91,14 @@ pub fn peg_positions(
     ensures rules { IfOk result (λ found. found.rules ≡ rules) }
 {
     let nulls = nullable_rules(alloc, &rules)?;
+    let sure = sure_rules(alloc, &rules)?;
     let recursive = left_recursive_rules(alloc, &rules)?;
     let ways = ways_end(&recursive);
     Ok(PegPositions {
         positions,
         rules,
         nulls,
+        sure,
         recursive,
         ways,
     })

@@ -1,91 +1,185 @@
 //! The hints on a grammar's rules.
-ghost use Rattle.std.specs.Prelude.{◌≡◌, ◌++◌, map, IfOk, OnOk};
-ghost use Rattle.std.specs.List.{enumerate_from, flat_map};
-ghost use Rattle.pegread.specs.PegViews.{pattern_of, rules_of};
-ghost use Rattle.pegexplain.specs.CodeHints.{hint_found, literal_found};
-ghost use Rattle.pegexplain.specs.PegHints.{body_hints, hint_if, hints_of};
+ghost use Rattle.std.specs.Prelude.{◌≡◌, ◌++◌, [], map, IfOk, OnOk};
+ghost use Rattle.pegread.specs.PegViews.{pattern_of, patterns_of, rules_of};
+ghost use Rattle.pegexplain.specs.CodeHints.{alternatives_found, hint_found, known_literal, null_in, sure_in};
+ghost use Rattle.pegexplain.specs.HiddenAlternatives.{
+  alternative_hints,
+  hiding,
+  hint_if,
+  hints_in,
+  marks_in,
+  marks_in_all,
+  member_hints,
+};
+ghost use Rattle.pegexplain.specs.PegHints.{hints_of};
 
-use crate::hints::literals::{Literal, add_literals};
+use crate::hints::alternatives::{Alternative, Hidden, alternative_of, hiding_of};
+use crate::hints::known::KnownRules;
+use crate::hints::marks::add_marks;
+use diagnostics::MentionKind;
 use pegread::Expr;
-use ruletable::{Memory, RuleTable};
+use ruletable::Memory;
 use std::alloc::Global;
 
-/// An alternative that is never taken, since an earlier one is a prefix of it.
+/// A hint on an alternative that is never taken.
 #[derive(Clone, Copy)]
 pub(crate) struct Hint<'a> {
     /// The name of the rule.
     pub(crate) rule: &'a [u8],
-    /// The index of the alternative's literal among those of the rule.
+    /// The body of the rule.
+    pub(crate) body: &'a Expr,
+    /// How many marks of the body stand before the alternative.
     pub(crate) position: usize,
-    /// The literal of the alternative.
-    pub(crate) later: &'a [u8],
-    /// The literal that is the earlier alternative.
-    pub(crate) earlier: &'a [u8],
+    /// The alternative.
+    pub(crate) hidden: Hidden<'a>,
 }
 
-// Adds the hint on a literal of a rule, if there is one.
-fn push_hint<'a>(
-    found: &mut Vec<Hint<'a>>,
+/// A rule in which alternatives are looked for.
+#[derive(Clone, Copy)]
+struct Within<'a> {
+    /// All rules.
+    known: KnownRules<'a>,
+    /// The name of the rule.
     rule: &'a [u8],
+    /// Its body.
+    body: &'a Expr,
+}
+
+// Adds the hint on an alternative before which so many marks stand, if any marks stand in it and it is never taken.
+fn push_hint<'a>(
+    alloc: Global,
+    within: &Within<'a>,
+    before: &[Alternative<'a>],
+    e: &'a Expr,
     position: usize,
-    literal: Literal<'a>,
+    found: &mut Vec<Hint<'a>>,
 ) -> Result<(), Memory>
     ensures { OnOk result (map hint_found found.new.items ≡ map hint_found found.old.items
-        ++ hint_if rule.now (position, literal_found literal.entry)) }
+        ++ hint_if within.now.rule.now (pattern_of within.now.body.now) position (marks_in (pattern_of e.now))
+        (hiding (known_literal within.now.known) (sure_in within.now.known) (null_in within.now.known)
+        (alternatives_found before.now) (pattern_of e.now))) }
 {
-    if let Some(earlier) = literal.hidden_by {
+    let mut marks = Vec::new(alloc);
+    add_marks(e, &mut marks)?;
+    if marks.is_empty() {
+        return Ok(());
+    }
+    if let Some(hidden) = hiding_of(&within.known, before, e)? {
         found.push(Hint {
-            rule,
+            rule: within.rule,
+            body: within.body,
             position,
-            later: literal.bytes,
-            earlier,
+            hidden,
         })?;
     }
     Ok(())
 }
 
-// Adds the hints on the literals of a rule.
-fn push_hints<'a>(
+// Adds the hints on the alternatives in an expression, after marks, and its marks.
+#[cycle(hinting)]
+fn add_hints<'a>(
+    alloc: Global,
+    within: &Within<'a>,
+    e: &'a Expr,
+    marks: &mut Vec<MentionKind>,
     found: &mut Vec<Hint<'a>>,
-    rule: &'a [u8],
-    literals: &[Literal<'a>],
 ) -> Result<(), Memory>
-    ensures { OnOk result (map hint_found found.new.items ≡ map hint_found found.old.items
-        ++ flat_map (hint_if rule.now) (enumerate_from 0 (map literal_found literals.now))) }
+    ensures marks { OnOk result (marks.new.items ≡ marks.old.items ++ marks_in (pattern_of e.now)) }
+    ensures hints { OnOk result (map hint_found found.new.items ≡ map hint_found found.old.items
+        ++ hints_in (known_literal within.now.known) (sure_in within.now.known) (null_in within.now.known)
+        within.now.rule.now (pattern_of within.now.body.now) marks.old.items (pattern_of e.now)) }
 {
-    for position in 0..literals.len() {
-        push_hint(found, rule, position, literals[position])?;
+    match e {
+        Expr::Seq(members) => add_member_hints(alloc, within, members, marks, found),
+        Expr::Choice(alternatives) => {
+            add_alternative_hints(alloc, within, alternatives, marks, found)
+        }
+        Expr::Star(operand)
+        | Expr::Plus(operand)
+        | Expr::Opt(operand)
+        | Expr::And(operand)
+        | Expr::Not(operand) => add_hints(alloc, within, operand, marks, found),
+        Expr::Any
+        | Expr::Bytes(_)
+        | Expr::Set(_)
+        | Expr::Name(_)
+        | Expr::Act(_)
+        | Expr::Open
+        | Expr::Close => add_marks(e, marks),
+    }
+}
+
+// Adds those in the members of a sequence.
+#[cycle(hinting)]
+fn add_member_hints<'a>(
+    alloc: Global,
+    within: &Within<'a>,
+    members: &'a [Expr],
+    marks: &mut Vec<MentionKind>,
+    found: &mut Vec<Hint<'a>>,
+) -> Result<(), Memory>
+    ensures marks { OnOk result (marks.new.items ≡ marks.old.items ++ marks_in_all (patterns_of members.now)) }
+    ensures hints { OnOk result (map hint_found found.new.items ≡ map hint_found found.old.items
+        ++ member_hints (known_literal within.now.known) (sure_in within.now.known) (null_in within.now.known)
+        within.now.rule.now (pattern_of within.now.body.now) marks.old.items (patterns_of members.now)) }
+{
+    for member in members {
+        add_hints(alloc, within, member, marks, found)?;
+    }
+    Ok(())
+}
+
+// Adds those on alternatives and in them.
+#[cycle(hinting)]
+fn add_alternative_hints<'a>(
+    alloc: Global,
+    within: &Within<'a>,
+    alternatives: &'a [Expr],
+    marks: &mut Vec<MentionKind>,
+    found: &mut Vec<Hint<'a>>,
+) -> Result<(), Memory>
+    ensures marks { OnOk result (marks.new.items ≡ marks.old.items ++ marks_in_all (patterns_of alternatives.now)) }
+    ensures hints { OnOk result (map hint_found found.new.items ≡ map hint_found found.old.items
+        ++ alternative_hints (known_literal within.now.known) (sure_in within.now.known) (null_in within.now.known)
+        within.now.rule.now (pattern_of within.now.body.now) marks.old.items [] (patterns_of alternatives.now)) }
+{
+    let mut before: Vec<Alternative<'a>> = Vec::new(alloc);
+    for alternative in alternatives {
+        push_hint(alloc, within, &before, alternative, marks.len(), found)?;
+        add_hints(alloc, within, alternative, marks, found)?;
+        before.push(alternative_of(&within.known, alternative)?)?;
     }
     Ok(())
 }
 
 // Adds the hints on a rule.
-fn add_hints<'a>(
+fn add_rule_hints<'a>(
     alloc: Global,
-    found: &mut Vec<Hint<'a>>,
+    known: KnownRules<'a>,
     rule: &'a [u8],
     body: &'a Expr,
+    found: &mut Vec<Hint<'a>>,
 ) -> Result<(), Memory>
     ensures { OnOk result (map hint_found found.new.items ≡ map hint_found found.old.items
-        ++ body_hints rule.now (pattern_of body.now)) }
+        ++ hints_in (known_literal known.entry) (sure_in known.entry) (null_in known.entry) rule.now
+        (pattern_of body.now) [] (pattern_of body.now)) }
 {
-    let mut literals = Vec::new(alloc);
-    add_literals(alloc, body, None, &mut literals)?;
-    push_hints(found, rule, &literals)
+    let within = Within { known, rule, body };
+    let mut marks = Vec::new(alloc);
+    add_hints(alloc, &within, body, &mut marks, found)
 }
 
 /// Returns the hints on the rules, in order.
 ///
 /// `Memory` if an allocation fails.
-pub(crate) fn all_hints<'a>(
-    alloc: Global,
-    rules: &'a RuleTable<Expr>,
-) -> Result<Vec<Hint<'a>>, Memory>
-    ensures { IfOk result (λ v. map hint_found v.items ≡ hints_of (rules_of rules.now)) }
+pub(crate) fn all_hints<'a>(alloc: Global, known: KnownRules<'a>) -> Result<Vec<Hint<'a>>, Memory>
+    ensures { IfOk result (λ v. map hint_found v.items ≡ hints_of (known_literal known.entry) (sure_in known.entry)
+        (null_in known.entry) (rules_of known.entry.rules.now)) }
 {
     let mut found = Vec::new(alloc);
+    let rules = known.rules;
     for id in 0..rules.len() {
-        add_hints(alloc, &mut found, rules.name(id), rules.body(id))?;
+        add_rule_hints(alloc, known, rules.name(id), rules.body(id), &mut found)?;
     }
     Ok(found)
 }

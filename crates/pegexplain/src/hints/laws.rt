@@ -1,6 +1,7 @@
 //! Laws of hints.
-ghost use Rattle.std.specs.Prelude.{◌≡◌, ℕ, List, Some};
+ghost use Rattle.std.specs.Prelude.{◌≡◌, ℕ, List};
 ghost use Rattle.pegread.specs.Pattern.{Pattern, Rule};
+ghost use Rattle.pegexplain.specs.HiddenAlternatives.{HiddenBy};
 ghost use Rattle.pegexplain.specs.NeverTaken.{IsTaken, NeverTaken, ReportsNeverTaken};
 ghost use Rattle.pegexplain.specs.PegHints.{ArePegHints};
 
@@ -15,10 +16,9 @@ pub fn one_text_of_hints()
     one_reading();
 }
 
-/// Says that a literal of an alternative is hidden exactly if the alternative is never taken by a literal before it,
-/// and that no choice then comes to it on any input.
+/// Says that an alternative is hidden exactly if it is never taken, and that no choice then comes to it on any input.
 pub fn never_taken()
     ensures reports { ReportsNeverTaken }
-    ensures never { (rules : List Rule) (x : List ℕ) (alternatives : List Pattern) (k p : ℕ) (earlier : List ℕ) →
-        NeverTaken alternatives k earlier → IsTaken rules x alternatives k p → ⊥ }
+    ensures never { (rules : List Rule) (x : List ℕ) (alternatives : List Pattern) (k p : ℕ) (hidden : HiddenBy) →
+        NeverTaken rules alternatives k hidden → IsTaken rules x alternatives k p → ⊥ }
 {}

@@ -1,19 +1,40 @@
 //! The text of hints.
-ghost use Rattle.std.specs.Prelude.{◌≡◌, ◌++◌, ℕ, List, map, slice_get, IfOk, OnOk};
+ghost use Rattle.std.specs.Prelude.{◌≡◌, ◌++◌, ℕ, List, codes, count_by, map, slice_get, take, IfOk, OnOk};
 ghost use Rattle.std.specs.List.{flat_map};
+ghost use Rattle.diagnostics.specs.BodyMentions.{is_kind as same_kind};
 ghost use Rattle.diagnostics.specs.MentionLines.{mention_lines_by};
-ghost use Rattle.pegexplain.specs.PegNotes.{ArePegPositions};
 ghost use Rattle.diagnostics.specs.ShownBytes.{cut};
-ghost use Rattle.pegprint.specs.Canon.{text_of};
+ghost use Rattle.pegprint.specs.Canon.{text_of as canonical};
 ghost use Rattle.pegread.specs.Pattern.{Bytes};
-ghost use Rattle.pegexplain.specs.CodeHints.{hint_found};
-ghost use Rattle.pegexplain.specs.PegHints.{ArePegHints, hint_line, hint_reported, hints_reported, rule_reported};
+ghost use Rattle.pegread.specs.PegViews.{pattern_of};
+ghost use Rattle.pegexplain.specs.CodeHints.{hidden_found, hint_found, literal_at};
+ghost use Rattle.pegexplain.specs.HiddenAlternatives.{marks_in};
+ghost use Rattle.pegexplain.specs.PegHints.{
+  ArePegHints,
+  earlier_shown,
+  hint_line,
+  hint_reported,
+  hints_reported,
+  later_shown,
+  literal_shown,
+  mark_line,
+  rule_reported,
+  shown_literal,
+  text_or_empty,
+};
+ghost use Rattle.pegexplain.specs.PegNotes.{ArePegPositions};
 
 use crate::PegPositions;
+use crate::hints::alternatives::Hidden;
 use crate::hints::hints::{Hint, all_hints};
+use crate::hints::known::{KnownRules, named_literal};
+use crate::hints::marks::add_marks;
+use crate::hints::why::Why;
+use crate::loops::text_of;
 use diagnostics::{MentionKind, mention_lines, push_cut, push_more, push_number};
 use pegprint::print_literal;
-use ruletable::{Memory, SinkOf};
+use pegread::Expr;
+use ruletable::{Memory, RuleTable, SinkOf};
 use std::alloc::Global;
 
 /// How many hints are reported.
@@ -21,7 +42,7 @@ pub const MAX_HINTS: usize = 16;
 
 // The canonical text of a literal.
 fn literal_text(alloc: Global, bytes: &[u8]) -> Result<Vec<u8>, Memory>
-    ensures { IfOk result (λ text. text.items ≡ text_of (Bytes bytes.now)) }
+    ensures { IfOk result (λ text. text.items ≡ canonical (Bytes bytes.now)) }
 {
     let mut text = SinkOf::new(Vec::new(alloc));
     match print_literal(bytes, &mut text) {
@@ -30,23 +51,124 @@ fn literal_text(alloc: Global, bytes: &[u8]) -> Result<Vec<u8>, Memory>
     }
 }
 
-// Adds a literal.
-fn push_literal(alloc: Global, out: &mut Vec<u8>, bytes: &[u8]) -> Result<(), Memory>
-    ensures { OnOk result (out.new.items ≡ out.old.items ++ cut (text_of (Bytes bytes.now))) }
+// Adds an expression.
+fn push_expr(alloc: Global, out: &mut Vec<u8>, e: &Expr) -> Result<(), Memory>
+    ensures { OnOk result (out.new.items ≡ out.old.items ++ cut (canonical (pattern_of e.now))) }
 {
-    let text = literal_text(alloc, bytes)?;
+    let text = text_of(alloc, e)?;
     push_cut(out, text.as_slice())
 }
 
-// Adds the line of two literals, if it is known.
+// Adds a text, or that there is none.
+fn push_text_or_empty(out: &mut Vec<u8>, text: &[u8]) -> Result<(), Memory>
+    ensures { OnOk result (out.new.items ≡ out.old.items ++ text_or_empty text.now) }
+{
+    if text.is_empty() {
+        out.extend_from_slice(b"an empty alternative")?;
+        return Ok(());
+    }
+    push_cut(out, text)
+}
+
+// Adds a literal in parentheses.
+fn push_in_parentheses(alloc: Global, out: &mut Vec<u8>, bytes: &[u8]) -> Result<(), Memory>
+    ensures { OnOk result (out.new.items ≡ out.old.items ++ (codes " (" ++ (cut (canonical (Bytes bytes.now))
+        ++ codes ")"))) }
+{
+    let text = literal_text(alloc, bytes)?;
+    out.extend_from_slice(b" (")?;
+    push_cut(out, text.as_slice())?;
+    out.extend_from_slice(b")")?;
+    Ok(())
+}
+
+// Adds the literal that a name stands for, if it stands for one.
+fn push_literal(
+    alloc: Global,
+    out: &mut Vec<u8>,
+    rules: &RuleTable<Expr>,
+    e: &Expr,
+) -> Result<(), Memory>
+    ensures { OnOk result (out.new.items ≡ out.old.items ++ literal_shown (literal_at rules.now) (pattern_of e.now)) }
+{
+    let Expr::Name(name) = e else {
+        return Ok(());
+    };
+    match named_literal(rules, name)? {
+        Some(bytes) => push_in_parentheses(alloc, out, bytes),
+        None => Ok(()),
+    }
+}
+
+// Adds a literal, or a name and its literal.
+fn push_shown_literal(
+    alloc: Global,
+    out: &mut Vec<u8>,
+    rules: &RuleTable<Expr>,
+    e: &Expr,
+) -> Result<(), Memory>
+    ensures { OnOk result (out.new.items ≡ out.old.items ++ shown_literal (literal_at rules.now) (pattern_of e.now)) }
+{
+    push_expr(alloc, out, e)?;
+    push_literal(alloc, out, rules, e)
+}
+
+// Adds the later alternative.
+fn push_later(
+    alloc: Global,
+    out: &mut Vec<u8>,
+    rules: &RuleTable<Expr>,
+    why: Why,
+    e: &Expr,
+) -> Result<(), Memory>
+    ensures { OnOk result (out.new.items ≡ out.old.items
+        ++ later_shown (literal_at rules.now) why (pattern_of e.now)) }
+{
+    match why {
+        Why::NeverFails | Why::TakesAny => push_expr(alloc, out, e),
+        Why::Prefix => push_shown_literal(alloc, out, rules, e),
+    }
+}
+
+// Adds the alternative before it that is taken first, and why.
+fn push_earlier(
+    alloc: Global,
+    out: &mut Vec<u8>,
+    rules: &RuleTable<Expr>,
+    why: Why,
+    e: &Expr,
+) -> Result<(), Memory>
+    ensures { OnOk result (out.new.items ≡ out.old.items
+        ++ earlier_shown (literal_at rules.now) why (pattern_of e.now)) }
+{
+    match why {
+        Why::NeverFails => {
+            let text = text_of(alloc, e)?;
+            push_text_or_empty(out, text.as_slice())?;
+            out.extend_from_slice(b", which cannot fail\n")?;
+        }
+        Why::TakesAny => {
+            push_expr(alloc, out, e)?;
+            out.extend_from_slice(b", which takes any byte\n")?;
+        }
+        Why::Prefix => {
+            push_shown_literal(alloc, out, rules, e)?;
+            out.extend_from_slice(b"\n")?;
+        }
+    }
+    Ok(())
+}
+
+// Adds the line of two alternatives, if it is known.
 fn push_line(
     alloc: Global,
     out: &mut Vec<u8>,
+    rules: &RuleTable<Expr>,
     line: Option<usize>,
-    later: &[u8],
-    earlier: &[u8],
+    hidden: Hidden<'_>,
 ) -> Result<(), Memory>
-    ensures { OnOk result (out.new.items ≡ out.old.items ++ hint_line line later.now earlier.now) }
+    ensures { OnOk result (out.new.items ≡ out.old.items
+        ++ hint_line (literal_at rules.now) line (hidden_found hidden.entry)) }
 {
     let Some(line) = line else {
         return Ok(());
@@ -54,11 +176,9 @@ fn push_line(
     out.extend_from_slice(b"  line ")?;
     push_number(out, line)?;
     out.extend_from_slice(b": ")?;
-    push_literal(alloc, out, later)?;
+    push_later(alloc, out, rules, hidden.why, hidden.later)?;
     out.extend_from_slice(b" after ")?;
-    push_literal(alloc, out, earlier)?;
-    out.extend_from_slice(b"\n")?;
-    Ok(())
+    push_earlier(alloc, out, rules, hidden.why, hidden.earlier)
 }
 
 // Adds what a hint reports of its rule.
@@ -78,6 +198,44 @@ fn number_at(numbers: &[usize], position: usize) -> Option<usize>
     numbers.get(position).copied()
 }
 
+// The mark at a position, if there is one.
+fn mark_at(marks: &[MentionKind], position: usize) -> Option<MentionKind>
+    ensures { result ≡ slice_get marks.now position }
+{
+    marks.get(position).copied()
+}
+
+// Whether two kinds are one.
+fn is_kind(kind: MentionKind, other: MentionKind) -> bool
+    ensures { result ≡ same_kind kind other }
+{
+    kind == other
+}
+
+// How many of the first marks are of a kind.
+fn count_before(marks: &[MentionKind], position: usize, kind: MentionKind) -> usize
+    ensures { result ≡ count_by (same_kind kind) (take position marks.now) }
+{
+    let before = &marks[..position.min(marks.len())];
+    before.iter().filter(|m| is_kind(kind, **m)).count()
+}
+
+// The line of the alternative that a hint is on, if it is known.
+fn line_of(alloc: Global, positions: &PegPositions, hint: Hint<'_>) -> Result<Option<usize>, Memory>
+    ensures { IfOk result (λ line. line
+        ≡ mark_line (λ kind. mention_lines_by positions.now.positions kind hint.entry.rule.now)
+        (marks_in (pattern_of hint.entry.body.now)) hint.entry.position) }
+{
+    let mut marks = Vec::new(alloc);
+    add_marks(hint.body, &mut marks)?;
+    let Some(kind) = mark_at(&marks, hint.position) else {
+        return Ok(None);
+    };
+    let lines = mention_lines(alloc, &positions.positions, kind, hint.rule)?;
+    let position = count_before(&marks, hint.position, kind);
+    Ok(number_at(&lines, position))
+}
+
 // Adds a hint.
 fn push_hint(
     alloc: Global,
@@ -85,18 +243,12 @@ fn push_hint(
     positions: &PegPositions,
     hint: Hint<'_>,
 ) -> Result<(), Memory>
-    ensures { OnOk result (out.new.items ≡ out.old.items
-        ++ hint_reported (mention_lines_by positions.now.positions MentionKind.Literal) (hint_found hint.entry)) }
+    ensures { OnOk result (out.new.items ≡ out.old.items ++ hint_reported (literal_at positions.now.rules)
+        (mention_lines_by positions.now.positions) (hint_found hint.entry)) }
 {
+    let line = line_of(alloc, positions, hint)?;
     push_rule(out, hint.rule)?;
-    let lines = mention_lines(alloc, &positions.positions, MentionKind::Literal, hint.rule)?;
-    push_line(
-        alloc,
-        out,
-        number_at(&lines, hint.position),
-        hint.later,
-        hint.earlier,
-    )?;
+    push_line(alloc, out, &positions.rules, line, hint.hidden)?;
     Ok(())
 }
 
@@ -107,8 +259,8 @@ fn push_hints(
     positions: &PegPositions,
     hints: &[Hint<'_>],
 ) -> Result<(), Memory>
-    ensures { OnOk result (out.new.items ≡ out.old.items ++ flat_map
-        (hint_reported (mention_lines_by positions.now.positions MentionKind.Literal)) (map hint_found hints.now)) }
+    ensures { OnOk result (out.new.items ≡ out.old.items ++ flat_map (hint_reported (literal_at positions.now.rules)
+        (mention_lines_by positions.now.positions)) (map hint_found hints.now)) }
 {
     for hint in hints {
         push_hint(alloc, out, positions, *hint)?;
@@ -123,8 +275,8 @@ fn push_first_hints(
     positions: &PegPositions,
     hints: &[Hint<'_>],
 ) -> Result<(), Memory>
-    ensures { OnOk result (out.new.items ≡ out.old.items
-        ++ hints_reported (mention_lines_by positions.now.positions MentionKind.Literal) (map hint_found hints.now)) }
+    ensures { OnOk result (out.new.items ≡ out.old.items ++ hints_reported (literal_at positions.now.rules)
+        (mention_lines_by positions.now.positions) (map hint_found hints.now)) }
 {
     let shown = hints.len().min(MAX_HINTS);
     push_hints(alloc, out, positions, &hints[..shown])?;
@@ -132,9 +284,15 @@ fn push_first_hints(
     Ok(())
 }
 
-/// Writes the hints on the alternatives of a grammar that are never taken, since a literal before them is taken
-/// wherever they would be. Of each of the first `MAX_HINTS` it reports the rule and both literals, with the line of the
-/// later one; then it reports how many more there are.
+/// Writes the hints on the alternatives of a grammar that are never taken. Nothing stands in an empty alternative, and
+/// there is no hint on it. Any other one is never taken if one before it
+///
+/// - fails nowhere by its form,
+/// - is `.`, and the later one takes a byte,
+/// - or is a literal with which the later one begins. A name whose rule is a literal counts as that literal.
+///
+/// Of each of the first `MAX_HINTS` it reports the rule and both alternatives, with the line of the later one; then it
+/// reports how many more there are.
 ///
 /// # Errors
 /// `Memory` if an allocation fails.
@@ -142,7 +300,12 @@ pub fn peg_hints(alloc: Global, positions: &PegPositions) -> Result<Vec<u8>, Mem
     ensures { IfOk result
         (λ lines. (text : List ℕ) → ArePegPositions text positions.now → ArePegHints text lines.items) }
 {
-    let hints = all_hints(alloc, &positions.rules)?;
+    let known = KnownRules {
+        rules: &positions.rules,
+        nulls: &positions.nulls,
+        sure: &positions.sure,
+    };
+    let hints = all_hints(alloc, known)?;
     let mut reported = Vec::new(alloc);
     push_first_hints(alloc, &mut reported, positions, &hints)?;
     Ok(reported)
