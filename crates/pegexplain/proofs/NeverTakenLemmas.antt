@@ -388,9 +388,8 @@ module _ (rules : List Rule) (sure null : Pattern → Bool) (is_sure : SettlesSu
         → (by_first before ≡ Some hidden → IsFirstHiding before hidden) → IsFirstHiding (d ∷ before) hidden
     step-first d before hidden None is h ih =
         let w = ih h in
-        let bars : (why : Why) → Hides rules d e why → ⊥ =
-        λ why hd. (let f : Some why ≡ None = sym (hides-why hd) ∙ is in
-        absurd (cc f)) in
+        let bars : (why : Why) → Hides rules d e why → ⊥ = λ why hd.
+        (let f : Some why ≡ None = sym (hides-why hd) ∙ is in absurd (cc f)) in
         record {
           position = suc w.position;
           within = (let lt = w.within in omega (arith, lt));

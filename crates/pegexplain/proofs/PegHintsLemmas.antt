@@ -1,7 +1,8 @@
 -- What is reported of hints, and that it is one text.
 -- Serves: peg_hints, one_text_of_hints
 use Rattle.std.proofs.Common.{◌≡◌, ℕ, zero, suc, ◌+◌, ◌-◌, ◌<◌, min, Bool, List, [], ◌∷◌, ◌++◌, length, get_or, map}
-use Rattle.std.proofs.Common.{take, refl, Option, Some, None}
+use Rattle.std.proofs.Common.{take}
+use Rattle.std.proofs.Common.{refl, Option, Some, None}
 use Rattle.std.proofs.Common.{sym, ap, subst, ◌∙◌, append_assoc, append-nil, arith, add-one}
 use Rattle.std.proofs.lemmas.List.{length-map, take-map, take_min}
 use Rattle.std.proofs.lemmas.Option.{slice_get-map}

@@ -11,8 +11,9 @@ use Rattle.fixpoint.specs.Demands.{Demand, All, One, row_of, AreNeedsWithin}
 use Rattle.fixpoint.specs.Least.{Comes, by_all, by_one, AreMarksOfThose}
 use Rattle.gramcheck.specs.GrammarNotes.{AreMarks}
 use Rattle.pegexplain.specs.FailsNowhere.{AllFailNowhere, FailsNowhere, SomeFailsNowhere, sure_act, sure_and}
-use Rattle.pegexplain.specs.FailsNowhere.{sure_bytes, sure_choice, sure_close, sure_first, sure_later, sure_more}
-use Rattle.pegexplain.specs.FailsNowhere.{sure_name, sure_none, sure_open, sure_opt, sure_plus, sure_seq, sure_star}
+use Rattle.pegexplain.specs.FailsNowhere.{sure_bytes}
+use Rattle.pegexplain.specs.FailsNowhere.{sure_choice, sure_close, sure_first, sure_later, sure_more, sure_name}
+use Rattle.pegexplain.specs.FailsNowhere.{sure_none, sure_open, sure_opt, sure_plus, sure_seq, sure_star}
 use Rattle.fixpoint.specs.NumberMarks.{AreBelow}
 use Rattle.pegnodes.specs.Nodes as node
 use Rattle.pegnodes.specs.Nodes.{Shape, id_of, Spells, spells_any, spells_bytes, spells_set, spells_name, spells_seq}

@@ -17,8 +17,9 @@ use Rattle.pegnodes.proofs.OwnIdLemmas.{body_at_id, body_there}
 use Rattle.pegnodes.proofs.PushCasesLemmas.{mapped_from}
 use Rattle.gramcheck.specs.GrammarNotes.{AreMarks}
 use Rattle.pegexplain.specs.FailsNowhere.{AllFailNowhere, FailsNowhere, SomeFailsNowhere, sure_act, sure_and}
-use Rattle.pegexplain.specs.FailsNowhere.{sure_bytes, sure_choice, sure_close, sure_first, sure_later, sure_more}
-use Rattle.pegexplain.specs.FailsNowhere.{sure_name, sure_none, sure_open, sure_opt, sure_plus, sure_seq, sure_star}
+use Rattle.pegexplain.specs.FailsNowhere.{sure_bytes}
+use Rattle.pegexplain.specs.FailsNowhere.{sure_choice, sure_close, sure_first, sure_later, sure_more, sure_name}
+use Rattle.pegexplain.specs.FailsNowhere.{sure_none, sure_open, sure_opt, sure_plus, sure_seq, sure_star}
 use Rattle.pegexplain.specs.NullTests.{mark_with, null_mark_of}
 use Rattle.pegexplain.specs.SureNodes.{all_sure_by, some_sure_by, sure_by}
 use Rattle.pegexplain.proofs.NullTestsLemmas.{both-true, is-id, one-of, true-both}

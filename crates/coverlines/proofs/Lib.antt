@@ -1,0 +1,10 @@
+mod CoverLinesLemmas
+mod GoalsLemmas
+mod KnownWordsLemmas
+mod MadeLemmas
+mod MemberLemmas
+mod RuleContextsLemmas
+mod ShortestLemmas
+mod SitesLemmas
+mod SymbolsLemmas
+mod WordsLemmas
