@@ -1,5 +1,5 @@
 /* edges: what a call does with small buffers, with settings that are out of range, and with each setting, what a judge
- * answers, and what a runner writes. */
+ * answers, what a runner writes, and what is found of two grammars. */
 #include "check.h"
 
 #define LETTER_X "a = \"x\"\n"
@@ -324,8 +324,80 @@ static void explained_runs(void) {
     fanquber_peg_close(&runner);
 }
 
+/* Compares two grammars, with buffers that were filled with `#`. */
+static char old_line[ROOM], new_line[ROOM];
+static fanquber_comparison compared(const fanquber_settings *settings, size_t budget, const char *old_grammar,
+                                    const char *old_name, const char *new_grammar, const char *new_name, size_t room) {
+    memset(old_line, '#', ROOM);
+    memset(new_line, '#', ROOM);
+    memset(err, '#', ROOM);
+    return fanquber_compare(settings, budget, TEXT(old_grammar), TEXT(old_name), TEXT(new_grammar), TEXT(new_name),
+                            old_line, room, new_line, ROOM - room, err, ROOM);
+}
+
+/* What is known of the lines that one of two rules alone derives. */
+static int is_known(fanquber_alone found, uint8_t known, const char *buffer, size_t size, const char *line) {
+    return found.known == known && found.len == (known == FANQUBER_FIRST ? strlen(line) : 0) &&
+           holds(buffer, size, TEXT(line));
+}
+
+/* Pairs of rules, and what is found of them: lines of the manual page abnfd(1), and by the order that it gives. */
+static void compared_rules(void) {
+    const struct {
+        const char *old_grammar, *old_name, *new_grammar, *new_name;
+        uint8_t letters, old_known, new_known;
+        const char *old_first, *new_first;
+    } rows[] = {
+        { "a = 1*\"x\"", "", "a = \"x\" [a]", "", FANQUBER_BYTES, FANQUBER_NEVER, FANQUBER_NEVER, "", "" },
+        { "d = 2DIGIT", "", "d = 1*2DIGIT", "", FANQUBER_BYTES, FANQUBER_NEVER, FANQUBER_FIRST, "", "0" },
+        { "a = \"x\" CRLF", "", "a = \"x\" LF", "", FANQUBER_BYTES, FANQUBER_FIRST, FANQUBER_FIRST, "X\r\n", "X\n" },
+        { "t = %xE9", "", "t = %xC3.A9", "", FANQUBER_UTF8, FANQUBER_FIRST, FANQUBER_FIRST, "\xc3\xa9",
+          "\xc3\x83\xc2\xa9" },
+        { "a = b\nb = %x41", "a", "c = %x42\nb = c", "B", FANQUBER_BYTES, FANQUBER_FIRST, FANQUBER_FIRST, "A", "B" },
+        { "a = %x42", "", "c = d\nd = %x42", "d", FANQUBER_BYTES, FANQUBER_NEVER, FANQUBER_NEVER, "", "" },
+    };
+    fanquber_settings settings = FANQUBER_SETTINGS;
+    settings.named = true; /* an empty name is none */
+    for (size_t at = 0; at < sizeof rows / sizeof *rows; at++) {
+        settings.letters = rows[at].letters;
+        for (size_t room = 0; room <= ROOM; room++) {
+            const fanquber_comparison found = compared(&settings, FANQUBER_DEFAULT_BUDGET, rows[at].old_grammar,
+                                                       rows[at].old_name, rows[at].new_grammar, rows[at].new_name, room);
+            const int is_same = rows[at].old_known == FANQUBER_NEVER && rows[at].new_known == FANQUBER_NEVER;
+            CHECK(found.status == (is_same ? FANQUBER_DONE : FANQUBER_NO_MATCH));
+            CHECK(is_known(found.old_alone, rows[at].old_known, old_line, room, rows[at].old_first));
+            CHECK(is_known(found.new_alone, rows[at].new_known, new_line, ROOM - room, rows[at].new_first));
+        }
+    }
+}
+
+/* What is found where the budget is met, a grammar is rejected or has a note, and settings are invalid. */
+static void uncompared_rules(void) {
+    const char *nested = "s = [\"a\" s \"b\"]", *flat = "s = *\"a\" *\"b\"", *note = "rule 'b' defined but not used\n";
+    const char *fault = "line 1: syntax error\n";
+    fanquber_settings settings = FANQUBER_SETTINGS;
+    fanquber_comparison found = compared(&settings, 1000, nested, "\xff", flat, "\xff", ROOM / 2); /* no name is given */
+    CHECK(found.status == FANQUBER_NO_MATCH && found.old_alone.known == FANQUBER_NEVER_UP_TO && found.old_alone.len > 0);
+    CHECK(is_known(found.new_alone, FANQUBER_FIRST, new_line, ROOM / 2, "A"));
+    found = compared(&settings, 0, nested, "", nested, "", ROOM / 2);
+    CHECK(found.status == FANQUBER_NOT_KNOWN && is_known(found.old_alone, FANQUBER_UNKNOWN, old_line, ROOM, ""));
+    CHECK(is_known(found.new_alone, FANQUBER_UNKNOWN, new_line, ROOM, "") && found.err_len == 0);
+    found = compared(&settings, 1000, "a = %x41\nb = %x42\n", "", "a = )\n", "", ROOM / 2);
+    CHECK(found.status == FANQUBER_REFUSED && is_known(found.old_alone, FANQUBER_UNKNOWN, old_line, ROOM, ""));
+    CHECK(found.old_err_len == strlen(note) && found.err_len == strlen(note) + strlen(fault));
+    CHECK(memcmp(err, note, strlen(note)) == 0 && memcmp(err + strlen(note), fault, strlen(fault)) == 0);
+    settings.named = true;
+    found = compared(&settings, 1000, nested, "s", nested, "\xff", ROOM / 2);
+    CHECK(found.status == FANQUBER_BAD_SETTINGS && holds(err, ROOM, TEXT("")) && found.err_len == 0);
+    settings.size--;
+    found = compared(&settings, 1000, nested, "s", nested, "s", ROOM / 2);
+    CHECK(found.status == FANQUBER_BAD_SETTINGS && is_known(found.old_alone, FANQUBER_UNKNOWN, old_line, ROOM, ""));
+}
+
 int main(void) {
     judged_lines();
+    compared_rules();
+    uncompared_rules();
     runs_of_runners();
     explained_runs();
     many_windows();

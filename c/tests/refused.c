@@ -160,6 +160,32 @@ static void sweep_windows(void) {
     CHECK(!"the sweep ends");
 }
 
+/* Does the same for a comparison of two grammars, of which the old one has a note. */
+static void sweep_compare(void) {
+    const fanquber_settings settings = FANQUBER_SETTINGS;
+    const char *note = "rule 'b' defined but not used\n";
+    const long base = live;
+    static char old_line[64], new_line[64], err[4096];
+    for (long granted = 0; granted < MOST; granted++) {
+        left = granted;
+        fanquber_comparison found = fanquber_compare(
+            &settings, 1000, TEXT("d = 2DIGIT\nb = %x42\n"), TEXT(""), TEXT("d = 1*2DIGIT\n"), TEXT(""), old_line,
+            sizeof old_line, new_line, sizeof new_line, err, sizeof err);
+        int is_all = left > 0;
+        left = -1;
+        CHECK(live == base);
+        if (found.status == FANQUBER_NO_MATCH) {
+            CHECK(found.old_alone.known == FANQUBER_NEVER && found.new_alone.known == FANQUBER_FIRST);
+            CHECK(found.new_alone.len == 1 && new_line[0] == '0' && found.err_len == strlen(note));
+        } else CHECK(!is_all && found.status == FANQUBER_NO_MEMORY && found.err_len == 0);
+        if (is_all || wrong) {
+            printf("compare: %ld allocations refused in turn\n", granted);
+            return;
+        }
+    }
+    CHECK(!"the sweep ends");
+}
+
 int main(int count, char **words) {
     static char grammar[1 << 16];
     FILE *file = count == 2 ? fopen(words[1], "rb") : NULL;
@@ -172,5 +198,6 @@ int main(int count, char **words) {
     sweep_windows();
     sweep_judge(grammar, grammar_len, 64);
     sweep_runner();
+    sweep_compare();
     return wrong;
 }

@@ -1,3 +1,4 @@
+mod CompareCallLemmas
 mod FrontTextLemmas
 mod JudgeBoxLemmas
 mod LooseLemmas

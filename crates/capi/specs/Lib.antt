@@ -1,7 +1,10 @@
 pub mod Asking
 pub mod BufferRun
+pub mod CompareCall
+pub mod CompareReports
 pub mod FrontText
 pub mod GrammarOpenings
+pub mod GrammarsCompared
 pub mod JudgeCall
 pub mod OpenCall
 pub mod PointerOwns

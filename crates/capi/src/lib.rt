@@ -1,12 +1,16 @@
-//! Runs both tools over memory and opens grammars once, with settings and buffers as C has them. The crate `fanquber_c`
-//! exports each call.
+//! Runs both tools over memory, opens grammars once and compares grammars, with settings and buffers as C has them. The
+//! crate `fanquber_c` exports each call.
 #![tactic(auto)]
 
+mod alone;
 mod answer;
 mod asked;
 mod buffer;
 mod calls;
+mod compare_call;
+mod compared;
 mod front;
+mod grammar;
 mod judge;
 mod judge_box;
 mod judge_calls;
@@ -22,9 +26,11 @@ mod slot;
 mod window_texts;
 mod windows;
 
+pub use alone::CAlone;
 pub use answer::CAnswer;
 pub use asked::{BAD_SETTINGS, CSettings};
 pub use calls::{abnf, peg, peg_windows};
+pub use compare_call::{CComparison, compare};
 pub use judge::CJudge;
 pub use judge_box::JudgeBox;
 pub use judge_calls::{abnf_close, abnf_judge, abnf_open};
