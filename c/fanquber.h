@@ -3,7 +3,8 @@
  * fanquber_peg runs a grammar in the syntax of peg(1) on an input, as pegi(1) does. fanquber_abnf judges the lines of an
  * input by a grammar in ABNF (RFC 5234, RFC 7405), as abnfi(1) does. fanquber_abnf_open reads such a grammar once, and
  * fanquber_abnf_judge judges line after line by it; fanquber_peg_open and fanquber_peg_run do the same for input after
- * input of a grammar of peg(1). fanquber_compare compares the lines that two grammars in ABNF derive, as abnfd(1) does. */
+ * input of a grammar of peg(1). fanquber_compare compares the lines that two grammars in ABNF derive, as abnfd(1) does, and
+ * fanquber_lines_open and fanquber_lines_next list lines of one, as abnfg(1) does. */
 #ifndef FANQUBER_H
 #define FANQUBER_H
 
@@ -32,7 +33,7 @@ enum {
     FANQUBER_NO_MATCH = 1,    /* a position where nothing matches, or a line that is not derived */
     FANQUBER_REFUSED = 2,     /* the grammar is rejected: the error output says why */
     FANQUBER_OVERLONG = 3,    /* a unit or a line is longer than the limit */
-    FANQUBER_NOT_KNOWN = 3,   /* fanquber_compare: the budget was spent before a difference was found */
+    FANQUBER_NOT_KNOWN = 3,   /* fanquber_compare: the budget was spent; fanquber_lines_next: too many states */
     FANQUBER_FAULT = 4,       /* an allocation for an output failed */
     FANQUBER_NO_MEMORY = 5,   /* another allocation failed */
     FANQUBER_BAD_SETTINGS = 6 /* the library does not know the size of the settings, a number in them is out of its range,
@@ -197,6 +198,43 @@ fanquber_comparison fanquber_compare(const fanquber_settings *settings, size_t b
                                      const void *new_name, size_t new_name_len,
                                      void *old_line, size_t old_line_size, void *new_line, size_t new_line_size,
                                      void *err, size_t err_size);
+
+/* Which lines are listed. */
+enum {
+    FANQUBER_DERIVED = 0, /* those that the rule derives: shorter ones first, in the order of abnfg(1), each once */
+    FANQUBER_MISSED = 1   /* near ones that it does not derive, as abnfg(1) lists them with `-m miss` */
+};
+
+/* Lines of a rule, one after another. They begin as FANQUBER_LINES, which is closed. The fields belong to the library. They
+ * may be moved, stay on their thread, and serve one call at a time, as a judge does. */
+typedef struct fanquber_lines {
+    void *at;
+    bool is_open;
+} fanquber_lines;
+
+#define FANQUBER_LINES { NULL, false }
+
+/* The next line. */
+typedef struct fanquber_line {
+    size_t len;     /* how many bytes it has, whether there is room for them or not; else 0 */
+    uint8_t status; /* FANQUBER_DONE: there is a line; FANQUBER_NO_MATCH: there is none; FANQUBER_NOT_KNOWN: the grammar has
+                     * too many states; FANQUBER_NO_MEMORY; FANQUBER_BAD_SETTINGS: nothing is open */
+} fanquber_line;
+
+/* Opens closed lines of a grammar in ABNF, and writes the messages of fanquber_abnf on the grammar into the buffer, its notes
+ * or the fault of its text. The lines have at most as many letters as the limit of the settings, and not the byte that ends
+ * lines. The status is FANQUBER_DONE and the lines are open, or FANQUBER_REFUSED, FANQUBER_NO_MEMORY or
+ * FANQUBER_BAD_SETTINGS, and they stay closed. The mode must be valid, and has no other effect. out_len is 0. */
+fanquber_result fanquber_lines_open(const fanquber_settings *settings, uint8_t which, const void *grammar, size_t grammar_len,
+                                    const void *name, size_t name_len, fanquber_lines *lines, void *err, size_t err_size);
+
+/* Writes the next line at the front of the buffer, as much of it as there is room for. A line of as many bytes as the limit,
+ * or four times as many in UTF-8, fits always. After FANQUBER_NOT_KNOWN or FANQUBER_NO_MEMORY nothing is said of later
+ * lines. */
+fanquber_line fanquber_lines_next(fanquber_lines *lines, void *line, size_t line_size);
+
+/* Frees what open lines hold, and closes them. */
+void fanquber_lines_close(fanquber_lines *lines);
 
 #ifdef __cplusplus
 }

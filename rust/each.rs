@@ -4,7 +4,7 @@
 mod fanquber;
 
 use fanquber::{
-    Alone, DEFAULT_BUDGET, Error, Judge, Opened, OpenedPeg, Runner, Settings, Status, Tool, compare, run, run_each,
+    Alone, DEFAULT_BUDGET, Error, Judge, Lines, Listed, Opened, OpenedPeg, Runner, Settings, Status, Tool, compare, run, run_each,
 };
 
 fn each_is_a_run(text: &str, settings: &Settings) -> Result<(), Error> {
@@ -40,8 +40,18 @@ fn comparisons() -> Result<(), Error> {
     Ok(())
 }
 
+fn listed_lines() -> Result<(), Error> {
+    let settings = Settings { limit: 9, ..Settings::default() };
+    let lines = Lines::open(b"d = 1*2%x30-31\n", &settings, Listed::Derived)?.expect("a grammar");
+    let listed: Vec<_> = lines.collect::<Result<_, _>>()?;
+    assert_eq!(listed, ["0", "1", "00", "01", "10", "11"].map(str::as_bytes));
+    assert!(Lines::open(b"d = )\n", &settings, Listed::Missed)?.is_err_and(|notes| notes == b"line 1: syntax error\n"));
+    Ok(())
+}
+
 fn main() -> Result<(), Error> {
     comparisons()?;
+    listed_lines()?;
     let words = "S <- < [a-z]+ > { yytext }\n";
     for explain in [false, true] {
         let settings = Settings { explain, ..Settings::default() };

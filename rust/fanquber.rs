@@ -115,6 +115,28 @@ unsafe extern "C" {
     ) -> CComparison;
 }
 
+#[repr(C)]
+struct CLines {
+    at: *mut u8,
+    is_open: bool,
+}
+
+#[repr(C)]
+struct CLine {
+    len: usize,
+    status: u8,
+}
+
+#[link(name = "fanquber")]
+unsafe extern "C" {
+    fn fanquber_lines_open(
+        settings: *const CSettings, which: u8, grammar: *const u8, grammar_len: usize, name: *const u8,
+        name_len: usize, lines: *mut CLines, err: *mut u8, err_size: usize,
+    ) -> CResult;
+    fn fanquber_lines_next(lines: *mut CLines, line: *mut u8, line_size: usize) -> CLine;
+    fn fanquber_lines_close(lines: *mut CLines);
+}
+
 /// The greatest limit.
 pub const MAX_LIMIT: usize = 16_777_216;
 
@@ -187,6 +209,8 @@ pub enum Error {
     Settings,
     /// An allocation failed.
     Memory,
+    /// The grammar has too many states.
+    States,
 }
 
 impl fmt::Display for Error {
@@ -194,6 +218,7 @@ impl fmt::Display for Error {
         f.write_str(match self {
             Error::Settings => "settings out of range",
             Error::Memory => "out of memory",
+            Error::States => "too many states",
         })
     }
 }
@@ -601,5 +626,86 @@ pub fn compare(
             });
         }
         err.resize(got.err_len.max(err.len()), 0);
+    }
+}
+
+/// Which lines are listed.
+#[derive(Clone, Copy, Debug, PartialEq, Eq)]
+pub enum Listed {
+    /// Those that the rule derives, shorter ones first.
+    Derived,
+    /// Near ones that it does not derive.
+    Missed,
+}
+
+/// Lines of a grammar in ABNF, one after another. They stay on their thread.
+pub struct Lines {
+    own: CLines,
+    line: Vec<u8>,
+    /// The notes on the grammar.
+    pub notes: Vec<u8>,
+}
+
+impl Lines {
+    /// Opens a grammar; `Err` has the lines that say why it is rejected. A line has at most as many letters as the limit
+    /// of the settings.
+    pub fn open(grammar: &[u8], settings: &Settings, which: Listed) -> Result<Result<Lines, Vec<u8>>, Error> {
+        let asked = settings.for_c();
+        let name = settings.start.unwrap_or("").as_bytes();
+        let most = if settings.letters == Letters::Utf8 { 4 } else { 1 };
+        let mut lines = Lines {
+            own: CLines {
+                at: std::ptr::null_mut(),
+                is_open: false,
+            },
+            line: vec![0; settings.limit.min(MAX_LIMIT) * most],
+            notes: vec![0; 1024],
+        };
+        loop {
+            // SAFETY: as in `run`; the lines are closed.
+            let got = unsafe {
+                fanquber_lines_open(
+                    &asked,
+                    which as u8,
+                    grammar.as_ptr(),
+                    grammar.len(),
+                    name.as_ptr(),
+                    name.len(),
+                    &mut lines.own,
+                    lines.notes.as_mut_ptr(),
+                    lines.notes.len(),
+                )
+            };
+            let is_whole = got.err_len <= lines.notes.len();
+            lines.notes.resize(got.err_len, 0);
+            match got.status()? {
+                // SAFETY: the library left the lines so.
+                _ if !is_whole => unsafe { fanquber_lines_close(&mut lines.own) },
+                Status::Done => return Ok(Ok(lines)),
+                _ => return Ok(Err(std::mem::take(&mut lines.notes))),
+            }
+        }
+    }
+}
+
+impl Iterator for Lines {
+    type Item = Result<Vec<u8>, Error>;
+
+    fn next(&mut self) -> Option<Self::Item> {
+        // SAFETY: as in `run`; the library left the lines so, and nothing else uses them.
+        let got = unsafe { fanquber_lines_next(&mut self.own, self.line.as_mut_ptr(), self.line.len()) };
+        match got.status {
+            0 => Some(Ok(self.line[..got.len].to_vec())),
+            1 => None,
+            3 => Some(Err(Error::States)),
+            _ => Some(Err(Error::Memory)),
+        }
+    }
+}
+
+impl Drop for Lines {
+    fn drop(&mut self) {
+        // SAFETY: the library left the lines so, and nothing uses them from now on.
+        unsafe { fanquber_lines_close(&mut self.own) }
     }
 }

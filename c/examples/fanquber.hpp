@@ -6,6 +6,7 @@
 
 #include <cstddef>
 #include <new>
+#include <optional>
 #include <stdexcept>
 #include <string>
 #include <string_view>
@@ -81,6 +82,7 @@ private:
     friend class judge;
     friend class runner;
     friend struct comparison;
+    friend class lines;
 
     /// Cuts what the runs wrote into their replies. The messages on the grammar stand once, before those of the runs.
     static std::vector<reply> replies(const std::vector<fanquber_result> &results, const fanquber_result &all,
@@ -256,6 +258,48 @@ private:
         const bool is_first = found.known == FANQUBER_FIRST;
         return {found.known, is_first ? 0 : found.len, line.substr(0, is_first ? found.len : 0)};
     }
+};
+
+/// Lines of a grammar in ABNF, one after another. They stay on the thread that opens them.
+class lines {
+public:
+    /// `which` is FANQUBER_DERIVED or FANQUBER_MISSED. Throws as the constructor of judge does.
+    explicit lines(const grammar &of, int which = FANQUBER_DERIVED)
+        : notes_(1024, '\0'), line_(of.settings_.limit * (of.settings_.letters == FANQUBER_UTF8 ? 4 : 1), '\0') {
+        for (;;) {
+            const fanquber_result got =
+                fanquber_lines_open(&of.settings_, static_cast<uint8_t>(which), of.text_.data(), of.text_.size(),
+                                    of.name_.data(), of.name_.size(), &own_, &notes_[0], notes_.size());
+            const bool is_whole = got.err_len <= notes_.size();
+            if (!is_whole) fanquber_lines_close(&own_);
+            notes_.resize(got.err_len);
+            if (!is_whole) continue;
+            if (got.status == FANQUBER_NO_MEMORY) throw std::bad_alloc();
+            if (got.status == FANQUBER_BAD_SETTINGS) throw std::invalid_argument("fanquber: settings out of range");
+            if (got.status != FANQUBER_DONE) throw std::invalid_argument(notes_);
+            return;
+        }
+    }
+    lines(const lines &) = delete;
+    lines &operator=(const lines &) = delete;
+    ~lines() { fanquber_lines_close(&own_); }
+
+    /// The notes on the grammar.
+    const std::string &notes() const { return notes_; }
+
+    /// Returns the next line, if there is one. Throws std::bad_alloc where an allocation fails, and std::length_error where
+    /// the grammar has too many states.
+    std::optional<std::string> next() {
+        const fanquber_line got = fanquber_lines_next(&own_, &line_[0], line_.size());
+        if (got.status == FANQUBER_NO_MATCH) return std::nullopt;
+        if (got.status == FANQUBER_NO_MEMORY) throw std::bad_alloc();
+        if (got.status != FANQUBER_DONE) throw std::length_error("fanquber: too many states");
+        return line_.substr(0, got.len);
+    }
+
+private:
+    fanquber_lines own_ = FANQUBER_LINES;
+    std::string notes_, line_;
 };
 
 } // namespace fanquber

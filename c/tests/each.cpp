@@ -49,8 +49,19 @@ static void comparisons() {
     CHECK(same.status == FANQUBER_DONE && same.new_alone.known == FANQUBER_NEVER && same.new_notes == note);
 }
 
+static void listed_lines() {
+    fanquber::grammar of(fanquber::tool::abnf, "d = 1*2%x30-31\n");
+    of.settings().limit = 9;
+    fanquber::lines lines(of);
+    for (const char *want : {"0", "1", "00", "01", "10", "11"}) CHECK(lines.next() == std::string(want));
+    CHECK(!lines.next() && lines.notes().empty());
+    fanquber::lines missed(of, FANQUBER_MISSED);
+    CHECK(missed.next() == std::string() && missed.next() == std::string("!"));
+}
+
 int main() {
     comparisons();
+    listed_lines();
     const std::string words = "S <- < [a-z]+ > { yytext }\n";
     for (const std::string &text : {words, words + "T <- 'x'\n", std::string("S <- T\n"), std::string("S <- )\n")}) {
         each_is_a_run(text, false);

@@ -1,5 +1,6 @@
 /* edges: what a call does with small buffers, with settings that are out of range, and with each setting, what a judge
- * answers, what a runner writes, and what is found of two grammars. */
+ * answers, what a runner writes, and what is found of two grammars, and which lines
+ * are listed. */
 #include "check.h"
 
 #define LETTER_X "a = \"x\"\n"
@@ -394,8 +395,80 @@ static void uncompared_rules(void) {
     CHECK(found.status == FANQUBER_BAD_SETTINGS && is_known(found.old_alone, FANQUBER_UNKNOWN, old_line, ROOM, ""));
 }
 
+/* Lines of rules, each before a `|`, and how they end. They are rows of the gate for abnfg(1). */
+static void listed_lines(void) {
+    const struct {
+        const char *grammar;
+        uint8_t which, letters;
+        bool nul;
+        size_t limit;
+        const char *lines;
+        uint8_t status;
+    } rows[] = {
+        { "d = 1*2(\"0\" / \"1\")", FANQUBER_DERIVED, FANQUBER_BYTES, false, 65536, "0|1|00|01|10|11|", FANQUBER_NO_MATCH },
+        { "a = *\"x\"", FANQUBER_DERIVED, FANQUBER_BYTES, false, 1, "|X|x|", FANQUBER_NO_MATCH },
+        { "a = \"(\" *a \")\"", FANQUBER_DERIVED, FANQUBER_BYTES, false, 6, "()|(())|((()))|(()())|", FANQUBER_NO_MATCH },
+        { "a = \"x\" CRLF", FANQUBER_DERIVED, FANQUBER_BYTES, false, 9, "", FANQUBER_NO_MATCH },
+        { "a = \"x\" LF", FANQUBER_DERIVED, FANQUBER_BYTES, true, 9, "X\n|x\n|", FANQUBER_NO_MATCH },
+        { "a = %xD7FF-E000 / %xE9", FANQUBER_DERIVED, FANQUBER_UTF8, false, 9, "\xc3\xa9|\xed\x9f\xbf|\xee\x80\x80|",
+          FANQUBER_NO_MATCH },
+        { "a = a \"b\" / \"c\"", FANQUBER_DERIVED, FANQUBER_BYTES, false, 9, "", FANQUBER_NOT_KNOWN },
+        { "k = \"no\" / \"yes\"", FANQUBER_MISSED, FANQUBER_BYTES, false, 256, "|!|N|N!|Y|Y!|NO!|YE|YE!|", FANQUBER_NO_MATCH },
+        { "k = \"no\" / \"yes\"", FANQUBER_MISSED, FANQUBER_BYTES, false, 1, "|!|N|Y|", FANQUBER_NO_MATCH },
+        { "a = *OCTET", FANQUBER_MISSED, FANQUBER_BYTES, false, 256, "", FANQUBER_NO_MATCH },
+    };
+    fanquber_settings settings = FANQUBER_SETTINGS;
+    for (size_t at = 0; at < sizeof rows / sizeof *rows; at++) {
+        char all[ROOM] = "";
+        size_t len = 0;
+        fanquber_lines lines = FANQUBER_LINES;
+        fanquber_line next;
+        settings.letters = rows[at].letters;
+        settings.nul = rows[at].nul;
+        settings.limit = rows[at].limit;
+        got = fanquber_lines_open(&settings, rows[at].which, TEXT(rows[at].grammar), TEXT(""), &lines, err, ROOM);
+        CHECK(got.status == FANQUBER_DONE && got.err_len == 0 && lines.is_open);
+        while ((next = fanquber_lines_next(&lines, all + len, ROOM - len - 1)).status == FANQUBER_DONE) {
+            len += next.len;
+            all[len++] = '|';
+        }
+        CHECK(next.status == rows[at].status && next.len == 0 && lines.is_open);
+        CHECK(len == strlen(rows[at].lines) && memcmp(all, rows[at].lines, len) == 0);
+        CHECK(fanquber_lines_next(&lines, all, ROOM).status == rows[at].status);
+        fanquber_lines_close(&lines);
+        CHECK(!lines.is_open && fanquber_lines_next(&lines, all, ROOM).status == FANQUBER_BAD_SETTINGS);
+    }
+}
+
+/* What opening lines does with small buffers, and where nothing is opened. */
+static void unlisted_lines(void) {
+    const char *grammar = "a = \"0\"\nb = \"12\"\n", *note = "rule 'a' defined but not used\n";
+    fanquber_settings settings = FANQUBER_SETTINGS;
+    fanquber_lines lines = FANQUBER_LINES;
+    settings.named = true;
+    for (size_t room = 0; room < ROOM; room++) {
+        memset(err, '#', ROOM);
+        memset(out, '#', ROOM);
+        got = fanquber_lines_open(&settings, FANQUBER_DERIVED, TEXT(grammar), TEXT("b"), &lines, err, room);
+        CHECK(got.status == FANQUBER_DONE && got.err_len == strlen(note) && holds(err, room, TEXT(note)));
+        got = fanquber_lines_open(&settings, FANQUBER_DERIVED, TEXT(grammar), TEXT("b"), &lines, err, room);
+        CHECK(got.status == FANQUBER_BAD_SETTINGS && lines.is_open); /* they are open */
+        CHECK(fanquber_lines_next(&lines, out, room).len == 2 && holds(out, room, "12", 2));
+        CHECK(fanquber_lines_next(&lines, out, room).status == FANQUBER_NO_MATCH && holds(out, room, "12", 2));
+        fanquber_lines_close(&lines);
+    }
+    got = fanquber_lines_open(&settings, 2, TEXT(grammar), TEXT("b"), &lines, err, ROOM);
+    CHECK(got.status == FANQUBER_BAD_SETTINGS && !lines.is_open);
+    got = fanquber_lines_open(&settings, FANQUBER_MISSED, TEXT(grammar), TEXT("\xff"), &lines, err, ROOM);
+    CHECK(got.status == FANQUBER_BAD_SETTINGS && !lines.is_open);
+    got = fanquber_lines_open(&settings, FANQUBER_MISSED, TEXT("a = )\n"), TEXT("a"), &lines, err, ROOM);
+    CHECK(got.status == FANQUBER_REFUSED && got.err_len == strlen("line 1: syntax error\n") && !lines.is_open);
+}
+
 int main(void) {
     judged_lines();
+    listed_lines();
+    unlisted_lines();
     compared_rules();
     uncompared_rules();
     runs_of_runners();

@@ -6,6 +6,9 @@ pub mod FrontText
 pub mod GrammarOpenings
 pub mod GrammarsCompared
 pub mod JudgeCall
+pub mod LineLists
+pub mod LinesOpenCall
+pub mod NextLineCall
 pub mod OpenCall
 pub mod PointerOwns
 pub mod RunCall
