@@ -1,9 +1,10 @@
-/* fanquber.h: whole runs of two proved grammar tools over memory. See fanquber(3).
+/* fanquber.h: proved grammar tools over memory. See fanquber(3).
  *
  * fanquber_peg runs a grammar in the syntax of peg(1) on an input, as pegi(1) does. fanquber_abnf judges the lines of an
  * input by a grammar in ABNF (RFC 5234, RFC 7405), as abnfi(1) does. fanquber_abnf_open reads such a grammar once, and
  * fanquber_abnf_judge judges line after line by it; fanquber_peg_open and fanquber_peg_run do the same for input after
- * input of a grammar of peg(1). */
+ * input of a grammar of peg(1). fanquber_compare compares the lines that two grammars in ABNF derive, as abnfd(1) does, and
+ * fanquber_lines_open and fanquber_lines_next list lines of one, as abnfg(1) does. */
 #ifndef FANQUBER_H
 #define FANQUBER_H
 
@@ -18,12 +19,12 @@ extern "C" {
 /* The version of this interface. A minor version adds calls, and fields at the end of fanquber_settings. Programs that were
  * built with a header of the same major version and no later minor version run with the library unchanged. */
 #define FANQUBER_VERSION_MAJOR 2
-#define FANQUBER_VERSION_MINOR 0
+#define FANQUBER_VERSION_MINOR 1
 
 /* What to do with the grammar. */
 enum { FANQUBER_RUN = 0, FANQUBER_CHECK = 1, FANQUBER_PRINT = 2 };
 
-/* What the lines of fanquber_abnf are made of. */
+/* What the lines of a grammar in ABNF are made of. */
 enum { FANQUBER_BYTES = 0, FANQUBER_UTF8 = 1 };
 
 /* Status codes: the exit statuses of the programs, and one more. */
@@ -32,6 +33,7 @@ enum {
     FANQUBER_NO_MATCH = 1,    /* a position where nothing matches, or a line that is not derived */
     FANQUBER_REFUSED = 2,     /* the grammar is rejected: the error output says why */
     FANQUBER_OVERLONG = 3,    /* a unit or a line is longer than the limit */
+    FANQUBER_NOT_KNOWN = 3,   /* fanquber_compare: the budget was spent; fanquber_lines_next: too many states */
     FANQUBER_FAULT = 4,       /* an allocation for an output failed */
     FANQUBER_NO_MEMORY = 5,   /* another allocation failed */
     FANQUBER_BAD_SETTINGS = 6 /* the library does not know the size of the settings, a number in them is out of its range,
@@ -47,7 +49,7 @@ typedef struct fanquber_settings {
     size_t size;     /* sizeof(fanquber_settings), as FANQUBER_SETTINGS sets it */
     size_t limit;    /* how many bytes a unit may look at, or a line may have: 1 to FANQUBER_MAX_LIMIT */
     uint8_t mode;    /* FANQUBER_RUN, FANQUBER_CHECK or FANQUBER_PRINT */
-    uint8_t letters; /* fanquber_abnf: FANQUBER_BYTES or FANQUBER_UTF8 */
+    uint8_t letters; /* grammars in ABNF: FANQUBER_BYTES or FANQUBER_UTF8 */
     bool named;      /* the name names the start rule, or the rule that judges lines; else it is the first rule */
     bool raw;        /* fanquber_peg: actions are printed verbatim */
     bool viable;     /* fanquber_abnf: `no N` in place of `no`: the longest viable prefix has N letters */
@@ -154,6 +156,85 @@ fanquber_result fanquber_peg_run(fanquber_runner *runner, const void *input, siz
 
 /* Frees what an open runner holds, and closes it. */
 void fanquber_peg_close(fanquber_runner *runner);
+
+/* What is known of the lines that one of two rules derives and the other does not. */
+enum {
+    FANQUBER_UNKNOWN = 0,     /* nothing */
+    FANQUBER_NEVER = 1,       /* there is no such line, of any length */
+    FANQUBER_NEVER_UP_TO = 2, /* there is none of at most len letters */
+    FANQUBER_FIRST = 3        /* the first of them, in the order of abnfd(1), has len bytes */
+};
+
+typedef struct fanquber_alone {
+    size_t len;    /* 0 with FANQUBER_UNKNOWN and FANQUBER_NEVER */
+    uint8_t known; /* FANQUBER_UNKNOWN, FANQUBER_NEVER, FANQUBER_NEVER_UP_TO or FANQUBER_FIRST */
+} fanquber_alone;
+
+/* The result of a comparison. */
+typedef struct fanquber_comparison {
+    fanquber_alone old_alone; /* of the lines that the old rule alone derives */
+    fanquber_alone new_alone; /* of the lines that the new rule alone derives */
+    size_t err_len;           /* the length of the messages on both grammars */
+    size_t old_err_len;       /* the length of those on the old grammar, which come first */
+    uint8_t status;           /* FANQUBER_DONE: both rules derive the same lines; FANQUBER_NO_MATCH: one derives a line that
+                               * the other does not; FANQUBER_NOT_KNOWN; FANQUBER_REFUSED: a grammar is rejected;
+                               * FANQUBER_NO_MEMORY; FANQUBER_BAD_SETTINGS */
+} fanquber_comparison;
+
+/* How many pairs of states abnfd(1) looks at without options. */
+enum { FANQUBER_DEFAULT_BUDGET = 1000000 };
+
+/* Compares the lines of any length that a rule of one grammar in ABNF derives with those of a rule of another. Each rule is
+ * that of its name if the settings say that names are given and its name is not empty; else it is the grammar's first. For
+ * each of both answers the search looks at no more than so many pairs of states.
+ *
+ * The first line that each rule alone derives is written at the front of its buffer, if it is known, and the messages of
+ * fanquber_abnf on both grammars at the front of err, each as much as there is room for. Settings are used as
+ * fanquber_abnf_open uses them. With FANQUBER_NO_MEMORY and FANQUBER_BAD_SETTINGS the buffers are unchanged. */
+fanquber_comparison fanquber_compare(const fanquber_settings *settings, size_t budget,
+                                     const void *old_grammar, size_t old_grammar_len,
+                                     const void *old_name, size_t old_name_len,
+                                     const void *new_grammar, size_t new_grammar_len,
+                                     const void *new_name, size_t new_name_len,
+                                     void *old_line, size_t old_line_size, void *new_line, size_t new_line_size,
+                                     void *err, size_t err_size);
+
+/* Which lines are listed. */
+enum {
+    FANQUBER_DERIVED = 0, /* those that the rule derives: shorter ones first, in the order of abnfg(1), each once */
+    FANQUBER_MISSED = 1   /* near ones that it does not derive, as abnfg(1) lists them with `-m miss` */
+};
+
+/* Lines of a rule, one after another. They begin as FANQUBER_LINES, which is closed. The fields belong to the library. They
+ * may be moved, stay on their thread, and serve one call at a time, as a judge does. */
+typedef struct fanquber_lines {
+    void *at;
+    bool is_open;
+} fanquber_lines;
+
+#define FANQUBER_LINES { NULL, false }
+
+/* The next line. */
+typedef struct fanquber_line {
+    size_t len;     /* how many bytes it has, whether there is room for them or not; else 0 */
+    uint8_t status; /* FANQUBER_DONE: there is a line; FANQUBER_NO_MATCH: there is none; FANQUBER_NOT_KNOWN: the grammar has
+                     * too many states; FANQUBER_NO_MEMORY; FANQUBER_BAD_SETTINGS: nothing is open */
+} fanquber_line;
+
+/* Opens closed lines of a grammar in ABNF, and writes the messages of fanquber_abnf on the grammar into the buffer, its notes
+ * or the fault of its text. The lines have at most as many letters as the limit of the settings, and not the byte that ends
+ * lines. The status is FANQUBER_DONE and the lines are open, or FANQUBER_REFUSED, FANQUBER_NO_MEMORY or
+ * FANQUBER_BAD_SETTINGS, and they stay closed. The mode must be valid, and has no other effect. out_len is 0. */
+fanquber_result fanquber_lines_open(const fanquber_settings *settings, uint8_t which, const void *grammar, size_t grammar_len,
+                                    const void *name, size_t name_len, fanquber_lines *lines, void *err, size_t err_size);
+
+/* Writes the next line at the front of the buffer, as much of it as there is room for. A line of as many bytes as the limit,
+ * or four times as many in UTF-8, fits always. After FANQUBER_NOT_KNOWN or FANQUBER_NO_MEMORY nothing is said of later
+ * lines. */
+fanquber_line fanquber_lines_next(fanquber_lines *lines, void *line, size_t line_size);
+
+/* Frees what open lines hold, and closes them. */
+void fanquber_lines_close(fanquber_lines *lines);
 
 #ifdef __cplusplus
 }

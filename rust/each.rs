@@ -1,9 +1,11 @@
 //! `run_each` of fanquber.rs gives what `run` gives for each input, a judge has the notes of `run` on its grammar, and a
-//! runner writes what `run` does after them.
+//! runner writes what `run` does after them. A comparison has the lines and the notes of both grammars.
 #[allow(dead_code)]
 mod fanquber;
 
-use fanquber::{Error, Judge, Opened, OpenedPeg, Runner, Settings, Tool, run, run_each};
+use fanquber::{
+    Alone, DEFAULT_BUDGET, Error, Judge, Lines, Listed, Opened, OpenedPeg, Runner, Settings, Status, Tool, compare, run, run_each,
+};
 
 fn each_is_a_run(text: &str, settings: &Settings) -> Result<(), Error> {
     let inputs: [&[u8]; 4] = [b"tea", b"", b"milk2", b"tea"];
@@ -25,7 +27,31 @@ fn runner_is_a_run(text: &str, settings: &Settings) -> Result<(), Error> {
     Ok(())
 }
 
+fn comparisons() -> Result<(), Error> {
+    let (settings, text) = (Settings::default(), "x".repeat(400));
+    let old = format!("a = %s\"{text}\"\nb = %x42\n");
+    let found = compare(old.as_bytes(), b"a = %x41\nb = %x42\n", &settings, Some("b"), DEFAULT_BUDGET)?;
+    assert_eq!((found.old_alone, found.status), (Alone::First(text.into_bytes()), Status::NoMatch));
+    assert_eq!(found.new_alone, Alone::First(b"B".to_vec()));
+    assert_eq!(found.old_notes, b"rule 'b' defined but not used\n");
+    assert_eq!(found.new_notes, b"rule 'a' defined but not used\n");
+    let same = compare(old.as_bytes(), old.as_bytes(), &settings, None, DEFAULT_BUDGET)?;
+    assert_eq!((same.old_alone, same.new_alone, same.status), (Alone::Never, Alone::Never, Status::Done));
+    Ok(())
+}
+
+fn listed_lines() -> Result<(), Error> {
+    let settings = Settings { limit: 9, ..Settings::default() };
+    let lines = Lines::open(b"d = 1*2%x30-31\n", &settings, Listed::Derived)?.expect("a grammar");
+    let listed: Vec<_> = lines.collect::<Result<_, _>>()?;
+    assert_eq!(listed, ["0", "1", "00", "01", "10", "11"].map(str::as_bytes));
+    assert!(Lines::open(b"d = )\n", &settings, Listed::Missed)?.is_err_and(|notes| notes == b"line 1: syntax error\n"));
+    Ok(())
+}
+
 fn main() -> Result<(), Error> {
+    comparisons()?;
+    listed_lines()?;
     let words = "S <- < [a-z]+ > { yytext }\n";
     for explain in [false, true] {
         let settings = Settings { explain, ..Settings::default() };

@@ -90,6 +90,53 @@ unsafe extern "C" {
     fn fanquber_peg_close(runner: *mut CRunner);
 }
 
+#[repr(C)]
+struct CAlone {
+    len: usize,
+    known: u8,
+}
+
+#[repr(C)]
+struct CComparison {
+    old_alone: CAlone,
+    new_alone: CAlone,
+    err_len: usize,
+    old_err_len: usize,
+    status: u8,
+}
+
+#[link(name = "fanquber")]
+unsafe extern "C" {
+    fn fanquber_compare(
+        settings: *const CSettings, budget: usize, old: *const u8, old_len: usize, old_name: *const u8,
+        old_name_len: usize, new: *const u8, new_len: usize, new_name: *const u8, new_name_len: usize,
+        old_line: *mut u8, old_line_size: usize, new_line: *mut u8, new_line_size: usize, err: *mut u8,
+        err_size: usize,
+    ) -> CComparison;
+}
+
+#[repr(C)]
+struct CLines {
+    at: *mut u8,
+    is_open: bool,
+}
+
+#[repr(C)]
+struct CLine {
+    len: usize,
+    status: u8,
+}
+
+#[link(name = "fanquber")]
+unsafe extern "C" {
+    fn fanquber_lines_open(
+        settings: *const CSettings, which: u8, grammar: *const u8, grammar_len: usize, name: *const u8,
+        name_len: usize, lines: *mut CLines, err: *mut u8, err_size: usize,
+    ) -> CResult;
+    fn fanquber_lines_next(lines: *mut CLines, line: *mut u8, line_size: usize) -> CLine;
+    fn fanquber_lines_close(lines: *mut CLines);
+}
+
 /// The greatest limit.
 pub const MAX_LIMIT: usize = 16_777_216;
 
@@ -162,6 +209,8 @@ pub enum Error {
     Settings,
     /// An allocation failed.
     Memory,
+    /// The grammar has too many states.
+    States,
 }
 
 impl fmt::Display for Error {
@@ -169,6 +218,7 @@ impl fmt::Display for Error {
         f.write_str(match self {
             Error::Settings => "settings out of range",
             Error::Memory => "out of memory",
+            Error::States => "too many states",
         })
     }
 }
@@ -479,5 +529,183 @@ impl Drop for Runner {
     fn drop(&mut self) {
         // SAFETY: the library left the runner so, and nothing uses it from now on.
         unsafe { fanquber_peg_close(&mut self.own) }
+    }
+}
+
+/// How many pairs of states abnfd(1) looks at without options.
+pub const DEFAULT_BUDGET: usize = 1_000_000;
+
+/// What is known of the lines that one of two rules derives and the other does not.
+#[derive(Clone, Debug, PartialEq, Eq)]
+pub enum Alone {
+    /// Nothing.
+    Unknown,
+    /// There is no such line.
+    Never,
+    /// There is none of at most so many letters.
+    NeverUpTo(usize),
+    /// The first of them.
+    First(Vec<u8>),
+}
+
+/// What is found of two grammars in ABNF.
+#[derive(Debug)]
+pub struct Comparison {
+    /// What is known of the lines that the old rule alone derives.
+    pub old_alone: Alone,
+    /// What is known of the lines that the new rule alone derives.
+    pub new_alone: Alone,
+    /// The notes on the old grammar.
+    pub old_notes: Vec<u8>,
+    /// The notes on the new grammar.
+    pub new_notes: Vec<u8>,
+    /// `Done`: both rules derive the same lines; `NoMatch`: they do not; `Overlong`: that is not known; `Refused`: a
+    /// grammar is rejected.
+    pub status: Status,
+}
+
+/// Returns what is known, with the line in the buffer. `None` if that is too small, and makes room.
+fn known_of(found: &CAlone, line: &mut Vec<u8>) -> Option<Alone> {
+    match found.known {
+        1 => Some(Alone::Never),
+        2 => Some(Alone::NeverUpTo(found.len)),
+        3 if found.len <= line.len() => Some(Alone::First(line[..found.len].to_vec())),
+        3 => {
+            line.resize(found.len, 0);
+            None
+        }
+        _ => Some(Alone::Unknown),
+    }
+}
+
+/// Compares the lines of any length that rules of two grammars derive. The old rule is that of the settings, the new one
+/// has a name of its own; each is the first if it has none.
+pub fn compare(
+    old: &[u8], new: &[u8], settings: &Settings, new_start: Option<&str>, budget: usize,
+) -> Result<Comparison, Error> {
+    let mut asked = settings.for_c();
+    asked.named = true; // an empty name is none
+    let names = [settings.start, new_start].map(|name| name.unwrap_or("").as_bytes());
+    let (mut old_line, mut new_line, mut err) = (vec![0; 256], vec![0; 256], vec![0; 1024]);
+    loop {
+        // SAFETY: as in `run`; the three buffers are borrowed alone.
+        let got = unsafe {
+            fanquber_compare(
+                &asked,
+                budget,
+                old.as_ptr(),
+                old.len(),
+                names[0].as_ptr(),
+                names[0].len(),
+                new.as_ptr(),
+                new.len(),
+                names[1].as_ptr(),
+                names[1].len(),
+                old_line.as_mut_ptr(),
+                old_line.len(),
+                new_line.as_mut_ptr(),
+                new_line.len(),
+                err.as_mut_ptr(),
+                err.len(),
+            )
+        };
+        let status = CResult {
+            out_len: 0,
+            err_len: got.err_len,
+            status: got.status,
+        }
+        .status()?;
+        let known = (known_of(&got.old_alone, &mut old_line), known_of(&got.new_alone, &mut new_line));
+        if let ((Some(old_alone), Some(new_alone)), true) = (known, got.err_len <= err.len()) {
+            return Ok(Comparison {
+                old_alone,
+                new_alone,
+                old_notes: err[..got.old_err_len].to_vec(),
+                new_notes: err[got.old_err_len..got.err_len].to_vec(),
+                status,
+            });
+        }
+        err.resize(got.err_len.max(err.len()), 0);
+    }
+}
+
+/// Which lines are listed.
+#[derive(Clone, Copy, Debug, PartialEq, Eq)]
+pub enum Listed {
+    /// Those that the rule derives, shorter ones first.
+    Derived,
+    /// Near ones that it does not derive.
+    Missed,
+}
+
+/// Lines of a grammar in ABNF, one after another. They stay on their thread.
+pub struct Lines {
+    own: CLines,
+    line: Vec<u8>,
+    /// The notes on the grammar.
+    pub notes: Vec<u8>,
+}
+
+impl Lines {
+    /// Opens a grammar; `Err` has the lines that say why it is rejected. A line has at most as many letters as the limit
+    /// of the settings.
+    pub fn open(grammar: &[u8], settings: &Settings, which: Listed) -> Result<Result<Lines, Vec<u8>>, Error> {
+        let asked = settings.for_c();
+        let name = settings.start.unwrap_or("").as_bytes();
+        let most = if settings.letters == Letters::Utf8 { 4 } else { 1 };
+        let mut lines = Lines {
+            own: CLines {
+                at: std::ptr::null_mut(),
+                is_open: false,
+            },
+            line: vec![0; settings.limit.min(MAX_LIMIT) * most],
+            notes: vec![0; 1024],
+        };
+        loop {
+            // SAFETY: as in `run`; the lines are closed.
+            let got = unsafe {
+                fanquber_lines_open(
+                    &asked,
+                    which as u8,
+                    grammar.as_ptr(),
+                    grammar.len(),
+                    name.as_ptr(),
+                    name.len(),
+                    &mut lines.own,
+                    lines.notes.as_mut_ptr(),
+                    lines.notes.len(),
+                )
+            };
+            let is_whole = got.err_len <= lines.notes.len();
+            lines.notes.resize(got.err_len, 0);
+            match got.status()? {
+                // SAFETY: the library left the lines so.
+                _ if !is_whole => unsafe { fanquber_lines_close(&mut lines.own) },
+                Status::Done => return Ok(Ok(lines)),
+                _ => return Ok(Err(std::mem::take(&mut lines.notes))),
+            }
+        }
+    }
+}
+
+impl Iterator for Lines {
+    type Item = Result<Vec<u8>, Error>;
+
+    fn next(&mut self) -> Option<Self::Item> {
+        // SAFETY: as in `run`; the library left the lines so, and nothing else uses them.
+        let got = unsafe { fanquber_lines_next(&mut self.own, self.line.as_mut_ptr(), self.line.len()) };
+        match got.status {
+            0 => Some(Ok(self.line[..got.len].to_vec())),
+            1 => None,
+            3 => Some(Err(Error::States)),
+            _ => Some(Err(Error::Memory)),
+        }
+    }
+}
+
+impl Drop for Lines {
+    fn drop(&mut self) {
+        // SAFETY: the library left the lines so, and nothing uses them from now on.
+        unsafe { fanquber_lines_close(&mut self.own) }
     }
 }

@@ -6,6 +6,7 @@
 
 #include <cstddef>
 #include <new>
+#include <optional>
 #include <stdexcept>
 #include <string>
 #include <string_view>
@@ -80,6 +81,8 @@ public:
 private:
     friend class judge;
     friend class runner;
+    friend struct comparison;
+    friend class lines;
 
     /// Cuts what the runs wrote into their replies. The messages on the grammar stand once, before those of the runs.
     static std::vector<reply> replies(const std::vector<fanquber_result> &results, const fanquber_result &all,
@@ -206,6 +209,97 @@ public:
 private:
     fanquber_runner own_ = FANQUBER_RUNNER;
     std::string notes_;
+};
+
+/// What is known of the lines that one of two rules derives and the other does not.
+struct alone {
+    int known;           ///< FANQUBER_UNKNOWN, FANQUBER_NEVER, FANQUBER_NEVER_UP_TO or FANQUBER_FIRST
+    std::size_t letters; ///< FANQUBER_NEVER_UP_TO: there is none of at most so many
+    std::string line;    ///< FANQUBER_FIRST: the first of them
+};
+
+/// What is found of two grammars in ABNF.
+struct comparison {
+    alone old_alone, new_alone;
+    std::string old_notes, new_notes;
+    int status;
+
+    /// Compares the rules of two grammars, of which each has a name or is the first, by the settings of the old one. Throws
+    /// std::bad_alloc where an allocation fails, and std::invalid_argument where the settings are out of range, the library
+    /// is older than fanquber.h, or a name is not UTF-8.
+    static comparison of(const grammar &old_one, const grammar &new_one, std::size_t budget = FANQUBER_DEFAULT_BUDGET) {
+        fanquber_settings settings = old_one.settings_;
+        settings.named = true; // an empty name is none
+        std::string old_line(256, '\0'), new_line(256, '\0'), err(1024, '\0');
+        for (;;) {
+            const fanquber_comparison got = fanquber_compare(
+                &settings, budget, old_one.text_.data(), old_one.text_.size(), old_one.name_.data(), old_one.name_.size(),
+                new_one.text_.data(), new_one.text_.size(), new_one.name_.data(), new_one.name_.size(), &old_line[0],
+                old_line.size(), &new_line[0], new_line.size(), &err[0], err.size());
+            if (got.status == FANQUBER_BAD_SETTINGS) throw std::invalid_argument("fanquber: settings out of range");
+            if (got.status == FANQUBER_NO_MEMORY) throw std::bad_alloc();
+            const bool is_whole = has_room(got.old_alone, old_line) & has_room(got.new_alone, new_line);
+            if (is_whole && got.err_len <= err.size())
+                return {known_of(got.old_alone, old_line), known_of(got.new_alone, new_line), err.substr(0, got.old_err_len),
+                        err.substr(got.old_err_len, got.err_len - got.old_err_len), got.status};
+            if (got.err_len > err.size()) err.resize(got.err_len);
+        }
+    }
+
+private:
+    /// Returns whether the buffer has room for the line, and makes room.
+    static bool has_room(const fanquber_alone &found, std::string &line) {
+        const bool fits = found.known != FANQUBER_FIRST || found.len <= line.size();
+        if (!fits) line.resize(found.len);
+        return fits;
+    }
+
+    static alone known_of(const fanquber_alone &found, const std::string &line) {
+        const bool is_first = found.known == FANQUBER_FIRST;
+        return {found.known, is_first ? 0 : found.len, line.substr(0, is_first ? found.len : 0)};
+    }
+};
+
+/// Lines of a grammar in ABNF, one after another. They stay on the thread that opens them.
+class lines {
+public:
+    /// `which` is FANQUBER_DERIVED or FANQUBER_MISSED. Throws as the constructor of judge does.
+    explicit lines(const grammar &of, int which = FANQUBER_DERIVED)
+        : notes_(1024, '\0'), line_(of.settings_.limit * (of.settings_.letters == FANQUBER_UTF8 ? 4 : 1), '\0') {
+        for (;;) {
+            const fanquber_result got =
+                fanquber_lines_open(&of.settings_, static_cast<uint8_t>(which), of.text_.data(), of.text_.size(),
+                                    of.name_.data(), of.name_.size(), &own_, &notes_[0], notes_.size());
+            const bool is_whole = got.err_len <= notes_.size();
+            if (!is_whole) fanquber_lines_close(&own_);
+            notes_.resize(got.err_len);
+            if (!is_whole) continue;
+            if (got.status == FANQUBER_NO_MEMORY) throw std::bad_alloc();
+            if (got.status == FANQUBER_BAD_SETTINGS) throw std::invalid_argument("fanquber: settings out of range");
+            if (got.status != FANQUBER_DONE) throw std::invalid_argument(notes_);
+            return;
+        }
+    }
+    lines(const lines &) = delete;
+    lines &operator=(const lines &) = delete;
+    ~lines() { fanquber_lines_close(&own_); }
+
+    /// The notes on the grammar.
+    const std::string &notes() const { return notes_; }
+
+    /// Returns the next line, if there is one. Throws std::bad_alloc where an allocation fails, and std::length_error where
+    /// the grammar has too many states.
+    std::optional<std::string> next() {
+        const fanquber_line got = fanquber_lines_next(&own_, &line_[0], line_.size());
+        if (got.status == FANQUBER_NO_MATCH) return std::nullopt;
+        if (got.status == FANQUBER_NO_MEMORY) throw std::bad_alloc();
+        if (got.status != FANQUBER_DONE) throw std::length_error("fanquber: too many states");
+        return line_.substr(0, got.len);
+    }
+
+private:
+    fanquber_lines own_ = FANQUBER_LINES;
+    std::string notes_, line_;
 };
 
 } // namespace fanquber

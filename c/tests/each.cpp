@@ -1,5 +1,5 @@
 // each: run_each of fanquber.hpp gives what run gives for each input, a judge has the notes of run on its grammar, and a
-// runner writes what run does after them.
+// runner writes what run does after them. A comparison has the lines and the notes of both grammars.
 #include "../examples/fanquber.hpp"
 
 #include <iostream>
@@ -37,7 +37,31 @@ static void runner_is_a_run(const std::string &text, bool explain) {
     }
 }
 
+static void comparisons() {
+    const std::string text(400, 'x'), note = "rule 'b' defined but not used\n";
+    const fanquber::grammar one(fanquber::tool::abnf, "a = %s\"" + text + "\"\nb = %x42\n");
+    fanquber::grammar two(fanquber::tool::abnf, "a = %x41\nb = %x42\n");
+    const fanquber::comparison found = fanquber::comparison::of(one, two.start("b"));
+    CHECK(found.status == FANQUBER_NO_MATCH && found.old_alone.known == FANQUBER_FIRST);
+    CHECK(found.old_alone.line == text && found.new_alone.line == "B");
+    CHECK(found.old_notes == note && found.new_notes == "rule 'a' defined but not used\n");
+    const fanquber::comparison same = fanquber::comparison::of(one, one);
+    CHECK(same.status == FANQUBER_DONE && same.new_alone.known == FANQUBER_NEVER && same.new_notes == note);
+}
+
+static void listed_lines() {
+    fanquber::grammar of(fanquber::tool::abnf, "d = 1*2%x30-31\n");
+    of.settings().limit = 9;
+    fanquber::lines lines(of);
+    for (const char *want : {"0", "1", "00", "01", "10", "11"}) CHECK(lines.next() == std::string(want));
+    CHECK(!lines.next() && lines.notes().empty());
+    fanquber::lines missed(of, FANQUBER_MISSED);
+    CHECK(missed.next() == std::string() && missed.next() == std::string("!"));
+}
+
 int main() {
+    comparisons();
+    listed_lines();
     const std::string words = "S <- < [a-z]+ > { yytext }\n";
     for (const std::string &text : {words, words + "T <- 'x'\n", std::string("S <- T\n"), std::string("S <- )\n")}) {
         each_is_a_run(text, false);

@@ -1,5 +1,6 @@
 /* edges: what a call does with small buffers, with settings that are out of range, and with each setting, what a judge
- * answers, and what a runner writes. */
+ * answers, what a runner writes, and what is found of two grammars, and which lines
+ * are listed. */
 #include "check.h"
 
 #define LETTER_X "a = \"x\"\n"
@@ -324,8 +325,152 @@ static void explained_runs(void) {
     fanquber_peg_close(&runner);
 }
 
+/* Compares two grammars, with buffers that were filled with `#`. */
+static char old_line[ROOM], new_line[ROOM];
+static fanquber_comparison compared(const fanquber_settings *settings, size_t budget, const char *old_grammar,
+                                    const char *old_name, const char *new_grammar, const char *new_name, size_t room) {
+    memset(old_line, '#', ROOM);
+    memset(new_line, '#', ROOM);
+    memset(err, '#', ROOM);
+    return fanquber_compare(settings, budget, TEXT(old_grammar), TEXT(old_name), TEXT(new_grammar), TEXT(new_name),
+                            old_line, room, new_line, ROOM - room, err, ROOM);
+}
+
+/* What is known of the lines that one of two rules alone derives. */
+static int is_known(fanquber_alone found, uint8_t known, const char *buffer, size_t size, const char *line) {
+    return found.known == known && found.len == (known == FANQUBER_FIRST ? strlen(line) : 0) &&
+           holds(buffer, size, TEXT(line));
+}
+
+/* Pairs of rules, and what is found of them: lines of the manual page abnfd(1), and by the order that it gives. */
+static void compared_rules(void) {
+    const struct {
+        const char *old_grammar, *old_name, *new_grammar, *new_name;
+        uint8_t letters, old_known, new_known;
+        const char *old_first, *new_first;
+    } rows[] = {
+        { "a = 1*\"x\"", "", "a = \"x\" [a]", "", FANQUBER_BYTES, FANQUBER_NEVER, FANQUBER_NEVER, "", "" },
+        { "d = 2DIGIT", "", "d = 1*2DIGIT", "", FANQUBER_BYTES, FANQUBER_NEVER, FANQUBER_FIRST, "", "0" },
+        { "a = \"x\" CRLF", "", "a = \"x\" LF", "", FANQUBER_BYTES, FANQUBER_FIRST, FANQUBER_FIRST, "X\r\n", "X\n" },
+        { "t = %xE9", "", "t = %xC3.A9", "", FANQUBER_UTF8, FANQUBER_FIRST, FANQUBER_FIRST, "\xc3\xa9",
+          "\xc3\x83\xc2\xa9" },
+        { "a = b\nb = %x41", "a", "c = %x42\nb = c", "B", FANQUBER_BYTES, FANQUBER_FIRST, FANQUBER_FIRST, "A", "B" },
+        { "a = %x42", "", "c = d\nd = %x42", "d", FANQUBER_BYTES, FANQUBER_NEVER, FANQUBER_NEVER, "", "" },
+    };
+    fanquber_settings settings = FANQUBER_SETTINGS;
+    settings.named = true; /* an empty name is none */
+    for (size_t at = 0; at < sizeof rows / sizeof *rows; at++) {
+        settings.letters = rows[at].letters;
+        for (size_t room = 0; room <= ROOM; room++) {
+            const fanquber_comparison found = compared(&settings, FANQUBER_DEFAULT_BUDGET, rows[at].old_grammar,
+                                                       rows[at].old_name, rows[at].new_grammar, rows[at].new_name, room);
+            const int is_same = rows[at].old_known == FANQUBER_NEVER && rows[at].new_known == FANQUBER_NEVER;
+            CHECK(found.status == (is_same ? FANQUBER_DONE : FANQUBER_NO_MATCH));
+            CHECK(is_known(found.old_alone, rows[at].old_known, old_line, room, rows[at].old_first));
+            CHECK(is_known(found.new_alone, rows[at].new_known, new_line, ROOM - room, rows[at].new_first));
+        }
+    }
+}
+
+/* What is found where the budget is met, a grammar is rejected or has a note, and settings are invalid. */
+static void uncompared_rules(void) {
+    const char *nested = "s = [\"a\" s \"b\"]", *flat = "s = *\"a\" *\"b\"", *note = "rule 'b' defined but not used\n";
+    const char *fault = "line 1: syntax error\n";
+    fanquber_settings settings = FANQUBER_SETTINGS;
+    fanquber_comparison found = compared(&settings, 1000, nested, "\xff", flat, "\xff", ROOM / 2); /* no name is given */
+    CHECK(found.status == FANQUBER_NO_MATCH && found.old_alone.known == FANQUBER_NEVER_UP_TO && found.old_alone.len > 0);
+    CHECK(is_known(found.new_alone, FANQUBER_FIRST, new_line, ROOM / 2, "A"));
+    found = compared(&settings, 0, nested, "", nested, "", ROOM / 2);
+    CHECK(found.status == FANQUBER_NOT_KNOWN && is_known(found.old_alone, FANQUBER_UNKNOWN, old_line, ROOM, ""));
+    CHECK(is_known(found.new_alone, FANQUBER_UNKNOWN, new_line, ROOM, "") && found.err_len == 0);
+    found = compared(&settings, 1000, "a = %x41\nb = %x42\n", "", "a = )\n", "", ROOM / 2);
+    CHECK(found.status == FANQUBER_REFUSED && is_known(found.old_alone, FANQUBER_UNKNOWN, old_line, ROOM, ""));
+    CHECK(found.old_err_len == strlen(note) && found.err_len == strlen(note) + strlen(fault));
+    CHECK(memcmp(err, note, strlen(note)) == 0 && memcmp(err + strlen(note), fault, strlen(fault)) == 0);
+    settings.named = true;
+    found = compared(&settings, 1000, nested, "s", nested, "\xff", ROOM / 2);
+    CHECK(found.status == FANQUBER_BAD_SETTINGS && holds(err, ROOM, TEXT("")) && found.err_len == 0);
+    settings.size--;
+    found = compared(&settings, 1000, nested, "s", nested, "s", ROOM / 2);
+    CHECK(found.status == FANQUBER_BAD_SETTINGS && is_known(found.old_alone, FANQUBER_UNKNOWN, old_line, ROOM, ""));
+}
+
+/* Lines of rules, each before a `|`, and how they end. They are rows of the gate for abnfg(1). */
+static void listed_lines(void) {
+    const struct {
+        const char *grammar;
+        uint8_t which, letters;
+        bool nul;
+        size_t limit;
+        const char *lines;
+        uint8_t status;
+    } rows[] = {
+        { "d = 1*2(\"0\" / \"1\")", FANQUBER_DERIVED, FANQUBER_BYTES, false, 65536, "0|1|00|01|10|11|", FANQUBER_NO_MATCH },
+        { "a = *\"x\"", FANQUBER_DERIVED, FANQUBER_BYTES, false, 1, "|X|x|", FANQUBER_NO_MATCH },
+        { "a = \"(\" *a \")\"", FANQUBER_DERIVED, FANQUBER_BYTES, false, 6, "()|(())|((()))|(()())|", FANQUBER_NO_MATCH },
+        { "a = \"x\" CRLF", FANQUBER_DERIVED, FANQUBER_BYTES, false, 9, "", FANQUBER_NO_MATCH },
+        { "a = \"x\" LF", FANQUBER_DERIVED, FANQUBER_BYTES, true, 9, "X\n|x\n|", FANQUBER_NO_MATCH },
+        { "a = %xD7FF-E000 / %xE9", FANQUBER_DERIVED, FANQUBER_UTF8, false, 9, "\xc3\xa9|\xed\x9f\xbf|\xee\x80\x80|",
+          FANQUBER_NO_MATCH },
+        { "a = a \"b\" / \"c\"", FANQUBER_DERIVED, FANQUBER_BYTES, false, 9, "", FANQUBER_NOT_KNOWN },
+        { "k = \"no\" / \"yes\"", FANQUBER_MISSED, FANQUBER_BYTES, false, 256, "|!|N|N!|Y|Y!|NO!|YE|YE!|", FANQUBER_NO_MATCH },
+        { "k = \"no\" / \"yes\"", FANQUBER_MISSED, FANQUBER_BYTES, false, 1, "|!|N|Y|", FANQUBER_NO_MATCH },
+        { "a = *OCTET", FANQUBER_MISSED, FANQUBER_BYTES, false, 256, "", FANQUBER_NO_MATCH },
+    };
+    fanquber_settings settings = FANQUBER_SETTINGS;
+    for (size_t at = 0; at < sizeof rows / sizeof *rows; at++) {
+        char all[ROOM] = "";
+        size_t len = 0;
+        fanquber_lines lines = FANQUBER_LINES;
+        fanquber_line next;
+        settings.letters = rows[at].letters;
+        settings.nul = rows[at].nul;
+        settings.limit = rows[at].limit;
+        got = fanquber_lines_open(&settings, rows[at].which, TEXT(rows[at].grammar), TEXT(""), &lines, err, ROOM);
+        CHECK(got.status == FANQUBER_DONE && got.err_len == 0 && lines.is_open);
+        while ((next = fanquber_lines_next(&lines, all + len, ROOM - len - 1)).status == FANQUBER_DONE) {
+            len += next.len;
+            all[len++] = '|';
+        }
+        CHECK(next.status == rows[at].status && next.len == 0 && lines.is_open);
+        CHECK(len == strlen(rows[at].lines) && memcmp(all, rows[at].lines, len) == 0);
+        CHECK(fanquber_lines_next(&lines, all, ROOM).status == rows[at].status);
+        fanquber_lines_close(&lines);
+        CHECK(!lines.is_open && fanquber_lines_next(&lines, all, ROOM).status == FANQUBER_BAD_SETTINGS);
+    }
+}
+
+/* What opening lines does with small buffers, and where nothing is opened. */
+static void unlisted_lines(void) {
+    const char *grammar = "a = \"0\"\nb = \"12\"\n", *note = "rule 'a' defined but not used\n";
+    fanquber_settings settings = FANQUBER_SETTINGS;
+    fanquber_lines lines = FANQUBER_LINES;
+    settings.named = true;
+    for (size_t room = 0; room < ROOM; room++) {
+        memset(err, '#', ROOM);
+        memset(out, '#', ROOM);
+        got = fanquber_lines_open(&settings, FANQUBER_DERIVED, TEXT(grammar), TEXT("b"), &lines, err, room);
+        CHECK(got.status == FANQUBER_DONE && got.err_len == strlen(note) && holds(err, room, TEXT(note)));
+        got = fanquber_lines_open(&settings, FANQUBER_DERIVED, TEXT(grammar), TEXT("b"), &lines, err, room);
+        CHECK(got.status == FANQUBER_BAD_SETTINGS && lines.is_open); /* they are open */
+        CHECK(fanquber_lines_next(&lines, out, room).len == 2 && holds(out, room, "12", 2));
+        CHECK(fanquber_lines_next(&lines, out, room).status == FANQUBER_NO_MATCH && holds(out, room, "12", 2));
+        fanquber_lines_close(&lines);
+    }
+    got = fanquber_lines_open(&settings, 2, TEXT(grammar), TEXT("b"), &lines, err, ROOM);
+    CHECK(got.status == FANQUBER_BAD_SETTINGS && !lines.is_open);
+    got = fanquber_lines_open(&settings, FANQUBER_MISSED, TEXT(grammar), TEXT("\xff"), &lines, err, ROOM);
+    CHECK(got.status == FANQUBER_BAD_SETTINGS && !lines.is_open);
+    got = fanquber_lines_open(&settings, FANQUBER_MISSED, TEXT("a = )\n"), TEXT("a"), &lines, err, ROOM);
+    CHECK(got.status == FANQUBER_REFUSED && got.err_len == strlen("line 1: syntax error\n") && !lines.is_open);
+}
+
 int main(void) {
     judged_lines();
+    listed_lines();
+    unlisted_lines();
+    compared_rules();
+    uncompared_rules();
     runs_of_runners();
     explained_runs();
     many_windows();

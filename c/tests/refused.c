@@ -160,6 +160,67 @@ static void sweep_windows(void) {
     CHECK(!"the sweep ends");
 }
 
+/* Does the same for a comparison of two grammars, of which the old one has a note. */
+static void sweep_compare(void) {
+    const fanquber_settings settings = FANQUBER_SETTINGS;
+    const char *note = "rule 'b' defined but not used\n";
+    const long base = live;
+    static char old_line[64], new_line[64], err[4096];
+    for (long granted = 0; granted < MOST; granted++) {
+        left = granted;
+        fanquber_comparison found = fanquber_compare(
+            &settings, 1000, TEXT("d = 2DIGIT\nb = %x42\n"), TEXT(""), TEXT("d = 1*2DIGIT\n"), TEXT(""), old_line,
+            sizeof old_line, new_line, sizeof new_line, err, sizeof err);
+        int is_all = left > 0;
+        left = -1;
+        CHECK(live == base);
+        if (found.status == FANQUBER_NO_MATCH) {
+            CHECK(found.old_alone.known == FANQUBER_NEVER && found.new_alone.known == FANQUBER_FIRST);
+            CHECK(found.new_alone.len == 1 && new_line[0] == '0' && found.err_len == strlen(note));
+        } else CHECK(!is_all && found.status == FANQUBER_NO_MEMORY && found.err_len == 0);
+        if (is_all || wrong) {
+            printf("compare: %ld allocations refused in turn\n", granted);
+            return;
+        }
+    }
+    CHECK(!"the sweep ends");
+}
+
+/* Does the same for lines of a rule: to open them, to list three, and to close them. */
+static void sweep_lines(uint8_t which, const char *wanted) {
+    const fanquber_settings settings = FANQUBER_SETTINGS;
+    const long base = live;
+    static char line[64], err[4096];
+    for (long granted = 0; granted < MOST; granted++) {
+        fanquber_lines lines = FANQUBER_LINES;
+        left = granted;
+        fanquber_result got = fanquber_lines_open(&settings, which, TEXT("k = %s\"n\" / %s\"ys\"\n"), TEXT(""), &lines, err,
+                                                  sizeof err);
+        CHECK(got.status == (lines.is_open ? FANQUBER_DONE : FANQUBER_NO_MEMORY));
+        CHECK(lines.is_open || live == base);
+        const char *rest = wanted;
+        uint8_t status = FANQUBER_DONE;
+        while (lines.is_open && status == FANQUBER_DONE) {
+            fanquber_line next = fanquber_lines_next(&lines, line, sizeof line);
+            status = next.status;
+            if (status != FANQUBER_DONE) break;
+            CHECK(strncmp(rest, line, next.len) == 0 && rest[next.len] == '|');
+            rest += next.len + 1;
+        }
+        int is_all = left > 0;
+        left = -1;
+        CHECK(!lines.is_open || status == FANQUBER_NO_MEMORY || (status == FANQUBER_NO_MATCH && *rest == 0));
+        CHECK(!is_all || status == FANQUBER_NO_MATCH);
+        fanquber_lines_close(&lines);
+        CHECK(live == base);
+        if (is_all || wrong) {
+            printf("lines: %ld allocations refused in turn\n", granted);
+            return;
+        }
+    }
+    CHECK(!"the sweep ends");
+}
+
 int main(int count, char **words) {
     static char grammar[1 << 16];
     FILE *file = count == 2 ? fopen(words[1], "rb") : NULL;
@@ -172,5 +233,8 @@ int main(int count, char **words) {
     sweep_windows();
     sweep_judge(grammar, grammar_len, 64);
     sweep_runner();
+    sweep_compare();
+    sweep_lines(FANQUBER_DERIVED, "n|ys|");
+    sweep_lines(FANQUBER_MISSED, "|!|n!|y|y!|");
     return wrong;
 }

@@ -1,5 +1,8 @@
+mod CompareCallLemmas
 mod FrontTextLemmas
 mod JudgeBoxLemmas
+mod LineListsLemmas
+mod ListingBoxLemmas
 mod LooseLemmas
 mod OpenCallLemmas
 mod RunSettingsLemmas

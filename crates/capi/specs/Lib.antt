@@ -1,8 +1,14 @@
 pub mod Asking
 pub mod BufferRun
+pub mod CompareCall
+pub mod CompareReports
 pub mod FrontText
 pub mod GrammarOpenings
+pub mod GrammarsCompared
 pub mod JudgeCall
+pub mod LineLists
+pub mod LinesOpenCall
+pub mod NextLineCall
 pub mod OpenCall
 pub mod PointerOwns
 pub mod RunCall

@@ -5,14 +5,17 @@ ghost use Rattle.std.specs.Prelude.{◌≡◌, None};
 ghost use Rattle.abnfrun.specs.AbnfAnswers.{AbnfStates};
 ghost use Rattle.capi.specs.Asking.{AbnfMeant, PegMeant};
 ghost use Rattle.capi.specs.BufferRun.{IsBufferRun};
+ghost use Rattle.capi.specs.CompareCall.{IsCompareCall};
 ghost use Rattle.capi.specs.GrammarOpenings.{IsAbnfOpening, IsPegOpening};
 ghost use Rattle.capi.specs.JudgeCall.{IsJudgeCall};
+ghost use Rattle.capi.specs.LinesOpenCall.{IsLinesOpenCall};
+ghost use Rattle.capi.specs.NextLineCall.{IsLineCall};
 ghost use Rattle.capi.specs.OpenCall.{IsOpenCall};
 ghost use Rattle.capi.specs.RunCall.{IsRunCall};
 ghost use Rattle.capi.specs.WindowsRun.{IsWindowsRun};
 ghost use Rattle.pegrun.specs.Answers.{States};
 
-use capi::{CAnswer, CJudge, CResult, CRunner, CSettings, CWindow};
+use capi::{CAnswer, CComparison, CJudge, CLine, CLines, CResult, CRunner, CSettings, CWindow};
 use std::alloc::Global;
 
 /// Exports `capi::peg`.
@@ -149,4 +152,65 @@ pub extern "C" fn fanquber_abnf_close(alloc: Global, slot: &mut CJudge)
     ensures { slot.new.judge.held ≡ None }
 {
     capi::abnf_close(alloc, slot)
+}
+
+/// Exports `capi::compare`.
+#[unsafe(no_mangle)]
+pub extern "C" fn fanquber_compare(
+    alloc: Global,
+    asked: &CSettings,
+    budget: usize,
+    old: &[u8],
+    old_name: &[u8],
+    new: &[u8],
+    new_name: &[u8],
+    old_line: &mut [u8],
+    new_line: &mut [u8],
+    err: &mut [u8],
+) -> CComparison
+    ensures { IsCompareCall asked.now old_name.now new_name.now old.now new.now (record {
+      old_line = record { old = old_line.old; new = old_line.new };
+      new_line = record { old = new_line.old; new = new_line.new };
+      err = record { old = err.old; new = err.new; len = result.err_len };
+    }) result }
+{
+    capi::compare(
+        alloc, asked, budget, old, old_name, new, new_name, old_line, new_line, err,
+    )
+}
+
+/// Exports `capi::lines_open`.
+#[unsafe(no_mangle)]
+pub extern "C" fn fanquber_lines_open(
+    alloc: Global,
+    asked: &CSettings,
+    which: u8,
+    grammar: &[u8],
+    name: &[u8],
+    slot: &mut CLines,
+    err: &mut [u8],
+) -> CResult
+    ensures out { result.out_len ≡ 0 }
+    ensures call { IsLinesOpenCall which asked.now grammar.now name.now
+        (record { old = slot.old.listing.held; new = slot.new.listing.held })
+        (record { old = err.old; new = err.new; len = result.err_len }) result.status }
+{
+    capi::lines_open(alloc, asked, which, grammar, name, slot, err)
+}
+
+/// Exports `capi::lines_next`.
+#[unsafe(no_mangle)]
+pub extern "C" fn fanquber_lines_next(alloc: Global, slot: &mut CLines, line: &mut [u8]) -> CLine
+    ensures { IsLineCall (record { old = line.old; new = line.new }) result slot.old.listing.held
+        slot.new.listing.held }
+{
+    capi::lines_next(alloc, slot, line)
+}
+
+/// Exports `capi::lines_close`.
+#[unsafe(no_mangle)]
+pub extern "C" fn fanquber_lines_close(alloc: Global, slot: &mut CLines)
+    ensures { slot.new.listing.held ≡ None }
+{
+    capi::lines_close(alloc, slot)
 }

@@ -1,0 +1,66 @@
+-- The lines of a rule that C lists, and the next one.
+use Rattle.std.proofs.Common.{Global, Vec}
+use Rattle.std.specs.Prelude.{◌≡◌, ◌==◌, ℕ, Bool, false, List, Option, Some, None, IfSome, if◌then◌else◌}
+use Rattle.abnfcheck.specs.AbnfGrammar.{Grammar}
+use Rattle.abnfexplain.specs.AbnfExplained.{Explains}
+use Rattle.abnfread.specs.AbnfReading.{IsFaultOf}
+use Rattle.abnfread.specs.AbnfViews.{rules_of}
+use Rattle.abnfread.specs.Element.{Rule}
+use Rattle.abnfrun.specs.AbnfExplainedNotes.{ExplainsAbnfNote}
+use Rattle.abnfrun.specs.AbnfSettings.{AbnfSettings}
+use Rattle.abnfrun.specs.AbnfTextHints.{AreTextHints}
+use Rattle.capi.specs.GrammarsCompared.{IsOpenGrammar}
+use Rattle.capi.specs.OpenCall.{IsOpening}
+use Rattle.capi.specs.declared.listing.LineList.{LineList}
+use Rattle.capi.specs.declared.listing.LineList.TheVariants.{Derived, Missed}
+use Rattle.capi.specs.declared.listing.Listing.{Listing}
+use Rattle.capi.specs.declared.listing.ListKind.{ListKind}
+use Rattle.capi.specs.declared.listing.ListKind.TheVariants as kind
+use Rattle.letters.specs.declared.alphabet.Alphabet.{Alphabet}
+use Rattle.rulelines.specs.LineSets.{AreRuleLines, IsFirstStep, IsLineAfter, IsLineIn}
+use Rattle.rulelines.specs.MissLists.{AreMissesOf, AreOfRule, IsMissStep}
+use Rattle.rulelines.specs.declared.list.lines.NextLine.{NextLine}
+use Rattle.ruletable.specs.Notes.{Said}
+
+-- the lines of a number: those that the rule derives, or near ones that it does not
+abbrev pub kind_by : ℕ → Option ListKind
+kind_by n = if n == 0 then Some kind.Derived else (if n == 1 then Some kind.Missed else None)
+
+-- the byte that ends a line, which listed lines do not have: LF, or NUL
+abbrev pub line_end : Bool → ℕ
+line_end nul = if nul then 0 else 10
+
+-- before the first line, the list is of this kind and of this rule
+abbrev pub IsListFor : ListKind → Alphabet → ℕ → ℕ → List Rule → ℕ → LineList → Type 0
+IsListFor kind.Derived letters end limit rules id (Derived lines) = AreRuleLines letters end limit rules id lines
+IsListFor kind.Derived letters end limit rules id (Missed misses) = ⊥
+IsListFor kind.Missed letters end limit rules id (Derived lines) = ⊥
+IsListFor kind.Missed letters end limit rules id (Missed misses) = AreMissesOf letters end limit false rules id misses
+
+-- before the first line, what C lists is as settings ask, unless the grammar has too many states
+pub record IsListingFor (of_kind : ListKind) (settings : AbnfSettings) (grammar : Grammar) (listing : Listing) : Type 0
+  where
+    pub letters : listing.letters ≡ settings.options.letters
+    pub none_yet : listing.last ≡ None
+    pub list : IfSome listing.list (IsListFor of_kind settings.options.letters (line_end settings.options.nul)
+        settings.limit (rules_of grammar.rules) grammar.judged)
+
+-- the text has these notes, and these are lines of its grammar, unless one of the notes rejects it
+abbrev pub IsListingOf : ListKind → List ℕ → AbnfSettings → List Said → Option Listing → Type 0
+IsListingOf of_kind text settings notes None = IsOpenGrammar text settings notes None
+IsListingOf of_kind text settings notes (Some listing) = (grammar : Grammar)
+    × IsOpenGrammar text settings notes (Some grammar) × IsListingFor of_kind settings grammar listing
+
+-- a grammar in ABNF is opened for lines of a kind
+abbrev pub IsLinesOpening : ListKind → List ℕ → AbnfSettings → List ℕ → Option Listing → ℕ → Type 0
+IsLinesOpening of_kind text settings = IsOpening (IsFaultOf text) (Explains text) (ExplainsAbnfNote text)
+    (AreTextHints text settings) (IsListingOf of_kind text settings) settings
+
+-- the line after the last one that a list returned, or the first, and what is left of the list
+abbrev pub IsNextListed : LineList → Option (Vec ℕ Global) → LineList → NextLine → Type 0
+IsNextListed (Derived lines) None left step = (left ≡ Derived lines) × IsFirstStep (IsLineIn lines) step
+IsNextListed (Derived lines) (Some last) left step = (left ≡ Derived lines)
+    × IsLineAfter (IsLineIn lines) last.items step
+IsNextListed (Missed misses) last (Derived lines) step = ⊥
+IsNextListed (Missed misses) last (Missed left) step = (left.prefixes.set ≡ misses.prefixes.set)
+    × ((rules : List Rule) (id : ℕ) → AreOfRule rules id misses → IsMissStep rules id misses left step)

@@ -1,0 +1,180 @@
+//! Lines of a rule, one after another.
+ghost use Rattle.std.specs.Prelude.{◌≡◌, ◌≤◌, IfOk, IfSome, None, Some};
+ghost use Rattle.abnfread.specs.AbnfViews.{rules_of};
+ghost use Rattle.capi.specs.NextLineCall.{IsLineCall, c_line_status};
+ghost use Rattle.capi.specs.LineLists.{IsListFor, IsListingFor, IsNextListed, kind_by, line_end};
+ghost use Rattle.rulelines.specs.LineSets.{IsFirstStep, IsLineAfter, IsLineIn};
+
+use crate::buffer::lay;
+use abnfcheck::SoundAbnf;
+use abnfrun::{AbnfSettings, Alphabet};
+use rulelines::{Lines, MissSet, Misses, NextLine, line_bytes};
+use ruletable::Memory;
+use std::alloc::Global;
+use toolrun::Status;
+
+/// How many entries the states of a grammar may have.
+const ROOM: usize = 500_000;
+
+/// The next line.
+#[repr(C)]
+#[derive(Clone, Copy)]
+pub struct CLine {
+    /// How many bytes it has; else 0.
+    pub len: usize,
+    /// 0: there is a line; 1: there is none; 3: the grammar has too many states; 5: an allocation failed;
+    /// `BAD_SETTINGS`: nothing is open.
+    pub status: u8,
+}
+
+/// Which lines are listed.
+#[derive(Clone, Copy)]
+pub(crate) enum ListKind {
+    /// Those that the rule derives.
+    Derived,
+    /// Near ones that it does not.
+    Missed,
+}
+
+/// Lines of a rule, one after another.
+#[derive(Drop)]
+pub enum LineList {
+    /// Those that the rule derives.
+    Derived(Lines),
+    /// Near ones that it does not.
+    Missed(Misses),
+}
+
+/// Lines that C lists.
+#[derive(Drop)]
+pub struct Listing {
+    /// The lines; none if the grammar has too many states.
+    pub list: Option<LineList>,
+    /// The alphabet of lines.
+    pub letters: Alphabet,
+    /// The last line that was returned, if there is one.
+    pub last: Option<Vec<u32>>,
+}
+
+/// Returns which lines a number asks for.
+pub(crate) fn kind_of(which: u8) -> Option<ListKind>
+    ensures { result ≡ kind_by which }
+{
+    match which {
+        0 => Some(ListKind::Derived),
+        1 => Some(ListKind::Missed),
+        _ => None,
+    }
+}
+
+/// Returns the result of a call that gives no line: this status.
+pub(crate) fn no_line(status: u8) -> CLine
+    ensures { result ≡ c_line_status status }
+{
+    CLine { len: 0, status }
+}
+
+/// Returns the lines that settings ask for of a grammar, before the first one; `None` if it has too many states.
+/// `Memory` if an allocation fails.
+fn list_of(
+    alloc: Global,
+    kind: ListKind,
+    grammar: &SoundAbnf,
+    settings: &AbnfSettings<'_>,
+) -> Result<Option<LineList>, Memory>
+    ensures { IfOk result (λ reported. IfSome reported (IsListFor kind settings.now.options.letters
+        (line_end settings.now.options.nul) settings.now.limit (rules_of grammar.now.rules) grammar.now.judged)) }
+{
+    let alphabet = settings.options.letters;
+    let terminator = if settings.options.nul { 0 } else { b'\n' };
+    let limit = settings.limit as u32;
+    match kind {
+        ListKind::Derived => match Lines::new(alloc, grammar, alphabet, terminator, limit, ROOM)? {
+            Some(lines) => Ok(Some(LineList::Derived(lines))),
+            None => Ok(None),
+        },
+        ListKind::Missed => {
+            let set = MissSet {
+                alphabet,
+                terminator,
+                limit,
+                edges: false,
+            };
+            match Misses::new(alloc, grammar, set, ROOM)? {
+                Some(misses) => Ok(Some(LineList::Missed(misses))),
+                None => Ok(None),
+            }
+        }
+    }
+}
+
+/// Returns what C lists of a grammar as settings ask, before the first line. `Memory` if an allocation fails.
+pub(crate) fn listing_of(
+    alloc: Global,
+    kind: ListKind,
+    grammar: &SoundAbnf,
+    settings: &AbnfSettings<'_>,
+) -> Result<Listing, Memory>
+    ensures { IfOk result (IsListingFor kind settings.now grammar.now) }
+{
+    let list = list_of(alloc, kind, grammar, settings)?;
+    Ok(Listing {
+        list,
+        letters: settings.options.letters,
+        last: None,
+    })
+}
+
+/// Returns the line after the last one; the first, if there is none. `None` if there is no room for the states.
+/// `Memory` if an allocation fails.
+fn derived_step(lines: &mut Lines, last: &Option<Vec<u32>>) -> Result<Option<NextLine>, Memory>
+    ensures same { lines.new ≡ lines.old }
+    ensures next { IfOk result (λ reported. IfSome reported (IsNextListed (LineList.Derived lines.old) last.now
+        (LineList.Derived lines.old))) }
+{
+    match last {
+        None => lines.first(),
+        Some(last) => lines.after(last.as_slice()),
+    }
+}
+
+/// Returns the line after the last one; the first, if there is none. `None` if there is no room for the states.
+/// `Memory` if an allocation fails.
+fn step(list: &mut LineList, last: &Option<Vec<u32>>) -> Result<Option<NextLine>, Memory>
+    ensures { IfOk result (λ reported. IfSome reported (IsNextListed list.old last.now list.new)) }
+{
+    match list {
+        LineList::Derived(lines) => derived_step(lines, last),
+        LineList::Missed(misses) => misses.next(),
+    }
+}
+
+/// Lays the next line into the buffer, as much of it as there is room for.
+pub(crate) fn next_line(alloc: Global, listing: &mut Listing, room: &mut [u8]) -> CLine
+    ensures { IsLineCall (record { old = room.old; new = room.new }) result (Some listing.old) (Some listing.new) }
+{
+    let Some(mut list) = listing.list.take() else {
+        return no_line(Status::Overlong.code());
+    };
+    let found = step(&mut list, &listing.last);
+    listing.list = Some(list);
+    match found {
+        Ok(Some(NextLine::Line(line))) => match line_bytes(
+            alloc,
+            listing.letters,
+            line.as_slice(),
+        ) {
+            Ok(bytes) => {
+                listing.last = Some(line);
+                CLine {
+                    len: lay(bytes.as_slice(), room),
+                    status: Status::Done.code(),
+                }
+            }
+            Err(Memory) => no_line(Status::NoMemory.code()),
+        },
+        Ok(Some(NextLine::Done)) => no_line(Status::NoMatch.code()),
+        Ok(None) => no_line(Status::Overlong.code()),
+        Err(Memory) => no_line(Status::NoMemory.code()),
+    }
+}
