@@ -71,6 +71,7 @@ PROGRAMS = (
         Option("l", "limit", "N", (), "Look at no more than N bytes, or Nk, NM, in a unit, from 1 to 16777216"),
         Option("1", "whole", "", (), "Take the input as one unit, up to its end"),
         Option("r", "raw", "", (), "Print actions verbatim"),
+        Option("", "escapes", "", (), "Replace escapes in actions by their bytes"),
         EXPLAIN,
         HELP,
         VERSION,

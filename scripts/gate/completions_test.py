@@ -40,6 +40,7 @@ ROWS = (
     ("pegi", "--mode = c", {"check"}),
     ("pegi", "--limit 70 g.peg --rule o", {"other_1"}),
     ("pegi", "--r", {"--rule", "--raw"}),
+    ("pegi", "--e", {"--escapes", "--explain"}),
     ("abnfi", "-m p", {"print"}),
     ("abnfi", "-u ", {"bytes", "utf8"}),
     ("abnfi", "-w g.abnf -s ", {"line", "word", "other-1"}),

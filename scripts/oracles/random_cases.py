@@ -1,17 +1,17 @@
 #!/usr/bin/env python3
 """Compares bin/pegi and bin/abnfi with slow answers to random grammars and inputs (slow_peg.py, slow_abnf.py).
 
-usage: random_cases.py [-n COUNT] [-s SEED] [-u] [-w] [-z] [-k] [-p] [-q] [-b] [-1] [-x] [pegi | abnfi]
+usage: random_cases.py [-n COUNT] [-s SEED] [-u] [-w] [-z] [-k] [-p] [-q] [-b] [-1] [-e] [-x] [pegi | abnfi]
 
 A case is a unit that pegi tries, a line that abnfi judges, or a grammar that is rejected. COUNT cases are compared,
 half of them by each program; 20000 if it is not given. Cases and their order follow from the seed alone. Prints how
 many cases were compared; at the first disagreement it prints the case and ends with status 1. A program that is not
 built is skipped. With -u half of the runs of abnfi have its option `-u utf8`; so it is with -w, -z and -k, and its
 options of these names. With -p most of them have its option `-p`, `-n` or `-H`, with -q some its option `-q`, with -b
-half of them `--line-buffered`. With -1 a third of the runs of pegi have its option `-1`. With -x half of the runs of
-both have the option `-x`, half of these with what explains their notes, with hints (slow_notes.py, slow_hints.py), how
-the run of pegi stops (slow_stops.py), and rejected lines (slow_refused.py), the others of a text with a fault
-(slow_faults.py): a grammar's, of which some bytes are changed.
+half of them `--line-buffered`. With -1 a third of the runs of pegi have its option `-1`, with -e half of them
+`--escapes`. With -x half of the runs of both have the option `-x`, half of these with what explains their notes, with
+hints (slow_notes.py, slow_hints.py), how the run of pegi stops (slow_stops.py), and rejected lines (slow_refused.py),
+the others of a text with a fault (slow_faults.py): a grammar's, of which some bytes are changed.
 """
 import argparse
 import collections
@@ -76,10 +76,12 @@ def peg_case(r, may):
     start = r.choice([it[0] for it in rules] + ["X"]) if r.random() < 0.1 else None
     limit, raw = r.choice([65536] * 8 + [1, 2, 3, 5, 10]), r.random() < 0.2
     is_whole = "1" in may and r.random() < 0.3
+    is_escaped = "e" in may and r.random() < 0.5
     words = ["-l", str(limit)] + ["-r"] * raw + (["-s", start] if start else []) + ["-1"] * is_whole
+    words += ["--escapes"] * is_escaped
     text = random_peg.grammar_text(r, rules)
     try:
-        *wanted, count = slow_peg.answer(rules, given, limit, start, raw, is_whole)
+        *wanted, count = slow_peg.answer(rules, given, limit, start, raw, is_whole, is_escaped)
     except (slow_peg.TooSlow, RecursionError):
         return None
     case = Case(words, text, given, tuple(wanted), count)
@@ -219,12 +221,13 @@ def main():
     words.add_argument("-q", action="store_true", help="some of the runs of abnfi by `-q`")
     words.add_argument("-b", action="store_true", help="half of the runs of abnfi by `--line-buffered`")
     words.add_argument("-1", action="store_true", help="a third of the runs of pegi by `-1`")
+    words.add_argument("-e", action="store_true", help="half of the runs of pegi by `--escapes`")
     words.add_argument("-x", action="store_true", help="half of the runs of both by `-x`")
     words.add_argument("program", nargs="?", choices=["pegi", "abnfi"])
     given = words.parse_args()
     sys.setrecursionlimit(20000)
     count = given.n // 2 if given.program is None else given.n
-    may = [it for it in "uwzkpqb1x" if getattr(given, it)]
+    may = [it for it in "uwzkpqb1ex" if getattr(given, it)]
     right = True
     with tempfile.TemporaryDirectory(prefix="random_cases-") as folder:
         for name, make in (("pegi", lambda r: peg_case(r, may)),

@@ -3,7 +3,8 @@ import slow_peg
 
 LETTERS = b"abc"
 NAMES = ["S", "A", "B", "C", "D_1"]
-TEMPLATES = [b"x", b" yytext ", b"[yytext] yyleng", b"yytext yytextual {yytext}", b"", b"\n y\t", b"yyleng-yytext"]
+TEMPLATES = [b"x", b" yytext ", b"[yytext] yyleng", b"yytext yytextual {yytext}", b"", b"\n y\t", b"yyleng-yytext",
+             rb" \nyytext\x79ytext\t", rb"\\n\x4 \X41\x7b\x7Dyyleng\r\xg0"]
 ESCAPES = {7: "\\a", 8: "\\b", 27: "\\e", 12: "\\f", 10: "\\n", 13: "\\r", 9: "\\t", 11: "\\v"}
 
 

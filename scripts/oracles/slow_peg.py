@@ -94,7 +94,20 @@ class Matcher:
         return None if self.match(e[1], p) else (p, [])
 
 
-def text_of(events, unit, raw):
+WORD, ESCAPE = rb"[A-Za-z0-9_]+", rb"\\(?:[ntr\\]|x[0-9A-Fa-f]{2})"
+LETTERS = {b"\\n": b"\n", b"\\t": b"\t", b"\\r": b"\r", b"\\\\": b"\\"}
+
+
+def filled(template, words, is_escaped):
+    """Returns a template with these words replaced, and escapes by their bytes if they count."""
+    def stands_for(found):
+        if found[0].startswith(b"\\"):
+            return LETTERS.get(found[0]) or bytes([int(found[0][2:], 16)])
+        return words.get(found[0], found[0])
+    return re.sub(ESCAPE + b"|" + WORD if is_escaped else WORD, stands_for, template)
+
+
+def text_of(events, unit, raw, is_escaped):
     """Returns what a unit's actions print."""
     start, capture, printed = None, b"", []
     for kind, value in events:
@@ -105,12 +118,12 @@ def text_of(events, unit, raw):
         else:
             template = value if raw else value.strip(b" \t\r\n")
             words = {b"yytext": capture, b"yyleng": b"%d" % len(capture)}
-            printed.append(re.sub(rb"[A-Za-z0-9_]+", lambda m: words.get(m[0], m[0]), template))
+            printed.append(filled(template, words, is_escaped))
             printed.append(b"" if raw else b"\n")
     return b"".join(printed)
 
 
-def run_units(rules, start, text, limit, raw, is_whole):
+def run_units(rules, start, text, limit, raw, is_whole, is_escaped):
     """Returns the output, the message, the status, and how many units were tried: one if it is to be the whole text."""
     place, printed, tried = 0, [], 0
     while True:
@@ -120,7 +133,7 @@ def run_units(rules, start, text, limit, raw, is_whole):
         if matcher.looked > limit:
             return b"".join(printed), b"unit at byte %d longer than %d bytes\n" % (place, limit), 3, tried
         if found:
-            printed.append(text_of(found[1], text[place:], raw))
+            printed.append(text_of(found[1], text[place:], raw, is_escaped))
             place += found[0]
         if not found or found[0] == 0 or is_whole:
             break
@@ -226,11 +239,12 @@ def notes_on(grammar, start):
     return "".join(it + "\n" for it in lines).encode(), bool(refusing or after)
 
 
-def answer(grammar, text, limit, start, raw, is_whole=False):
+def answer(grammar, text, limit, start, raw, is_whole=False, is_escaped=False):
     """Returns the output, the error output, the status, and how many units were tried; a rejected grammar is one."""
     reported, refused = notes_on(grammar, start)
     if refused:
         return b"", reported, 2, 1
     rules, _ = first_bodies(grammar)
-    out, message, status, tried = run_units(rules, start or next(iter(rules)), text, limit, raw, is_whole)
+    first = start or next(iter(rules))
+    out, message, status, tried = run_units(rules, first, text, limit, raw, is_whole, is_escaped)
     return out, reported + message, status, tried

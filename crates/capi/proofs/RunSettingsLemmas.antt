@@ -1,4 +1,4 @@
--- What a run of a grammar states depends on the limit, raw, whole and explain of the settings alone.
+-- What a run of a grammar states depends on the limit, style, whole and explain of the settings alone.
 -- Serves: peg_run
 use Rattle.std.proofs.Common.{◌≡◌, ◌≤◌, ℕ, Bool, true, false, List, sym, ◌∙◌, subst, Option, ap, ap₂}
 use Rattle.std.proofs.Math.Bridge.{le_prop}
@@ -24,14 +24,14 @@ explained_so true Why Other f why is = f why is
 explained_so false Why Other f why is = is
 
 module _ (rules : List Rule) (start : ℕ) (a b : PegSettings) (input : Input) (limit : b.limit ≡ a.limit)
-    (raw : b.options.raw ≡ a.options.raw) (whole : b.options.whole ≡ a.options.whole)
+    (style : b.options.style ≡ a.options.style) (whole : b.options.whole ≡ a.options.whole)
     (explain : b.explain ≡ a.explain) where
   before_by : (s : ℕ) (before : Option ℕ) → UnitBefore rules start a input s before
       → UnitBefore rules start b input s before
   before_by s before none_before = none_before
   before_by s before (one_before at k text last us u lt) =
-      one_before at k text last (units_by rules start a b input limit raw whole at text us)
-      (unit_by rules start a b input limit raw whole at k last u) lt
+      one_before at k text last (units_by rules start a b input limit style whole at text us)
+      (unit_by rules start a b input limit style whole at k last u) lt
 
   lines_by : (s : ℕ) (stop : Stop) (why : List ℕ) → StopLines rules start a input s stop why
       → StopLines rules start b input s stop why
@@ -57,7 +57,7 @@ module _ (rules : List Rule) (start : ℕ) (a b : PegSettings) (input : Input) (
   unfolding plain_by
   reported_by reply r = record {
     plain = r.plain;
-    replies = plain_by rules start a b input limit raw whole r.plain r.replies;
+    replies = plain_by rules start a b input limit style whole r.plain r.replies;
     before = r.before;
     reports = r.reports;
     why = r.why;
@@ -69,24 +69,24 @@ module _ (rules : List Rule) (start : ℕ) (a b : PegSettings) (input : Input) (
   unfolding plain_by
   states_by_four reply (replied_reported same r) = replied_reported same (reported_by same r)
   states_by_four reply (unexplained plain r reported reports may) =
-      unexplained plain (plain_by rules start a b input limit raw whole plain r) reported reports
+      unexplained plain (plain_by rules start a b input limit style whole plain r) reported reports
       (lack_by r.point r.stop may)
   states_by_four reply (cut_short point out reported all before reports r begins) =
-      cut_short point out reported all (units_by rules start a b input limit raw whole point out before) reports
-      (plain_by rules start a b input limit raw whole all r) begins
+      cut_short point out reported all (units_by rules start a b input limit style whole point out before) reports
+      (plain_by rules start a b input limit style whole all r) begins
 
 -- so does what a run over memory gives
 pub planned_by_four : (rules : List Rule) (start : ℕ) (a b : PegSettings) → b.limit ≡ a.limit
-    → b.options.raw ≡ a.options.raw → b.options.whole ≡ a.options.whole → b.explain ≡ a.explain
+    → b.options.style ≡ a.options.style → b.options.whole ≡ a.options.whole → b.explain ≡ a.explain
     → {input out err : List ℕ} {code : ℕ}
     → IsPlannedRun (RunStates rules start a) input out err code
     → IsPlannedRun (RunStates rules start b) input out err code
-planned_by_four rules start a b limit raw whole explain {input} p = record {
+planned_by_four rules start a b limit style whole explain {input} p = record {
   notes = p.notes;
   stated = p.stated;
   states = (
     p.states.0,
-    states_by_four rules start a b (bounded input) limit raw whole explain p.stated p.states.1,
+    states_by_four rules start a b (bounded input) limit style whole explain p.stated p.states.1,
   );
   out_failed = p.out_failed;
   err_failed = p.err_failed;
@@ -98,7 +98,7 @@ pub runner_stays : (old : Runner) (peg : Grammar) (within : (1 ≤ old.limit) ×
     → ◌≡◌ {A = Runner} (record {
       peg = peg;
       limit = old.limit;
-      raw = old.raw;
+      style = old.style;
       whole = old.whole;
       explain = old.explain;
       in_range = within;

@@ -31,7 +31,8 @@ name_by false name = None
 
 -- C asks for these options of the peg tool
 pub record PegMeant (asked : CSettings) (options : PegOptions) : Type 0 where
-  pub raw : options.raw ≡ asked.raw
+  pub raw : options.style.raw ≡ asked.raw
+  pub escapes : options.style.escapes ≡ false
   pub whole : options.whole ≡ false
 
 -- C asks for these options of the ABNF tool

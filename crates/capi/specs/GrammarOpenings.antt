@@ -22,10 +22,10 @@ abbrev pub IsAbnfOpening : List ℕ → AbnfSettings → List ℕ → Option Ope
 IsAbnfOpening text settings = IsOpening (IsAbnfFault text) (ExplainsAbnf text) (ExplainsAbnfNote text)
     (AreTextHints text settings) (IsOpened text settings) settings
 
--- a runner runs as these settings ask: by their limit, verbatim or not, on one unit or more, and explained or not
+-- a runner runs as these settings ask: by their limit, in their style, on one unit or more, and explained or not
 pub record RunsBy (runner : Runner) (settings : PegSettings) : Type 0 where
   pub limit : settings.limit ≡ runner.limit
-  pub raw : settings.options.raw ≡ runner.raw
+  pub style : settings.options.style ≡ runner.style
   pub whole : settings.options.whole ≡ runner.whole
   pub explain : settings.explain ≡ runner.explain
 

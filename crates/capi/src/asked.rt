@@ -5,7 +5,7 @@ ghost use Rattle.capi.specs.Asking.{AbnfMeant, IsMeant, IsInvalid, PegMeant, alp
 ghost use Rattle.capi.specs.declared.asked.CSettings.{CSettings as Asked};
 
 use abnfrun::{AbnfOptions, Alphabet, Printed};
-use pegrun::PegOptions;
+use pegrun::{PegOptions, PrintStyle};
 use std::mem::size_of;
 use std::str::from_utf8;
 use toolrun::{MAX_LIMIT, Mode, Settings};
@@ -79,7 +79,10 @@ impl COptions for PegOptions {
 
     fn meant(asked: &CSettings, _letters: Alphabet) -> PegOptions {
         PegOptions {
-            raw: asked.raw,
+            style: PrintStyle {
+                raw: asked.raw,
+                escapes: false,
+            },
             whole: false,
         }
     }

@@ -1,7 +1,7 @@
 //! A grammar of peg(1) that was opened, and what settings ask of its runs.
 ghost use Rattle.std.specs.Prelude.{◌≤◌};
 
-use pegrun::PegRunner;
+use pegrun::{PegRunner, PrintStyle};
 
 /// A grammar of peg(1) that was opened, and what settings ask of its runs.
 #[derive(Drop)]
@@ -10,8 +10,8 @@ pub struct Runner {
     pub peg: PegRunner,
     /// How many bytes a unit may look at.
     pub limit: usize,
-    /// Whether actions are printed verbatim.
-    pub raw: bool,
+    /// How actions are printed.
+    pub style: PrintStyle,
     /// Whether an input is one unit.
     pub whole: bool,
     /// Whether it is explained where a run stops.

@@ -18,7 +18,7 @@ pub(crate) fn runner_by(peg: PegRunner, settings: &PegSettings<'_>) -> Runner
     Runner {
         peg,
         limit: settings.limit,
-        raw: settings.options.raw,
+        style: settings.options.style,
         whole: settings.options.whole,
         explain: settings.explain,
     }
@@ -36,7 +36,7 @@ pub(crate) fn run_input(alloc: Global, runner: &mut Runner, input: &[u8]) -> Out
         input: "-",
         explain: runner.explain,
         options: PegOptions {
-            raw: runner.raw,
+            style: runner.style,
             whole: runner.whole,
         },
     };

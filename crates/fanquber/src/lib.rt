@@ -11,7 +11,9 @@ pub use cli::{
     refuse_invalid_utf8, settings_of, start_program, tool_main, words_of,
 };
 pub use feed::{Broken, Feed, Flow, Held, Source, SourceOf};
-pub use pegrun::{PegLanguage, PegOptions, PegSettings, one_reply, one_statement, run_peg};
+pub use pegrun::{
+    PegLanguage, PegOptions, PegSettings, PrintStyle, one_reply, one_statement, run_peg,
+};
 pub use ruletable::{Sink, SinkOf, WriteFault};
 pub use toolrun::{
     Checked, DEFAULT_LIMIT, Ending, Language, MAX_LIMIT, Mode, Settings, Status, Stop, close_run,

@@ -15,7 +15,7 @@ use crate::frames::Frames;
 use crate::machine::Machine;
 use gramcheck::SoundPeg;
 use memo::{Found, Given, KeyLog, MatchTask};
-use pegmatch::{Matcher, ReplayFault, Unit};
+use pegmatch::{Matcher, PrintStyle, ReplayFault, Unit};
 use ruletable::{Memory, Sink};
 use std::alloc::Global;
 use std::marker::Model;
@@ -211,18 +211,21 @@ impl Matcher for Packrat {
         &mut self,
         peg: &SoundPeg,
         window: &[u8],
-        raw: bool,
+        style: PrintStyle,
         out: &mut W,
     ) -> Result<(), ReplayFault>
         requires success { HoldsSuccess peg.now window.now (Holds self.old peg.now window.now) }
         requires out_is_fresh { W.failed out.old ≡ false }
         ensures text { (events : List Event) → Holds self.old peg.now window.now events →
             Replays (W.contents out.old) (W.contents out.new) (W.failed out.old) (W.failed out.new)
-            (text_of raw window.now events) result }
+            (text_of style window.now events) result }
         ensures kept { (result ≡ Err ReplayFault.Memory → ⊥) → self.new ≡ self.old }
         ensures empty { result ≡ Err ReplayFault.Memory → self.new ≡ empty self.old.matches }
     {
-        let replayed = self.machine.events.replay(peg, window, raw, self.head, out);
+        let replayed = self
+            .machine
+            .events
+            .replay(peg, window, style, self.head, out);
         if replayed == Err(ReplayFault::Memory) {
             self.reset();
         }

@@ -3,13 +3,14 @@ use Prim.Native.Char.{code}
 use Rattle.std.specs.Prelude.{◌≡◌, List, [], ◌∷◌, codes}
 use Rattle.clap.specs.Words.{App, Row, first_of}
 use Rattle.cli.specs.Asked.{is_flagged}
-use Rattle.cli.specs.Command.{AreModes, Names, flag_rule, tool_app}
+use Rattle.cli.specs.Command.{AreModes, Names, flag_rule, long_flag_rule, tool_app}
 use Rattle.pegrun.specs.declared.options.PegOptions.{PegOptions}
 
--- `pegi [-m MODE] [-l N] [-s RULE] [-r] [-1] [-x] GRAMMAR [FILE]..`
+-- `pegi [-m MODE] [-l N] [-s RULE] [-r] [-1] [--escapes] [-x] GRAMMAR [FILE]..`
 abbrev pub pegi_app : Names → App
 pegi_app modes = tool_app modes (codes "pegi") (flag_rule (codes "raw") (code "r")
-    ∷ flag_rule (codes "whole") (code "1") ∷ [])
+    ∷ flag_rule (codes "whole") (code "1")
+    ∷ long_flag_rule (codes "escapes") ∷ [])
 
 -- this is the command of the program
 abbrev pub IsPegiApp : App → Type 0
@@ -17,5 +18,6 @@ IsPegiApp app = (modes : Names) × AreModes modes × (app ≡ pegi_app modes)
 
 -- the matches ask for these options
 pub record AsksPegi (rows : List Row) (options : PegOptions) : Type 0 where
-  pub raw : options.raw ≡ is_flagged (first_of (codes "raw") rows)
+  pub raw : options.style.raw ≡ is_flagged (first_of (codes "raw") rows)
+  pub escapes : options.style.escapes ≡ is_flagged (first_of (codes "escapes") rows)
   pub whole : options.whole ≡ is_flagged (first_of (codes "whole") rows)

@@ -5,7 +5,7 @@ ghost use Rattle.pegrun.specs.Answers.{States};
 use clap::{ArgMatches, Command};
 use cli::{BufferedSink, Parameter, Program, is_given, tool_command};
 use feed::Source;
-use pegrun::{PegOptions, PegSettings, run_peg};
+use pegrun::{PegOptions, PegSettings, PrintStyle, run_peg};
 use ruletable::Sink;
 use std::alloc::{AllocError, Global};
 use toolrun::Status;
@@ -28,6 +28,7 @@ Input and output:
   -l, --limit <N>  Look at no more than N bytes, or Nk, NM, in a unit, from 1 to 16777216 [default: 65536]
   -1, --whole      Take the input as one unit, up to its end
   -r, --raw        Print actions verbatim
+      --escapes    Replace escapes in actions by their bytes
   -x, --explain    Explain messages in more lines
 
 Other options:
@@ -46,9 +47,13 @@ Example:
   pegi username.peg letter.txt";
 
 /// The options of the program alone.
-static OWN: [Parameter; 2] = [Parameter::Flag("raw", 'r'), Parameter::Flag("whole", '1')];
+static OWN: [Parameter; 3] = [
+    Parameter::Flag("raw", 'r'),
+    Parameter::Flag("whole", '1'),
+    Parameter::LongFlag("escapes"),
+];
 
-/// The program `pegi [-m MODE] [-l N] [-s RULE] [-r] [-1] [-x] GRAMMAR [FILE]..`.
+/// The program `pegi [-m MODE] [-l N] [-s RULE] [-r] [-1] [--escapes] [-x] GRAMMAR [FILE]..`.
 pub(crate) struct Pegi;
 
 impl Program for Pegi {
@@ -66,7 +71,10 @@ impl Program for Pegi {
 
     fn options(matches: &ArgMatches<'_>) -> PegOptions {
         PegOptions {
-            raw: is_given(matches, "raw"),
+            style: PrintStyle {
+                raw: is_given(matches, "raw"),
+                escapes: is_given(matches, "escapes"),
+            },
             whole: is_given(matches, "whole"),
         }
     }

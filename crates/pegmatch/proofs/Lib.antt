@@ -1,4 +1,6 @@
 pub mod CompareLemmas
+pub mod FilledEscapedLemmas
+pub mod FirstPieceLemmas
 pub mod IsPrintedLemmas
 pub mod MatchStepLemmas
 pub mod NodeShapeLemmas

@@ -19,6 +19,7 @@ use Rattle.pegmatch.specs.KeptEvents.{StandsFor, opened, closed, acted}
 use Rattle.pegmatch.specs.EventPrinting.{event_text}
 use Rattle.pegmatch.specs.declared.event.Kept.{Kept}
 use Rattle.pegmatch.specs.declared.event.Kept.TheVariants.{Acted}
+use Rattle.pegmatch.specs.declared.style.PrintStyle.{PrintStyle}
 
 -- what was written, and what the slots from the next on make of the text from a position on
 abbrev pub IsWritten : Option (List ℕ) → Option (List ℕ) → List ℕ → List ℕ → ℕ → List Slot → List Slot → ℕ → ℕ → Type 0
@@ -111,7 +112,7 @@ acts_so (acted {n = m} {t = u} g) n t is at = let same : u ≡ t = cc (g, at, is
 
 -- any other prints nothing
 pub quiet_event : {nodes : List Shape} {kept : Kept} {e : Event} → StandsFor nodes kept e
-    → ((n : ℕ) → kept ≡ Acted n → ⊥) → (raw : Bool) (capture : List ℕ) → event_text raw e capture ≡ []
-quiet_event opened other raw capture = refl
-quiet_event closed other raw capture = refl
-quiet_event (acted {n = n} g) other raw capture = absurd (other n refl)
+    → ((n : ℕ) → kept ≡ Acted n → ⊥) → (style : PrintStyle) (capture : List ℕ) → event_text style e capture ≡ []
+quiet_event opened other style capture = refl
+quiet_event closed other style capture = refl
+quiet_event (acted {n = n} g) other style capture = absurd (other n refl)

@@ -1,19 +1,20 @@
 -- What an event prints, and the capture after it.
-use Rattle.std.specs.Prelude.{◌≡◌, ℕ, ◌≤◌, Bool, List, [], ◌++◌, length, slice_range, Option, Some, None, IfSome}
+use Rattle.std.specs.Prelude.{◌≡◌, ℕ, ◌≤◌, List, [], ◌++◌, length, slice_range, Option, Some, None, IfSome}
 use Rattle.gramcheck.specs.Rising.{Rise}
 use Rattle.gramcheck.specs.Outcome as event
 use Rattle.gramcheck.specs.Outcome.{Event}
-use Rattle.pegnodes.specs.Templates.{printed}
+use Rattle.pegmatch.specs.TemplateEscapes.{printed_by}
 use Rattle.pegmatch.specs.Text.{text_after, text_of}
 use Rattle.pegmatch.specs.declared.event.Kept.{Kept}
 use Rattle.pegmatch.specs.declared.event.Kept.TheVariants.{Opened, Closed, Acted}
+use Rattle.pegmatch.specs.declared.style.PrintStyle.{PrintStyle}
 use Rattle.pegmatch.specs.declared.writing.Capture.{Capture}
 
 -- what an event prints: of an action its template with the capture put in
-abbrev pub event_text : Bool → Event → List ℕ → List ℕ
-event_text raw (event.Opened p) capture = []
-event_text raw (event.Closed p) capture = []
-event_text raw (event.Acted t) capture = printed raw t capture
+abbrev pub event_text : PrintStyle → Event → List ℕ → List ℕ
+event_text style (event.Opened p) capture = []
+event_text style (event.Closed p) capture = []
+event_text style (event.Acted t) capture = printed_by style t capture
 
 abbrev pub closed_at : Capture → ℕ → Option ℕ → Capture
 closed_at capture q None = capture
@@ -26,11 +27,12 @@ capture_by capture (Closed q) = closed_at capture q capture.start
 capture_by capture (Acted n) = capture
 
 -- what was written so far, and what the events still to come print, make up the whole text
-pub record IsPrinted (raw : Bool) (x : List ℕ) (all later : List Event) (capture : Capture) (done : List ℕ) : Type
-    0 where
+pub record IsPrinted (style : PrintStyle) (x : List ℕ) (all later : List Event) (capture : Capture)
+    (done : List ℕ) : Type 0 where
   pub low : ℕ
   pub begun : IfSome capture.start (λ p. p ≤ low)
   pub order : capture.from ≤ capture.to
   pub within : capture.to ≤ length x
   pub rise : Rise low (length x) later
-  pub text : done ++ text_after raw x later capture.start (slice_range x capture.from capture.to) ≡ text_of raw x all
+  pub text : done ++ text_after style x later capture.start (slice_range x capture.from capture.to)
+      ≡ text_of style x all

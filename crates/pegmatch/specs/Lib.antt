@@ -1,5 +1,7 @@
 pub mod Answers
 pub mod KeptEvents
+pub mod TemplateEscapes
+pub mod FirstPieces
 pub mod Text
 pub mod EventPrinting
 pub mod Visits

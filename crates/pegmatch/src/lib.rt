@@ -2,10 +2,12 @@
 #![tactic(auto)]
 
 mod compare;
+mod escapes;
 mod event;
 mod laws;
 mod leaves;
 mod matcher;
+mod style;
 mod visits;
 mod writing;
 
@@ -13,5 +15,6 @@ pub use event::Kept;
 pub use laws::{answer_stands, need_stands, one_answer};
 pub use leaves::{Tried, match_any, match_bytes, match_set};
 pub use matcher::{Matcher, ReplayFault, Unit};
+pub use style::PrintStyle;
 pub use visits::visits_are_within;
 pub use writing::{Capture, NO_CAPTURE, capture_after, write_event};

@@ -5,6 +5,7 @@ ghost use Rattle.gramcheck.specs.Outcome.{Event};
 ghost use Rattle.pegmatch.specs.Answers.{IsAnswer, HoldsSuccess, Replays, most_matches};
 ghost use Rattle.pegmatch.specs.Text.{text_of};
 
+use crate::style::PrintStyle;
 use gramcheck::SoundPeg;
 use ruletable::{Memory, Sink};
 use thiserror::Error;
@@ -64,13 +65,13 @@ pub trait Matcher {
         &mut self,
         peg: &SoundPeg,
         window: &[u8],
-        raw: bool,
+        style: PrintStyle,
         out: &mut W,
     ) -> Result<(), ReplayFault>
         requires success { HoldsSuccess peg.now window.now (holds self.old peg.now window.now) }
         requires out_is_fresh { W.failed out.old ≡ false }
         ensures text { (events : List Event) → holds self.old peg.now window.now events →
             Replays (W.contents out.old) (W.contents out.new) (W.failed out.old) (W.failed out.new)
-            (text_of raw window.now events) result }
+            (text_of style window.now events) result }
         ensures unmatched { matches self.new ≡ matches self.old };
 }

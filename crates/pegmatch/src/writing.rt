@@ -3,12 +3,16 @@ ghost use Rattle.std.specs.Prelude.{◌≡◌, ◌≤◌, ◌++◌, length, slic
 ghost use Rattle.pegnodes.specs.Nodes.{shapes_of};
 ghost use Rattle.gramcheck.specs.Outcome.{Event};
 ghost use Rattle.pegnodes.specs.Slots.{put_text, put_in, AreSlots, IsCut};
-ghost use Rattle.pegnodes.specs.Templates.{printed};
+ghost use Rattle.pegnodes.specs.Templates.{filled_piece, printed, Piece};
 ghost use Rattle.ruletable.specs.Writing.{Writes, Flags};
 ghost use Rattle.pegmatch.specs.KeptEvents.{StandsFor};
 ghost use Rattle.pegmatch.specs.EventPrinting.{capture_by, event_text};
+ghost use Rattle.pegmatch.specs.FirstPieces.{piece_of};
+ghost use Rattle.pegmatch.specs.TemplateEscapes.{filled_escaped, printed_by, printed_escaped};
 
+use crate::escapes::{FrontPiece, first_piece, trimmed_text};
 use crate::event::Kept;
+use crate::style::PrintStyle;
 use gramcheck::SoundPeg;
 use itoa::Buffer;
 use pegnodes::{Node, Put, Slot, Template};
@@ -84,8 +88,8 @@ fn write_slots<W: Sink>(
     write_some(out, &text[at..to])
 }
 
-// Writes what an action prints, as it is where `raw`, else without the blanks at its ends and with an LF.
-fn write_action<W: Sink>(
+// Writes what an action without escapes prints: as it is where `raw`, else without blanks at its ends and with an LF.
+fn write_plain_action<W: Sink>(
     out: &mut W,
     raw: bool,
     text: &[u8],
@@ -104,6 +108,95 @@ fn write_action<W: Sink>(
         Ok(()) => write_whole(out, b"\n"),
         Err(fault) => Err(fault),
     }
+}
+
+// Writes a run of word bytes, or what takes its position.
+fn write_word<W: Sink>(out: &mut W, run: &[u8], capture: &[u8]) -> Result<(), WriteFault>
+    requires { W.failed out.old ≡ false }
+    ensures bytes { Writes (W.contents out.old) (W.contents out.new)
+        (filled_piece capture.now (Piece.Word run.now)) result }
+    ensures flag { Flags (W.failed out.old) (W.failed out.new) result }
+{
+    if run == b"yytext".as_slice() {
+        return write_put(out, Put::Capture, capture);
+    }
+    if run == b"yyleng".as_slice() {
+        return write_put(out, Put::Length, capture);
+    }
+    write_whole(out, run)
+}
+
+// Writes a piece of a template with escapes.
+fn write_piece<W: Sink>(
+    out: &mut W,
+    piece: FrontPiece<'_>,
+    capture: &[u8],
+) -> Result<(), WriteFault>
+    requires { W.failed out.old ≡ false }
+    ensures bytes { Writes (W.contents out.old) (W.contents out.new)
+        (filled_piece capture.now (piece_of piece.entry)) result }
+    ensures flag { Flags (W.failed out.old) (W.failed out.new) result }
+{
+    match piece {
+        FrontPiece::Word(run) => write_word(out, run, capture),
+        FrontPiece::Other(byte) => write_whole(out, &[byte]),
+    }
+}
+
+// Writes a text with its escapes replaced and the capture put in.
+fn write_escaped<W: Sink>(out: &mut W, text: &[u8], capture: &[u8]) -> Result<(), WriteFault>
+    requires { W.failed out.old ≡ false }
+    ensures bytes { Writes (W.contents out.old) (W.contents out.new) (filled_escaped text.now capture.now) result }
+    ensures flag { Flags (W.failed out.old) (W.failed out.new) result }
+{
+    let mut rest = text;
+    while let Some((piece, after)) = first_piece(rest) {
+        match write_piece(out, piece, capture) {
+            Ok(()) => rest = after,
+            Err(fault) => return Err(fault),
+        }
+    }
+    Ok(())
+}
+
+// Writes what an action with escapes prints.
+fn write_escaped_action<W: Sink>(
+    out: &mut W,
+    raw: bool,
+    text: &[u8],
+    capture: &[u8],
+) -> Result<(), WriteFault>
+    requires { W.failed out.old ≡ false }
+    ensures bytes { Writes (W.contents out.old) (W.contents out.new)
+        (printed_escaped raw text.now capture.now) result }
+    ensures flag { Flags (W.failed out.old) (W.failed out.new) result }
+{
+    if !raw {
+        return match write_escaped(out, trimmed_text(text), capture) {
+            Ok(()) => write_whole(out, b"\n"),
+            Err(fault) => Err(fault),
+        };
+    }
+    write_escaped(out, text, capture)
+}
+
+// Writes what an action prints.
+fn write_action<W: Sink>(
+    out: &mut W,
+    style: PrintStyle,
+    text: &[u8],
+    cut: &Template,
+    capture: &[u8],
+) -> Result<(), WriteFault>
+    requires cut { IsCut text.now cut.now }
+    requires out_is_fresh { W.failed out.old ≡ false }
+    ensures bytes { Writes (W.contents out.old) (W.contents out.new) (printed_by style text.now capture.now) result }
+    ensures flag { Flags (W.failed out.old) (W.failed out.new) result }
+{
+    if style.escapes {
+        return write_escaped_action(out, style.raw, text, capture);
+    }
+    write_plain_action(out, style.raw, text, cut, capture)
 }
 
 /// The state of captures in a replay: the text that `yytext` is replaced by, and an open capture. Positions count bytes
@@ -152,7 +245,7 @@ pub fn capture_after(capture: Capture, event: Kept) -> Capture
 fn write_acted<W: Sink>(
     peg: &SoundPeg,
     window: &[u8],
-    raw: bool,
+    style: PrintStyle,
     event: Kept,
     capture: Capture,
     out: &mut W,
@@ -163,14 +256,14 @@ fn write_acted<W: Sink>(
     requires out_is_fresh { W.failed out.old ≡ false }
     ensures bytes { (e : Event) → StandsFor (shapes_of peg.now.nodes) event e →
         Writes (W.contents out.old) (W.contents out.new)
-        (event_text raw e (slice_range window.now capture.from capture.to)) result }
+        (event_text style e (slice_range window.now capture.from capture.to)) result }
     ensures flag { Flags (W.failed out.old) (W.failed out.new) result }
 {
     match event {
         Kept::Acted(n) => match peg.node(n) {
             Node::Act(text) => {
                 let captured = &window[capture.from..capture.to];
-                write_action(out, raw, text, peg.template(n), captured)
+                write_action(out, style, text, peg.template(n), captured)
             }
             _ => unreachable!(),
         },
@@ -186,7 +279,7 @@ fn write_acted<W: Sink>(
 pub fn write_event<W: Sink>(
     peg: &SoundPeg,
     window: &[u8],
-    raw: bool,
+    style: PrintStyle,
     event: Kept,
     capture: Capture,
     out: &mut W,
@@ -197,11 +290,11 @@ pub fn write_event<W: Sink>(
     requires out_is_fresh { W.failed out.old ≡ false }
     ensures bytes { (e : Event) → StandsFor (shapes_of peg.now.nodes) event e →
         Writes (W.contents out.old) (W.contents out.new)
-        (event_text raw e (slice_range window.now capture.from capture.to)) result }
+        (event_text style e (slice_range window.now capture.from capture.to)) result }
     ensures flag { Flags (W.failed out.old) (W.failed out.new) result }
 {
     match event {
-        Kept::Acted(_) => write_acted(peg, window, raw, event, capture, out),
+        Kept::Acted(_) => write_acted(peg, window, style, event, capture, out),
         _ => Ok(()),
     }
 }

@@ -13,12 +13,13 @@ use Rattle.gramcheck.specs.Outcome.{Outcome, Fails, Takes, Event}
 use Rattle.gramcheck.proofs.StartRuleLemmas.{rises_of_start, grows_of_start}
 use Rattle.pegmatch.specs.Answers.{StartGives}
 use Rattle.pegmatch.specs.Text.{text_of}
+use Rattle.pegmatch.specs.declared.style.PrintStyle.{PrintStyle}
 use Rattle.pegrun.specs.Attempts.{IsAttempt}
 use Rattle.pegrun.specs.declared.attempt.Attempt.{Attempt}
 use Rattle.pegrun.specs.declared.attempt.Attempt.TheVariants.{Printed, Failed, TooLong, NoMemory}
 use Rattle.pegrun.proofs.TextOfLemmas.{text_same}
 
-module _ (g : Grammar) (front back : List ℕ) (raw : Bool) where
+module _ (g : Grammar) (front back : List ℕ) (style : PrintStyle) where
   gives_longer : (o : Outcome) (looked : ℕ) → looked < length front → StartGives g front o looked
       → StartGives g (front ++ back) o looked
   gives_longer o looked lt d = grows_of_start (rules_of g.rules) g.start front back looked o lt d
@@ -27,13 +28,13 @@ module _ (g : Grammar) (front back : List ℕ) (raw : Bool) where
   within_longer looked lt = omega (arith, length-append front back)
 
   text_is : (k looked : ℕ) (events : List Event) → StartGives g front (Takes k events) looked
-      → text_of raw (front ++ back) events ≡ text_of raw front events
+      → text_of style (front ++ back) events ≡ text_of style front events
   text_is k looked events d = let r = rises_of_start (rules_of g.rules) g.start front k looked events d in
-      text_same raw front back k events r.0 r.1
+      text_same style front back k events r.0 r.1
 
-  attempt_longer : (old new : Option (List ℕ)) (r : Result Attempt WriteFault) → IsAttempt g front true raw old new r
+  attempt_longer : (old new : Option (List ℕ)) (r : Result Attempt WriteFault) → IsAttempt g front true style old new r
       → r ≢ Ok TooLong →
-      (more : Bool) → IsAttempt g (front ++ back) more raw old new r
+      (more : Bool) → IsAttempt g (front ++ back) more style old new r
   attempt_longer old new (Ok (Printed k)) (events, looked, d, enough, wrote) other more = (
     events,
     looked,
@@ -55,11 +56,11 @@ module _ (g : Grammar) (front back : List ℕ) (raw : Bool) where
   )
 
 -- of all bytes that begin with a piece
-pub attempt_after : (g : Grammar) (front items : List ℕ) (raw : Bool) (old new : Option (List ℕ))
+pub attempt_after : (g : Grammar) (front items : List ℕ) (style : PrintStyle) (old new : Option (List ℕ))
     (r : Result Attempt WriteFault) → IsPrefixOf front items →
-    IsAttempt g front true raw old new r → r ≢ Ok TooLong → (more : Bool) → IsAttempt g items more raw old new r
-attempt_after g front items raw old new r (back, is) a other more =
-    rw is (attempt_longer g front back raw old new r a other more)
+    IsAttempt g front true style old new r → r ≢ Ok TooLong → (more : Bool) → IsAttempt g items more style old new r
+attempt_after g front items style old new r (back, is) a other more =
+    rw is (attempt_longer g front back style old new r a other more)
 
 none_after : (back : List ℕ) → length back ≡ 0 → back ≡ []
 none_after [] e = refl

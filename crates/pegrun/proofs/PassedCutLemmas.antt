@@ -223,7 +223,7 @@ WrittenTo remaining rules start settings first old was IsPast IsKept feed positi
 
 pub written_on : {R : Type 0} (remaining : R → Option (List ℕ)) (g : Grammar) (settings : PegSettings)
     (first old : Option (List ℕ)) (was : ℕ) (IsPast : List ℕ → Type 0) (IsKept : Input → ℕ → Type 0)
-    (units : ByteUnits) → AreByteUnits g settings.options.raw units → (feed next : Feed R) (position calls n : ℕ)
+    (units : ByteUnits) → AreByteUnits g settings.options.style units → (feed next : Feed R) (position calls n : ℕ)
     (out now : Option (List ℕ)) → HasPassed remaining units settings feed next out now (Ok (Passes n))
     → (settings.explain ≡ true → n ≡ 0)
     → WrittenTo remaining (rules_of g.rules) g.start settings first old was IsPast IsKept feed position out calls

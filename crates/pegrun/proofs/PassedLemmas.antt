@@ -96,7 +96,7 @@ abbrev MayPass : PegSettings → Type 0
 MayPass settings = (0 < settings.limit) × (settings.options.whole ≡ false)
 
 module _ (g : Grammar) (settings : PegSettings) (input : Input) (units : ByteUnits)
-    (are : AreByteUnits g settings.options.raw units) (room : MayPass settings) where
+    (are : AreByteUnits g settings.options.style units) (room : MayPass settings) where
   abbrev UnitsTo : ℕ → List ℕ → Type 0
   UnitsTo s text = Units (rules_of g.rules) g.start settings input s text
 
@@ -117,7 +117,7 @@ module _ (g : Grammar) (settings : PegSettings) (input : Input) (units : ByteUni
           gives = rw here unit.2;
           within = omega (arith, unit.3, room.0);
         };
-        prints = unit.4 ∙ ap (λ x. text_of settings.options.raw x unit.0) (sym here);
+        prints = unit.4 ∙ ap (λ x. text_of settings.options.style x unit.0) (sym here);
       }
 
   record More (s n : ℕ) (before text : List ℕ) (units0 : UnitsTo s before) : Type 0 where
@@ -318,7 +318,7 @@ module _ {R : Type 0} (remaining : R → Option (List ℕ)) (units : ByteUnits) 
       subst (λ f. Agrees (before ++ bytes_of f0) f input) skip_flow
       (subst (λ t. Agrees t (flow_of f1) input) was a)
 
-  module _ (g : Grammar) (before : List ℕ) (input : Input) (are : AreByteUnits g settings.options.raw units)
+  module _ (g : Grammar) (before : List ℕ) (input : Input) (are : AreByteUnits g settings.options.style units)
       (agrees : Agrees (before ++ all) (flow_of f2) input) where
     whole_len : length input.bytes ≡ length before + (length all + length agrees.more)
     whole_len = bytes_len before all refl agrees

@@ -1,4 +1,4 @@
--- What a run of a grammar states without explanations depends on the limit, raw and whole of the settings alone.
+-- What a run of a grammar states without explanations depends on the limit, style and whole of the settings alone.
 -- Serves: explanations_change_no_answer, peg_run
 use Rattle.std.proofs.Common.{◌≡◌, ℕ, List, refl, sym, ◌∙◌}
 use Rattle.pegread.specs.Pattern.{Rule}
@@ -12,7 +12,7 @@ use Rattle.toolrun.specs.Reply.{Reply}
 use Rattle.toolrun.specs.declared.stop.Stop.{Stop}
 
 module _ (rules : List Rule) (start : ℕ) (a b : PegSettings) (input : Input) (limit : b.limit ≡ a.limit)
-    (raw : b.options.raw ≡ a.options.raw) (whole : b.options.whole ≡ a.options.whole) where
+    (style : b.options.style ≡ a.options.style) (whole : b.options.whole ≡ a.options.whole) where
   pub taken_by : (s : ℕ) → taken_at a input s ≡ taken_at b input s
   taken_by s = rw limit refl
 
@@ -26,7 +26,7 @@ module _ (rules : List Rule) (start : ℕ) (a b : PegSettings) (input : Input) (
   }
 
   pub unit_by : (s k : ℕ) (text : List ℕ) → IsUnit rules start a input s k text → IsUnit rules start b input s k text
-  unit_by s k text u = record { events = u.events; gives = gives_by s _ u.gives; prints = rw raw u.prints }
+  unit_by s k text u = record { events = u.events; gives = gives_by s _ u.gives; prints = rw style u.prints }
 
   pub units_by : (s : ℕ) (text : List ℕ) → Units rules start a input s text → Units rules start b input s text
   units_by s text none = none

@@ -154,11 +154,11 @@ module _ (g : Grammar) (settings : PegSettings) (input : Input) where
       (o : Outcome) → GivesAt (rules_of g.rules) g.start settings input s o → Goes g settings input s text
   goes_within fuel s text later units inside room Fails d = goes_at_failure s text units inside d
   goes_within fuel s text later units inside room (Takes zero events) d =
-      let last : List ℕ = text_of settings.options.raw (rest s) events in
+      let last : List ℕ = text_of settings.options.style (rest s) events in
       goes_before s s text last (omega arith) (goes_at_empty s text last units inside
       (record { events = events; gives = d; prints = refl }))
   goes_within fuel s text later units inside room (Takes (suc k) events) d =
-      let more : List ℕ = text_of settings.options.raw (rest s) events in
+      let more : List ℕ = text_of settings.options.style (rest s) events in
       let unit : UnitAt s (suc k) more = record { events = events; gives = d; prints = refl } in
       goes_before s (s + suc k) text more (omega arith) (later (s + suc k) (text ++ more)
       (one_more s (suc k) text more units unit (omega arith)) (unit_inside s (suc k) more inside unit)

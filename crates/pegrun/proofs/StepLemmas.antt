@@ -58,11 +58,11 @@ module _ (g : Grammar) (settings : PegSettings) (input : Input) (s : ℕ) (insid
 
     is_unit : (k : ℕ) (events : List Event) (looked : ℕ) → StartGives g window (Takes k events) looked
         → WasEnough window more looked →
-        IsUnit (rules_of g.rules) g.start settings input s k (text_of settings.options.raw window events)
+        IsUnit (rules_of g.rules) g.start settings input s k (text_of settings.options.style window events)
     is_unit k events looked d enough = record {
       events = events;
       gives = gives_at (Takes k events) looked d enough;
-      prints = seen_text g rest settings.limit settings.options.raw k events looked d;
+      prints = seen_text g rest settings.limit settings.options.style k events looked d;
     }
 
     fails_here : (w b : Bool) → settings.options.whole ≡ w → (s == length input.bytes) ≡ b
@@ -82,7 +82,7 @@ module _ (g : Grammar) (settings : PegSettings) (input : Input) (s : ℕ) (insid
         empty_before_end text d h
 
     pub step_is : (old new : Option (List ℕ)) (r : Result Attempt WriteFault)
-        → IsAttempt g window more settings.options.raw old
+        → IsAttempt g window more settings.options.style old
         new r →
         IsStep (rules_of g.rules) g.start settings input s old new (step_after settings s (length input.bytes) r)
     step_is old new (Ok (Printed zero)) (events, looked, d, enough, wrote) =
@@ -103,7 +103,7 @@ module _ (g : Grammar) (settings : PegSettings) (input : Input) (s : ℕ) (insid
     step_is old new (Err fault) (k, events, looked, d, enough, wrote) = (k, _, is_unit k events looked d enough, wrote)
 
   pub step_fits : (old new : Option (List ℕ)) (r : Result Attempt WriteFault)
-      → IsAttempt g window more settings.options.raw old
+      → IsAttempt g window more settings.options.style old
       new r →
       StaysWithin (length input.bytes) s (step_after settings s (length input.bytes) r)
   step_fits old new (Ok (Printed zero)) a = tt

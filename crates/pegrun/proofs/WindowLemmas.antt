@@ -1,6 +1,6 @@
 -- What a window of at most limit + 1 bytes says of the whole rest.
 -- Serves: run_peg (right)
-use Rattle.std.proofs.Common.{◌≡◌, ℕ, suc, ◌<◌, ◌≤◌, Bool, List, ◌++◌, length, take, drop, sym, ◌∙◌, ap, subst, arith}
+use Rattle.std.proofs.Common.{◌≡◌, ℕ, suc, ◌<◌, ◌≤◌, List, ◌++◌, length, take, drop, sym, ◌∙◌, ap, subst, arith}
 use Rattle.std.proofs.Common.{nat_lt, inl, inr}
 use Rattle.std.proofs.lemmas.Bool.{cases_lt}
 use Rattle.std.proofs.lemmas.Grind.{common_steps}
@@ -13,6 +13,7 @@ use Rattle.gramcheck.proofs.SomeOutcomeLemmas.{has_of_start}
 use Rattle.gramcheck.proofs.StartRuleLemmas.{same_of_start, rises_of_start, grows_of_start, shrinks_of_start}
 use Rattle.pegmatch.specs.Answers.{StartGives, WasEnough}
 use Rattle.pegmatch.specs.Text.{text_of}
+use Rattle.pegmatch.specs.declared.style.PrintStyle.{PrintStyle}
 use Rattle.pegrun.proofs.LooksOfStartLemmas.{looks_of_start}
 use Rattle.pegrun.proofs.TextOfLemmas.{text_same}
 
@@ -56,12 +57,12 @@ module _ (g : Grammar) (x : List ℕ) (limit : ℕ) where
   ]
 
   -- the text of a success on the window
-  pub seen_text : (raw : Bool) (k : ℕ) (events : List Event) (looked : ℕ)
+  pub seen_text : (style : PrintStyle) (k : ℕ) (events : List Event) (looked : ℕ)
       → StartGives g window (Takes k events) looked →
-      text_of raw window events ≡ text_of raw x events
-  seen_text raw k events looked d =
+      text_of style window events ≡ text_of style x events
+  seen_text style k events looked d =
       let r = rises_of_start (rules_of g.rules) g.start window k looked events d in
-      sym (text_same raw window after k events r.0 r.1) ∙ ap (λ t. text_of raw t events) window_whole
+      sym (text_same style window after k events r.0 r.1) ∙ ap (λ t. text_of style t events) window_whole
 
   -- what compares the last byte of a full window looks at more than the limit on the rest
   pub seen_long : IsSoundGrammar g → (o : Outcome) → limit < length x → StartGives g window o (length window) →

@@ -11,6 +11,7 @@ use Rattle.gramcheck.specs.Grammar.{Grammar}
 use Rattle.gramcheck.specs.Outcome.{Outcome, Fails, Takes, Event}
 use Rattle.pegmatch.specs.Answers.{StartGives, WasEnough}
 use Rattle.pegmatch.specs.Text.{text_of}
+use Rattle.pegmatch.specs.declared.style.PrintStyle.{PrintStyle}
 use Rattle.toolrun.specs.Input.{Input}
 use Rattle.pegrun.specs.Units.{IsUnit, Ends}
 use Rattle.pegrun.specs.PegSettings.{PegSettings}
@@ -23,25 +24,25 @@ use Rattle.pegrun.specs.declared.unit.UnitStep.{UnitStep}
 use Rattle.pegrun.specs.declared.unit.UnitStep.TheVariants.{Takes as Goes, Stops}
 
 -- At the front of a window a success prints its text, and all else prints nothing, unless the writer fails.
-abbrev pub IsAttempt : Grammar → List ℕ → Bool → Bool → Option (List ℕ) → Option (List ℕ) → Result Attempt WriteFault
-    → Type 0
-IsAttempt g window more raw old new (Ok (Printed k)) = (events : List Event) × (looked : ℕ) ×
+abbrev pub IsAttempt : Grammar → List ℕ → Bool → PrintStyle → Option (List ℕ) → Option (List ℕ)
+    → Result Attempt WriteFault → Type 0
+IsAttempt g window more style old new (Ok (Printed k)) = (events : List Event) × (looked : ℕ) ×
     StartGives g window (Takes k events) looked × WasEnough window more looked
-    × Appends old new (text_of raw window events)
-IsAttempt g window more raw old new (Ok Failed) =
+    × Appends old new (text_of style window events)
+IsAttempt g window more style old new (Ok Failed) =
     (looked : ℕ) × StartGives g window Fails looked × WasEnough window more looked × Keeps old new
-IsAttempt g window more raw old new (Ok TooLong) =
+IsAttempt g window more style old new (Ok TooLong) =
     (more ≡ true) × ((o : Outcome) × StartGives g window o (length window)) × Keeps old new
-IsAttempt g window more raw old new (Ok NoMemory) = Keeps old new
-IsAttempt g window more raw old new (Err fault) = (k : ℕ) × (events : List Event) × (looked : ℕ) ×
+IsAttempt g window more style old new (Ok NoMemory) = Keeps old new
+IsAttempt g window more style old new (Err fault) = (k : ℕ) × (events : List Event) × (looked : ℕ) ×
     StartGives g window (Takes k events) looked × WasEnough window more looked
-    × AppendsPart old new (text_of raw window events)
+    × AppendsPart old new (text_of style window events)
 
 -- The result on the first piece of a window is that of the window. Without a result nothing is printed.
-abbrev pub IsFrontAttempt : Grammar → List ℕ → Bool → Bool → Option (List ℕ) → Option (List ℕ)
+abbrev pub IsFrontAttempt : Grammar → List ℕ → Bool → PrintStyle → Option (List ℕ) → Option (List ℕ)
     → Option (Result Attempt WriteFault) → Type 0
-IsFrontAttempt g window more raw old new None = Keeps old new
-IsFrontAttempt g window more raw old new (Some attempted) = IsAttempt g window more raw old new attempted
+IsFrontAttempt g window more style old new None = Keeps old new
+IsFrontAttempt g window more style old new (Some attempted) = IsAttempt g window more style old new attempted
 
 -- without an answer the writer has not failed
 abbrev pub FrontFlags : Bool → Bool → Option (Result Attempt WriteFault) → Type 0
@@ -74,7 +75,7 @@ step_held _ position len = Stops (stop_at position len)
 abbrev pub IsStepOn : Grammar → List ℕ → Bool → PegSettings → ℕ → Option (List ℕ) → Option (List ℕ)
     → Result UnitStep WriteFault → Type 0
 IsStepOn g items more settings s old new result = (attempted : Result Attempt WriteFault)
-    × IsAttempt g items more settings.options.raw old new attempted ×
+    × IsAttempt g items more settings.options.style old new attempted ×
     (result ≡ step_after settings s (s + length items) attempted)
 
 -- A unit of some bytes was printed, or the run ends here and the text of its last unit was printed, or an allocation

@@ -6,14 +6,15 @@ use Rattle.gramcheck.specs.Grammar.{Grammar}
 use Rattle.gramcheck.specs.Outcome.{Takes, Event}
 use Rattle.pegmatch.specs.Answers.{StartGives}
 use Rattle.pegmatch.specs.Text.{text_of}
+use Rattle.pegmatch.specs.declared.style.PrintStyle.{PrintStyle}
 use Rattle.pegrun.specs.declared.byte_units.ByteUnits.{ByteUnits}
 use Rattle.pegrun.specs.declared.byte_units.ByteUnit.{ByteUnit}
 use Rattle.pegrun.specs.declared.byte_units.ByteUnit.TheVariants.{Open, Other, Prints}
 
 -- On each input that begins with that byte, the start rule takes that byte, compares no other, and prints this text.
-abbrev pub IsByteUnit : Grammar → Bool → ℕ → List ℕ → Type 0
-IsByteUnit g raw b text = (rest : List ℕ) → (events : List Event) × (looked : ℕ)
-    × StartGives g (b ∷ rest) (Takes 1 events) looked × (looked ≤ 1) × (text ≡ text_of raw (b ∷ rest) events)
+abbrev pub IsByteUnit : Grammar → PrintStyle → ℕ → List ℕ → Type 0
+IsByteUnit g style b text = (rest : List ℕ) → (events : List Event) × (looked : ℕ)
+    × StartGives g (b ∷ rest) (Takes 1 events) looked × (looked ≤ 1) × (text ≡ text_of style (b ∷ rest) events)
 
 -- the text of an entry, if it has one
 abbrev pub known_text : Option ByteUnit → Option (List ℕ)
@@ -27,8 +28,8 @@ abbrev pub text_by : ByteUnits → ℕ → Option (List ℕ)
 text_by units b = known_text (slice_get units.known.items b)
 
 -- each text of the table is that of a unit whose result depends on that byte alone
-abbrev pub AreByteUnits : Grammar → Bool → ByteUnits → Type 0
-AreByteUnits g raw units = (b : ℕ) (text : List ℕ) → text_by units b ≡ Some text → IsByteUnit g raw b text
+abbrev pub AreByteUnits : Grammar → PrintStyle → ByteUnits → Type 0
+AreByteUnits g style units = (b : ℕ) (text : List ℕ) → text_by units b ≡ Some text → IsByteUnit g style b text
 
 -- whether the table has a text for a byte
 abbrev pub is_known : ByteUnits → ℕ → Bool

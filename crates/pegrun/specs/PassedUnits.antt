@@ -65,7 +65,7 @@ pub record HasPassed {R : Type 0} (remaining : R → Option (List ℕ)) (units :
   -- for each input that agrees with the bytes read
   pub earlier : (before : List ℕ) (input : Input) → Agrees (before ++ (bytes_of old ++ more)) (flow_of new) input
       → Agrees (before ++ bytes_of old) (flow_of old) input
-  pub follows : (g : Grammar) (before : List ℕ) (input : Input) → AreByteUnits g settings.options.raw units
+  pub follows : (g : Grammar) (before : List ℕ) (input : Input) → AreByteUnits g settings.options.style units
       → Agrees (before ++ (bytes_of old ++ more)) (flow_of new) input
       → HasComeTo (rules_of g.rules) g.start settings input (length before)
       (length (before ++ (bytes_of old ++ more))) was is result

@@ -8,7 +8,7 @@ ghost use Rattle.pegrun.specs.MatchCalls.{calls_of};
 
 use crate::byte_units::{ByteUnit, ByteUnits};
 use gramcheck::SoundPeg;
-use pegmatch::{Matcher, ReplayFault, Unit};
+use pegmatch::{Matcher, PrintStyle, ReplayFault, Unit};
 use ruletable::{Sink, SinkOf, WriteFault};
 use std::alloc::Global;
 
@@ -52,12 +52,12 @@ impl<M: Matcher> CountedMatcher<M> {
         peg: &SoundPeg,
         window: &[u8],
         more: bool,
-        raw: bool,
+        style: PrintStyle,
         out: &mut O,
     ) -> Result<Attempt, WriteFault>
         requires some { more ≡ true → 0 < length window.now }
         requires out_is_fresh { O.failed out.old ≡ false }
-        ensures answer { IsAttempt peg.now window.now more raw (O.contents out.old) (O.contents out.new) result }
+        ensures answer { IsAttempt peg.now window.now more style (O.contents out.old) (O.contents out.new) result }
         ensures flag { Flags (O.failed out.old) (O.failed out.new) result }
         ensures once { calls_of M.matches self.new ≡ min (calls_of M.matches self.old + 1) most_matches }
         ensures units { self.new.units ≡ self.old.units }
@@ -68,7 +68,7 @@ impl<M: Matcher> CountedMatcher<M> {
             Ok(Unit::Need) => return Ok(Attempt::TooLong),
             Err(_) => return Ok(Attempt::NoMemory),
         };
-        match self.matcher.replay(peg, window, raw, out) {
+        match self.matcher.replay(peg, window, style, out) {
             Ok(()) => Ok(Attempt::Printed(end)),
             Err(ReplayFault::Memory) => Ok(Attempt::NoMemory),
             Err(ReplayFault::Write) => Err(WriteFault),
@@ -76,29 +76,29 @@ impl<M: Matcher> CountedMatcher<M> {
     }
 
     /// Matches the first two bytes of a window, with more bytes to come. Returns the table entry for the first byte.
-    fn ask(&mut self, peg: &SoundPeg, window: &[u8], raw: bool) -> ByteUnit
+    fn ask(&mut self, peg: &SoundPeg, window: &[u8], style: PrintStyle) -> ByteUnit
         requires { 2 ≤ length window.now }
         ensures known { (b : ℕ) → slice_get window.now 0 ≡ Some b
-            → IfSome (known_text (Some result)) (IsByteUnit peg.now raw b) }
+            → IfSome (known_text (Some result)) (IsByteUnit peg.now style b) }
         ensures units { self.new.units ≡ self.old.units }
         ensures once { calls_of M.matches self.new ≤ calls_of M.matches self.old + 1 }
     {
         let mut text = SinkOf::new(Vec::new(self.units.alloc));
-        match self.print_unit(peg, &window[..2], true, raw, &mut text) {
+        match self.print_unit(peg, &window[..2], true, style, &mut text) {
             Ok(Attempt::Printed(1)) => ByteUnit::of(text.into_inner()),
             _ => ByteUnit::Other,
         }
     }
 
     /// Adds the table entry for the first byte of a window, if the table has none.
-    pub(crate) fn learn(&mut self, peg: &SoundPeg, window: &[u8], raw: bool)
-        ensures units { AreByteUnits peg.now raw self.old.units → AreByteUnits peg.now raw self.new.units }
+    pub(crate) fn learn(&mut self, peg: &SoundPeg, window: &[u8], style: PrintStyle)
+        ensures units { AreByteUnits peg.now style self.old.units → AreByteUnits peg.now style self.new.units }
         ensures once { calls_of M.matches self.new ≤ calls_of M.matches self.old + 1 }
     {
         if window.len() < 2 || !self.units.is_open(window[0]) {
             return;
         }
-        let known = self.ask(peg, window, raw);
+        let known = self.ask(peg, window, style);
         self.units.keep(window[0], known);
     }
 }

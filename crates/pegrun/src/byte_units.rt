@@ -3,6 +3,7 @@ ghost use Rattle.std.specs.Prelude.{◌≡◌, ℕ, ◌≤◌, Bool, Some, IfSom
 ghost use Rattle.std.specs.List.{prefix_len};
 ghost use Rattle.ruletable.specs.Writing.{Flags, Writes};
 ghost use Rattle.gramcheck.specs.Grammar.{Grammar};
+ghost use Rattle.pegmatch.specs.declared.style.PrintStyle.{PrintStyle};
 ghost use Rattle.pegrun.specs.ByteUnits.{AreByteUnits, IsByteUnit, SameTexts, is_known, known_text, text_by};
 ghost use Rattle.pegrun.specs.ByteUnits.{texts_of};
 
@@ -47,7 +48,7 @@ pub struct ByteUnits {
 impl ByteUnits {
     /// Returns an empty table. It allocates nothing.
     pub(crate) fn new(alloc: Global) -> ByteUnits
-        ensures { (g : Grammar) (raw : Bool) → AreByteUnits g raw result }
+        ensures { (g : Grammar) (style : PrintStyle) → AreByteUnits g style result }
     {
         ByteUnits {
             alloc,
@@ -57,7 +58,7 @@ impl ByteUnits {
 
     /// Removes all entries.
     pub(crate) fn clear(&mut self)
-        ensures { (g : Grammar) (raw : Bool) → AreByteUnits g raw self.new }
+        ensures { (g : Grammar) (style : PrintStyle) → AreByteUnits g style self.new }
     {
         self.known.clear();
     }
@@ -91,8 +92,8 @@ impl ByteUnits {
 
     /// Stores the entry for a byte. If an allocation fails, it stores no text.
     pub(crate) fn keep(&mut self, byte: u8, known: ByteUnit)
-        ensures { (g : Grammar) (raw : Bool) → AreByteUnits g raw self.old
-            → IfSome (known_text (Some known)) (IsByteUnit g raw byte) → AreByteUnits g raw self.new }
+        ensures { (g : Grammar) (style : PrintStyle) → AreByteUnits g style self.old
+            → IfSome (known_text (Some known)) (IsByteUnit g style byte) → AreByteUnits g style self.new }
     {
         if self.make_room().is_ok() {
             self.known[byte as usize] = known;

@@ -21,6 +21,7 @@ pub use open_law::runs_as_a_run;
 pub use opened::{OpenedPeg, PegRunner, open_peg};
 pub use options::{PegOptions, PegSettings};
 pub use peg_language::PegLanguage;
+pub use pegmatch::PrintStyle;
 pub use ready::ReadyPeg;
 pub use run::run_peg;
 pub use toolrun::{DEFAULT_LIMIT, MAX_LIMIT, Mode, Settings, Status, Stop, close_run, end_run};

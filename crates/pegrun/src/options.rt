@@ -1,12 +1,13 @@
 //! The settings of a run of the peg tool.
 
+use pegmatch::PrintStyle;
 use toolrun::Settings;
 
 /// The settings of grammars of peg(1) alone.
 #[derive(Clone, Copy, Drop)]
 pub struct PegOptions {
-    /// Whether actions are printed verbatim: not trimmed, no LF added. `yytext` and `yyleng` are still replaced.
-    pub raw: bool,
+    /// How actions are printed.
+    pub style: PrintStyle,
     /// Whether the input is one unit, which must take all of it.
     pub whole: bool,
 }

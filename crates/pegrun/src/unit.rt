@@ -17,7 +17,7 @@ use crate::attempt::{Attempt, CountedMatcher};
 use crate::options::PegSettings;
 use feed::{Feed, Held, Source};
 use gramcheck::SoundPeg;
-use pegmatch::Matcher;
+use pegmatch::{Matcher, PrintStyle};
 use ruletable::{Sink, WriteFault};
 use toolrun::{Status, Stop};
 
@@ -79,12 +79,12 @@ fn attempt_front<M: Matcher, R: Source, O: Sink>(
     peg: &SoundPeg,
     feed: &Feed<'_, R>,
     more: bool,
-    raw: bool,
+    style: PrintStyle,
     out: &mut O,
 ) -> Option<Result<Attempt, WriteFault>>
     requires some { more ≡ true → 0 < length (bytes_of feed.now) }
     requires out_is_fresh { O.failed out.old ≡ false }
-    ensures answer { IsFrontAttempt peg.now (bytes_of feed.now) more raw (O.contents out.old) (O.contents out.new)
+    ensures answer { IsFrontAttempt peg.now (bytes_of feed.now) more style (O.contents out.old) (O.contents out.new)
         result }
     ensures flag { FrontFlags (O.failed out.old) (O.failed out.new) result }
     ensures once { calls_of M.matches matcher.new ≤ calls_of M.matches matcher.old + 1 }
@@ -93,12 +93,12 @@ fn attempt_front<M: Matcher, R: Source, O: Sink>(
     let front = feed.front();
     let held = feed.len();
     if front.len() == held {
-        return Some(matcher.print_unit(peg, front, more, raw, out));
+        return Some(matcher.print_unit(peg, front, more, style, out));
     }
     if front.len() <= held / 4 * 3 {
         return None;
     }
-    let attempted = matcher.print_unit(peg, front, true, raw, out);
+    let attempted = matcher.print_unit(peg, front, true, style, out);
     if attempted == Ok(Attempt::TooLong) {
         return None;
     }
@@ -112,19 +112,19 @@ fn attempt_all<M: Matcher, R: Source, O: Sink>(
     peg: &SoundPeg,
     feed: &mut Feed<'_, R>,
     more: bool,
-    raw: bool,
+    style: PrintStyle,
     out: &mut O,
 ) -> Result<Attempt, WriteFault>
     requires some { more ≡ true → 0 < length (bytes_of feed.old) }
     requires out_is_fresh { O.failed out.old ≡ false }
     ensures same { SameFeed feed.old feed.new }
-    ensures answer { IsAttempt peg.now (bytes_of feed.old) more raw (O.contents out.old) (O.contents out.new) result }
+    ensures answer { IsAttempt peg.now (bytes_of feed.old) more style (O.contents out.old) (O.contents out.new) result }
     ensures flag { Flags (O.failed out.old) (O.failed out.new) result }
     ensures once { calls_of M.matches matcher.new ≤ calls_of M.matches matcher.old + 1 }
     ensures units { matcher.new.units ≡ matcher.old.units }
 {
     let window: &[u8] = feed.window();
-    matcher.print_unit(peg, window, more, raw, out)
+    matcher.print_unit(peg, window, more, style, out)
 }
 
 /// Runs the start rule at the front of what a feed holds, and prints the text of a success. It is put in one piece only
@@ -135,25 +135,25 @@ fn attempt_unit<M: Matcher, R: Source, O: Sink>(
     peg: &SoundPeg,
     feed: &mut Feed<'_, R>,
     more: bool,
-    raw: bool,
+    style: PrintStyle,
     out: &mut O,
 ) -> Result<Attempt, WriteFault>
     requires some { more ≡ true → 0 < length (bytes_of feed.old) }
     requires out_is_fresh { O.failed out.old ≡ false }
     ensures same { SameFeed feed.old feed.new }
-    ensures answer { IsAttempt peg.now (bytes_of feed.old) more raw (O.contents out.old) (O.contents out.new) result }
+    ensures answer { IsAttempt peg.now (bytes_of feed.old) more style (O.contents out.old) (O.contents out.new) result }
     ensures flag { Flags (O.failed out.old) (O.failed out.new) result }
     ensures twice { calls_of M.matches matcher.new ≤ calls_of M.matches matcher.old + 2 }
-    ensures units { AreByteUnits peg.now raw matcher.old.units → AreByteUnits peg.now raw matcher.new.units }
+    ensures units { AreByteUnits peg.now style matcher.old.units → AreByteUnits peg.now style matcher.new.units }
 {
-    match attempt_front(matcher, peg, feed, more, raw, out) {
+    match attempt_front(matcher, peg, feed, more, style, out) {
         Some(attempted) => {
             if attempted == Ok(Attempt::Printed(1)) {
-                matcher.learn(peg, feed.front(), raw);
+                matcher.learn(peg, feed.front(), style);
             }
             attempted
         }
-        None => attempt_all(matcher, peg, feed, more, raw, out),
+        None => attempt_all(matcher, peg, feed, more, style, out),
     }
 }
 
@@ -176,11 +176,11 @@ fn unit_at<M: Matcher, R: Source, O: Sink>(
         (O.contents out.new) result }
     ensures flag { Flags (O.failed out.old) (O.failed out.new) result }
     ensures twice { calls_of M.matches matcher.new ≤ calls_of M.matches matcher.old + 2 }
-    ensures units { AreByteUnits peg.now settings.now.options.raw matcher.old.units
-        → AreByteUnits peg.now settings.now.options.raw matcher.new.units }
+    ensures units { AreByteUnits peg.now settings.now.options.style matcher.old.units
+        → AreByteUnits peg.now settings.now.options.style matcher.new.units }
 {
     let end = start + feed.len();
-    let attempted = attempt_unit(matcher, peg, feed, more, settings.options.raw, out);
+    let attempted = attempt_unit(matcher, peg, feed, more, settings.options.style, out);
     step_of(attempted, settings, start, end)
 }
 
@@ -238,8 +238,8 @@ pub fn next_unit<M: Matcher, R: Source, O: Sink>(
     ensures fits { StaysWithin (start + length (bytes_of feed.new)) start result }
     ensures flag { Flags (O.failed out.old) (O.failed out.new) result }
     ensures twice { calls_of M.matches matcher.new ≤ calls_of M.matches matcher.old + 2 }
-    ensures units { AreByteUnits peg.now settings.now.options.raw matcher.old.units
-        → AreByteUnits peg.now settings.now.options.raw matcher.new.units }
+    ensures units { AreByteUnits peg.now settings.now.options.style matcher.old.units
+        → AreByteUnits peg.now settings.now.options.style matcher.new.units }
 {
     if is_over(settings, start) {
         return Ok(step_over(feed, start));

@@ -2,7 +2,7 @@
 
 use crate::nodes::sound;
 use packrat::Packrat;
-use pegmatch::{Matcher, Unit, answer_stands, need_stands, one_answer};
+use pegmatch::{Matcher, PrintStyle, Unit, answer_stands, need_stands, one_answer};
 use ruletable::SinkOf;
 use std::alloc::Global;
 use testio::{Fields, Text};
@@ -25,8 +25,18 @@ pub(crate) fn add_unit(unit: Unit, out: &mut Text) {
     }
 }
 
-// Adds the unit of a window by a grammar, and after a colon what it prints. The mode says whether the window is the
-// whole rest, which it is unless it is `more`, and whether actions are printed verbatim, as they are if it is `raw`.
+// Returns how actions are printed in a mode: verbatim by `raw` and `verbatim`, and with escapes by `escapes` and
+// `verbatim`.
+fn style_of(mode: &[u8]) -> PrintStyle {
+    let both = mode == b"verbatim".as_slice();
+    PrintStyle {
+        raw: both || mode == b"raw".as_slice(),
+        escapes: both || mode == b"escapes".as_slice(),
+    }
+}
+
+// Adds the unit of a window by a grammar, and after a colon what it prints. The mode says how, and whether the window
+// is the whole rest, which it is unless it is `more`.
 fn add_printed(
     alloc: Global,
     matcher: &mut Packrat,
@@ -42,8 +52,9 @@ fn add_printed(
     out.add(b":");
     if let Unit::Took { .. } = unit {
         let mut printed = SinkOf::new(Vec::new(alloc));
-        let raw = mode == b"raw".as_slice();
-        matcher.replay(&peg, window, raw, &mut printed).ok()?;
+        matcher
+            .replay(&peg, window, style_of(mode), &mut printed)
+            .ok()?;
         out.add(&printed.into_inner());
     }
     out.add(b";");

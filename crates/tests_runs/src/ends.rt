@@ -1,8 +1,8 @@
 //! Runs over a reader and writers in memory.
 
 use fanquber::{
-    AbnfOptions, Alphabet, MAX_LIMIT, Mode, PegOptions, Printed, Settings, SourceOf, Status,
-    run_abnf, run_peg,
+    AbnfOptions, Alphabet, MAX_LIMIT, Mode, PegOptions, PrintStyle, Printed, Settings, SourceOf,
+    Status, run_abnf, run_peg,
 };
 use ruletable::SinkOf;
 use std::alloc::Global;
@@ -68,7 +68,10 @@ pub enum Tool {
 
 /// Actions are trimmed.
 pub const PEG: PegOptions = PegOptions {
-    raw: false,
+    style: PrintStyle {
+        raw: false,
+        escapes: false,
+    },
     whole: false,
 };
 

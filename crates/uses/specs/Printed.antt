@@ -15,4 +15,4 @@ abbrev pub IsPrinted : Grammar → List ℕ → Option (List ℕ) → Type 0
 IsPrinted g text None = (looked : ℕ) × StartGives g text Fails looked
 IsPrinted g text (Some printed) =
     (events : List Event) × (end looked : ℕ) × StartGives g text (Takes end events) looked
-    × (printed ≡ text_of false text events)
+    × (printed ≡ text_of (record { raw = false; escapes = false }) text events)

@@ -4,7 +4,7 @@ ghost use Rattle.std.specs.Option.{option_map};
 ghost use Rattle.uses.specs.Printed.{IsPrinted, TakesUpTo};
 
 use gramcheck::SoundPeg;
-use pegmatch::{Matcher, ReplayFault, Unit};
+use pegmatch::{Matcher, PrintStyle, ReplayFault, Unit};
 use ruletable::{Memory, SinkOf};
 use std::alloc::Global;
 
@@ -35,7 +35,11 @@ pub fn print_text<M: Matcher>(
     match matcher.match_unit(peg, text, false) {
         Ok(Unit::Took { .. }) => {
             let mut out = SinkOf::new(Vec::new(alloc));
-            matcher.replay(peg, text, false, &mut out)?;
+            let style = PrintStyle {
+                raw: false,
+                escapes: false,
+            };
+            matcher.replay(peg, text, style, &mut out)?;
             Ok(Some(out.into_inner()))
         }
         Ok(Unit::Failed { .. }) => Ok(None),

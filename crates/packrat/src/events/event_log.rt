@@ -12,7 +12,7 @@ use crate::events::link::{Link, link_of, narrow};
 use crate::events::replay::write_waiting;
 use crate::events::waiting::Waiting;
 use gramcheck::SoundPeg;
-use pegmatch::{Kept, ReplayFault};
+use pegmatch::{Kept, PrintStyle, ReplayFault};
 use ruletable::{Memory, Sink};
 use std::alloc::Global;
 use std::marker::Model;
@@ -142,7 +142,7 @@ impl EventLog {
         &mut self,
         peg: &SoundPeg,
         window: &[u8],
-        raw: bool,
+        style: PrintStyle,
         head: usize,
         out: &mut W,
     ) -> Result<(), ReplayFault>
@@ -152,7 +152,7 @@ impl EventLog {
         requires out_is_fresh { W.failed out.old ≡ false }
         ensures text { (events : List Event) → StandFor (shapes_of peg.now.nodes) (kept_at self.old head) events →
             Replays (W.contents out.old) (W.contents out.new) (W.failed out.old) (W.failed out.new)
-            (text_of raw window.now events) result }
+            (text_of style window.now events) result }
         ensures kept { self.new ≡ self.old }
     {
         if head == 0 {
@@ -161,7 +161,7 @@ impl EventLog {
         if self.waiting.begin(head, self.links.len()).is_err() {
             return Err(ReplayFault::Memory);
         }
-        match write_waiting(peg, window, raw, &self.links, &mut self.waiting, out) {
+        match write_waiting(peg, window, style, &self.links, &mut self.waiting, out) {
             Ok(()) => Ok(()),
             Err(_) => Err(ReplayFault::Write),
         }

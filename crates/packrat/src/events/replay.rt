@@ -13,14 +13,14 @@ use crate::events::link::Link;
 use crate::events::take::take_event;
 use crate::events::waiting::Waiting;
 use gramcheck::SoundPeg;
-use pegmatch::{NO_CAPTURE, capture_after, write_event};
+use pegmatch::{NO_CAPTURE, PrintStyle, capture_after, write_event};
 use ruletable::{Sink, WriteFault};
 
 /// Writes what the events of the heads that wait print.
 pub(crate) fn write_waiting<W: Sink>(
     peg: &SoundPeg,
     window: &[u8],
-    raw: bool,
+    style: PrintStyle,
     links: &[Link],
     waiting: &mut Waiting,
     out: &mut W,
@@ -33,12 +33,12 @@ pub(crate) fn write_waiting<W: Sink>(
     requires out_is_fresh { W.failed out.old ≡ false }
     ensures bytes { (events : List Event) → StandFor (shapes_of peg.now.nodes)
         (kept_at_all (reverse links.now) waiting.old.heads) events → Rise 0 (length window.now) events →
-        Writes (W.contents out.old) (W.contents out.new) (text_of raw window.now events) result }
+        Writes (W.contents out.old) (W.contents out.new) (text_of style window.now events) result }
     ensures flag { Flags (W.failed out.old) (W.failed out.new) result }
 {
     let mut capture = NO_CAPTURE;
     'events: while let Some(event) = take_event(links, waiting) {
-        match write_event(peg, window, raw, event, capture, out) {
+        match write_event(peg, window, style, event, capture, out) {
             Ok(()) => capture = capture_after(capture, event),
             Err(fault) => return Err(fault),
         }

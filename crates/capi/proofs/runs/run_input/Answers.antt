@@ -9,5 +9,5 @@ returns-clause-same c = runner_stays c.args.runner.now _ _ c.run_opened.ensures.
 pub returns-clause-runs : goal.returns-clause-runs
 returns-clause-runs c = λ settings by.
     let runner = c.args.runner.now in
-    planned_by_four (rules_of runner.peg.rules) runner.peg.start _ settings by.limit by.raw by.whole by.explain
+    planned_by_four (rules_of runner.peg.rules) runner.peg.start _ settings by.limit by.style by.whole by.explain
     c.run_opened.ensures.runs

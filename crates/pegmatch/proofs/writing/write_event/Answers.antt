@@ -6,7 +6,7 @@ use Rattle.pegmatch.proofs.writing.write_event.Goals as goal
 
 pub returns-in_default : goal.returns-in_default
 returns-in_default g c = record {
-  bytes = λ e m. rw (quiet_event m c.in_default.not-Acted c.args.raw
+  bytes = λ e m. rw (quiet_event m c.in_default.not-Acted c.args.style
       (slice_range c.args.window.now c.args.capture.from c.args.capture.to)) (Appends-same _);
   flag = refl;
 }

@@ -25,7 +25,7 @@ loop-n-init g c = record {
   reported = c.requires.reported;
   loan = refl;
   flag = refl;
-  units = c.clear.ensures c.args.peg.now c.args.settings.now.options.raw;
+  units = c.clear.ensures c.args.peg.now c.args.settings.now.options.style;
   searched = refl;
   written = (
     [],

@@ -23,7 +23,7 @@ invariant-loop-n g l = record {
   reported : IsTrueOfReader g.R.Source.remaining g.R.Source.failed g.R.Source.ended l.feed;
   loan : SameLoan l.fn.feed l.feed;
   flag : g.O.Sink.failed l.out ≡ g.O.Sink.failed l.fn.out;
-  units : AreByteUnits l.peg l.settings.options.raw l.counted.matcher.units;
+  units : AreByteUnits l.peg l.settings.options.style l.counted.matcher.units;
   searched : evaluated_by l.counted.search ≡ evaluated_by l.fn.counted.search;
   written : (before : List ℕ) × (length before ≡ l.start) ×
       (l.settings.explain ≡ true → Follows l.past before) ×

@@ -11,7 +11,7 @@ abbrev pub invariant-events : goal.invariant-events
 invariant-events g l = record {
   written : (all : List Event) → StandFor (shapes_of l.peg.nodes)
       (kept_at_all (reverse l.links) l.fn.waiting.heads) all → Rise 0 (length l.window) all →
-      HaveWritten l.raw (shapes_of l.peg.nodes) l.window all (kept_at_all (reverse l.links) l.waiting.heads) 0
+      HaveWritten l.style (shapes_of l.peg.nodes) l.window all (kept_at_all (reverse l.links) l.waiting.heads) 0
       (g.W.Sink.contents l.initial.out) (g.W.Sink.contents l.out) l.capture;
   flag : g.W.Sink.failed l.out ≡ g.W.Sink.failed l.initial.out;
   waits : AreWaiting (length l.links + 1) 0 l.waiting.heads;

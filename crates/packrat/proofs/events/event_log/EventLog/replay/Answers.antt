@@ -22,7 +22,7 @@ returns-then-head-eq0-clause-text g c = λ events s.
     rw (c.if-head-eq0.true, none_kept c.args.self.now) at s in
     let text : List Event → Type 0 =
     λ v. Appends (g.W.Sink.contents c.args.out.now) (g.W.Sink.contents c.args.out.now)
-    (text_of c.args.raw c.args.window.now v) in
+    (text_of c.args.style c.args.window.now v) in
     (subst text (same_events _ no_event none) (Appends-same (g.W.Sink.contents c.args.out.now)), refl)
 
 pub returns-clause-text : goal.returns-clause-text

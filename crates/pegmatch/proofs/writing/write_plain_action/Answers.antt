@@ -1,5 +1,5 @@
 use Rattle.pegmatch.proofs.WrittenTextLemmas.{order_whole, action_written, action_fault}
-use Rattle.pegmatch.proofs.writing.write_action.Goals as goal
+use Rattle.pegmatch.proofs.writing.write_plain_action.Goals as goal
 
 pub write_slots-requires-clause-order : goal.write_slots-requires-clause-order
 write_slots-requires-clause-order g c = rw c.deref.ensures.value
