@@ -1,0 +1,7 @@
+mod KnownWordsLemmas
+mod MadeLemmas
+mod MemberLemmas
+mod PlacesLemmas
+mod RuleContextsLemmas
+mod ShortestLemmas
+mod WordsLemmas

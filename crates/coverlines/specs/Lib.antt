@@ -1,0 +1,7 @@
+pub mod CoverLines
+pub mod Goals
+pub mod KnownWords
+pub mod MadeWords
+pub mod Places
+pub mod RuleContexts
+pub mod Shortest

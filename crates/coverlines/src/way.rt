@@ -1,0 +1,22 @@
+//! What an element may do.
+
+/// What an element does in a derivation.
+#[derive(Clone, Copy)]
+pub enum Way {
+    /// An alternation takes the alternative of that number.
+    Chosen(usize),
+    /// An option takes its operand.
+    Taken,
+    /// An option leaves its operand out.
+    LeftOut,
+    /// A repetition takes its operand so many times.
+    Turns(u64),
+    /// A range gives its least symbol.
+    First,
+    /// A range gives its greatest symbol.
+    Last,
+    /// A text or a list of values gives itself.
+    Same,
+    /// A text gives itself with each letter in the other case.
+    OtherCase,
+}

@@ -1,0 +1,111 @@
+"""The short lines of symbols that reach the goals of a grammar's rules (slow_abnf.py), as sets."""
+import collections
+
+import slow_abnf
+from short_lists import ShortLists
+
+
+class Reached(ShortLists):
+    """The lists that the rules derive, each with the goals that some derivation of it reaches."""
+
+    def goal_lists(self, key):
+        """Returns of each goal the lists that reach it: the least sets, by rounds until none grows."""
+        self.derived(key)
+        found, keys = collections.defaultdict(lambda: collections.defaultdict(set)), self.wanted(key)
+        while True:
+            before = self.size(found)
+            for it in keys:
+                for goal, lists in self.goals(self.rules[it], (it,), found).items():
+                    found[it][goal] |= lists
+            if before == self.size(found):
+                return found[key]
+
+    def size(self, found):
+        return sum(len(lists) for goals in found.values() for lists in goals.values())
+
+    def goals(self, e, place, found):
+        """Returns of each goal the lists of an element that reach it."""
+        reached = collections.defaultdict(set)
+        for way, lists in self.own(e):
+            reached[place + (way,)] |= lists
+        for goal, lists in getattr(self, "inner_" + e[0], self.inner)(e, place, found):
+            reached[goal] |= lists
+        return reached
+
+    def inner(self, e, place, found):
+        return ()
+
+    def inner_name(self, e, place, found):
+        return found[e[1].upper()].items()
+
+    def inner_opt(self, e, place, found):
+        return self.goals(e[1], place + (0,), found).items()
+
+    def inner_alt(self, e, place, found):
+        for i, part in enumerate(e[1]):
+            yield from self.goals(part, place + (i,), found).items()
+
+    def inner_concat(self, e, place, found):
+        for i, part in enumerate(e[1]):
+            front = self.lists(("concat", e[1][:i]))
+            back = self.lists(("concat", e[1][i + 1:]))
+            for goal, lists in self.goals(part, place + (i,), found).items():
+                yield goal, self.joined(self.joined(front, lists), back)
+
+    def inner_rep(self, e, place, found):
+        _, least, most, part = e
+        if most is not None and (most < least or most == 0):
+            return
+        inner = self.goals(part, place + (0,), found)
+        fewest = max(least - 1, 0)
+        others = self.lists(("rep", fewest, None if most is None else most - 1, part))
+        # One turn may come first, since turns before it may come after it, in another list: each split is tried.
+        turn = self.lists(part)
+        for goal, lists in inner.items():
+            reached, ends = set(), {((), 0)}
+            yield goal, self.turned(turn, lists, least, most)
+
+    def turned(self, turn, lists, least, most):
+        """Returns what so many turns derive, one of which gives one of the lists."""
+        # The states: a list so far, how many turns (cut off where more change nothing), and whether one gave it.
+        cut = max(least, 0) if most is None else most
+        states, found = [((), 0, False)], {((), 0, False)}
+        while states:
+            w, count, has = states.pop()
+            if most is not None and count == most:
+                continue
+            more = min(count + 1, cut) if most is None else count + 1
+            for other, gives in [(it, has) for it in turn] + [(it, True) for it in lists]:
+                if len(w) + len(other) <= self.longest:
+                    # Empty turns are counted at once.
+                    step = (w + other, more, gives)
+                    if step not in found:
+                        found.add(step)
+                        states.append(step)
+        return {w for w, count, has in found if has and count >= least}
+
+    def own(self, e):
+        """Yields the ways in which an element may derive a list, and the lists."""
+        if e[0] == "alt":
+            for i, part in enumerate(e[1]):
+                yield f"chosen {i}", self.lists(part)
+        elif e[0] == "opt":
+            yield "taken", self.lists(e[1])
+            yield "left", {()}
+        elif e[0] == "rep":
+            _, least, most, part = e
+            counts = {least, least + 1} if most is None else {least, most, 1}
+            for count in sorted(counts):
+                if least <= count and (most is None or count <= most):
+                    yield f"turns {count}", self.lists(("rep", count, count, part))
+        elif e[0] == "range":
+            inside = [it for it in self.letters if e[1] <= it <= e[2]]
+            if inside and self.longest:
+                yield "first", {(min(inside),)}
+                yield "last", {(max(inside),)}
+        elif e[0] == "values":
+            yield "same", self.lists(e)
+        elif e[0] == "text":
+            yield "same", self.lists(("text", e[1], True))
+            if not e[2]:
+                yield "other", self.lists(("text", bytes(ord(chr(c).swapcase()) if c < 128 else c for c in e[1]), True))
