@@ -19,9 +19,9 @@ use Rattle.abnfcheck.proofs.RuleIdLemmas.{body_at_id}
 use Rattle.abnfcheck.proofs.YieldsLemmas.{letters_both, letters_parts}
 use Rattle.letters.specs.Letters.{has}
 use Rattle.coverlines.specs.KnownWords.{AreFound, AreKnownOf, ArePassed, AreShortestWords, IsFound, IsSettled, IsStep}
-use Rattle.coverlines.specs.KnownWords.{cost, fixed_body, fixed_rules, known_at, total}
+use Rattle.coverlines.specs.KnownWords.{known_cost, fixed_body, fixed_rules, known_at, total}
 use Rattle.coverlines.specs.Shortest.{IsShortest, IsShortestOf, may, Spells}
-use Rattle.coverlines.specs.declared.bounds.Bounds.{Bounds}
+use Rattle.coverlines.specs.declared.bounds.LineBounds.{LineBounds}
 use Rattle.coverlines.specs.declared.words.Words.{Words}
 use Rattle.coverlines.proofs.ShortestLemmas.{alike_shortest}
 use Rattle.coverlines.proofs.WordsLemmas.{known_past}
@@ -92,7 +92,7 @@ no_body (rule ∷ rules) (suc id) is = let le = no_body rules id is in omega (ar
 
 -- one more that is known
 set_total : (limit : ℕ) (ks : List (Option (Vec ℕ Global))) (id : ℕ) (k : Option (Vec ℕ Global)) → id < length ks
-    → cost limit k < cost limit (known_at ks id) → total limit (set ks id k) < total limit ks
+    → known_cost limit k < known_cost limit (known_at ks id) → total limit (set ks id k) < total limit ks
 set_total limit [] id k lt less = absurd (omega (arith, lt))
 set_total limit (j ∷ ks) zero k lt less = omega (arith, less)
 set_total limit (j ∷ ks) (suc id) k lt less = let h = set_total limit ks id k (omega (arith, lt)) less in omega (arith, h)
@@ -117,7 +117,7 @@ known_never zero id = refl
 known_never (suc n) zero = refl
 known_never (suc n) (suc id) = known_never n id
 
-module _ (b : Bounds) (rules : List Rule) (ks : List (Option (Vec ℕ Global))) where
+module _ (b : LineBounds) (rules : List Rule) (ks : List (Option (Vec ℕ Global))) where
   abbrev Fixed : Element → List ℕ → Type 0
   Fixed = Derives (has b.alphabet) (fixed_rules rules ks)
 
@@ -129,9 +129,9 @@ module _ (b : Bounds) (rules : List Rule) (ks : List (Option (Vec ℕ Global))) 
 
   -- the rules derive what those derive
   module _ (sound : AreFound b rules ks) where
-    named : (n : List ℕ) (el : Element) (w : List ℕ) → body_of (fixed_rules rules ks) n ≡ Some el → Fixed el w
+    fixed_named : (n : List ℕ) (el : Element) (w : List ℕ) → body_of (fixed_rules rules ks) n ≡ Some el → Fixed el w
         → Derives (has b.alphabet) rules (e.Name n) w
-    named n el w is d =
+    fixed_named n el w is d =
         let h = fixed_from rules ks n el is in
         let k = only_known (known_at ks (id_of rules n)) w (subst (λ v. Fixed v w) h.2 d) in
         let f = sound.found (id_of rules n) h.0 (sym (body_at_id rules n) ∙ h.1) in
@@ -148,7 +148,7 @@ module _ (b : Bounds) (rules : List Rule) (ks : List (Option (Vec ℕ Global))) 
       from_fixed (der.rep low within d) = der.rep low within (times_from d)
       from_fixed der.opt_empty = der.opt_empty
       from_fixed (der.opt d) = der.opt (from_fixed d)
-      from_fixed (der.name {n = n} {e = el} {w = w} is d) = named n el w is d
+      from_fixed (der.name {n = n} {e = el} {w = w} is d) = fixed_named n el w is d
 
       all_from : {es : Elements} {w : List ℕ} → DerivesAll (has b.alphabet) (fixed_rules rules ks) es w
           → DerivesAll (has b.alphabet) rules es w
@@ -212,36 +212,36 @@ module _ (b : Bounds) (rules : List Rule) (ks : List (Option (Vec ℕ Global))) 
           at : slice_get (bodies rules) (id_of rules n) ≡ Some el
           at = sym (body_at_id rules n) ∙ is
 
-          few : cost b.limit (known_at ks (id_of rules n)) ≤ length h.0
+          few : known_cost b.limit (known_at ks (id_of rules n)) ≤ length h.0
           few = let k = h.2 in settled (id_of rules n) (body_below rules (id_of rules n) el at) el h.0 at h.1
               (omega (arith, k, le))
 
           by : (k : Option (Vec ℕ Global)) → known_at ks (id_of rules n) ≡ k
               → IsShortest (Spells b (fixed_rules rules ks) (e.Name n)) b.limit (known_at ks (id_of rules n))
               → Lower (e.Name n) w
-          by None same s = let f = subst (λ j. cost b.limit j ≤ length h.0) same few in let k = h.2 in
+          by None same s = let f = subst (λ j. known_cost b.limit j ≤ length h.0) same few in let k = h.2 in
               absurd (omega (arith, f, k, le))
-          by (Some t) same s = let f = subst (λ j. cost b.limit j ≤ length h.0) same few in let k = h.2 in
+          by (Some t) same s = let f = subst (λ j. known_cost b.limit j ≤ length h.0) same few in let k = h.2 in
               let g = subst (IsShortest (Spells b (fixed_rules rules ks) (e.Name n)) b.limit) same s in
               (t.items, g.is, omega (arith, f, k))
 
       mutual
-        pub lower : {el : Element} {w : List ℕ} → Derives (has b.alphabet) rules el w → AreLetters (may b) w
+        pub lower_derived : {el : Element} {w : List ℕ} → Derives (has b.alphabet) rules el w → AreLetters (may b) w
             → length w ≤ b.limit → Lower el w
-        lower {w = w} (der.text s) a le = (w, record { symbols = a; is = der.text s }, omega arith)
-        lower {w = w} (der.values s) a le = (w, record { symbols = a; is = der.values s }, omega arith)
-        lower (der.range {c = c} from to is) a le =
+        lower_derived {w = w} (der.text s) a le = (w, record { symbols = a; is = der.text s }, omega arith)
+        lower_derived {w = w} (der.values s) a le = (w, record { symbols = a; is = der.values s }, omega arith)
+        lower_derived (der.range {c = c} from to is) a le =
             (c ∷ [], record { symbols = a; is = der.range from to is }, omega arith)
-        lower (der.concat d) a le = let h = all_lower d a le in
+        lower_derived (der.concat d) a le = let h = all_lower d a le in
             (h.0, record { symbols = h.1; is = der.concat h.2 }, h.3)
-        lower (der.alt d) a le = let h = some_lower d a le in
+        lower_derived (der.alt d) a le = let h = some_lower d a le in
             (h.0, record { symbols = h.1; is = der.alt h.2 }, h.3)
-        lower (der.rep low within d) a le = let h = times_lower d a le in
+        lower_derived (der.rep low within d) a le = let h = times_lower d a le in
             (h.0, record { symbols = h.1; is = der.rep low within h.2 }, h.3)
-        lower der.opt_empty a le = ([], record { symbols = a; is = der.opt_empty }, omega arith)
-        lower (der.opt d) a le = let h = lower d a le in
+        lower_derived der.opt_empty a le = ([], record { symbols = a; is = der.opt_empty }, omega arith)
+        lower_derived (der.opt d) a le = let h = lower_derived d a le in
             (h.0, record { symbols = h.1.symbols; is = der.opt h.1.is }, h.2)
-        lower (der.name {n = n} {e = el} {w = w} is d) a le = let h = lower d a le in
+        lower_derived (der.name {n = n} {e = el} {w = w} is d) a le = let h = lower_derived d a le in
             name_lower n el w is le h
 
         all_lower : {es : Elements} {w : List ℕ} → DerivesAll (has b.alphabet) rules es w → AreLetters (may b) w
@@ -251,7 +251,7 @@ module _ (b : Bounds) (rules : List Rule) (ks : List (Option (Vec ℕ Global))) 
         all_lower (der.then {w = w} {v = v} d ds) a le =
             let two = letters_parts (may b) w v a in
             let n = length-append w v in
-            let h = lower d two.0 (omega (arith, le, n)) in
+            let h = lower_derived d two.0 (omega (arith, le, n)) in
             let hs = all_lower ds two.1 (omega (arith, le, n)) in
             let m = length-append h.0 hs.0 in
             let l = h.2 in
@@ -262,7 +262,7 @@ module _ (b : Bounds) (rules : List Rule) (ks : List (Option (Vec ℕ Global))) 
         some_lower : {es : Elements} {w : List ℕ} → DerivesSome (has b.alphabet) rules es w → AreLetters (may b) w
             → length w ≤ b.limit → (v : List ℕ) × AreLetters (may b) v
             × DerivesSome (has b.alphabet) (fixed_rules rules ks) es v × length v ≤ length w
-        some_lower (der.this d) a le = let h = lower d a le in (h.0, h.1.symbols, der.this h.1.is, h.2)
+        some_lower (der.this d) a le = let h = lower_derived d a le in (h.0, h.1.symbols, der.this h.1.is, h.2)
         some_lower (der.later d) a le = let h = some_lower d a le in (h.0, h.1, der.later h.2, h.3)
 
         times_lower : {el : Element} {k : ℕ} {w : List ℕ} → DerivesTimes (has b.alphabet) rules el k w
@@ -272,7 +272,7 @@ module _ (b : Bounds) (rules : List Rule) (ks : List (Option (Vec ℕ Global))) 
         times_lower (der.one_more {w = w} {v = v} d ds) a le =
             let two = letters_parts (may b) w v a in
             let n = length-append w v in
-            let h = lower d two.0 (omega (arith, le, n)) in
+            let h = lower_derived d two.0 (omega (arith, le, n)) in
             let hs = times_lower ds two.1 (omega (arith, le, n)) in
             let m = length-append h.0 hs.0 in
             let l = h.2 in
@@ -282,9 +282,9 @@ module _ (b : Bounds) (rules : List Rule) (ks : List (Option (Vec ℕ Global))) 
 
       -- what is known of a rule is as short as any list that it derives
       pub cost_least : (id : ℕ) (body : Element) (w : List ℕ) → slice_get (bodies rules) id ≡ Some body
-          → Spells b rules body w → length w ≤ b.limit → cost b.limit (known_at ks id) ≤ length w
+          → Spells b rules body w → length w ≤ b.limit → known_cost b.limit (known_at ks id) ≤ length w
       cost_least id body w at s le =
-          let h = lower s.is s.symbols le in
+          let h = lower_derived s.is s.symbols le in
           let n = h.2 in
           let c = settled id (body_below rules id body at) body h.0 at h.1 (omega (arith, n, le)) in
           omega (arith, c, n)
@@ -294,9 +294,9 @@ module _ (b : Bounds) (rules : List Rule) (ks : List (Option (Vec ℕ Global))) 
       settled_shortest id body at = by (known_at ks id) refl
         where
           least : (k : Option (Vec ℕ Global)) → known_at ks id ≡ k → (w : List ℕ) → Spells b rules body w
-              → (b.limit < length w) ⊎ (cost b.limit k ≤ length w)
+              → (b.limit < length w) ⊎ (known_cost b.limit k ≤ length w)
           least k is w s = ⊎_elim (λ lt. inl lt)
-              (λ le. inr (subst (λ j. cost b.limit j ≤ length w) is (cost_least id body w at s le)))
+              (λ le. inr (subst (λ j. known_cost b.limit j ≤ length w) is (cost_least id body w at s le)))
               (cases_lt b.limit (length w))
 
           by : (k : Option (Vec ℕ Global)) → known_at ks id ≡ k → IsShortest (Spells b rules body) b.limit k
@@ -342,7 +342,7 @@ known_of_words words all name = by (body_of (rules_of words.rules.now) name) ref
         ∙ is))
 
 -- steps
-pub found_set : (b : Bounds) (rules : List Rule) (ks : List (Option (Vec ℕ Global))) (id : ℕ) (body : Element)
+pub found_set : (b : LineBounds) (rules : List Rule) (ks : List (Option (Vec ℕ Global))) (id : ℕ) (body : Element)
     (w : Vec ℕ Global) → slice_get (bodies rules) id ≡ Some body → AreFound b rules ks
     → Spells b rules body w.items → length w.items ≤ b.limit → AreFound b rules (set ks id (Some w))
 found_set b rules ks id body w at sound s le = record {
@@ -358,28 +358,28 @@ found_set b rules ks id body w at sound s le = record {
     inside : id < length ks
     inside = let lt = body_below rules id body at in let n = sound.count in omega (arith, lt, n)
 
-pub step_set : (b : Bounds) (rules : List Rule) (ks : List (Option (Vec ℕ Global))) (id : ℕ) (w : Vec ℕ Global)
-    → id < length ks → length w.items < cost b.limit (known_at ks id)
+pub step_set : (b : LineBounds) (rules : List Rule) (ks : List (Option (Vec ℕ Global))) (id : ℕ) (w : Vec ℕ Global)
+    → id < length ks → length w.items < known_cost b.limit (known_at ks id)
     → IsStep b rules id ks (set ks id (Some w)) true
 step_set b rules ks id w lt less = set_total b.limit ks id (Some w) lt less
 
 -- a rule that has no list at all is settled
-pub settled_none : (b : Bounds) (rules : List Rule) (ks : List (Option (Vec ℕ Global))) (id : ℕ) (body : Element)
+pub settled_none : (b : LineBounds) (rules : List Rule) (ks : List (Option (Vec ℕ Global))) (id : ℕ) (body : Element)
     → slice_get (bodies rules) id ≡ Some body
     → IsShortest (Spells b (fixed_rules rules ks) body) b.limit None → IsSettled b rules ks id
 settled_none b rules ks id body at never el v is s le =
     let one : el ≡ body = cc (at, is) in
     let lt = never v (subst (λ x. Spells b (fixed_rules rules ks) x v) one s) in absurd (omega (arith, lt, le))
 
-pub settled_some : (b : Bounds) (rules : List Rule) (ks : List (Option (Vec ℕ Global))) (id : ℕ) (body : Element)
+pub settled_some : (b : LineBounds) (rules : List Rule) (ks : List (Option (Vec ℕ Global))) (id : ℕ) (body : Element)
     (w : List ℕ) → slice_get (bodies rules) id ≡ Some body
-    → IsShortestOf (Spells b (fixed_rules rules ks) body) b.limit w → cost b.limit (known_at ks id) ≤ length w
+    → IsShortestOf (Spells b (fixed_rules rules ks) body) b.limit w → known_cost b.limit (known_at ks id) ≤ length w
     → IsSettled b rules ks id
 settled_some b rules ks id body w at h few el v is s le =
     let one : el ≡ body = cc (at, is) in
     let least = h.least v (subst (λ x. Spells b (fixed_rules rules ks) x v) one s) in omega (arith, least, few)
 
-pub next_passed : (b : Bounds) (rules : List Rule) (n : ℕ) (old mid new : List (Option (Vec ℕ Global)))
+pub next_passed : (b : LineBounds) (rules : List Rule) (n : ℕ) (old mid new : List (Option (Vec ℕ Global)))
     (flag step : Bool) → ArePassed b rules n old mid flag → IsStep b rules n mid new step
     → ArePassed b rules (n + 1) old new (flag || step)
 next_passed b rules n old mid new true true p s = omega (arith, p, s)
@@ -389,7 +389,7 @@ next_passed b rules n old mid new false false p s = (s.0 ∙ p.0, λ id lt. ⊎_
     (λ same. subst (λ ks. IsSettled b rules ks id) p.0 (subst (λ k. IsSettled b rules mid k) (sym same) s.1))
     (λ other. p.1 id (omega (arith, lt, other))) (cases_eq id n))
 
-pub nothing_found : (b : Bounds) (rules : List Rule) (ks : List (Option (Vec ℕ Global)))
+pub nothing_found : (b : LineBounds) (rules : List Rule) (ks : List (Option (Vec ℕ Global)))
     → ks ≡ replicate (length rules) None → AreFound b rules ks
 nothing_found b rules ks is = rw is (record {
   count = length-replicate {A = Option (Vec ℕ Global)} (length rules) None;
@@ -397,9 +397,9 @@ nothing_found b rules ks is = rw is (record {
 })
 
 pub not_shorter : (limit n : ℕ) (old : Option (Vec ℕ Global)) (answer : Bool) → answer ≡ false
-    → (IsTrue answer ↔ (n < cost limit old)) → cost limit old ≤ n
+    → (IsTrue answer ↔ (n < known_cost limit old)) → known_cost limit old ≤ n
 not_shorter limit n old answer is h = ⊎_elim (λ lt. absurd (let yes = h.1 lt in cc (is, yes))) (λ le. le)
-    (cases_lt n (cost limit old))
+    (cases_lt n (known_cost limit old))
 
 pub body_shown : (rules : List (table.Rule Elem)) (id : ℕ) (body : Elem)
     → slice_get (map (λ rule. rule.body) rules) id ≡ Some body

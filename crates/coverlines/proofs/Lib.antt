@@ -1,7 +1,10 @@
+mod CoverLinesLemmas
+mod GoalsLemmas
 mod KnownWordsLemmas
 mod MadeLemmas
 mod MemberLemmas
-mod PlacesLemmas
 mod RuleContextsLemmas
 mod ShortestLemmas
+mod SitesLemmas
+mod SymbolsLemmas
 mod WordsLemmas

@@ -12,31 +12,31 @@ use Rattle.abnfcheck.specs.Derivable as der
 use Rattle.abnfcheck.specs.Derivable.{AreLetters, AtMost, Derives, DerivesTimes}
 use Rattle.letters.specs.Letters.{has}
 use Rattle.coverlines.specs.Goals as g
-use Rattle.coverlines.specs.Goals.{HasNoneIn, IsFirstIn, IsLastIn, IsTurnGoal, Makes, member_at, other_case}
+use Rattle.coverlines.specs.Goals.{HasNoneIn, IsFirstIn, IsLastIn, IsRoundGoal, Makes, member_at, swapped_case}
 use Rattle.coverlines.specs.MadeWords.{AddsMade, AreMade, AreMadeIn, HasMade, MakesSo, made_of}
 use Rattle.coverlines.specs.Shortest.{Admitted, IsShortest, IsShortestOf, may, Spells, SpellsTimes}
-use Rattle.coverlines.specs.declared.bounds.Bounds.{Bounds}
-use Rattle.coverlines.specs.declared.made.Made.{Made}
-use Rattle.coverlines.specs.declared.way.Way.{Way}
-use Rattle.coverlines.specs.declared.way.Way.TheVariants.{Chosen, Taken, LeftOut, Turns, First, Last, Same, OtherCase}
+use Rattle.coverlines.specs.declared.bounds.LineBounds.{LineBounds}
+use Rattle.coverlines.specs.declared.made.MadeWord.{MadeWord}
+use Rattle.coverlines.specs.declared.way.GoalWay.{GoalWay}
+use Rattle.coverlines.specs.declared.way.GoalWay.TheVariants.{Chosen, Taken, LeftOut, Rounds, First, Last, Same, OtherCase}
 use Rattle.coverlines.proofs.MemberLemmas.{first_in, none_in, only_in}
 use Rattle.coverlines.proofs.ShortestLemmas.{alike_shortest, same_shortest}
 
 -- the alternatives so far
-abbrev pub IsChosenBelow : ℕ → Way → Type 0
+abbrev pub IsChosenBelow : ℕ → GoalWay → Type 0
 IsChosenBelow n way = (i : ℕ) × (i < n) × (way ≡ Chosen i)
 
-module _ (b : Bounds) (rules : List Rule) (el : Element) where
+module _ (b : LineBounds) (rules : List Rule) (el : Element) where
   -- one way
-  one_made : (way : Way) (word : Option (Vec ℕ Global)) → IsShortest (MakesSo b rules el way) b.limit word
+  one_made : (way : GoalWay) (word : Option (Vec ℕ Global)) → IsShortest (MakesSo b rules el way) b.limit word
       → AreMadeIn b rules el (λ v. v ≡ way) (made_of way word)
   one_made way None h = record {
     right = λ m among. absurd (none_in m among);
     complete = λ v w is s le. let n = h w (subst (λ x. MakesSo b rules el x w) is s) in absurd (omega (arith, n, le));
   }
   one_made way (Some t) h = record {
-    right = λ m among. subst (λ x. MakesSo b rules el x.way x.word.items)
-        (only_in (record { way = way; word = t }) m among) h.is;
+    right = λ m among. subst (λ x. IsShortestOf (MakesSo b rules el x.way) b.limit x.word.items)
+        (only_in (record { way = way; word = t }) m among) h;
     complete = λ v w is s le. record {
       made = record { way = way; word = t };
       among = first_in (record { way = way; word = t }) [];
@@ -45,19 +45,19 @@ module _ (b : Bounds) (rules : List Rule) (el : Element) where
     };
   }
 
-  pub adds_one : (way : Way) (word : Option (Vec ℕ Global)) (old new : List Made)
+  pub adds_one : (way : GoalWay) (word : Option (Vec ℕ Global)) (old new : List MadeWord)
       → IsShortest (MakesSo b rules el way) b.limit word → new ≡ old ++ made_of way word
       → AddsMade b rules el (λ v. v ≡ way) old new
   adds_one way word old new h is = record { added = made_of way word; made = one_made way word h; is = is }
 
-  pub adds_none : (old : List Made) → AddsMade b rules el (λ v. ⊥) old old
+  pub adds_none : (old : List MadeWord) → AddsMade b rules el (λ v. ⊥) old old
   adds_none old = record {
     added = [];
     made = record { right = λ m among. absurd (none_in m among); complete = λ v w is s le. absurd is };
     is = sym (append-nil old);
   }
 
-  longer_left : (xs ys : List Made) (way : Way) (w : List ℕ) → HasMade b rules el xs way w
+  longer_left : (xs ys : List MadeWord) (way : GoalWay) (w : List ℕ) → HasMade b rules el xs way w
       → HasMade b rules el (xs ++ ys) way w
   longer_left xs ys way w h = record {
     made = h.made;
@@ -66,7 +66,7 @@ module _ (b : Bounds) (rules : List Rule) (el : Element) where
     within = h.within;
   }
 
-  longer_right : (xs ys : List Made) (way : Way) (w : List ℕ) → HasMade b rules el ys way w
+  longer_right : (xs ys : List MadeWord) (way : GoalWay) (w : List ℕ) → HasMade b rules el ys way w
       → HasMade b rules el (xs ++ ys) way w
   longer_right xs ys way w h = record {
     made = h.made;
@@ -76,7 +76,7 @@ module _ (b : Bounds) (rules : List Rule) (el : Element) where
   }
 
   -- the ways of two sets
-  pub adds_both : (P Q R : Way → Type 0) (old mid new : List Made) → ((way : Way) → R way → P way ⊎ Q way)
+  pub adds_both : (P Q R : GoalWay → Type 0) (old mid new : List MadeWord) → ((way : GoalWay) → R way → P way ⊎ Q way)
       → AddsMade b rules el P old mid → AddsMade b rules el Q mid new → AddsMade b rules el R old new
   adds_both P Q R old mid new either one two = record {
     added = one.added ++ two.added;
@@ -90,7 +90,7 @@ module _ (b : Bounds) (rules : List Rule) (el : Element) where
     is = two.is ∙ ap (λ xs. xs ++ two.added) one.is ∙ append_assoc old one.added two.added;
   }
 
-  pub adds_fewer : (P R : Way → Type 0) (old new : List Made) → ((way : Way) → R way → P way)
+  pub adds_fewer : (P R : GoalWay → Type 0) (old new : List MadeWord) → ((way : GoalWay) → R way → P way)
       → AddsMade b rules el P old new → AddsMade b rules el R old new
   adds_fewer P R old new to h = record {
     added = h.added;
@@ -99,14 +99,14 @@ module _ (b : Bounds) (rules : List Rule) (el : Element) where
   }
 
   -- all ways
-  pub all_made : (P : Way → Type 0) (new : List Made) → ((way : Way) (w : List ℕ) → MakesSo b rules el way w → P way)
+  pub all_made : (P : GoalWay → Type 0) (new : List MadeWord) → ((way : GoalWay) (w : List ℕ) → MakesSo b rules el way w → P way)
       → AddsMade b rules el P [] new → AreMade b rules el new
   all_made P new every h = subst (AreMade b rules el) (sym h.is) (record {
     right = h.made.right;
     complete = λ way w s le. h.made.complete way w (every way w s) s le;
   })
 
-module _ (b : Bounds) (rules : List Rule) where
+module _ (b : LineBounds) (rules : List Rule) where
   -- of each way a shortest list
   pub chosen_shortest : (es : Elements) (i : ℕ) (d : Element) (word : Option (Vec ℕ Global)) → member_at es i ≡ Some d
       → IsShortest (Spells b rules d) b.limit word
@@ -137,24 +137,24 @@ module _ (b : Bounds) (rules : List Rule) where
     least = λ v s. omega arith;
   })
 
-  pub turns_made : (a : ℕ) (most : Option ℕ) (d : Element) (k : ℕ) (word : Option (Vec ℕ Global))
-      → IsTurnGoal a most k → a ≤ k → AtMost k most → IsShortest (SpellsTimes b rules d k) b.limit word
-      → IsShortest (MakesSo b rules (e.Rep a most d) (Turns k)) b.limit word
-  turns_made a most d k word goal low high h = alike_shortest b.limit word
-      (λ w s. record { symbols = s.symbols; is = g.turns goal low high s.is })
+  pub rounds_made : (a : ℕ) (most : Option ℕ) (d : Element) (k : ℕ) (word : Option (Vec ℕ Global))
+      → IsRoundGoal a most k → a ≤ k → AtMost k most → IsShortest (SpellsTimes b rules d k) b.limit word
+      → IsShortest (MakesSo b rules (e.Rep a most d) (Rounds k)) b.limit word
+  rounds_made a most d k word goal low high h = alike_shortest b.limit word
+      (λ w s. record { symbols = s.symbols; is = g.rounds goal low high s.is })
       (λ w s. record { symbols = s.symbols; is = own s.is }) h
     where
-      own : {w : List ℕ} → Makes (has b.alphabet) (may b) rules (e.Rep a most d) (Turns k) w
+      own : {w : List ℕ} → Makes (has b.alphabet) (may b) rules (e.Rep a most d) (Rounds k) w
           → DerivesTimes (has b.alphabet) rules d k w
-      own (g.turns goal low high s) = s
+      own (g.rounds goal low high s) = s
 
-  -- turns that the bounds do not allow
-  pub no_turns_made : (a : ℕ) (most : Option ℕ) (d : Element) (k : ℕ) → ((a ≤ k) × AtMost k most → ⊥)
-      → IsShortest (MakesSo b rules (e.Rep a most d) (Turns k)) b.limit None
-  no_turns_made a most d k never = λ w s. absurd (own s.is)
+  -- rounds that the bounds do not allow
+  pub no_rounds_made : (a : ℕ) (most : Option ℕ) (d : Element) (k : ℕ) → ((a ≤ k) × AtMost k most → ⊥)
+      → IsShortest (MakesSo b rules (e.Rep a most d) (Rounds k)) b.limit None
+  no_rounds_made a most d k never = λ w s. absurd (own s.is)
     where
-      own : {w : List ℕ} → Makes (has b.alphabet) (may b) rules (e.Rep a most d) (Turns k) w → ⊥
-      own (g.turns goal low high s) = never (low, high)
+      own : {w : List ℕ} → Makes (has b.alphabet) (may b) rules (e.Rep a most d) (Rounds k) w → ⊥
+      own (g.rounds goal low high s) = never (low, high)
 
   pub same_text_shortest : (folds : Bool) (t : List ℕ) (word : Option (Vec ℕ Global))
       → IsShortest (Admitted b (λ w. w ≡ t)) b.limit word
@@ -168,14 +168,14 @@ module _ (b : Bounds) (rules : List Rule) where
       own g.same_text = refl
 
   pub other_text_shortest : (t : List ℕ) (word : Option (Vec ℕ Global))
-      → IsShortest (Admitted b (λ w. w ≡ map other_case t)) b.limit word
+      → IsShortest (Admitted b (λ w. w ≡ map swapped_case t)) b.limit word
       → IsShortest (MakesSo b rules (e.Text true t) OtherCase) b.limit word
   other_text_shortest t word h = alike_shortest b.limit word
       (λ w s. record { symbols = s.symbols; is = subst (Makes (has b.alphabet) (may b) rules (e.Text true t) OtherCase)
           (sym s.is) g.other_text })
       (λ w s. record { symbols = s.symbols; is = own s.is }) h
     where
-      own : {w : List ℕ} → Makes (has b.alphabet) (may b) rules (e.Text true t) OtherCase w → w ≡ map other_case t
+      own : {w : List ℕ} → Makes (has b.alphabet) (may b) rules (e.Text true t) OtherCase w → w ≡ map swapped_case t
       own g.other_text = refl
 
   pub same_values_shortest : (vs : List ℕ) (word : Option (Vec ℕ Global))
@@ -238,62 +238,62 @@ module _ (b : Bounds) (rules : List Rule) where
       own m = elim m [ ]
 
   -- the ways of each kind of element
-  text_ways : (folds : Bool) (t : List ℕ) (way : Way) (w : List ℕ) → MakesSo b rules (e.Text folds t) way w
+  text_ways : (folds : Bool) (t : List ℕ) (way : GoalWay) (w : List ℕ) → MakesSo b rules (e.Text folds t) way w
       → (way ≡ Same) ⊎ (way ≡ OtherCase)
   text_ways folds t way w s = own s.is
     where
-      own : {folds : Bool} {t : List ℕ} {way : Way} {w : List ℕ}
+      own : {folds : Bool} {t : List ℕ} {way : GoalWay} {w : List ℕ}
           → Makes (has b.alphabet) (may b) rules (e.Text folds t) way w → (way ≡ Same) ⊎ (way ≡ OtherCase)
       own g.same_text = inl refl
       own g.other_text = inr refl
 
-  pub two_made : (el : Element) (one two : Way) (v w : Option (Vec ℕ Global)) (mid new : List Made)
-      → ((way : Way) (w : List ℕ) → MakesSo b rules el way w → (way ≡ one) ⊎ (way ≡ two))
+  pub two_made : (el : Element) (one two : GoalWay) (v w : Option (Vec ℕ Global)) (mid new : List MadeWord)
+      → ((way : GoalWay) (w : List ℕ) → MakesSo b rules el way w → (way ≡ one) ⊎ (way ≡ two))
       → IsShortest (MakesSo b rules el one) b.limit v → mid ≡ made_of one v
       → IsShortest (MakesSo b rules el two) b.limit w → new ≡ mid ++ made_of two w → AreMade b rules el new
   two_made el one two v w mid new ways h is k at = all_made b rules el (λ way. (way ≡ one) ⊎ (way ≡ two)) new ways
       (adds_both b rules el (λ way. way ≡ one) (λ way. way ≡ two) (λ way. (way ≡ one) ⊎ (way ≡ two)) [] mid new
       (λ way either. either) (adds_one b rules el one v [] mid h is) (adds_one b rules el two w mid new k at))
 
-  pub text_made : (folds : Bool) (t : List ℕ) (v w : Option (Vec ℕ Global)) (mid new : List Made)
+  pub text_made : (folds : Bool) (t : List ℕ) (v w : Option (Vec ℕ Global)) (mid new : List MadeWord)
       → IsShortest (Admitted b (λ x. x ≡ t)) b.limit v → mid ≡ made_of Same v
       → IsShortest (MakesSo b rules (e.Text folds t) OtherCase) b.limit w → new ≡ mid ++ made_of OtherCase w
       → AreMade b rules (e.Text folds t) new
   text_made folds t v w mid new h is k at = two_made (e.Text folds t) Same OtherCase v w mid new (text_ways folds t)
       (same_text_shortest folds t v h) is k at
 
-  pub values_made : (vs : List ℕ) (v : Option (Vec ℕ Global)) (new : List Made)
+  pub values_made : (vs : List ℕ) (v : Option (Vec ℕ Global)) (new : List MadeWord)
       → ((w : List ℕ) → AreLetters (may b) w → AreLetters (has b.alphabet) w)
       → IsShortest (Admitted b (λ x. x ≡ vs)) b.limit v → new ≡ made_of Same v → AreMade b rules (e.Values vs) new
   values_made vs v new weaker h is = all_made b rules (e.Values vs) (λ way. way ≡ Same) new (λ way w s. own s.is)
       (adds_one b rules (e.Values vs) Same v [] new (same_values_shortest vs v weaker h) is)
     where
-      own : {way : Way} {w : List ℕ} → Makes (has b.alphabet) (may b) rules (e.Values vs) way w → way ≡ Same
+      own : {way : GoalWay} {w : List ℕ} → Makes (has b.alphabet) (may b) rules (e.Values vs) way w → way ≡ Same
       own (g.same_values a) = refl
 
-  pub range_ways : (low high : ℕ) (way : Way) (w : List ℕ) → MakesSo b rules (e.Range low high) way w
+  pub range_ways : (low high : ℕ) (way : GoalWay) (w : List ℕ) → MakesSo b rules (e.Range low high) way w
       → (way ≡ First) ⊎ (way ≡ Last)
   range_ways low high way w s = own s.is
     where
-      own : {way : Way} {w : List ℕ} → Makes (has b.alphabet) (may b) rules (e.Range low high) way w
+      own : {way : GoalWay} {w : List ℕ} → Makes (has b.alphabet) (may b) rules (e.Range low high) way w
           → (way ≡ First) ⊎ (way ≡ Last)
       own (g.first f) = inl refl
       own (g.last f) = inr refl
 
-  pub opt_ways : (d : Element) (way : Way) (w : List ℕ) → MakesSo b rules (e.Opt d) way w
+  pub opt_ways : (d : Element) (way : GoalWay) (w : List ℕ) → MakesSo b rules (e.Opt d) way w
       → (way ≡ Taken) ⊎ (way ≡ LeftOut)
   opt_ways d way w s = own s.is
     where
-      own : {way : Way} {w : List ℕ} → Makes (has b.alphabet) (may b) rules (e.Opt d) way w
+      own : {way : GoalWay} {w : List ℕ} → Makes (has b.alphabet) (may b) rules (e.Opt d) way w
           → (way ≡ Taken) ⊎ (way ≡ LeftOut)
       own (g.taken h) = inl refl
       own g.left_out = inr refl
 
-  pub none_chosen : (el : Element) (all : List Made) → all ≡ [] → AddsMade b rules el (IsChosenBelow 0) [] all
+  pub none_chosen : (el : Element) (all : List MadeWord) → all ≡ [] → AddsMade b rules el (IsChosenBelow 0) [] all
   none_chosen el all is = subst (AddsMade b rules el (IsChosenBelow 0) []) (sym is)
       (adds_fewer b rules el (λ v. ⊥) (IsChosenBelow 0) [] [] (λ way h. omega (arith, h.1)) (adds_none b rules el []))
 
-  pub next_chosen : (es : Elements) (i : ℕ) (d : Element) (word : Option (Vec ℕ Global)) (mid new : List Made)
+  pub next_chosen : (es : Elements) (i : ℕ) (d : Element) (word : Option (Vec ℕ Global)) (mid new : List MadeWord)
       → member_at es i ≡ Some d → IsShortest (Spells b rules d) b.limit word
       → AddsMade b rules (e.Alt es) (IsChosenBelow i) [] mid → new ≡ mid ++ made_of (Chosen i) word
       → AddsMade b rules (e.Alt es) (IsChosenBelow (i + 1)) [] new
@@ -303,74 +303,74 @@ module _ (b : Bounds) (rules : List Rule) where
       (cases_eq k.0 i))
       old (adds_one b rules (e.Alt es) (Chosen i) word mid new (chosen_shortest es i d word is h) at)
 
-  pub all_chosen : (es : Elements) (n : ℕ) (new : List Made) → ((i : ℕ) (d : Element) → member_at es i ≡ Some d → i < n)
+  pub all_chosen : (es : Elements) (n : ℕ) (new : List MadeWord) → ((i : ℕ) (d : Element) → member_at es i ≡ Some d → i < n)
       → AddsMade b rules (e.Alt es) (IsChosenBelow n) [] new → AreMade b rules (e.Alt es) new
   all_chosen es n new below h = all_made b rules (e.Alt es) (IsChosenBelow n) new (λ way w s. own s.is) h
     where
-      own : {way : Way} {w : List ℕ} → Makes (has b.alphabet) (may b) rules (e.Alt es) way w → IsChosenBelow n way
+      own : {way : GoalWay} {w : List ℕ} → Makes (has b.alphabet) (may b) rules (e.Alt es) way w → IsChosenBelow n way
       own (g.chosen {i = i} {e = d} is s) = (i, below i d is, refl)
 
-  -- the turns
-  turn_ways : (a : ℕ) (most : Option ℕ) (d : Element) (last single : ℕ)
+  -- the rounds
+  round_ways : (a : ℕ) (most : Option ℕ) (d : Element) (last single : ℕ)
       → MatchOption most (last ≡ a + 1) (λ m. last ≡ m) → MatchOption most (single ≡ a) (λ m. single ≡ 1)
-      → (way : Way) (w : List ℕ) → MakesSo b rules (e.Rep a most d) way w
-      → ((way ≡ Turns a) ⊎ (way ≡ Turns last)) ⊎ (way ≡ Turns single)
-  turn_ways a most d last single is one way w s = own s.is
+      → (way : GoalWay) (w : List ℕ) → MakesSo b rules (e.Rep a most d) way w
+      → ((way ≡ Rounds a) ⊎ (way ≡ Rounds last)) ⊎ (way ≡ Rounds single)
+  round_ways a most d last single is one way w s = own s.is
     where
       goals : (most : Option ℕ) (k : ℕ) → MatchOption most (last ≡ a + 1) (λ m. last ≡ m)
-          → MatchOption most (single ≡ a) (λ m. single ≡ 1) → IsTurnGoal a most k
-          → ((Turns k ≡ Turns a) ⊎ (Turns k ≡ Turns last)) ⊎ (Turns k ≡ Turns single)
-      goals None k is one goal = ⊎_elim (λ l. inl (inl (ap Turns l))) (λ r. inl (inr (ap Turns (r ∙ sym is)))) goal
-      goals (Some m) k is one goal = ⊎_elim (λ l. inl (inl (ap Turns l)))
-          (λ r. ⊎_elim (λ l. inl (inr (ap Turns (l ∙ sym is)))) (λ u. inr (ap Turns (u ∙ sym one))) r) goal
+          → MatchOption most (single ≡ a) (λ m. single ≡ 1) → IsRoundGoal a most k
+          → ((Rounds k ≡ Rounds a) ⊎ (Rounds k ≡ Rounds last)) ⊎ (Rounds k ≡ Rounds single)
+      goals None k is one goal = ⊎_elim (λ l. inl (inl (ap Rounds l))) (λ r. inl (inr (ap Rounds (r ∙ sym is)))) goal
+      goals (Some m) k is one goal = ⊎_elim (λ l. inl (inl (ap Rounds l)))
+          (λ r. ⊎_elim (λ l. inl (inr (ap Rounds (l ∙ sym is)))) (λ u. inr (ap Rounds (u ∙ sym one))) r) goal
 
-      own : {way : Way} {w : List ℕ} → Makes (has b.alphabet) (may b) rules (e.Rep a most d) way w
-          → ((way ≡ Turns a) ⊎ (way ≡ Turns last)) ⊎ (way ≡ Turns single)
-      own (g.turns {k = k} goal low high h) = goals most k is one goal
+      own : {way : GoalWay} {w : List ℕ} → Makes (has b.alphabet) (may b) rules (e.Rep a most d) way w
+          → ((way ≡ Rounds a) ⊎ (way ≡ Rounds last)) ⊎ (way ≡ Rounds single)
+      own (g.rounds {k = k} goal low high h) = goals most k is one goal
 
-  pub first_goal : (a : ℕ) (most : Option ℕ) → IsTurnGoal a most a
+  pub first_goal : (a : ℕ) (most : Option ℕ) → IsRoundGoal a most a
   first_goal a None = inl refl
   first_goal a (Some m) = inl refl
 
   pub last_goal : (a : ℕ) (most : Option ℕ) (last : ℕ) → MatchOption most (last ≡ a + 1) (λ m. last ≡ m)
-      → IsTurnGoal a most last
+      → IsRoundGoal a most last
   last_goal a None last is = inr is
   last_goal a (Some m) last is = inr (inl is)
 
   pub single_goal : (a : ℕ) (most : Option ℕ) (single : ℕ) → MatchOption most (single ≡ a) (λ m. single ≡ 1)
-      → IsTurnGoal a most single
+      → IsRoundGoal a most single
   single_goal a None single is = inl is
   single_goal a (Some m) single is = inr (inr is)
 
-  pub all_turns : (a : ℕ) (most : Option ℕ) (d : Element) (last single : ℕ)
+  pub all_rounds : (a : ℕ) (most : Option ℕ) (d : Element) (last single : ℕ)
       → MatchOption most (last ≡ a + 1) (λ m. last ≡ m) → MatchOption most (single ≡ a) (λ m. single ≡ 1)
-      → (u v w : Option (Vec ℕ Global)) (one two new : List Made)
-      → IsShortest (MakesSo b rules (e.Rep a most d) (Turns a)) b.limit u → one ≡ made_of (Turns a) u
-      → IsShortest (MakesSo b rules (e.Rep a most d) (Turns last)) b.limit v → two ≡ one ++ made_of (Turns last) v
-      → IsShortest (MakesSo b rules (e.Rep a most d) (Turns single)) b.limit w
-      → new ≡ two ++ made_of (Turns single) w → AreMade b rules (e.Rep a most d) new
-  all_turns a most d last single is alone u v w one two new h at k to l up = all_made b rules (e.Rep a most d)
-      (λ way. ((way ≡ Turns a) ⊎ (way ≡ Turns last)) ⊎ (way ≡ Turns single)) new
-      (turn_ways a most d last single is alone)
-      (adds_both b rules (e.Rep a most d) (λ way. (way ≡ Turns a) ⊎ (way ≡ Turns last)) (λ way. way ≡ Turns single)
-      (λ way. ((way ≡ Turns a) ⊎ (way ≡ Turns last)) ⊎ (way ≡ Turns single)) [] two new (λ way either. either)
-      (adds_both b rules (e.Rep a most d) (λ way. way ≡ Turns a) (λ way. way ≡ Turns last)
-      (λ way. (way ≡ Turns a) ⊎ (way ≡ Turns last)) [] one two (λ way either. either)
-      (adds_one b rules (e.Rep a most d) (Turns a) u [] one h at)
-      (adds_one b rules (e.Rep a most d) (Turns last) v one two k to))
-      (adds_one b rules (e.Rep a most d) (Turns single) w two new l up))
+      → (u v w : Option (Vec ℕ Global)) (one two new : List MadeWord)
+      → IsShortest (MakesSo b rules (e.Rep a most d) (Rounds a)) b.limit u → one ≡ made_of (Rounds a) u
+      → IsShortest (MakesSo b rules (e.Rep a most d) (Rounds last)) b.limit v → two ≡ one ++ made_of (Rounds last) v
+      → IsShortest (MakesSo b rules (e.Rep a most d) (Rounds single)) b.limit w
+      → new ≡ two ++ made_of (Rounds single) w → AreMade b rules (e.Rep a most d) new
+  all_rounds a most d last single is alone u v w one two new h at k to l up = all_made b rules (e.Rep a most d)
+      (λ way. ((way ≡ Rounds a) ⊎ (way ≡ Rounds last)) ⊎ (way ≡ Rounds single)) new
+      (round_ways a most d last single is alone)
+      (adds_both b rules (e.Rep a most d) (λ way. (way ≡ Rounds a) ⊎ (way ≡ Rounds last)) (λ way. way ≡ Rounds single)
+      (λ way. ((way ≡ Rounds a) ⊎ (way ≡ Rounds last)) ⊎ (way ≡ Rounds single)) [] two new (λ way either. either)
+      (adds_both b rules (e.Rep a most d) (λ way. way ≡ Rounds a) (λ way. way ≡ Rounds last)
+      (λ way. (way ≡ Rounds a) ⊎ (way ≡ Rounds last)) [] one two (λ way either. either)
+      (adds_one b rules (e.Rep a most d) (Rounds a) u [] one h at)
+      (adds_one b rules (e.Rep a most d) (Rounds last) v one two k to))
+      (adds_one b rules (e.Rep a most d) (Rounds single) w two new l up))
 
   -- elements without goals
-  pub no_goals : (el : Element) (new : List Made) → ((way : Way) (w : List ℕ) → MakesSo b rules el way w → ⊥)
+  pub no_goals : (el : Element) (new : List MadeWord) → ((way : GoalWay) (w : List ℕ) → MakesSo b rules el way w → ⊥)
       → new ≡ [] → AreMade b rules el new
   no_goals el new never is = all_made b rules el (λ v. ⊥) new never
       (subst (AddsMade b rules el (λ v. ⊥) []) (sym is) (adds_none b rules el []))
 
-  pub no_concat_goals : (es : Elements) (way : Way) (w : List ℕ) → MakesSo b rules (e.Concat es) way w → ⊥
+  pub no_concat_goals : (es : Elements) (way : GoalWay) (w : List ℕ) → MakesSo b rules (e.Concat es) way w → ⊥
   no_concat_goals es way w s = elim s.is [ ]
 
-  pub no_name_goals : (n : List ℕ) (way : Way) (w : List ℕ) → MakesSo b rules (e.Name n) way w → ⊥
+  pub no_name_goals : (n : List ℕ) (way : GoalWay) (w : List ℕ) → MakesSo b rules (e.Name n) way w → ⊥
   no_name_goals n way w s = elim s.is [ ]
 
-  pub no_prose_goals : (t : List ℕ) (way : Way) (w : List ℕ) → MakesSo b rules (e.Prose t) way w → ⊥
+  pub no_prose_goals : (t : List ℕ) (way : GoalWay) (w : List ℕ) → MakesSo b rules (e.Prose t) way w → ⊥
   no_prose_goals t way w s = elim s.is [ ]

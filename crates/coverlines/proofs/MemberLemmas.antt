@@ -1,6 +1,8 @@
 -- Members of lists of any kind.
--- Serves: places, rule_contexts, made_words, cover_lines
-use Rattle.std.proofs.Common.{◌≡◌, ◌⊎◌, inl, inr, ⊎_elim, zero, suc, List, [], ◌∷◌, map, Contains, refl, subst, arith}
+-- Serves: sites, rule_contexts, made_words, cover_lines
+use Rattle.std.proofs.Common.{◌≡◌, ◌⊎◌, inl, inr, ⊎_elim, ℕ, zero, suc, ◌+◌, ◌<◌, ◌≤◌, List, [], ◌∷◌, ◌++◌, map, take}
+use Rattle.std.proofs.Common.{get_or, length, Contains, refl, sym, ◌∙◌, ap, subst, arith, add-one}
+use Rattle.std.proofs.Math.Seq.{take-suc}
 
 module _ {A : Type 0} where
   pub first_in : (x : A) (xs : List A) → Contains (x ∷ xs) x
@@ -18,6 +20,20 @@ module _ {A : Type 0} where
 
   pub only_in : (x y : A) → Contains (x ∷ []) y → x ≡ y
   only_in x y h = ⊎_elim (λ is. is) (λ k. absurd (none_in y k)) (member_cases x y [] h)
+
+  pub item_in : (xs : List A) (i : ℕ) (x : A) → i < length xs → x ≡ get_or xs i x → Contains xs x
+  item_in xs i x lt is = (i, lt, sym is)
+
+  pub taken_more : (xs : List A) (i : ℕ) (x : A) → i < length xs → x ≡ get_or xs i x
+      → take (i + 1) xs ≡ take i xs ++ x ∷ []
+  taken_more xs i x lt is = ap (λ (k : ℕ). take k xs) (add-one i) ∙ take-suc xs i x lt
+      ∙ ap (λ y. take i xs ++ y ∷ []) (sym is)
+
+  pub taken_past : (xs : List A) (n : ℕ) → length xs ≤ n → take n xs ≡ xs
+  taken_past [] zero le = refl
+  taken_past [] (suc n) le = refl
+  taken_past (x ∷ xs) zero le = absurd (omega (arith, le))
+  taken_past (x ∷ xs) (suc n) le = ap (λ v. x ∷ v) (taken_past xs n (omega (arith, le)))
 
 module _ {A B : Type 0} (f : A → B) where
   pub mapped_in : (x : A) (xs : List A) → Contains xs x → Contains (map f xs) (f x)

@@ -10,7 +10,7 @@ use Rattle.abnfcheck.proofs.YieldsLemmas.{letters_both, letters_parts}
 use Rattle.letters.specs.Letters.{has}
 use Rattle.coverlines.specs.Shortest.{IsShortest, IsShortestOf, Joined, Admitted, may, Spells, SpellsAll, SpellsSome}
 use Rattle.coverlines.specs.Shortest.{SpellsTimes}
-use Rattle.coverlines.specs.declared.bounds.Bounds.{Bounds}
+use Rattle.coverlines.specs.declared.bounds.LineBounds.{LineBounds}
 
 -- two sets of which each list of the one is as short as one of the other
 pub same_shortest : {P Q : List ℕ → Type 0} (limit : ℕ) (found : Option (Vec ℕ Global)) →
@@ -92,7 +92,7 @@ pub no_back : {P Q : List ℕ → Type 0} {limit : ℕ} → ((v : List ℕ) → 
 no_back q w j = let a = q j.back j.second in
     let n = ap length j.is ∙ length-append j.front j.back in omega (arith, a, n)
 
-module _ (b : Bounds) (rules : List Rule) where
+module _ (b : LineBounds) (rules : List Rule) where
   all_snoc : {es : Elements} {e : Element} {u v : List ℕ} → DerivesAll (has b.alphabet) rules es u
       → Derives (has b.alphabet) rules e v → DerivesAll (has b.alphabet) rules (append es (more e none)) (u ++ v)
   all_snoc {e = e} {v = v} der.all_done d =
@@ -166,7 +166,7 @@ module _ (b : Bounds) (rules : List Rule) where
       (λ w s. ⊎_elim (λ l. inl (record { symbols = s.symbols; is = l }))
       (λ r. inr (record { symbols = s.symbols; is = r })) (some_parts es e w s.is)) h
 
-  -- so many turns, and the first of them
+  -- so many rounds, and the first of them
   pub times_front : {e : Element} (k l : ℕ) (w : List ℕ) → DerivesTimes (has b.alphabet) rules e (k + l) w
       → Joined (DerivesTimes (has b.alphabet) rules e k) (DerivesTimes (has b.alphabet) rules e l) w
   times_front {e} zero l w d = record {
@@ -199,14 +199,14 @@ module _ (b : Bounds) (rules : List Rule) where
       (subst (λ y. DerivesTimes (has b.alphabet) rules e (suc (k + l)) y) (sym (append_assoc w x v))
       (der.one_more c (times_both cs d)))
 
-  pub once : {e : Element} {w : List ℕ} → Derives (has b.alphabet) rules e w
+  pub once_derived : {e : Element} {w : List ℕ} → Derives (has b.alphabet) rules e w
       → DerivesTimes (has b.alphabet) rules e 1 w
-  once {e} {w} d = subst (λ y. DerivesTimes (has b.alphabet) rules e 1 y) (append-nil w) (der.one_more d der.no_more)
+  once_derived {e} {w} d = subst (λ y. DerivesTimes (has b.alphabet) rules e 1 y) (append-nil w) (der.one_more d der.no_more)
 
-  alone : {e : Element} {w : List ℕ} → DerivesTimes (has b.alphabet) rules e 1 w → Derives (has b.alphabet) rules e w
-  alone {e} (der.one_more {w = w} d der.no_more) = subst (Derives (has b.alphabet) rules e) (sym (append-nil w)) d
+  one_derived : {e : Element} {w : List ℕ} → DerivesTimes (has b.alphabet) rules e 1 w → Derives (has b.alphabet) rules e w
+  one_derived {e} (der.one_more {w = w} d der.no_more) = subst (Derives (has b.alphabet) rules e) (sym (append-nil w)) d
 
-  -- the turns so far, and one more
+  -- the rounds so far, and one more
   pub times_next : (e : Element) (k limit : ℕ) (found : Option (Vec ℕ Global))
       → IsShortest (Joined (SpellsTimes b rules e k) (Spells b rules e)) limit found
       → IsShortest (SpellsTimes b rules e (k + 1)) limit found
@@ -214,27 +214,27 @@ module _ (b : Bounds) (rules : List Rule) where
       (λ w j. record {
         symbols = subst (AreLetters (may b)) (sym j.is) (letters_both (may b) j.front j.back j.first.symbols
             j.second.symbols);
-        is = subst (DerivesTimes (has b.alphabet) rules e (k + 1)) (sym j.is) (times_both j.first.is (once j.second.is));
+        is = subst (DerivesTimes (has b.alphabet) rules e (k + 1)) (sym j.is) (times_both j.first.is (once_derived j.second.is));
       })
       (λ w s. let j = times_front k 1 w s.is in
       let two = letters_parts (may b) j.front j.back (subst (AreLetters (may b)) j.is s.symbols) in record {
         front = j.front;
         back = j.back;
         first = record { symbols = two.0; is = j.first };
-        second = record { symbols = two.1; is = alone j.second };
+        second = record { symbols = two.1; is = one_derived j.second };
         is = j.is;
       }) h
 
-  -- more turns are no shorter than fewer
-  pub fewer_turns : (e : Element) (k l : ℕ) (w : List ℕ) → k ≤ l → SpellsTimes b rules e l w
+  -- more rounds are no shorter than fewer
+  pub fewer_rounds : (e : Element) (k l : ℕ) (w : List ℕ) → k ≤ l → SpellsTimes b rules e l w
       → (v : List ℕ) × SpellsTimes b rules e k v × length v ≤ length w
-  fewer_turns e k l w le s =
+  fewer_rounds e k l w le s =
       let j = times_front k (l - k) w (subst (λ n. DerivesTimes (has b.alphabet) rules e n w) (omega (arith, le)) s.is) in
       let two = letters_parts (may b) j.front j.back (subst (AreLetters (may b)) j.is s.symbols) in
       let n = ap length j.is ∙ length-append j.front j.back in
       (j.front, record { symbols = two.0; is = j.first }, omega (arith, n))
 
-  -- a repetition takes as few turns as it may
+  -- a repetition takes as few rounds as it may
   pub rep_least : (a : ℕ) (most : Option ℕ) (e : Element) (limit : ℕ) (found : Option (Vec ℕ Global)) → der.AtMost a most
       → IsShortest (SpellsTimes b rules e a) limit found
       → IsShortest (Spells b rules (Rep a most e)) limit found
@@ -244,42 +244,42 @@ module _ (b : Bounds) (rules : List Rule) where
     where
       by : (w : List ℕ) → AreLetters (may b) w → Derives (has b.alphabet) rules (Rep a most e) w
           → (v : List ℕ) × SpellsTimes b rules e a v × length v ≤ length w
-      by w good (der.rep {k = k} low within d) = fewer_turns e a k w low (record { symbols = good; is = d })
+      by w good (der.rep {k = k} low within d) = fewer_rounds e a k w low (record { symbols = good; is = d })
 
-  -- so many turns, of which none has a symbol
+  -- so many rounds, of which none has a symbol
   pub empty_times : {e : Element} (k : ℕ) → Derives (has b.alphabet) rules e []
       → DerivesTimes (has b.alphabet) rules e k []
   empty_times zero d = der.no_more
   empty_times (suc k) d = der.one_more d (empty_times k d)
 
-  -- no turn at all
-  pub no_turns : (e : Element) (limit : ℕ) (w : List ℕ) → w ≡ [] → IsShortestOf (SpellsTimes b rules e 0) limit w
-  no_turns e limit w is = subst (IsShortestOf (SpellsTimes b rules e 0) limit) (sym is) (record {
+  -- no round at all
+  pub no_rounds : (e : Element) (limit : ℕ) (w : List ℕ) → w ≡ [] → IsShortestOf (SpellsTimes b rules e 0) limit w
+  no_rounds e limit w is = subst (IsShortestOf (SpellsTimes b rules e 0) limit) (sym is) (record {
     is = record { symbols = tt; is = der.no_more };
     within = omega arith;
     least = λ v s. omega arith;
   })
 
-  pub empty_turns : (e : Element) (k limit : ℕ) (w : List ℕ) → length w ≡ 0 → IsShortestOf (Spells b rules e) limit w
+  pub empty_rounds : (e : Element) (k limit : ℕ) (w : List ℕ) → length w ≡ 0 → IsShortestOf (Spells b rules e) limit w
       → IsShortestOf (SpellsTimes b rules e k) limit w
-  empty_turns e k limit [] is h = record {
+  empty_rounds e k limit [] is h = record {
     is = record { symbols = tt; is = empty_times k h.is.is };
     within = h.within;
     least = λ v s. omega arith;
   }
-  empty_turns e k limit (c ∷ w) is h = absurd (omega (arith, is))
+  empty_rounds e k limit (c ∷ w) is h = absurd (omega (arith, is))
 
-  -- where no list of one turn fits, none of more does
-  pub no_turn : (e : Element) (k limit : ℕ) → 0 < k → ((v : List ℕ) → Spells b rules e v → limit < length v)
+  -- where no list of one round fits, none of more does
+  pub no_round : (e : Element) (k limit : ℕ) → 0 < k → ((v : List ℕ) → Spells b rules e v → limit < length v)
       → (w : List ℕ) → SpellsTimes b rules e k w → limit < length w
-  no_turn e k limit some never w s =
-      let f = fewer_turns e 1 k w (omega (arith, some)) s in
-      let l = never f.0 (record { symbols = f.1.symbols; is = alone f.1.is }) in
+  no_round e k limit some never w s =
+      let f = fewer_rounds e 1 k w (omega (arith, some)) s in
+      let l = never f.0 (record { symbols = f.1.symbols; is = one_derived f.1.is }) in
       let n = f.2 in omega (arith, l, n)
 
-  -- where no list of some turns fits, none of more does
-  pub no_more_turns : (e : Element) (k l limit : ℕ) → k ≤ l
+  -- where no list of some rounds fits, none of more does
+  pub no_more_rounds : (e : Element) (k l limit : ℕ) → k ≤ l
       → ((v : List ℕ) → SpellsTimes b rules e k v → limit < length v)
       → (w : List ℕ) → SpellsTimes b rules e l w → limit < length w
-  no_more_turns e k l limit le never w s =
-      let f = fewer_turns e k l w le s in let m = never f.0 f.1 in let n = f.2 in omega (arith, m, n)
+  no_more_rounds e k l limit le never w s =
+      let f = fewer_rounds e k l w le s in let m = never f.0 f.1 in let n = f.2 in omega (arith, m, n)

@@ -15,7 +15,7 @@ use Rattle.letters.specs.Letters.{has}
 use Rattle.coverlines.specs.Goals.{HasNoneIn, IsFirstIn}
 use Rattle.coverlines.specs.KnownWords.{AreKnownOf, IsCopy, known_at}
 use Rattle.coverlines.specs.Shortest.{Admitted, IsShortest, IsShortestOf, may, Spells, SpellsAll, SpellsSome}
-use Rattle.coverlines.specs.declared.bounds.Bounds.{Bounds}
+use Rattle.coverlines.specs.declared.bounds.LineBounds.{LineBounds}
 use Rattle.coverlines.specs.declared.words.Words.{Words}
 use Rattle.coverlines.proofs.ShortestLemmas.{alike_shortest, same_shortest}
 
@@ -24,10 +24,10 @@ both_true : (x y : Bool) → (x && y) ≡ true → x ≡ true
 both_true true y is = refl
 both_true false y is = is
 
-pub may_has : (b : Bounds) (c : ℕ) → may b c ≡ true → has b.alphabet c ≡ true
+pub may_has : (b : LineBounds) (c : ℕ) → may b c ≡ true → has b.alphabet c ≡ true
 may_has b c is = both_true (has b.alphabet c) _ is
 
-pub letters_has : (b : Bounds) (w : List ℕ) → AreLetters (may b) w → AreLetters (has b.alphabet) w
+pub letters_has : (b : LineBounds) (w : List ℕ) → AreLetters (may b) w → AreLetters (has b.alphabet) w
 letters_has b [] a = tt
 letters_has b (c ∷ w) a = (may_has b c a.0, letters_has b w a.1)
 
@@ -95,7 +95,7 @@ pub next_spelled : (folds : Bool) (text : List ℕ) (i : ℕ) (word new : List �
     → Spelled folds (take (i + 1) text) new
 next_spelled folds text i word new c lt s stands is = rw (next_taken text i lt, is) (spelled_snoc (get_or text i 0) c s stands)
 
-pub next_best : (b : Bounds) (folds : Bool) (text : List ℕ) (i : ℕ) (word new : List ℕ) (c : ℕ) → i < length text →
+pub next_best : (b : LineBounds) (folds : Bool) (text : List ℕ) (i : ℕ) (word new : List ℕ) (c : ℕ) → i < length text →
     ((w : List ℕ) → Spelled folds (take i text) w → AreLetters (may b) w → AreLetters (may b) word) →
     ((d : ℕ) → StandsFor folds (get_or text i 0) d → may b d ≡ true → may b c ≡ true) → new ≡ word ++ c ∷ [] →
     (w : List ℕ) → Spelled folds (take (i + 1) text) w → AreLetters (may b) w → AreLetters (may b) new
@@ -121,7 +121,7 @@ next_elements es i el lt is = ap elements_of (ap (λ (k : ℕ). take k es) (add-
     ∙ ap (λ x. take i es ++ x ∷ []) (sym is)) ∙ ap elements (map-append element_of (take i es) (el ∷ []))
     ∙ elements_snoc (map element_of (take i es)) (element_of el)
 
-module _ (b : Bounds) (rules : List Rule) where
+module _ (b : LineBounds) (rules : List Rule) where
   pub text_shortest : (folds : Bool) (t word : List ℕ) (found : Option (Vec ℕ Global)) → Spelled folds t word →
       ((w : List ℕ) → Spelled folds t w → AreLetters (may b) w → AreLetters (may b) word) →
       IsShortest (Admitted b (λ w. w ≡ word)) b.limit found → IsShortest (Spells b rules (e.Text folds t)) b.limit found
@@ -214,7 +214,7 @@ module _ (b : Bounds) (rules : List Rule) where
   pub no_prose : (t w : List ℕ) → Spells b rules (e.Prose t) w → b.limit < length w
   no_prose t w s = elim s.is [ ]
 
-  -- no turns are allowed
+  -- no rounds are allowed
   pub no_rep : (a : ℕ) (most : Option ℕ) (el : Element) → (AtMost a most → ⊥) → (w : List ℕ)
       → Spells b rules (e.Rep a most el) w → b.limit < length w
   no_rep a most el not w s = absurd (by most not w s.is)

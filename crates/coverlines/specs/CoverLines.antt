@@ -1,22 +1,31 @@
 -- Lines that reach each goal.
-use Rattle.std.specs.Prelude.{◌≡◌, ◌≢◌, ℕ, ◌<◌, ◌≤◌, List, ◌++◌, map, length, slice_get, Contains}
+use Rattle.std.specs.Prelude.{◌≡◌, ◌≢◌, ◌⊎◌, ℕ, ◌<◌, ◌≤◌, List, ◌∷◌, ◌++◌, map, length, Contains, Option, None, Some}
 use Rattle.std.specs.List.{All, AllPairs}
-use Rattle.abnfread.specs.Element.{Element, Rule, bodies}
+use Rattle.std.proofs.Common.{Vec, Global}
+use Rattle.abnfread.specs.Element.{Rule}
 use Rattle.abnfcheck.specs.Derivable.{AreLetters, RuleDerives}
 use Rattle.letters.specs.Letters.{has}
 use Rattle.coverlines.specs.Goals.{Goal, Does}
 use Rattle.coverlines.specs.MadeWords.{AreMade}
-use Rattle.coverlines.specs.Places.{ArePlaces, Stood}
-use Rattle.coverlines.specs.Shortest.{may}
-use Rattle.coverlines.specs.declared.bounds.Bounds.{Bounds}
-use Rattle.coverlines.specs.declared.context.Context.{Context}
+use Rattle.coverlines.specs.RuleContexts.{context_at, sites_at}
+use Rattle.coverlines.specs.Shortest.{IsShortestOf, may}
+use Rattle.coverlines.specs.Sites.{Stood}
+use Rattle.coverlines.specs.declared.bounds.LineBounds.{LineBounds}
+use Rattle.coverlines.specs.declared.context.LineContext.{LineContext}
 use Rattle.coverlines.specs.declared.cover.CoverLine.{CoverLine}
-use Rattle.coverlines.specs.declared.made.Made.{Made}
+use Rattle.coverlines.specs.declared.made.MadeWord.{MadeWord}
+use Rattle.coverlines.specs.declared.sites.Site.{Site}
 
-abbrev pub lines_of : List CoverLine → List (List ℕ)
-lines_of lines = map (λ line. line.line.items) lines
+-- the symbols of each line
+abbrev pub line_items : List CoverLine → List (List ℕ)
+line_items lines = map (λ line. line.line.items) lines
 
-module _ (b : Bounds) (rules : List Rule) (judged : ℕ) where
+-- a line is not longer than another one that comes before it, and differs from it
+pub record ComesLater (u v : CoverLine) : Type 0 where
+  pub shorter : length v.line.items ≤ length u.line.items
+  pub other : u.line.items ≢ v.line.items
+
+module _ (b : LineBounds) (rules : List Rule) (judged : ℕ) where
   -- the judged rule derives a line
   pub record IsLine (w : List ℕ) : Type 0 where
     pub symbols : AreLetters (may b) w
@@ -28,55 +37,107 @@ module _ (b : Bounds) (rules : List Rule) (judged : ℕ) where
     pub line : IsLine w
     pub does : Does (has b.alphabet) (may b) rules judged g w
 
-  -- a line reaches a goal of its rule in its way
+  -- of the lines that reach a goal of its rule in its way, it is a shortest one
   pub record IsRight (line : CoverLine) : Type 0 where
-    pub place : List ℕ
-    pub reaches : Reaches (record { rule = line.rule; place = place; way = line.way }) line.line.items
+    pub site : List ℕ
+    pub shortest : IsShortestOf (Reaches (record { rule = line.rule; site = site; way = line.way })) b.limit
+        line.line.items
 
-  -- one of the lists reaches a goal
-  pub record IsReached (ws : List (List ℕ)) (g : Goal) : Type 0 where
-    pub line : List ℕ
-    pub among : Contains ws line
-    pub reaches : Reaches g line
+  -- one of the lines reaches a goal, and is not longer than a line that does
+  pub record IsReached (lines : List CoverLine) (g : Goal) (w : List ℕ) : Type 0 where
+    pub line : CoverLine
+    pub among : Contains lines line
+    pub reaches : Reaches g line.line.items
+    pub within : length line.line.items ≤ length w
 
-  -- each line reaches some goal, each goal that some line reaches is reached, and no line comes twice
+  -- Each line is a shortest one for some goal, and each goal that a line reaches is reached by one that is not longer.
+  -- No line comes twice, and longer ones come first.
   pub record IsCover (lines : List CoverLine) : Type 0 where
     pub right : All IsRight lines
-    pub complete : (g : Goal) (w : List ℕ) → Reaches g w → IsReached (lines_of lines) g
-    pub once : AllPairs (λ u v. u ≢ v) (lines_of lines)
+    pub complete : (g : Goal) (w : List ℕ) → Reaches g w → IsReached lines g w
+    pub order : AllPairs ComesLater lines
 
 -- a line: what stands round the rule, what stands round the element in it, and what the element derives
-abbrev pub line_in : Context → Stood → List ℕ → List ℕ
-line_in c s word = (c.before.items ++ s.before) ++ (word ++ (s.after ++ c.after.items))
+abbrev pub line_around : LineContext → Stood → List ℕ → List ℕ
+line_around c s word = (c.before.items ++ s.before) ++ (word ++ (s.after ++ c.after.items))
 
-module _ (b : Bounds) (rules : List Rule) (rule : ℕ) (c : Context) where
+-- there is a line of these symbols
+pub record HasItems (lines : List CoverLine) (w : List ℕ) : Type 0 where
+  pub line : CoverLine
+  pub among : Contains lines line
+  pub is : line.line.items ≡ w
+
+-- lines of a kind were added
+pub record AddsSome (kind : CoverLine → Type 0) (old new : List CoverLine) : Type 0 where
+  pub keeps : (line : CoverLine) → Contains old line → Contains new line
+  pub right : (line : CoverLine) → Contains new line → Contains old line ⊎ kind line
+
+-- a line was added, if it has at most `limit` symbols
+pub record AddsFitting (limit : ℕ) (line : CoverLine) (old new : List CoverLine) : Type 0 where
+  pub adds : AddsSome (λ l. (l ≡ line) × (length line.line.items ≤ limit)) old new
+  pub there : length line.line.items ≤ limit → HasItems new line.line.items
+
+module _ (limit rule : ℕ) (c : LineContext) (s : Stood) where
   -- a line of the rule, by what an element makes
-  pub record IsLineOf (s : Stood) (made : Made) (line : CoverLine) : Type 0 where
+  pub record IsLineOf (made : MadeWord) (line : CoverLine) : Type 0 where
     pub rule_is : line.rule ≡ rule
     pub way_is : line.way ≡ made.way
-    pub line_is : line.line.items ≡ line_in c s made.word.items
-    pub within : length line.line.items ≤ b.limit
+    pub line_is : line.line.items ≡ line_around c s made.word.items
+    pub within : length line.line.items ≤ limit
 
-  -- a line of what is made at some place
-  pub record IsLineAt (places : List Stood) (line : CoverLine) : Type 0 where
-    pub stood : Stood
-    pub all : List Made
-    pub made : Made
-    pub at : Contains places stood
-    pub are : AreMade b rules stood.element all
+  -- a line of one of the lists that are made
+  pub record IsLineOfOne (all : List MadeWord) (line : CoverLine) : Type 0 where
+    pub made : MadeWord
     pub among : Contains all made
-    pub is : IsLineOf stood made line
+    pub is : IsLineOf made line
 
-  -- of what is made at a place each line that fits is there
+  -- each line that fits is there
+  abbrev pub HasLinesOfAll : List MadeWord → List CoverLine → Type 0
+  HasLinesOfAll all lines = (m : MadeWord) → Contains all m → length (line_around c s m.word.items) ≤ limit
+      → HasItems lines (line_around c s m.word.items)
+
+  -- the lines of these lists were added
+  pub record AddsMadeLines (all : List MadeWord) (old new : List CoverLine) : Type 0 where
+    pub adds : AddsSome (IsLineOfOne all) old new
+    pub complete : HasLinesOfAll all new
+
+module _ (b : LineBounds) (rules : List Rule) (rule : ℕ) (c : LineContext) where
+  -- a line of what is made at some site
+  pub record IsLineAt (sites : List Stood) (line : CoverLine) : Type 0 where
+    pub stood : Stood
+    pub all : List MadeWord
+    pub at : Contains sites stood
+    pub are : AreMade b rules stood.element all
+    pub one : IsLineOfOne b.limit rule c stood all line
+
+  -- of what is made at a site each line that fits is there
   pub record HasLinesOf (lines : List CoverLine) (s : Stood) : Type 0 where
-    pub all : List Made
+    pub all : List MadeWord
     pub are : AreMade b rules s.element all
-    pub each : (m : Made) → Contains all m → length (line_in c s m.word.items) ≤ b.limit
-        → Contains (lines_of lines) (line_in c s m.word.items)
+    pub each : HasLinesOfAll b.limit rule c s all lines
 
-  -- the lines of these places were added
-  pub record AddsLines (places : List Stood) (old new : List CoverLine) : Type 0 where
-    pub added : List CoverLine
-    pub is : new ≡ old ++ added
-    pub right : (line : CoverLine) → Contains added line → IsLineAt places line
-    pub complete : (s : Stood) → Contains places s → HasLinesOf added s
+  -- the lines of these sites were added
+  pub record AddsLines (sites : List Stood) (old new : List CoverLine) : Type 0 where
+    pub adds : AddsSome (IsLineAt sites) old new
+    pub complete : (s : Stood) → Contains sites s → HasLinesOf new s
+
+-- .. if there is a context
+abbrev pub MayAddLines : LineBounds → List Rule → ℕ → Option LineContext → List Stood → List CoverLine
+    → List CoverLine → Type 0
+MayAddLines b rules rule None sites old new = new ≡ old
+MayAddLines b rules rule (Some c) sites old new = AddsLines b rules rule c sites old new
+
+module _ (b : LineBounds) (rules : List Rule) (contexts : List (Option LineContext)) (sites : List (Vec Site Global))
+  where
+    -- a line at some site of a rule that has a context
+    pub record IsGoalLine (line : CoverLine) : Type 0 where
+      pub rule : ℕ
+      pub context : LineContext
+      pub known : context_at contexts rule ≡ Some context
+      pub is : IsLineAt b rules rule context (sites_at sites rule) line
+
+    -- the lines at the sites of the first so many rules
+    pub record AreGoalLines (n : ℕ) (lines : List CoverLine) : Type 0 where
+      pub right : (line : CoverLine) → Contains lines line → IsGoalLine line
+      pub complete : (id : ℕ) (c : LineContext) (s : Stood) → id < n → context_at contexts id ≡ Some c
+          → Contains (sites_at sites id) s → HasLinesOf b rules id c lines s

@@ -4,8 +4,8 @@ use Rattle.std.specs.Prelude.{List, [], ◌∷◌, ◌++◌, map, slice_get, Opt
 use Rattle.abnfread.specs.Element.{Element, Elements, Text, Values, Range, Concat, Alt, Rep, Opt, Name, none, more}
 use Rattle.abnfread.specs.Element.{Rule, bodies, id_of}
 use Rattle.abnfcheck.specs.Derivable.{AreLetters, AtMost, Derives, DerivesAll, DerivesTimes}
-use Rattle.coverlines.specs.declared.way.Way.{Way}
-use Rattle.coverlines.specs.declared.way.Way.TheVariants.{Chosen, Taken, LeftOut, Turns, First, Last, Same, OtherCase}
+use Rattle.coverlines.specs.declared.way.GoalWay.{GoalWay}
+use Rattle.coverlines.specs.declared.way.GoalWay.TheVariants.{Chosen, Taken, LeftOut, Rounds, First, Last, Same, OtherCase}
 
 -- the element of that number
 abbrev pub member_at : Elements → ℕ → Option Element
@@ -14,8 +14,8 @@ member_at (more e es) zero = Some e
 member_at (more e es) (suc i) = member_at es i
 
 -- a letter in the other case, any other symbol as it is
-abbrev pub other_case : ℕ → ℕ
-other_case c = if ltb 64 c && ltb c 91 then c + 32 else (if ltb 96 c && ltb c 123 then c - 32 else c)
+abbrev pub swapped_case : ℕ → ℕ
+swapped_case c = if ltb 64 c && ltb c 91 then c + 32 else (if ltb 96 c && ltb c 123 then c - 32 else c)
 
 -- no value from low to high is a symbol that a line may have
 abbrev pub HasNoneIn : (ℕ → Bool) → ℕ → ℕ → Type 0
@@ -35,26 +35,26 @@ pub record IsLastIn (may : ℕ → Bool) (low high c : ℕ) : Type 0 where
   pub is : may c ≡ true
   pub most : (d : ℕ) → low ≤ d → d ≤ high → may d ≡ true → d ≤ c
 
--- The turns of a repetition that are goals: as few as may be; as many as may be, or one more than the fewest where
+-- The rounds of a repetition that are goals: as few as may be; as many as may be, or one more than the fewest where
 -- there is no bound; and one, where there is a bound.
-abbrev pub IsTurnGoal : ℕ → Option ℕ → ℕ → Type 0
-IsTurnGoal least None k = (k ≡ least) ⊎ (k ≡ least + 1)
-IsTurnGoal least (Some most) k = (k ≡ least) ⊎ (k ≡ most) ⊎ (k ≡ 1)
+abbrev pub IsRoundGoal : ℕ → Option ℕ → ℕ → Type 0
+IsRoundGoal least None k = (k ≡ least) ⊎ (k ≡ least + 1)
+IsRoundGoal least (Some most) k = (k ≡ least) ⊎ (k ≡ most) ⊎ (k ≡ 1)
 
 -- `has` marks the symbols of the alphabet, and `may` those that a line may have
 module _ (has may : ℕ → Bool) (rules : List Rule) where
   -- an element derives a list in the way of a goal
-  pub data Makes : Element → Way → List ℕ → Type 0 where
+  pub data Makes : Element → GoalWay → List ℕ → Type 0 where
     chosen : {i : ℕ} {es : Elements} {e : Element} {w : List ℕ} → member_at es i ≡ Some e → Derives has rules e w
         → Makes (Alt es) (Chosen i) w
     taken : {e : Element} {w : List ℕ} → Derives has rules e w → Makes (Opt e) Taken w
     left_out : {e : Element} → Makes (Opt e) LeftOut []
-    turns : {a k : ℕ} {b : Option ℕ} {e : Element} {w : List ℕ} → IsTurnGoal a b k → a ≤ k → AtMost k b
-        → DerivesTimes has rules e k w → Makes (Rep a b e) (Turns k) w
+    rounds : {a k : ℕ} {b : Option ℕ} {e : Element} {w : List ℕ} → IsRoundGoal a b k → a ≤ k → AtMost k b
+        → DerivesTimes has rules e k w → Makes (Rep a b e) (Rounds k) w
     first : {low high c : ℕ} → IsFirstIn may low high c → Makes (Range low high) First (c ∷ [])
     last : {low high c : ℕ} → IsLastIn may low high c → Makes (Range low high) Last (c ∷ [])
     same_text : {folds : Bool} {t : List ℕ} → Makes (Text folds t) Same t
-    other_text : {t : List ℕ} → Makes (Text true t) OtherCase (map other_case t)
+    other_text : {t : List ℕ} → Makes (Text true t) OtherCase (map swapped_case t)
     same_values : {vs : List ℕ} → AreLetters has vs → Makes (Values vs) Same vs
 
   -- the member of a number, and what those before it and those after it derive
@@ -64,8 +64,8 @@ module _ (has may : ℕ → Bool) (rules : List Rule) where
     later_member : {e d : Element} {es : Elements} {i : ℕ} {u w v : List ℕ} → Derives has rules e u
         → Beside es i d w v → Beside (more e es) (suc i) d (u ++ w) v
 
-  -- In a derivation of an element another one stands at a place, with the first list before it and the second after
-  -- it. The place is the numbers of the operands that lead to it.
+  -- In a derivation of an element another one stands at a site, with the first list before it and the second after
+  -- it. The site is the numbers of the operands that lead to it.
   pub data Inside : Element → List ℕ → Element → List ℕ → List ℕ → Type 0 where
     itself : {e : Element} → Inside e [] e [] []
     in_concat : {es : Elements} {i : ℕ} {m d : Element} {u v x y p : List ℕ} → Beside es i m u v → Inside m p d x y
@@ -85,11 +85,11 @@ module _ (has may : ℕ → Bool) (rules : List Rule) where
         → slice_get (bodies rules) id ≡ Some body → Inside body p (Name name) u v
         → Around judged (id_of rules name) (x ++ u) (v ++ y)
 
--- what an element at a place in the body of a rule does
+-- what an element at a site in the body of a rule does
 pub record Goal : Type 0 where
   pub rule : ℕ
-  pub place : List ℕ
-  pub way : Way
+  pub site : List ℕ
+  pub way : GoalWay
 
 -- a derivation of a list from the judged rule does what the goal asks for
 pub record Does (has may : ℕ → Bool) (rules : List Rule) (judged : ℕ) (g : Goal) (w : List ℕ) : Type 0 where
@@ -102,6 +102,6 @@ pub record Does (has may : ℕ → Bool) (rules : List Rule) (judged : ℕ) (g :
   pub word : List ℕ
   pub around : Around has may rules judged g.rule before after
   pub body_is : slice_get (bodies rules) g.rule ≡ Some body
-  pub inside : Inside has may rules body g.place element left right
+  pub inside : Inside has may rules body g.site element left right
   pub makes : Makes has may rules element g.way word
   pub is : w ≡ (before ++ left) ++ (word ++ (right ++ after))

@@ -6,7 +6,7 @@ use Rattle.abnfread.specs.AbnfViews.{rules_of}
 use Rattle.abnfread.specs.Element.{Element, Text, Alt, Name, none, Rule, bodies, id_of}
 use Rattle.ruletable.specs.declared.table.NameCase.TheVariants.{Fold}
 use Rattle.coverlines.specs.Shortest.{IsShortest, Spells}
-use Rattle.coverlines.specs.declared.bounds.Bounds.{Bounds}
+use Rattle.coverlines.specs.declared.bounds.LineBounds.{LineBounds}
 use Rattle.coverlines.specs.declared.words.Words.{Words}
 
 -- what is known of a rule by its id
@@ -45,15 +45,15 @@ fixed_rules (rule ∷ rules) (k ∷ ks) =
     record { name = rule.name; body = fixed_body k; span = rule.span } ∷ fixed_rules rules ks
 
 -- the length of what is known of a rule; one more than the limit, where nothing is
-abbrev pub cost : ℕ → Option (Vec ℕ Global) → ℕ
-cost limit None = limit + 1
-cost limit (Some w) = length w.items
+abbrev pub known_cost : ℕ → Option (Vec ℕ Global) → ℕ
+known_cost limit None = limit + 1
+known_cost limit (Some w) = length w.items
 
 abbrev pub total : ℕ → List (Option (Vec ℕ Global)) → ℕ
 total limit [] = 0
-total limit (k ∷ ks) = cost limit k + total limit ks
+total limit (k ∷ ks) = known_cost limit k + total limit ks
 
-module _ (b : Bounds) (rules : List Rule) where
+module _ (b : LineBounds) (rules : List Rule) where
   -- an element derives it, and it may be a line
   abbrev pub IsFound : Element → Option (Vec ℕ Global) → Type 0
   IsFound e None = Unit {0}
@@ -67,7 +67,7 @@ module _ (b : Bounds) (rules : List Rule) where
   -- by what is known of the rules, a rule has no shorter list than the one that is known of it
   abbrev pub IsSettled : List (Option (Vec ℕ Global)) → ℕ → Type 0
   IsSettled known id = (body : Element) (v : List ℕ) → slice_get (bodies rules) id ≡ Some body
-      → Spells b (fixed_rules rules known) body v → length v ≤ b.limit → cost b.limit (known_at known id) ≤ length v
+      → Spells b (fixed_rules rules known) body v → length v ≤ b.limit → known_cost b.limit (known_at known id) ≤ length v
 
   -- a step for one rule: what is known is shorter; or the rule has no shorter list
   abbrev pub IsStep : ℕ → List (Option (Vec ℕ Global)) → List (Option (Vec ℕ Global)) → Bool → Type 0

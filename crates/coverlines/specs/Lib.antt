@@ -2,6 +2,6 @@ pub mod CoverLines
 pub mod Goals
 pub mod KnownWords
 pub mod MadeWords
-pub mod Places
+pub mod Sites
 pub mod RuleContexts
 pub mod Shortest

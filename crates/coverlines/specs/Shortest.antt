@@ -4,10 +4,10 @@ use Rattle.std.proofs.Common.{Vec, Global}
 use Rattle.abnfread.specs.Element.{Element, Elements, Rule}
 use Rattle.abnfcheck.specs.Derivable.{AreLetters, Derives, DerivesAll, DerivesSome, DerivesTimes}
 use Rattle.letters.specs.Letters.{has}
-use Rattle.coverlines.specs.declared.bounds.Bounds.{Bounds}
+use Rattle.coverlines.specs.declared.bounds.LineBounds.{LineBounds}
 
 -- whether a line may have a symbol: it is one of the alphabet, and not the one that ends a line
-abbrev pub may : Bounds → ℕ → Bool
+abbrev pub may : LineBounds → ℕ → Bool
 may b c = has b.alphabet c && not (eqb c b.terminator)
 
 -- a shortest one of some lists, and it has at most so many symbols
@@ -30,11 +30,11 @@ pub record Joined (P Q : List ℕ → Type 0) (w : List ℕ) : Type 0 where
   pub is : w ≡ front ++ back
 
 -- a list of a set that may stand in a line
-pub record Admitted (b : Bounds) (lists : List ℕ → Type 0) (w : List ℕ) : Type 0 where
+pub record Admitted (b : LineBounds) (lists : List ℕ → Type 0) (w : List ℕ) : Type 0 where
   pub symbols : AreLetters (may b) w
   pub is : lists w
 
-module _ (b : Bounds) (rules : List Rule) where
+module _ (b : LineBounds) (rules : List Rule) where
   -- what an element derives, and may stand in a line
   abbrev pub Spells : Element → List ℕ → Type 0
   Spells e = Admitted b (Derives (has b.alphabet) rules e)

@@ -8,7 +8,7 @@ use letters::Alphabet;
 
 /// Which lists of symbols may be lines.
 #[derive(Clone, Copy)]
-pub struct Bounds {
+pub struct LineBounds {
     /// The alphabet of lines.
     pub alphabet: Alphabet,
     /// The symbol that ends a line; no line has it.
@@ -17,7 +17,7 @@ pub struct Bounds {
     pub limit: usize,
 }
 
-impl Bounds {
+impl LineBounds {
     /// Returns whether a line may have a symbol.
     pub(crate) fn has(self, symbol: u32) -> bool
         ensures { result ≡ may self symbol }

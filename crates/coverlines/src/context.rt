@@ -6,7 +6,7 @@ use std::alloc::Global;
 
 /// The symbols before and after an element.
 #[derive(Drop)]
-pub(crate) struct Context {
+pub(crate) struct LineContext {
     pub(crate) before: Vec<u32>,
     pub(crate) after: Vec<u32>,
 }
@@ -20,26 +20,26 @@ fn both(alloc: Global, front: &[u32], back: &[u32]) -> Result<Vec<u32>, Memory>
     Ok(all)
 }
 
-impl Context {
+impl LineContext {
     /// Returns the empty context.
-    pub(crate) fn empty(alloc: Global) -> Context
+    pub(crate) fn empty(alloc: Global) -> LineContext
         ensures before { result.before.items ≡ [] }
         ensures after { result.after.items ≡ [] }
     {
-        Context {
+        LineContext {
             before: Vec::new(alloc),
             after: Vec::new(alloc),
         }
     }
 
     /// Returns the context of what stands in the other one, which stands in this one.
-    pub(crate) fn around(&self, alloc: Global, inner: &Context) -> Result<Context, Memory>
+    pub(crate) fn around(&self, alloc: Global, inner: &LineContext) -> Result<LineContext, Memory>
         ensures before { IfOk result (λ c. c.before.items ≡ self.now.before.items ++ inner.now.before.items) }
         ensures after { IfOk result (λ c. c.after.items ≡ inner.now.after.items ++ self.now.after.items) }
     {
         let before = both(alloc, &self.before, &inner.before)?;
         let after = both(alloc, &inner.after, &self.after)?;
-        Ok(Context { before, after })
+        Ok(LineContext { before, after })
     }
 
     /// Returns the line with that word in this context.

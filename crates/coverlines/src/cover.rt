@@ -1,20 +1,20 @@
 //! Lines that reach each goal.
-ghost use Rattle.std.specs.Prelude.{◌≡◌, ◌∷◌, ◌<◌, ◌↔◌, List, [], IfOk, IsTrue, Contains, length, map};
-ghost use Rattle.std.specs.List.{All, AllPairs};
+ghost use Rattle.std.specs.Prelude.{◌≡◌, ◌∷◌, ◌<◌, ◌≤◌, ◌↔◌, List, [], IfOk, IsTrue, OnOk, Contains, length, map};
+ghost use Rattle.std.specs.List.{AllPairs, AllWithin, HoldsAt};
 ghost use Rattle.abnfread.specs.AbnfViews.{rules_of};
 ghost use Rattle.abnfread.specs.Element.{Rule};
-ghost use Rattle.coverlines.specs.CoverLines.{AddsLines, IsCover, lines_of};
+ghost use Rattle.coverlines.specs.CoverLines.{AddsFitting, AddsLines, ComesLater, IsCover, MayAddLines, line_items};
 ghost use Rattle.coverlines.specs.KnownWords.{AreKnownOf, AreWords};
-ghost use Rattle.coverlines.specs.Places.{stood_of};
-ghost use Rattle.coverlines.specs.RuleContexts.{AreRulePlaces};
+ghost use Rattle.coverlines.specs.RuleContexts.{AreRuleSites};
+ghost use Rattle.coverlines.specs.Sites.{stood_of};
 
-use crate::bounds::Bounds;
-use crate::context::Context;
-use crate::made::{Made, made_words};
-use crate::places::{Place, places};
+use crate::bounds::LineBounds;
+use crate::context::LineContext;
+use crate::made::made_words;
 use crate::rule_contexts::rule_contexts;
 use crate::rule_words::rule_words;
-use crate::way::Way;
+use crate::sites::{Site, sites};
+use crate::way::GoalWay;
 use crate::words::Words;
 use abnfcheck::SoundAbnf;
 use abnfread::Elem;
@@ -29,89 +29,31 @@ pub struct CoverLine<'a> {
     /// The element.
     pub elem: &'a Elem,
     /// What it does.
-    pub way: Way,
+    pub way: GoalWay,
     /// The line.
     pub line: Vec<u32>,
 }
 
-// Returns the places in the body of each rule.
-fn rule_places<'a>(
+// Returns the sites in the body of each rule.
+fn rule_sites<'a>(
     alloc: Global,
     rules: &'a RuleTable<Elem>,
     words: &Words<'_>,
-) -> Result<Vec<Vec<Place<'a>>>, Memory>
+) -> Result<Vec<Vec<Site<'a>>>, Memory>
     requires { AreWords words.now }
     ensures { IfOk result (λ all. AreKnownOf words.now (rules_of rules.now)
-        → AreRulePlaces words.now.bounds (rules_of rules.now) all.items) }
+        → AreRuleSites words.now.bounds (rules_of rules.now) all.items) }
 {
     let mut all = Vec::new(alloc);
     for id in 0..rules.len() {
-        all.push(places(alloc, words, rules.body(id))?)?;
+        all.push(sites(alloc, words, rules.body(id))?)?;
     }
     Ok(all)
 }
 
-// Adds a line, if it fits.
-fn push_line<'a>(
-    limit: usize,
-    line: CoverLine<'a>,
-    found: &mut Vec<CoverLine<'a>>,
-) -> Result<(), Memory>
-{
-    if line.line.len() <= limit {
-        found.push(line)?;
-    }
-    Ok(())
-}
-
-// Adds a line for each goal at a place.
-fn add_place<'a>(
-    alloc: Global,
-    words: &Words<'_>,
-    rule: usize,
-    outer: &Context,
-    place: &Place<'a>,
-    found: &mut Vec<CoverLine<'a>>,
-) -> Result<(), Memory>
-    requires { AreWords words.now }
-    ensures { IfOk result (λ _. (rules : List Rule) → AreKnownOf words.now rules
-        → AddsLines words.now.bounds rules rule outer.now (stood_of place.now ∷ []) found.old.items found.new.items) }
-{
-    let context = outer.around(alloc, &place.context)?;
-    for Made { way, word } in made_words(alloc, words, place.elem)? {
-        let line = CoverLine {
-            rule,
-            elem: place.elem,
-            way,
-            line: context.line(alloc, &word)?,
-        };
-        push_line(words.bounds.limit, line, found)?;
-    }
-    Ok(())
-}
-
-// Adds a line for each goal at the places of a rule.
-fn add_rule<'a>(
-    alloc: Global,
-    words: &Words<'_>,
-    rule: usize,
-    outer: &Context,
-    places: &[Place<'a>],
-    found: &mut Vec<CoverLine<'a>>,
-) -> Result<(), Memory>
-    requires { AreWords words.now }
-    ensures { IfOk result (λ _. (rules : List Rule) → AreKnownOf words.now rules
-        → AddsLines words.now.bounds rules rule outer.now (map stood_of places.now) found.old.items found.new.items) }
-{
-    for place in places {
-        add_place(alloc, words, rule, outer, place, found)?;
-    }
-    Ok(())
-}
-
 // Returns whether one of the lines is that list.
 fn has_line(lines: &[CoverLine<'_>], line: &[u32]) -> bool
-    ensures { IsTrue result ↔ Contains (lines_of lines.now) line.now }
+    ensures { IsTrue result ↔ Contains (line_items lines.now) line.now }
 {
     for other in lines {
         if other.line.as_slice() == line {
@@ -121,25 +63,104 @@ fn has_line(lines: &[CoverLine<'_>], line: &[u32]) -> bool
     false
 }
 
-// Returns the lines without those that come again.
-fn once<'a>(alloc: Global, lines: Vec<CoverLine<'a>>) -> Result<Vec<CoverLine<'a>>, Memory>
+// Returns how many lines, the first ones, have at least so many symbols.
+fn longer_count(lines: &[CoverLine<'_>], len: usize) -> usize
+    ensures within { result ≤ length lines.now }
+    ensures longer { AllWithin (λ line. len ≤ length line.line.items) lines.now 0 result }
+    ensures next { result < length lines.now → HoldsAt (λ line. length line.line.items < len) lines.now result }
 {
-    let mut kept = Vec::new(alloc);
-    for line in lines {
-        if !has_line(&kept, &line.line) {
-            kept.push(line)?;
+    for (i, line) in lines.iter().enumerate() {
+        if line.line.len() < len {
+            return i;
         }
     }
-    Ok(kept)
+    lines.len()
 }
 
-// Returns a line for each goal.
+// Adds a line after those that are as long, if it fits and is not there.
+fn add_line<'a>(
+    limit: usize,
+    line: CoverLine<'a>,
+    found: &mut Vec<CoverLine<'a>>,
+) -> Result<(), Memory>
+    requires { AllPairs ComesLater found.old.items }
+    ensures order { OnOk result (AllPairs ComesLater found.new.items) }
+    ensures added { IfOk result (λ _. AddsFitting limit line found.old.items found.new.items) }
+{
+    if limit < line.line.len() {
+        return Ok(());
+    }
+    if has_line(found, &line.line) {
+        return Ok(());
+    }
+    let at = longer_count(found, line.line.len());
+    found.insert(at, line)?;
+    Ok(())
+}
+
+// Adds a line for each goal at a site.
+fn add_site<'a>(
+    alloc: Global,
+    words: &Words<'_>,
+    rule: usize,
+    outer: &LineContext,
+    site: &Site<'a>,
+    found: &mut Vec<CoverLine<'a>>,
+) -> Result<(), Memory>
+    requires words { AreWords words.now }
+    requires order { AllPairs ComesLater found.old.items }
+    ensures order { OnOk result (AllPairs ComesLater found.new.items) }
+    ensures added { IfOk result (λ _. (rules : List Rule) → AreKnownOf words.now rules
+        → AddsLines words.now.bounds rules rule outer.now (stood_of site.now ∷ []) found.old.items found.new.items) }
+{
+    let context = outer.around(alloc, &site.context)?;
+    let made = made_words(alloc, words, site.elem)?;
+    for one in &made {
+        let line = CoverLine {
+            rule,
+            elem: site.elem,
+            way: one.way,
+            line: context.line(alloc, &one.word)?,
+        };
+        add_line(words.bounds.limit, line, found)?;
+    }
+    Ok(())
+}
+
+// Adds a line for each goal at the sites of a rule, if it has a context.
+fn add_rule<'a>(
+    alloc: Global,
+    words: &Words<'_>,
+    rule: usize,
+    outer: &Option<LineContext>,
+    sites: &[Site<'a>],
+    found: &mut Vec<CoverLine<'a>>,
+) -> Result<(), Memory>
+    requires words { AreWords words.now }
+    requires order { AllPairs ComesLater found.old.items }
+    ensures order { OnOk result (AllPairs ComesLater found.new.items) }
+    ensures added { IfOk result (λ _. (rules : List Rule) → AreKnownOf words.now rules
+        → MayAddLines words.now.bounds rules rule outer.now (map stood_of sites.now) found.old.items found.new.items) }
+{
+    let Some(context) = outer else {
+        return Ok(());
+    };
+    for site in sites {
+        add_site(alloc, words, rule, context, site, found)?;
+    }
+    Ok(())
+}
+
+// Returns a line for each goal, in order.
 fn goal_lines<'a>(
     alloc: Global,
     rules: &'a RuleTable<Elem>,
     judged: usize,
-    bounds: Bounds,
+    bounds: LineBounds,
 ) -> Result<Vec<CoverLine<'a>>, Memory>
+    requires names { rules.now.names ≡ NameCase.Fold }
+    requires judged { judged < length rules.now.rules }
+    ensures { IfOk result (λ lines. IsCover bounds (rules_of rules.now) judged lines.items) }
 {
     let known = rule_words(alloc, rules, bounds)?;
     let words = Words {
@@ -147,29 +168,26 @@ fn goal_lines<'a>(
         known: known.as_slice(),
         bounds,
     };
-    let places = rule_places(alloc, rules, &words)?;
-    let contexts = rule_contexts(alloc, rules, bounds, &places, judged)?;
+    let sites = rule_sites(alloc, rules, &words)?;
+    let contexts = rule_contexts(alloc, rules, bounds, &sites, judged)?;
     let mut found = Vec::new(alloc);
     for id in 0..rules.len() {
-        if let Some(context) = &contexts[id] {
-            add_rule(alloc, &words, id, context, &places[id], &mut found)?;
-        }
+        add_rule(alloc, &words, id, &contexts[id], &sites[id], &mut found)?;
     }
     Ok(found)
 }
 
-/// Returns lines that the judged rule of a grammar derives: for each goal that some line reaches, one that reaches it.
-/// The longer ones come first, and none comes twice.
+/// Returns lines that the judged rule of a grammar derives: for each goal that some line reaches, a shortest one that
+/// reaches it. Longer ones come first, and none comes twice.
 ///
 /// # Errors
 /// `Memory` if an allocation fails.
 pub fn cover_lines<'a>(
     alloc: Global,
     grammar: &'a SoundAbnf,
-    bounds: Bounds,
+    bounds: LineBounds,
 ) -> Result<Vec<CoverLine<'a>>, Memory>
+    ensures { IfOk result (λ lines. IsCover bounds (rules_of grammar.now.rules) grammar.now.judged lines.items) }
 {
-    let mut lines = goal_lines(alloc, grammar.rules(), grammar.judged(), bounds)?;
-    lines.sort_by_key(|line| usize::MAX - line.line.len())?;
-    once(alloc, lines)
+    goal_lines(alloc, grammar.rules(), grammar.judged(), bounds)
 }

@@ -5,14 +5,14 @@ mod bounds;
 mod context;
 mod cover;
 mod made;
-mod places;
 mod rule_contexts;
 mod rule_words;
 mod short;
+mod sites;
 mod symbols;
 mod way;
 mod words;
 
-pub use bounds::Bounds;
+pub use bounds::LineBounds;
 pub use cover::{CoverLine, cover_lines};
-pub use way::Way;
+pub use way::GoalWay;

@@ -1,9 +1,9 @@
 //! Shortest lists that rules derive.
 ghost use Rattle.std.specs.Prelude.{◌≡◌, ◌<◌, ◌≤◌, ◌↔◌, ℕ, IfOk, IsTrue, OnOk, None, length, replicate};
 ghost use Rattle.abnfread.specs.AbnfViews.{rules_of};
-ghost use Rattle.coverlines.specs.KnownWords.{AreFound, ArePassed, AreShortestWords, IsStep, cost};
+ghost use Rattle.coverlines.specs.KnownWords.{AreFound, ArePassed, AreShortestWords, IsStep, known_cost};
 
-use crate::bounds::Bounds;
+use crate::bounds::LineBounds;
 use crate::words::{Words, shortest};
 use abnfread::Elem;
 use ruletable::{Memory, NameCase, RuleTable};
@@ -11,7 +11,7 @@ use std::alloc::Global;
 
 // Returns whether a list is shorter than the one that is known, if any.
 fn is_shorter(new: &[u32], old: &Option<Vec<u32>>) -> bool
-    ensures { (limit : ℕ) → length new.now ≤ limit → (IsTrue result ↔ (length new.now < cost limit old.now)) }
+    ensures { (limit : ℕ) → length new.now ≤ limit → (IsTrue result ↔ (length new.now < known_cost limit old.now)) }
 {
     match old {
         Some(old) => new.len() < old.len(),
@@ -23,7 +23,7 @@ fn is_shorter(new: &[u32], old: &Option<Vec<u32>>) -> bool
 fn improve(
     alloc: Global,
     rules: &RuleTable<Elem>,
-    bounds: Bounds,
+    bounds: LineBounds,
     known: &mut Vec<Option<Vec<u32>>>,
     id: usize,
 ) -> Result<bool, Memory>
@@ -52,7 +52,7 @@ fn improve(
 fn improve_all(
     alloc: Global,
     rules: &RuleTable<Elem>,
-    bounds: Bounds,
+    bounds: LineBounds,
     known: &mut Vec<Option<Vec<u32>>>,
 ) -> Result<bool, Memory>
     requires names { rules.now.names ≡ NameCase.Fold }
@@ -84,7 +84,7 @@ fn unknown(alloc: Global, count: usize) -> Result<Vec<Option<Vec<u32>>>, Memory>
 pub(crate) fn rule_words(
     alloc: Global,
     rules: &RuleTable<Elem>,
-    bounds: Bounds,
+    bounds: LineBounds,
 ) -> Result<Vec<Option<Vec<u32>>>, Memory>
     requires { rules.now.names ≡ NameCase.Fold }
     ensures { IfOk result (λ known. AreShortestWords bounds (rules_of rules.now) known.items) }

@@ -2,9 +2,9 @@
 ghost use Rattle.std.specs.Prelude.{◌≡◌, ℕ, List, IfOk};
 ghost use Rattle.abnfread.specs.Element.{Element, Elements, Rule, append, more, none};
 ghost use Rattle.coverlines.specs.Shortest.{Admitted, IsShortest, Spells, SpellsAll, SpellsSome, SpellsTimes};
-ghost use Rattle.coverlines.specs.declared.bounds.Bounds.{Bounds as the_bounds};
+ghost use Rattle.coverlines.specs.declared.bounds.LineBounds.{LineBounds as the_bounds};
 
-use crate::bounds::Bounds;
+use crate::bounds::LineBounds;
 use ruletable::Memory;
 use std::alloc::Global;
 
@@ -64,24 +64,24 @@ pub(crate) fn repeated(
     if count == 0 {
         return Ok(Some(Vec::new(alloc)));
     }
-    let Some(turn) = word else {
+    let Some(round) = word else {
         return Ok(None);
     };
-    if turn.is_empty() {
-        return Ok(Some(turn));
+    if round.is_empty() {
+        return Ok(Some(round));
     }
     let mut all = Vec::new(alloc);
     for _ in 0..count {
-        if limit < all.len() + turn.len() {
+        if limit < all.len() + round.len() {
             return Ok(None);
         }
-        all.extend_from_slice(&turn)?;
+        all.extend_from_slice(&round)?;
     }
     Ok(Some(all))
 }
 
 /// Returns a list, if it may stand in a line.
-pub(crate) fn admitted(bounds: Bounds, word: Vec<u32>) -> Option<Vec<u32>>
+pub(crate) fn admitted(bounds: LineBounds, word: Vec<u32>) -> Option<Vec<u32>>
     ensures { IsShortest (Admitted bounds (λ w. w ≡ word.items)) bounds.limit result }
 {
     if bounds.admits(&word) { Some(word) } else { None }

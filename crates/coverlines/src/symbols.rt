@@ -1,16 +1,16 @@
 //! The symbols of texts.
 ghost use Rattle.std.specs.Prelude.{◌≡◌, ℕ, List, map, true, IfOk};
 ghost use Rattle.abnfcheck.specs.Derivable.{AreLetters, Spelled, StandsFor};
-ghost use Rattle.coverlines.specs.Goals.{other_case as the_other_case};
+ghost use Rattle.coverlines.specs.Goals.{swapped_case as the_swapped_case};
 ghost use Rattle.coverlines.specs.Shortest.{may};
 
-use crate::bounds::Bounds;
+use crate::bounds::LineBounds;
 use ruletable::Memory;
 use std::alloc::Global;
 
 // Returns a US-ASCII letter in the other case, and any other byte as it is.
 fn other_case(byte: u8) -> u8
-    ensures { result ≡ the_other_case byte }
+    ensures { result ≡ the_swapped_case byte }
 {
     match byte {
         b'A'..=b'Z' => byte + 32,
@@ -20,7 +20,7 @@ fn other_case(byte: u8) -> u8
 }
 
 // Returns a symbol that stands for a byte of a text: the byte, or where a line may not have it a letter in the other case.
-fn spelled_symbol(bounds: Bounds, folds: bool, byte: u8) -> u32
+fn spelled_symbol(bounds: LineBounds, folds: bool, byte: u8) -> u32
     ensures stands { StandsFor folds byte result }
     ensures best { (c : ℕ) → StandsFor folds byte c → may bounds c ≡ true → may bounds result ≡ true }
 {
@@ -35,7 +35,7 @@ fn spelled_symbol(bounds: Bounds, folds: bool, byte: u8) -> u32
 /// Returns a spelling of a text that may stand in a line, if there is one.
 pub(crate) fn spelling(
     alloc: Global,
-    bounds: Bounds,
+    bounds: LineBounds,
     folds: bool,
     text: &[u8],
 ) -> Result<Vec<u32>, Memory>
@@ -63,7 +63,7 @@ pub(crate) fn text_symbols(alloc: Global, text: &[u8]) -> Result<Vec<u32>, Memor
 
 /// Returns the symbols of a text, with each letter in the other case.
 pub(crate) fn other_symbols(alloc: Global, text: &[u8]) -> Result<Vec<u32>, Memory>
-    ensures { IfOk result (λ word. word.items ≡ map the_other_case text.now) }
+    ensures { IfOk result (λ word. word.items ≡ map the_swapped_case text.now) }
 {
     let mut word = Vec::new(alloc);
     for byte in text {

@@ -2,7 +2,7 @@
 
 /// What an element does in a derivation.
 #[derive(Clone, Copy)]
-pub enum Way {
+pub enum GoalWay {
     /// An alternation takes the alternative of that number.
     Chosen(usize),
     /// An option takes its operand.
@@ -10,7 +10,7 @@ pub enum Way {
     /// An option leaves its operand out.
     LeftOut,
     /// A repetition takes its operand so many times.
-    Turns(u64),
+    Rounds(u64),
     /// A range gives its least symbol.
     First,
     /// A range gives its greatest symbol.

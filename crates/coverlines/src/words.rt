@@ -6,7 +6,7 @@ ghost use Rattle.abnfcheck.specs.Derivable.{AtMost};
 ghost use Rattle.coverlines.specs.KnownWords.{AreKnownOf, AreWords, IsCopy, known_at};
 ghost use Rattle.coverlines.specs.Shortest.{Admitted, IsShortest, Spells, SpellsAll, SpellsSome};
 
-use crate::bounds::Bounds;
+use crate::bounds::LineBounds;
 use crate::short::{admitted, joined, repeated, shorter};
 use crate::symbols::spelling;
 use abnfread::Elem;
@@ -18,7 +18,7 @@ use std::alloc::Global;
 pub(crate) struct Words<'a> {
     pub(crate) rules: &'a RuleTable<Elem>,
     pub(crate) known: &'a [Option<Vec<u32>>],
-    pub(crate) bounds: Bounds,
+    pub(crate) bounds: LineBounds,
 }
 
 // Returns a copy of the list that is known of a rule.
@@ -66,7 +66,7 @@ pub(crate) fn allows(least: u32, most: Option<u32>, count: u64) -> bool
 /// Returns one symbol, if there is one.
 pub(crate) fn one_symbol(
     alloc: Global,
-    bounds: Bounds,
+    bounds: LineBounds,
     symbol: Option<u32>,
 ) -> Result<Option<Vec<u32>>, Memory>
     ensures { IfOk result (λ w. MatchOption symbol (w ≡ None)
@@ -112,8 +112,8 @@ pub(crate) fn shortest(
             if !allows(*least, *most, u64::from(*least)) {
                 return Ok(None);
             }
-            let turn = shortest(alloc, words, operand)?;
-            repeated(alloc, bounds.limit, turn, u64::from(*least))
+            let round = shortest(alloc, words, operand)?;
+            repeated(alloc, bounds.limit, round, u64::from(*least))
         }
         Elem::Opt(_) => Ok(Some(Vec::new(alloc))),
         Elem::Name(name) => known_word(alloc, words, name),

@@ -2,7 +2,7 @@
 use Rattle.std.proofs.Common.{arith}
 use Rattle.abnfread.specs.AbnfViews.{element_of, elements_of}
 use Rattle.coverlines.proofs.MadeLemmas as m
-use Rattle.coverlines.proofs.PlacesLemmas.{member_below, member_get}
+use Rattle.coverlines.proofs.SitesLemmas.{member_below, member_get}
 use Rattle.abnfread.specs.Element.{Alt}
 use Rattle.coverlines.proofs.made.alt_made.Goals as goal
 

@@ -3,7 +3,7 @@ use Rattle.std.proofs.Common.{◌∙◌, ◌++◌, Some, ap}
 use Rattle.abnfread.specs.AbnfViews.{element_of}
 use Rattle.abnfread.specs.Element.{Opt}
 use Rattle.coverlines.specs.MadeWords.{made_of}
-use Rattle.coverlines.specs.declared.way.Way.TheVariants.{LeftOut, Taken}
+use Rattle.coverlines.specs.declared.way.GoalWay.TheVariants.{LeftOut, Taken}
 use Rattle.coverlines.proofs.MadeLemmas as m
 use Rattle.coverlines.proofs.made.opt_made.Goals as goal
 

@@ -2,7 +2,7 @@
 use Rattle.std.proofs.Common.{◌∙◌, ◌++◌, ap}
 use Rattle.abnfread.specs.Element.{Range}
 use Rattle.coverlines.specs.MadeWords.{made_of}
-use Rattle.coverlines.specs.declared.way.Way.TheVariants.{First, Last}
+use Rattle.coverlines.specs.declared.way.GoalWay.TheVariants.{First, Last}
 use Rattle.coverlines.proofs.MadeLemmas as m
 use Rattle.coverlines.proofs.made.range_made.Goals as goal
 

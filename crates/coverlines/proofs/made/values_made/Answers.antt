@@ -1,7 +1,7 @@
 -- The one way.
 use Rattle.std.proofs.Common.{◌≡◌, ◌∙◌, ◌++◌, ap}
 use Rattle.coverlines.specs.MadeWords.{made_of}
-use Rattle.coverlines.specs.declared.way.Way.TheVariants.{Same}
+use Rattle.coverlines.specs.declared.way.GoalWay.TheVariants.{Same}
 use Rattle.coverlines.proofs.MadeLemmas as m
 use Rattle.coverlines.proofs.WordsLemmas.{letters_has}
 use Rattle.coverlines.proofs.made.values_made.Goals as goal

@@ -4,7 +4,7 @@ use Rattle.std.specs.Prelude.{slice_get}
 use Rattle.std.proofs.lemmas.List.{length-map}
 use Rattle.abnfread.specs.AbnfViews.{element_of, rule_of, rules_of}
 use Rattle.abnfread.specs.Element.{bodies}
-use Rattle.coverlines.specs.KnownWords.{cost, fixed_rules, known_at}
+use Rattle.coverlines.specs.KnownWords.{known_cost, fixed_rules, known_at}
 use Rattle.coverlines.specs.Shortest.{IsShortest, IsShortestOf, Spells}
 use Rattle.coverlines.proofs.KnownWordsLemmas as k
 use Rattle.coverlines.proofs.WordsLemmas.{known_index}
@@ -28,7 +28,7 @@ returns-then-not-is_shorter-clause-step c =
     let same = known_index c.args.known.now.items c.args.id c.index.result.now
         (let n = c.requires.known.count in let m = length-map c.args.rules.now.rules rule_of in
         let lt = c.requires.id in omega (arith, n, m, lt)) c.index.ensures in
-    let few : cost c.args.bounds.limit c.index.result.now ≤ length c.deref.result.now =
+    let few : known_cost c.args.bounds.limit c.index.result.now ≤ length c.deref.result.now =
         k.not_shorter c.args.bounds.limit (length c.deref.result.now) c.index.result.now c.is_shorter.result
         c.if-not-is_shorter.true (c.is_shorter.ensures c.args.bounds.limit
         (rw c.deref.ensures.value h.within)) in
@@ -61,7 +61,7 @@ returns-clause-step c =
         (let n = c.requires.known.count in let m = length-map c.args.rules.now.rules rule_of in
         let lt = c.requires.id in omega (arith, n, m, lt)) in
     let same = known_index c.args.known.now.items c.args.id c.index.result.now inside c.index.ensures in
-    let less : length c.deref.result.now < cost c.args.bounds.limit c.index.result.now =
+    let less : length c.deref.result.now < known_cost c.args.bounds.limit c.index.result.now =
         (c.is_shorter.ensures c.args.bounds.limit (rw c.deref.ensures.value h.within)).0 c.if-not-is_shorter.false in
     k.step_set c.args.bounds (rules_of c.args.rules.now) c.args.known.now.items c.args.id c.in-Some.new inside
     (rw same (rw c.deref.ensures.value at less))

@@ -37,13 +37,13 @@ shortest-returns-in-Alt t c = IfOk-weaker c.shortest_some.result _ _ (λ found s
     (elements_of c.in-Alt.alternatives.items) found (rw c.deref-in-Alt.ensures.value at (some rules known))))
     c.shortest_some.ensures
 
-pub shortest-returns-in_ok-turn-in-Rep : goal.shortest-returns-in_ok-turn-in-Rep
-shortest-returns-in_ok-turn-in-Rep t c = IfOk-weaker c.repeated.result _ _ (λ found turns rules known.
+pub shortest-returns-in_ok-round-in-Rep : goal.shortest-returns-in_ok-round-in-Rep
+shortest-returns-in_ok-round-in-Rep t c = IfOk-weaker c.repeated.result _ _ (λ found rounds rules known.
     rw (c.in-Rep.is, element-Rep) (rep_least c.args.words.now.bounds rules c.in-Rep.least c.in-Rep.most
     (element_of c.in-Rep.operand.value) c.args.words.now.bounds.limit found
     (rw c.from.ensures at ((c.allows.ensures.0 c.if-not-allows.false).1))
-    (rw c.from-in-Rep.ensures at (turns c.args.words.now.bounds rules (element_of c.in-Rep.operand.value)
-    (rw c.deref-in-Rep.ensures at (c.in_ok-turn-in-Rep.ensures rules known)))))) c.repeated.ensures
+    (rw c.from-in-Rep.ensures at (rounds c.args.words.now.bounds rules (element_of c.in-Rep.operand.value)
+    (rw c.deref-in-Rep.ensures at (c.in_ok-round-in-Rep.ensures rules known)))))) c.repeated.ensures
 
 pub shortest-returns-in-Opt : goal.shortest-returns-in-Opt
 shortest-returns-in-Opt t c = λ rules known. rw (c.in-Opt.is, element-Opt)

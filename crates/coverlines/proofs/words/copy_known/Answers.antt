@@ -1,4 +1,4 @@
--- The list stands at the rule's place.
+-- The list stands at the rule's site.
 use Rattle.std.proofs.Common.{◌∙◌}
 use Rattle.coverlines.proofs.WordsLemmas.{known_index}
 use Rattle.coverlines.proofs.words.copy_known.Goals as goal
