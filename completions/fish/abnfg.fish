@@ -22,7 +22,7 @@ function __abnfg_rules
 end
 
 complete -c abnfg -s s -l rule -x -a '(__abnfg_rules)' -d 'List lines of this rule [default: the first rule]'
-complete -c abnfg -s m -l mode -x -a 'all miss random' -d 'Choose which lines to list'
+complete -c abnfg -s m -l mode -x -a 'all cover miss random' -d 'Choose which lines to list'
 complete -c abnfg -s l -l limit -x -d 'List lines of at most N symbols, from 1 to 16777216'
 complete -c abnfg -s c -l count -x -d 'List at most N lines, from 1 to 4294967295'
 complete -c abnfg -s e -l edges -d 'Also list lines of mode `miss` by wrong symbols next to those that can follow'

@@ -114,7 +114,7 @@ PROGRAMS = (
     ), "=", "The file of the old grammar, at most 1048576 bytes", "abnfi", ("old", "new")),
     Program("abnfg", (
         Option("s", "rule", "RULE", (), "List lines of this rule [default: the first rule]"),
-        Option("m", "mode", "MODE", ("all", "miss", "random"), "Choose which lines to list"),
+        Option("m", "mode", "MODE", ("all", "cover", "miss", "random"), "Choose which lines to list"),
         Option("l", "limit", "N", (), "List lines of at most N symbols, from 1 to 16777216"),
         Option("c", "count", "N", (), "List at most N lines, from 1 to 4294967295"),
         Option("e", "edges", "", (), "Also list lines of mode `miss` by wrong symbols next to those that can follow"),

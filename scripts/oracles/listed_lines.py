@@ -1,6 +1,6 @@
 #!/usr/bin/env python3
 """Lists lines of each grammar of examples/ by bin/abnfg, and judges them by bin/abnfi: each is derived, also
-by lot, or with `-m miss` none is. What `-x` explains of those is what `abnfi -x` explains.
+by lot and by goal, or with `-m miss` none is. What `-x` explains of those is what `abnfi -x` explains.
 
 usage: listed_lines.py [-c LINES]
 
@@ -46,9 +46,10 @@ def main():
     if not all((BIN / it).is_file() for it in ("abnfg", "abnfi")):
         print("listed_lines: abnfg or abnfi: not built: skipped")
         return 0
-    judged = {"all": 0, "random": 0, "miss": 0}
+    judged = {"all": 0, "cover": 0, "random": 0, "miss": 0}
     for grammar in sorted(TOP.glob("examples/*/*.abnf")):
-        for mode, verdict, status in (("all", b"yes\n", 0), ("random", b"yes\n", 0), ("miss", b"no\n", 1)):
+        for mode in judged:
+            verdict, status = (b"no\n", 1) if mode == "miss" else (b"yes\n", 0)
             lines = listed(grammar, mode, count)
             ran = run("abnfi", grammar, lines=lines)
             if lines and (ran.returncode, ran.stdout) != (status, verdict * lines.count(b"\0")):
@@ -58,7 +59,8 @@ def main():
         if not is_explained_alike(grammar):
             print(f"{grammar.relative_to(TOP)}: a line of -m miss is explained otherwise by abnfi")
             return 1
-    print(f"{judged['all'] + judged['random']} listed lines are derived, and {judged['miss']} are not")
+    missed = judged.pop("miss")
+    print(f"{sum(judged.values())} listed lines are derived, and {missed} are not")
     return 0
 
 

@@ -1,6 +1,7 @@
 #!/usr/bin/env python3
 """Compares bin/abnfg with a slow answer on random grammars: all short lists that the rule derives, as a set, in order.
-With `-m random` each line is derived, and a seed gives the same lines again.
+With `-m random` each line is derived, and a seed gives the same lines again. With `-m cover` the lines are compared
+with the goals that short lists reach: each line is a shortest one for some goal, and each goal has one.
 
 usage: random_lines.py [-n GRAMMARS] [-s SEED]
 
@@ -19,6 +20,7 @@ import tempfile
 
 import random_abnf
 import slow_abnf
+from covered_lines import Reached
 from short_lists import ShortLists, bounds_in, is_taken, line_key
 
 BIN = pathlib.Path(__file__).resolve().parents[2] / "bin"
@@ -36,6 +38,18 @@ def first_letters(bodies, is_utf8, end, count):
             found += [it for it in range(low, min(high, low + count))
                       if it != end and slow_abnf.is_letter(it, is_utf8)]
     return found
+
+
+def end_letters(bodies, is_utf8, end):
+    """Returns the first letter and the last one of each class of letters that the elements take, without the end."""
+    bounds = sorted({0, 0xE000, end, end + 1} | {it for body in bodies for it in bounds_in(body)})
+    found = set()
+    for low, high in itertools.zip_longest(bounds, bounds[1:], fillvalue=0x110000):
+        if any(is_taken(body, low) for body in bodies):
+            inside = [it for it in (range(low, high), range(high - 1, low - 1, -1))]
+            ends = [next((it for it in way if it != end and slow_abnf.is_letter(it, is_utf8)), None) for way in inside]
+            found |= set(ends) - {None}
+    return sorted(found)
 
 
 def written(letters, is_utf8):
@@ -57,8 +71,10 @@ class Case:
         if not self.is_refused:
             self.find_lines(rules, self.key, r.choice([1, 2, 3, 8]))
         self.seed = str(r.choice([0, 1, 2**64 - 1, r.randrange(2**64)]))
-        self.words = [*(["-s", rule] if rule else []), *(["-u", "utf8"] if self.is_utf8 else []),
-                      *(["-z"] if self.end == 0 else []), "-c", str(self.count), "-l", str(self.limit)]
+        self.plain = [*(["-s", rule] if rule else []), *(["-u", "utf8"] if self.is_utf8 else []),
+                      *(["-z"] if self.end == 0 else [])]
+        self.words = [*self.plain, "-c", str(self.count), "-l", str(self.limit)]
+        self.most, self.goals = self.limit, {}
 
     def find_lines(self, rules, key, limit):
         bodies = [rules.all[it] for it in slow_abnf.reached(rules, key) if it in rules.all]
@@ -68,6 +84,17 @@ class Case:
         self.limit = limit
         lists = ShortLists(rules, letters, limit).derived(key)
         self.lines = sorted(lists, key=line_key)[:self.count]
+
+    def cover_words(self):
+        return [*self.plain, "-c", "100000", "-l", str(self.most)]
+
+    def find_goals(self):
+        """Sets the greatest length of lines of `-m cover`, and the lists that reach each goal."""
+        bodies = [self.rules.all[it] for it in slow_abnf.reached(self.rules, self.key) if it in self.rules.all]
+        letters, self.most = end_letters(bodies, self.is_utf8, self.end), self.limit
+        while self.most > 1 and len(letters) ** self.most > MOST_LISTS:
+            self.most -= 1
+        self.goals = Reached(self.rules, letters, self.most).goal_lists(self.key)
 
     def output(self):
         return b"".join(written(it, self.is_utf8) + bytes([self.end]) for it in self.lines)
@@ -86,12 +113,30 @@ class Case:
         is_right = all(it != self.end and slow_abnf.is_letter(it, self.is_utf8) for it in line)
         return is_right and len(line) <= self.limit and slow_abnf.Deriver(self.rules, line).derives(self.key)
 
+    def records(self, out):
+        """Returns the lines of an output, and what follows the last one."""
+        text = out.decode("utf-8" if self.is_utf8 else "latin-1")
+        *lines, rest = [tuple(map(ord, it)) for it in text.split(chr(self.end))]
+        return lines, rest
+
+    def covered(self, out, err, status):
+        """Returns how a run of `-m cover` ended: a word, or nothing if something is wrong with it."""
+        if self.is_refused:
+            return "refused" if (out, err, status) == (b"", self.reported, 2) else None
+        lines, rest = self.records(out)
+        least = {goal: {it for it in lists if len(it) == min(map(len, lists))} for goal, lists in self.goals.items()}
+        is_right = not rest and all(any(it in lists for lists in least.values()) for it in lines)
+        is_complete = all(not lists or lists & set(lines) for lists in least.values())
+        lengths = [len(it) for it in lines]
+        is_ordered = len(set(lines)) == len(lines) and lengths == sorted(lengths, reverse=True)
+        is_ended = (err, status) == (self.reported, 0 if lines else 1)
+        return "covered" if is_right and is_complete and is_ordered and is_ended else None
+
     def drawn(self, out, err, status):
         """Returns how a run of lines by lot ended: a word, or nothing if something is wrong with it."""
         if self.is_refused:
             return "refused" if (out, err, status) == (b"", self.reported, 2) else None
-        text = out.decode("utf-8" if self.is_utf8 else "latin-1")
-        *lines, rest = [tuple(map(ord, it)) for it in text.split(chr(self.end))]
+        lines, rest = self.records(out)
         if rest or not all(map(self.is_line, set(lines))):
             return None
         if status == 3:
@@ -122,10 +167,17 @@ def main():
             ran = run([BIN / "abnfg", *case.words, grammar])
             by_lot = [BIN / "abnfg", "-m", "random", "-g", case.seed, *case.words, grammar]
             drawn = run(by_lot)
+            if not case.is_refused:
+                case.find_goals()
+            cover = [BIN / "abnfg", "-m", "cover", *case.cover_words(), grammar]
             how = case.ended(*ran)
             counts[how] += 1
             if how is None:
                 print(f"grammar {number}: abnfg {' '.join(case.words)}: {ran}\n{case.text}\nwanted: {case.output()}")
+                return 1
+            covered = run(cover)
+            if case.covered(*covered) is None:
+                print(f"grammar {number}: abnfg {' '.join(map(str, cover[1:-1]))}: {covered}\n{case.text}")
                 return 1
             if case.drawn(*drawn) is None or run(by_lot) != drawn:
                 print(f"grammar {number}: abnfg -m random -g {case.seed} {' '.join(case.words)}: {drawn}\n{case.text}")

@@ -29,7 +29,7 @@ seed_added old new a is local added = added.shape local ∙ ap (with_rule (app_o
 -- the names of the alphabets and the modes, from the command without the seed
 pub app_made : {E : Type 0} (own r : Result Command E) (letters modes : Names)
     → IfOk own (λ c. app_of c ≡ unseeded_app letters modes) → AreAlphabets letters
-    → AreNames (codes "all" ∷ codes "miss" ∷ codes "random" ∷ []) modes
+    → AreNames (codes "all" ∷ codes "cover" ∷ codes "miss" ∷ codes "random" ∷ []) modes
     → IfOk r (λ c. app_of c ≡ with_rules (unseeded_app letters modes) (seed_rule ∷ []))
     → (app : App) × IsAbnfgApp app × IfOk r (λ c. app_of c ≡ app)
 app_made own r letters modes made are named is = (abnfg_app letters modes, (letters, are, modes, named, refl), is)

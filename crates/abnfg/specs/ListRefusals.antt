@@ -1,7 +1,7 @@
 -- The explanations of lines that a rule rejects.
 use Rattle.std.specs.Prelude.{◌≡◌, ℕ, ◌+◌, Bool, true, false, List, [], ◌∷◌, ◌++◌, map}
 use Rattle.abnfg.specs.declared.lines.ListMode.{ListMode}
-use Rattle.abnfg.specs.declared.lines.ListMode.TheVariants.{All as InOrder, Miss, Random}
+use Rattle.abnfg.specs.declared.lines.ListMode.TheVariants.{All as InOrder, Cover, Miss, Random}
 use Rattle.abnfread.specs.Element.{Rule}
 use Rattle.letters.specs.declared.alphabet.Alphabet.{Alphabet}
 use Rattle.refusedlines.specs.Refusals.{IsRefusalReported}
@@ -17,6 +17,7 @@ module _ (alphabet : Alphabet) (rules : List Rule) (id : ℕ) where
 -- whether lines of a mode are explained: those that miss the rule, if that is asked for
 abbrev pub explains_by : ListMode → Bool → Bool
 explains_by InOrder explain = false
+explains_by Cover explain = false
 explains_by Miss explain = explain
 explains_by Random explain = false
 

@@ -4,7 +4,7 @@ use Rattle.std.specs.Prelude.{◌≡◌, ◌≤◌, ℕ, List, [], ◌∷◌, co
 use Rattle.std.specs.Str.{bytes_eq}
 use Rattle.std.specs.Str.Parse.{IsNumeral, digits_value, without_leading_plus}
 use Rattle.abnfg.specs.declared.lines.ListMode.{ListMode}
-use Rattle.abnfg.specs.declared.lines.ListMode.TheVariants.{All, Miss, Random}
+use Rattle.abnfg.specs.declared.lines.ListMode.TheVariants.{All, Cover, Miss, Random}
 use Rattle.abnfg.specs.declared.lines.ListSettings.{ListSettings}
 use Rattle.clap.specs.Words.{App, Row, Rule, Text, first_of, one_of}
 use Rattle.clap.specs.declared.builder.action.ArgAction.TheVariants.{Set}
@@ -36,14 +36,14 @@ abnfg_app letters modes = program_app (codes "abnfg") (rule_rule
 -- this is the command of the program
 abbrev pub IsAbnfgApp : App → Type 0
 IsAbnfgApp app = (letters : Names) × AreAlphabets letters × (modes : Names)
-    × AreNames (codes "all" ∷ codes "miss" ∷ codes "random" ∷ []) modes
+    × AreNames (codes "all" ∷ codes "cover" ∷ codes "miss" ∷ codes "random" ∷ []) modes
     × (app ≡ abnfg_app letters modes)
 
 -- the mode of a name; `all` where none is given
 abbrev pub mode_of_name : Option Text → ListMode
 mode_of_name None = All
-mode_of_name (Some name) = if bytes_eq name (codes "miss") then Miss else
-    (if bytes_eq name (codes "random") then Random else All)
+mode_of_name (Some name) = if bytes_eq name (codes "cover") then Cover else
+    (if bytes_eq name (codes "miss") then Miss else (if bytes_eq name (codes "random") then Random else All))
 
 -- n is the seed that a text gives: its decimal number, where that has 64 bits; 1 where none is given
 abbrev pub IsSeedOf : Option Text → ℕ → Type 0

@@ -22,7 +22,7 @@ Grammar:
   -s, --rule <RULE>  List lines of this rule [default: the first rule]
 
 Lines:
-  -m, --mode <MODE>     Choose which lines to list [default: all] [possible values: all, miss, random]
+  -m, --mode <MODE>     Choose which lines to list [default: all] [possible values: all, cover, miss, random]
   -l, --limit <N>       List lines of at most N symbols, from 1 to 16777216 [default: 256]
   -c, --count <N>       List at most N lines, from 1 to 4294967295 [default: 1000]
   -e, --edges           Also list lines of mode `miss` by wrong symbols next to those that can follow
@@ -56,7 +56,7 @@ static PARAMETERS: [Parameter; 9] = [
     Parameter::Flag("explain", 'x'),
     Parameter::Operand("grammar", "GRAMMAR", true),
     Parameter::Choice("letters", 'u', "MODE", &["bytes", "utf8"], "bytes"),
-    Parameter::Choice("mode", 'm', "MODE", &["all", "miss", "random"], "all"),
+    Parameter::Choice("mode", 'm', "MODE", &["all", "cover", "miss", "random"], "all"),
 ];
 
 // Returns the option `-g SEED`, whose value is a number of 64 bits. `AllocError` if an allocation fails.
@@ -93,6 +93,7 @@ fn mode_of(matches: &ArgMatches<'_>) -> ListMode
     ensures { result ≡ mode_of_name (first_value (found_of matches.now) (codes "mode")) }
 {
     match matches.get_str("mode") {
+        Some(name) if name == "cover" => ListMode::Cover,
         Some(name) if name == "miss" => ListMode::Miss,
         Some(name) if name == "random" => ListMode::Random,
         _ => ListMode::All,

@@ -22,11 +22,12 @@ use ruletable::{Memory, Sink, WriteFault, write_whole};
 use std::alloc::Global;
 use toolrun::{Ending, ReportedRefusals, Status, Stop};
 
-/// Which lines are listed. `All`: those that the rule derives. `Random`: some of these, by lot. `Miss`: near ones that
-/// it does not.
+/// Which lines are listed. `All`: those that the rule derives. `Cover`: of these, some that reach each goal. `Random`:
+/// some, by lot. `Miss`: near ones that it does not derive.
 #[derive(Clone, Copy)]
 pub(crate) enum ListMode {
     All,
+    Cover,
     Miss,
     Random,
 }
@@ -84,7 +85,7 @@ fn line_text(alloc: Global, settings: &ListSettings<'_>, line: &[u32]) -> Result
 }
 
 // Returns the next line after so many, or why there is none.
-fn next_line(source: &mut LineSource, done: u32) -> Result<Vec<u32>, Halt>
+fn next_line(source: &mut LineSource<'_>, done: u32) -> Result<Vec<u32>, Halt>
     ensures { (settings : the_settings) (rules : List Rule) (id : ℕ) (ws : List (List ℕ)) →
         HasReturned settings rules id source.old ws → length ws ≡ done →
         MatchResult result (λ line. HasReturned settings rules id source.new (ws ++ line.items ∷ []))
@@ -104,7 +105,7 @@ fn explains(settings: &ListSettings<'_>) -> bool
 {
     match settings.mode {
         ListMode::Miss => settings.explain,
-        ListMode::All | ListMode::Random => false,
+        ListMode::All | ListMode::Cover | ListMode::Random => false,
     }
 }
 
@@ -160,7 +161,7 @@ fn write_record<O: Sink>(
 fn write_next<O: Sink>(
     alloc: Global,
     settings: &ListSettings<'_>,
-    source: &mut LineSource,
+    source: &mut LineSource<'_>,
     done: u32,
     kept: &mut Vec<Vec<u8>>,
     out: &mut O,
@@ -185,7 +186,7 @@ fn write_next<O: Sink>(
 fn write_lines<O: Sink>(
     alloc: Global,
     settings: &ListSettings<'_>,
-    source: &mut LineSource,
+    source: &mut LineSource<'_>,
     kept: &mut Vec<Vec<u8>>,
     out: &mut O,
 ) -> Result<Halt, WriteFault>
