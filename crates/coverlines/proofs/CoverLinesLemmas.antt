@@ -1,7 +1,9 @@
 -- Lines are added in order, and each of them is a shortest one for its goal.
 -- Serves: cover_lines
-use Rattle.std.proofs.Common.{◌≡◌, ◌⊎◌, inl, inr, ⊎_elim, ℕ, zero, suc, ◌+◌, ◌-◌, ◌<◌, ◌≤◌, List, [], ◌∷◌, ◌++◌, map, take}
-use Rattle.std.proofs.Common.{get_or, length, length-append, Contains, Option, Some, None, Vec, Global, refl, sym, ◌∙◌, ap}
+use Rattle.std.proofs.Common.{◌≡◌, ◌⊎◌, inl, inr, ⊎_elim, ℕ, zero, suc, ◌+◌, ◌-◌, ◌<◌, ◌≤◌, List, [], ◌∷◌, ◌++◌, map}
+use Rattle.std.proofs.Common.{take}
+use Rattle.std.proofs.Common.{get_or, length, length-append, Contains, Option, Some, None, Vec, Global, refl, sym}
+use Rattle.std.proofs.Common.{◌∙◌, ap}
 use Rattle.std.proofs.Common.{subst, arith}
 use Rattle.std.specs.Prelude.{slice_get}
 use Rattle.std.specs.List.{AllPairs, AllWithin, HoldsAt, insert}
@@ -308,15 +310,15 @@ line_length c s w =
 
 -- what stands round, and the word, of a line that reaches a goal
 record Parts (b : LineBounds) (rules : List Rule) (judged : ℕ) (goal : Goal) (w : List ℕ) : Type 0 where
-  does : Does (has b.alphabet) (may b) rules judged goal w
-  around : StandsAround b rules judged goal.rule does.before does.after
-  stands : StandsAt b rules does.body goal.site (record {
+  pub does : Does (has b.alphabet) (may b) rules judged goal w
+  pub around : StandsAround b rules judged goal.rule does.before does.after
+  pub stands : StandsAt b rules does.body goal.site (record {
     element = does.element;
     before = does.left;
     after = does.right;
   })
-  makes : MakesSo b rules does.element goal.way does.word
-  long : length w ≡ ((length does.before + length does.after) + (length does.left + length does.right))
+  pub makes : MakesSo b rules does.element goal.way does.word
+  pub long : length w ≡ ((length does.before + length does.after) + (length does.left + length does.right))
       + length does.word
 
 module _ (b : LineBounds) (rules : List Rule) (judged : ℕ) where
@@ -440,7 +442,8 @@ module _ (b : LineBounds) (rules : List Rule) (judged : ℕ) where
             let goal : Goal = record { rule = rule; site = site; way = m.way } in
             let fits : length (line_around c s m.word.items) ≤ b.limit =
                 subst (λ (w : List ℕ). length w ≤ b.limit) l.line_is l.within in
-            let short_line : IsShortestOf (Reaches b rules judged goal) b.limit (line_around c s m.word.items) = record {
+            let short_line : IsShortestOf (Reaches b rules judged goal) b.limit (line_around c s m.word.items) =
+                record {
               is = line_reaches goal c s body m.word.items (context_of rule c at) is least.stands short.is fits;
               within = fits;
               least = λ w r. none_shorter goal c s body m.word.items lt at is least short w r;

@@ -15,7 +15,7 @@ use Rattle.coverlines.specs.Goals.{Around, Beside, Does, Goal, Inside, Makes, me
 use Rattle.coverlines.specs.Shortest.{may}
 use Rattle.coverlines.specs.declared.bounds.LineBounds.{LineBounds}
 use Rattle.coverlines.specs.declared.way.GoalWay.{GoalWay}
-use Rattle.coverlines.proofs.ShortestLemmas.{one_derived, once_derived, times_both}
+use Rattle.coverlines.proofs.ShortestLemmas.{once_derived, times_both}
 use Rattle.coverlines.proofs.SymbolsLemmas.{swapped_stands}
 use Rattle.coverlines.proofs.WordsLemmas.{may_has}
 

@@ -1,7 +1,9 @@
 -- Rules that derive just what is known of them, and how they settle.
 -- Serves: rule_words
-use Rattle.std.proofs.Common.{◌≡◌, ◌↔◌, ◌⊎◌, inl, inr, ⊎_elim, ℕ, zero, suc, ◌+◌, ◌<◌, ◌≤◌, Bool, true, false, ◌||◌, cond}
-use Rattle.std.proofs.Common.{List, [], ◌∷◌, ◌++◌, length, length-append, length-set, map, set, replicate, Option, Some, None, Vec}
+use Rattle.std.proofs.Common.{◌≡◌, ◌↔◌, ◌⊎◌, inl, inr, ⊎_elim, ℕ, zero, suc, ◌+◌, ◌<◌, ◌≤◌, Bool, true, false, ◌||◌}
+use Rattle.std.proofs.Common.{cond}
+use Rattle.std.proofs.Common.{List, [], ◌∷◌, ◌++◌, length, length-append, length-set, map, set, replicate, Option}
+use Rattle.std.proofs.Common.{Some, None, Vec}
 use Rattle.std.proofs.Common.{Global, refl, sym, ◌∙◌, ap, subst, arith, add-one}
 use Rattle.std.specs.Prelude.{slice_get, IsTrue}
 use Rattle.std.proofs.lemmas.Bool.{cases_eq, cases_lt}
@@ -75,12 +77,14 @@ known_below [] id t is = absurd (cc is)
 known_below (k ∷ ks) zero t is = omega arith
 known_below (k ∷ ks) (suc id) t is = let lt = known_below ks id t is in omega (arith, lt)
 
-pub body_there : (rules : List Rule) (id : ℕ) → id < length rules → (body : Element) × (slice_get (bodies rules) id ≡ Some body)
+pub body_there : (rules : List Rule) (id : ℕ) → id < length rules
+    → (body : Element) × (slice_get (bodies rules) id ≡ Some body)
 body_there [] id lt = absurd (omega (arith, lt))
 body_there (rule ∷ rules) zero lt = (rule.body, refl)
 body_there (rule ∷ rules) (suc id) lt = body_there rules id (omega (arith, lt))
 
-pub body_below : (rules : List Rule) (id : ℕ) (body : Element) → slice_get (bodies rules) id ≡ Some body → id < length rules
+pub body_below : (rules : List Rule) (id : ℕ) (body : Element) → slice_get (bodies rules) id ≡ Some body
+    → id < length rules
 body_below [] id body is = absurd (cc is)
 body_below (rule ∷ rules) zero body is = omega arith
 body_below (rule ∷ rules) (suc id) body is = let lt = body_below rules id body is in omega (arith, lt)
@@ -95,7 +99,8 @@ set_total : (limit : ℕ) (ks : List (Option (Vec ℕ Global))) (id : ℕ) (k : 
     → known_cost limit k < known_cost limit (known_at ks id) → total limit (set ks id k) < total limit ks
 set_total limit [] id k lt less = absurd (omega (arith, lt))
 set_total limit (j ∷ ks) zero k lt less = omega (arith, less)
-set_total limit (j ∷ ks) (suc id) k lt less = let h = set_total limit ks id k (omega (arith, lt)) less in omega (arith, h)
+set_total limit (j ∷ ks) (suc id) k lt less = let h = set_total limit ks id k (omega (arith, lt)) less in
+    omega (arith, h)
 
 known_here : (ks : List (Option (Vec ℕ Global))) (id : ℕ) (k : Option (Vec ℕ Global)) → id < length ks
     → known_at (set ks id k) id ≡ k
@@ -348,9 +353,11 @@ pub found_set : (b : LineBounds) (rules : List Rule) (ks : List (Option (Vec ℕ
 found_set b rules ks id body w at sound s le = record {
   count = let n = length-set ks id (Some w) in let m = sound.count in omega (arith, n, m);
   found = λ n el is. ⊎_elim
-      (λ same. let one : body ≡ el = (let j = subst (λ k. slice_get (bodies rules) k ≡ Some el) same is in cc (at, j)) in
+      (λ same. let one : body ≡ el = (let j = subst (λ k. slice_get (bodies rules) k ≡ Some el) same is in
+      cc (at, j)) in
       subst (IsFound b rules el) (sym (ap (λ k. known_at (set ks id (Some w)) k) same
-      ∙ known_here ks id (Some w) inside)) (subst (λ v. Spells b rules v w.items × (length w.items ≤ b.limit)) one (s, le)))
+      ∙ known_here ks id (Some w) inside)) (subst (λ v. Spells b rules v w.items
+      × (length w.items ≤ b.limit)) one (s, le)))
       (λ other. subst (IsFound b rules el) (sym (known_there ks id (Some w) n other)) (sound.found n el is))
       (cases_eq n id);
 }

@@ -1,7 +1,8 @@
 -- A shortest list of each way.
 -- Serves: made_words
 use Rattle.std.proofs.Common.{◌≡◌, ◌⊎◌, inl, inr, ⊎_elim, ℕ, zero, suc, ◌+◌, ◌<◌, ◌≤◌, Bool, true, false, List, [], ◌∷◌}
-use Rattle.std.proofs.Common.{◌++◌, map, length, append-nil, append_assoc, Contains, Option, Some, None, Vec, Global, refl, sym}
+use Rattle.std.proofs.Common.{◌++◌, map, length, append-nil, append_assoc, Contains, Option, Some, None, Vec, Global}
+use Rattle.std.proofs.Common.{refl, sym}
 use Rattle.std.proofs.Common.{◌∙◌, ap, subst, arith}
 use Rattle.std.specs.Prelude.{MatchOption}
 use Rattle.std.proofs.lemmas.Bool.{cases_eq}
@@ -18,7 +19,8 @@ use Rattle.coverlines.specs.Shortest.{Admitted, IsShortest, IsShortestOf, may, S
 use Rattle.coverlines.specs.declared.bounds.LineBounds.{LineBounds}
 use Rattle.coverlines.specs.declared.made.MadeWord.{MadeWord}
 use Rattle.coverlines.specs.declared.way.GoalWay.{GoalWay}
-use Rattle.coverlines.specs.declared.way.GoalWay.TheVariants.{Chosen, Taken, LeftOut, Rounds, First, Last, Same, OtherCase}
+use Rattle.coverlines.specs.declared.way.GoalWay.TheVariants.{Chosen, Taken, LeftOut, Rounds, First, Last, Same}
+use Rattle.coverlines.specs.declared.way.GoalWay.TheVariants.{OtherCase}
 use Rattle.coverlines.proofs.MemberLemmas.{first_in, none_in, only_in}
 use Rattle.coverlines.proofs.ShortestLemmas.{alike_shortest, same_shortest}
 
@@ -99,7 +101,8 @@ module _ (b : LineBounds) (rules : List Rule) (el : Element) where
   }
 
   -- all ways
-  pub all_made : (P : GoalWay → Type 0) (new : List MadeWord) → ((way : GoalWay) (w : List ℕ) → MakesSo b rules el way w → P way)
+  pub all_made : (P : GoalWay → Type 0) (new : List MadeWord) → ((way : GoalWay) (w : List ℕ)
+      → MakesSo b rules el way w → P way)
       → AddsMade b rules el P [] new → AreMade b rules el new
   all_made P new every h = subst (AreMade b rules el) (sym h.is) (record {
     right = h.made.right;
@@ -303,7 +306,8 @@ module _ (b : LineBounds) (rules : List Rule) where
       (cases_eq k.0 i))
       old (adds_one b rules (e.Alt es) (Chosen i) word mid new (chosen_shortest es i d word is h) at)
 
-  pub all_chosen : (es : Elements) (n : ℕ) (new : List MadeWord) → ((i : ℕ) (d : Element) → member_at es i ≡ Some d → i < n)
+  pub all_chosen : (es : Elements) (n : ℕ) (new : List MadeWord) → ((i : ℕ) (d : Element) → member_at es i ≡ Some d
+      → i < n)
       → AddsMade b rules (e.Alt es) (IsChosenBelow n) [] new → AreMade b rules (e.Alt es) new
   all_chosen es n new below h = all_made b rules (e.Alt es) (IsChosenBelow n) new (λ way w s. own s.is) h
     where

@@ -1,7 +1,9 @@
 -- Contexts of rules get shorter until they are settled, and then they are as short as may be.
 -- Serves: rule_contexts
-use Rattle.std.proofs.Common.{◌≡◌, ◌↔◌, ◌⊎◌, ⊎_elim, ℕ, zero, suc, ◌+◌, ◌<◌, ◌≤◌, Bool, true, false, ◌||◌, List, [], ◌∷◌}
-use Rattle.std.proofs.Common.{◌++◌, map, take, set, get_or, length, length-append, length-set, Contains, Option, Some, None}
+use Rattle.std.proofs.Common.{◌≡◌, ◌↔◌, ◌⊎◌, ⊎_elim, ℕ, zero, suc, ◌+◌, ◌<◌, ◌≤◌, Bool, true, false, ◌||◌, List, []}
+use Rattle.std.proofs.Common.{◌∷◌}
+use Rattle.std.proofs.Common.{◌++◌, map, take, set, get_or, length, length-append, length-set, Contains, Option, Some}
+use Rattle.std.proofs.Common.{None}
 use Rattle.std.proofs.Common.{Vec, Global, refl, sym, ◌∙◌, ap, subst, arith, add-one}
 use Rattle.std.specs.Prelude.{slice_get, IsTrue}
 use Rattle.std.proofs.Math.Seq.{take-suc}
@@ -30,7 +32,8 @@ use Rattle.coverlines.proofs.KnownWordsLemmas.{body_below, body_there}
 use Rattle.coverlines.proofs.MemberLemmas.{only_in}
 
 -- one more context
-pub context_index : (cs : List (Option LineContext)) (id : ℕ) (x : Option LineContext) → id < length cs → x ≡ get_or cs id x
+pub context_index : (cs : List (Option LineContext)) (id : ℕ) (x : Option LineContext) → id < length cs
+    → x ≡ get_or cs id x
     → context_at cs id ≡ x
 context_index [] id x lt is = absurd (omega (arith, lt))
 context_index (c ∷ cs) zero x lt is = sym is
@@ -209,7 +212,8 @@ module _ (b : LineBounds) (rules : List Rule) where
           (λ same. let none = h.first in
           let l = subst (λ j. size_of named.context < context_cost b.limit (context_at known j)) (sym same) less in
           absurd (omega (arith, l, none)))
-          (λ other. ap (context_cost b.limit) (context_there known named.id (Some named.context) judged other) ∙ h.first)
+          (λ other. ap (context_cost b.limit) (context_there known named.id (Some named.context) judged other)
+          ∙ h.first)
           (cases_eq judged named.id);
     }
       where
@@ -226,13 +230,15 @@ module _ (b : LineBounds) (rules : List Rule) where
         let size = size_named n.context s named.context n.before n.after in
         let known_cost = cost_few named.id in
         let le : context_cost b.limit (context_at known named.id) ≤ size_of named.context =
-            ⊎_elim (λ over. omega (arith, over, known_cost)) (λ le. few le) (cases_lt b.limit (size_of named.context)) in
+            ⊎_elim (λ over. omega (arith, over, known_cost)) (λ le. few le)
+            (cases_lt b.limit (size_of named.context)) in
         let id_is : named.id ≡ id_of rules name = n.id_is ∙ ap (id_of rules) same in
         let sum : size_of n.context + room_of s ≡ size_of c + room_of s = ap (λ x. size_of x + room_of s) alike in
         subst (λ k. context_cost b.limit (context_at known k) ≤ size_of c + room_of s) id_is
         (omega (arith, le, size, sum))
 
-    pub settled_none : (id : ℕ) (s : Stood) → IsNamedIn rules (context_at known id) s None → IsSettledAt b rules known id s
+    pub settled_none : (id : ℕ) (s : Stood) → IsNamedIn rules (context_at known id) s None
+        → IsSettledAt b rules known id s
     settled_none id s n name c element at lt = let le = n name c at element in absurd (omega (arith, le, lt))
 
     -- a step for the rule that is named

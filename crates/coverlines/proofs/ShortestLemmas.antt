@@ -1,6 +1,7 @@
 -- Shortest lists of sets that are made of others.
 -- Serves: shorter, joined, repeated, shortest
-use Rattle.std.proofs.Common.{◌≡◌, ◌⊎◌, inl, inr, ⊎_elim, ℕ, zero, suc, ◌+◌, ◌-◌, ◌<◌, ◌≤◌, Bool, true, false, List, [], ◌∷◌}
+use Rattle.std.proofs.Common.{◌≡◌, ◌⊎◌, inl, inr, ⊎_elim, ℕ, zero, suc, ◌+◌, ◌-◌, ◌<◌, ◌≤◌, Bool, true, false, List}
+use Rattle.std.proofs.Common.{[], ◌∷◌}
 use Rattle.std.proofs.Common.{◌++◌, length, length-append, Option, Some, None, Vec, Global, refl, sym, ◌∙◌, ap, subst}
 use Rattle.std.proofs.Common.{arith, append-nil, append_assoc}
 use Rattle.abnfread.specs.Element.{Element, Elements, Rep, Rule, none, more, append}
@@ -149,7 +150,8 @@ module _ (b : LineBounds) (rules : List Rule) where
   some_last none d = der.this d
   some_last (more f fs) d = der.later (some_last fs d)
 
-  some_parts : (es : Elements) (e : Element) (w : List ℕ) → DerivesSome (has b.alphabet) rules (append es (more e none)) w
+  some_parts : (es : Elements) (e : Element) (w : List ℕ) →
+      DerivesSome (has b.alphabet) rules (append es (more e none)) w
       → DerivesSome (has b.alphabet) rules es w ⊎ Derives (has b.alphabet) rules e w
   some_parts none e w (der.this d) = inr d
   some_parts none e w (der.later s) = elim s [ ]
@@ -201,9 +203,11 @@ module _ (b : LineBounds) (rules : List Rule) where
 
   pub once_derived : {e : Element} {w : List ℕ} → Derives (has b.alphabet) rules e w
       → DerivesTimes (has b.alphabet) rules e 1 w
-  once_derived {e} {w} d = subst (λ y. DerivesTimes (has b.alphabet) rules e 1 y) (append-nil w) (der.one_more d der.no_more)
+  once_derived {e} {w} d = subst (λ y. DerivesTimes (has b.alphabet) rules e 1 y) (append-nil w)
+      (der.one_more d der.no_more)
 
-  one_derived : {e : Element} {w : List ℕ} → DerivesTimes (has b.alphabet) rules e 1 w → Derives (has b.alphabet) rules e w
+  one_derived : {e : Element} {w : List ℕ} → DerivesTimes (has b.alphabet) rules e 1 w
+      → Derives (has b.alphabet) rules e w
   one_derived {e} (der.one_more {w = w} d der.no_more) = subst (Derives (has b.alphabet) rules e) (sym (append-nil w)) d
 
   -- the rounds so far, and one more
@@ -214,7 +218,8 @@ module _ (b : LineBounds) (rules : List Rule) where
       (λ w j. record {
         symbols = subst (AreLetters (may b)) (sym j.is) (letters_both (may b) j.front j.back j.first.symbols
             j.second.symbols);
-        is = subst (DerivesTimes (has b.alphabet) rules e (k + 1)) (sym j.is) (times_both j.first.is (once_derived j.second.is));
+        is = subst (DerivesTimes (has b.alphabet) rules e (k + 1)) (sym j.is) (times_both j.first.is
+            (once_derived j.second.is));
       })
       (λ w s. let j = times_front k 1 w s.is in
       let two = letters_parts (may b) j.front j.back (subst (AreLetters (may b)) j.is s.symbols) in record {
@@ -229,13 +234,15 @@ module _ (b : LineBounds) (rules : List Rule) where
   pub fewer_rounds : (e : Element) (k l : ℕ) (w : List ℕ) → k ≤ l → SpellsTimes b rules e l w
       → (v : List ℕ) × SpellsTimes b rules e k v × length v ≤ length w
   fewer_rounds e k l w le s =
-      let j = times_front k (l - k) w (subst (λ n. DerivesTimes (has b.alphabet) rules e n w) (omega (arith, le)) s.is) in
+      let j = times_front k (l - k) w (subst (λ n. DerivesTimes (has b.alphabet) rules e n w) (omega (arith, le))
+          s.is) in
       let two = letters_parts (may b) j.front j.back (subst (AreLetters (may b)) j.is s.symbols) in
       let n = ap length j.is ∙ length-append j.front j.back in
       (j.front, record { symbols = two.0; is = j.first }, omega (arith, n))
 
   -- a repetition takes as few rounds as it may
-  pub rep_least : (a : ℕ) (most : Option ℕ) (e : Element) (limit : ℕ) (found : Option (Vec ℕ Global)) → der.AtMost a most
+  pub rep_least : (a : ℕ) (most : Option ℕ) (e : Element) (limit : ℕ) (found : Option (Vec ℕ Global))
+      → der.AtMost a most
       → IsShortest (SpellsTimes b rules e a) limit found
       → IsShortest (Spells b rules (Rep a most e)) limit found
   rep_least a most e limit found allowed h = same_shortest limit found

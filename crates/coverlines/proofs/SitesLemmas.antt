@@ -1,7 +1,9 @@
 -- The sites of an operand as those of the whole.
 -- Serves: sites
-use Rattle.std.proofs.Common.{◌≡◌, ◌⊎◌, ⊎_elim, Bool, ℕ, zero, suc, ◌+◌, ◌-◌, ◌<◌, ◌≤◌, List, [], ◌∷◌, ◌++◌, map, take, drop}
-use Rattle.std.proofs.Common.{get_or, length, length-append, length-drop, append_assoc, append-nil, Contains, Option, Some, None, Vec}
+use Rattle.std.proofs.Common.{◌≡◌, ◌⊎◌, ⊎_elim, Bool, ℕ, zero, suc, ◌+◌, ◌-◌, ◌<◌, ◌≤◌, List, [], ◌∷◌, ◌++◌, map}
+use Rattle.std.proofs.Common.{take, drop}
+use Rattle.std.proofs.Common.{get_or, length, length-append, length-drop, append_assoc, append-nil, Contains, Option}
+use Rattle.std.proofs.Common.{Some, None, Vec}
 use Rattle.std.proofs.Common.{Global, refl, sym, ◌∙◌, ap, subst, arith}
 use Rattle.std.proofs.lemmas.Bool.{cases_eq}
 use Rattle.std.proofs.lemmas.List.Elements.{Contains-append_left, Contains-append_right, Contains-append_cases}
@@ -77,7 +79,8 @@ module _ (b : LineBounds) (rules : List Rule) where
     sites_added f k old new here least h a = record {
       right = λ s among. ⊎_elim (λ l. h.right s l)
           (λ r. let m = from_mapped (stood_in f k) s a.inner r in
-          let at = a.sites.right m.0 m.1 in (i ∷ at.0, subst (IsLeastAt b rules whole (i ∷ at.0)) m.2 (fewest at.0 m.0 at.1)))
+          let at = a.sites.right m.0 m.1 in (i ∷ at.0, subst (IsLeastAt b rules whole (i ∷ at.0)) m.2
+          (fewest at.0 m.0 at.1)))
           (Contains-append_cases old (map (stood_in f k) a.inner) s (subst (λ xs. Contains xs s) a.is among));
       complete = complete;
     }

@@ -1,7 +1,9 @@
 -- A shortest list of each kind of element.
 -- Serves: shortest
-use Rattle.std.proofs.Common.{◌≡◌, ◌≢◌, ℕ, zero, suc, ◌+◌, ◌<◌, ◌≤◌, Bool, true, false, ◌&&◌, List, [], ◌∷◌, ◌++◌, length}
-use Rattle.std.proofs.Common.{map, take, get_or, Option, Some, None, Vec, Global, refl, sym, ◌∙◌, ap, subst, arith, add-one}
+use Rattle.std.proofs.Common.{◌≡◌, ◌≢◌, ℕ, zero, suc, ◌+◌, ◌<◌, ◌≤◌, Bool, true, false, ◌&&◌, List, [], ◌∷◌, ◌++◌}
+use Rattle.std.proofs.Common.{length}
+use Rattle.std.proofs.Common.{map, take, get_or, Option, Some, None, Vec, Global, refl, sym, ◌∙◌, ap, subst, arith}
+use Rattle.std.proofs.Common.{add-one}
 use Rattle.std.proofs.Math.Seq.{take-suc}
 use Rattle.std.proofs.lemmas.List.{map-append}
 use Rattle.std.specs.Prelude.{IfOk, Result, Ok, Err, MatchOption}
@@ -93,7 +95,8 @@ next_taken text i lt = ap (λ (k : ℕ). take k text) (add-one i) ∙ take-suc t
 pub next_spelled : (folds : Bool) (text : List ℕ) (i : ℕ) (word new : List ℕ) (c : ℕ) → i < length text
     → Spelled folds (take i text) word → StandsFor folds (get_or text i 0) c → new ≡ word ++ c ∷ []
     → Spelled folds (take (i + 1) text) new
-next_spelled folds text i word new c lt s stands is = rw (next_taken text i lt, is) (spelled_snoc (get_or text i 0) c s stands)
+next_spelled folds text i word new c lt s stands is = rw (next_taken text i lt, is)
+    (spelled_snoc (get_or text i 0) c s stands)
 
 pub next_best : (b : LineBounds) (folds : Bool) (text : List ℕ) (i : ℕ) (word new : List ℕ) (c : ℕ) → i < length text →
     ((w : List ℕ) → Spelled folds (take i text) w → AreLetters (may b) w → AreLetters (may b) word) →
@@ -173,7 +176,8 @@ module _ (b : LineBounds) (rules : List Rule) where
           → (v : List ℕ) × Admitted b (λ v. v ≡ c ∷ []) v × length v ≤ length w
       by w (der.range from to is) = (c ∷ [], record { symbols = (first.is, tt); is = refl }, omega arith)
 
-  pub concat_shortest : (es : Elements) (found : Option (Vec ℕ Global)) → IsShortest (SpellsAll b rules es) b.limit found
+  pub concat_shortest : (es : Elements) (found : Option (Vec ℕ Global))
+      → IsShortest (SpellsAll b rules es) b.limit found
       → IsShortest (Spells b rules (e.Concat es)) b.limit found
   concat_shortest es found h = alike_shortest b.limit found
       (λ w a. record { symbols = a.symbols; is = der.concat a.is })

@@ -5,7 +5,8 @@ use Rattle.abnfread.specs.Element.{Element, Elements, Text, Values, Range, Conca
 use Rattle.abnfread.specs.Element.{Rule, bodies, id_of}
 use Rattle.abnfcheck.specs.Derivable.{AreLetters, AtMost, Derives, DerivesAll, DerivesTimes}
 use Rattle.coverlines.specs.declared.way.GoalWay.{GoalWay}
-use Rattle.coverlines.specs.declared.way.GoalWay.TheVariants.{Chosen, Taken, LeftOut, Rounds, First, Last, Same, OtherCase}
+use Rattle.coverlines.specs.declared.way.GoalWay.TheVariants.{Chosen, Taken, LeftOut, Rounds, First, Last, Same}
+use Rattle.coverlines.specs.declared.way.GoalWay.TheVariants.{OtherCase}
 
 -- the element of that number
 abbrev pub member_at : Elements → ℕ → Option Element

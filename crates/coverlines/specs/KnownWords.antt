@@ -67,7 +67,8 @@ module _ (b : LineBounds) (rules : List Rule) where
   -- by what is known of the rules, a rule has no shorter list than the one that is known of it
   abbrev pub IsSettled : List (Option (Vec ℕ Global)) → ℕ → Type 0
   IsSettled known id = (body : Element) (v : List ℕ) → slice_get (bodies rules) id ≡ Some body
-      → Spells b (fixed_rules rules known) body v → length v ≤ b.limit → known_cost b.limit (known_at known id) ≤ length v
+      → Spells b (fixed_rules rules known) body v → length v ≤ b.limit
+      → known_cost b.limit (known_at known id) ≤ length v
 
   -- a step for one rule: what is known is shorter; or the rule has no shorter list
   abbrev pub IsStep : ℕ → List (Option (Vec ℕ Global)) → List (Option (Vec ℕ Global)) → Bool → Type 0

@@ -1,5 +1,6 @@
 -- What stands before and after rules in derivations, in shortest lists.
-use Rattle.std.specs.Prelude.{◌≡◌, ◌≢◌, ℕ, zero, suc, ◌+◌, ◌<◌, ◌≤◌, Bool, true, false, List, [], ◌∷◌, ◌++◌, length, map}
+use Rattle.std.specs.Prelude.{◌≡◌, ◌≢◌, ℕ, zero, suc, ◌+◌, ◌<◌, ◌≤◌, Bool, true, false, List, [], ◌∷◌, ◌++◌, length}
+use Rattle.std.specs.Prelude.{map}
 use Rattle.std.specs.Prelude.{slice_get, Contains, Option, Some, None}
 use Rattle.std.proofs.Common.{Vec, Global, set}
 use Rattle.abnfread.specs.Element.{Element, Name, Rule, bodies, id_of}

@@ -119,7 +119,8 @@ fn other_rounds(
 ) -> Result<Option<Vec<u32>>, Memory>
     requires { AreWords words.now }
     ensures { IfOk result (λ w. (rules : List Rule) → AreKnownOf words.now rules
-        → IsShortest (OtherRounds words.now.bounds rules least most (element_of operand.now)) words.now.bounds.limit w) }
+        → IsShortest (OtherRounds words.now.bounds rules least most (element_of operand.now)) words.now.bounds.limit
+        w) }
 {
     let rounds = u64::from(least.max(1));
     if !allows(least, most, rounds) {

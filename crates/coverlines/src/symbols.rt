@@ -19,7 +19,8 @@ fn other_case(byte: u8) -> u8
     }
 }
 
-// Returns a symbol that stands for a byte of a text: the byte, or where a line may not have it a letter in the other case.
+// Returns a symbol that stands for a byte of a text: the byte, or where a line may not have it a letter in the other
+// case.
 fn spelled_symbol(bounds: LineBounds, folds: bool, byte: u8) -> u32
     ensures stands { StandsFor folds byte result }
     ensures best { (c : ℕ) → StandsFor folds byte c → may bounds c ≡ true → may bounds result ≡ true }

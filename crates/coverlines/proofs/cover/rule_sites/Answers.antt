@@ -7,7 +7,8 @@ use Rattle.coverlines.proofs.RuleContextsLemmas.{next_rule_sites}
 use Rattle.coverlines.proofs.cover.rule_sites.Goals as goal
 
 pub loop-id-preserved-clause-each : goal.loop-id-preserved-clause-each
-loop-id-preserved-clause-each c = λ known. next_rule_sites c.args.words.now.bounds (rules_of c.args.rules.now) c.loop-id.id
+loop-id-preserved-clause-each c = λ known. next_rule_sites c.args.words.now.bounds (rules_of c.args.rules.now)
+    c.loop-id.id
     (element_of c.body.result.now) c.loop-id.all.items c.push.new.self.items c.in_ok-sites.field-0
     c.in_ok-push.ensures.items c.loop-id.invariant.count
     (body_shown c.args.rules.now.rules c.loop-id.id c.body.result.now c.body.ensures)

@@ -30,7 +30,8 @@ loop-id-preserved c = record {
       elim c.if-improved.branch [
         | then-improved w ↦ subst (λ flag. AreRulesPassed c.args.bounds (rules_of c.args.rules.now) c.args.sites.now
             (c.loop-id.id + 1) c.args.known.now.items c.improve_named.new.known.items flag)
-            (ap (λ flag. flag || c.in_ok-step.step) w.if-improved.true ∙ sym w.if-improved.true ∙ sym w.improved-is) both
+            (ap (λ flag. flag || c.in_ok-step.step) w.if-improved.true ∙ sym w.if-improved.true
+            ∙ sym w.improved-is) both
         | else-improved w ↦ subst (λ flag. AreRulesPassed c.args.bounds (rules_of c.args.rules.now) c.args.sites.now
             (c.loop-id.id + 1) c.args.known.now.items c.improve_named.new.known.items flag)
             (ap (λ flag. flag || c.in_ok-step.step) w.if-improved.false ∙ sym w.improved-is) both

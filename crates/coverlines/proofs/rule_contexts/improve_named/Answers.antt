@@ -29,7 +29,8 @@ loop-site-preserved c = record {
         | then-improved w ↦ subst (λ flag. AreSitesPassed c.args.bounds (rules_of c.args.rules.now) c.args.id
             (map stood_of (take (c.loop-site.site-index + 1) c.args.sites.now)) c.args.known.now.items
             c.improve_at.new.known.items flag)
-            (ap (λ flag. flag || c.in_ok-step.step) w.if-improved.true ∙ sym w.if-improved.true ∙ sym w.improved-is) both
+            (ap (λ flag. flag || c.in_ok-step.step) w.if-improved.true ∙ sym w.if-improved.true
+            ∙ sym w.improved-is) both
         | else-improved w ↦ subst (λ flag. AreSitesPassed c.args.bounds (rules_of c.args.rules.now) c.args.id
             (map stood_of (take (c.loop-site.site-index + 1) c.args.sites.now)) c.args.known.now.items
             c.improve_at.new.known.items flag)

@@ -5,7 +5,8 @@ use Rattle.coverlines.specs.Shortest.{IsShortestOf, Joined, Spells, SpellsAll}
 use Rattle.coverlines.proofs.short.joined.Goals as goal
 
 pub returns-in_default : goal.returns-in_default
-returns-in_default c = λ b rules es e h k. s.all_joined b rules es e c.args.limit None (s.no_front (rw c.in_default.is at h))
+returns-in_default c = λ b rules es e h k. s.all_joined b rules es e c.args.limit None
+    (s.no_front (rw c.in_default.is at h))
 
 pub returns-in_default-next : goal.returns-in_default-next
 returns-in_default-next c = λ b rules es e h k. s.all_joined b rules es e c.args.limit None

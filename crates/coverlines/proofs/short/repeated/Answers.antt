@@ -6,10 +6,12 @@ use Rattle.coverlines.proofs.short.repeated.Goals as goal
 
 pub returns-then-count-eq0 : goal.returns-then-count-eq0
 returns-then-count-eq0 c = λ b rules e h. subst (λ k. IsShortestOf (SpellsTimes b rules e k) c.args.limit
-    c.new.result.items) (sym c.if-count-eq0.true) (s.no_rounds b rules e c.args.limit c.new.result.items c.new.ensures.items)
+    c.new.result.items) (sym c.if-count-eq0.true) (s.no_rounds b rules e c.args.limit c.new.result.items
+    c.new.ensures.items)
 
 pub returns-in_default : goal.returns-in_default
-returns-in_default c = λ b rules e h. s.no_round b rules e c.args.count c.args.limit (omega (arith, c.if-count-eq0.false))
+returns-in_default c = λ b rules e h. s.no_round b rules e c.args.count c.args.limit
+    (omega (arith, c.if-count-eq0.false))
     (rw c.in_default.is at h)
 
 pub returns-then-is_empty : goal.returns-then-is_empty

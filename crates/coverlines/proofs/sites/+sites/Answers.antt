@@ -44,7 +44,8 @@ add_operands-returns-in-Concat t c = IfOk-weaker c.add_members.result _ _ (λ do
     (Concat (elements_of c.in-Concat.members.items)) (length c.in-Concat.members.items)
     (map stood_of c.add_members.new.found.items)
     (p.concat_below c.args.words.now.bounds rules c.in-Concat.members.items)
-    ((rw c.deref.ensures.value at (adds rules known)) (rw (c.in-Concat.is, element-Concat) at start)))) c.add_members.ensures
+    ((rw c.deref.ensures.value at (adds rules known)) (rw (c.in-Concat.is, element-Concat) at start))))
+    c.add_members.ensures
 
 pub add_operands-returns-in-Alt : goal.add_operands-returns-in-Alt
 add_operands-returns-in-Alt t c = IfOk-weaker c.add_alternatives.result _ _ (λ done adds rules known start.

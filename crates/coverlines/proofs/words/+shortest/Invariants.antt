@@ -12,4 +12,5 @@ invariant-shortest_all-loop-member l = (rules : List Rule) → AreKnownOf l.word
 
 abbrev pub invariant-shortest_some-loop-alternative : goal.invariant-shortest_some-loop-alternative
 invariant-shortest_some-loop-alternative l = (rules : List Rule) → AreKnownOf l.words rules → IsShortest
-    (SpellsSome l.words.bounds rules (elements_of (take l.alternative-index l.alternatives))) l.words.bounds.limit l.best
+    (SpellsSome l.words.bounds rules (elements_of (take l.alternative-index l.alternatives))) l.words.bounds.limit
+    l.best
