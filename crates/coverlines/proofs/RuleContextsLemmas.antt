@@ -5,7 +5,7 @@ use Rattle.std.proofs.Common.{◌∷◌}
 use Rattle.std.proofs.Common.{◌++◌, map, take, set, get_or, length, length-append, length-set, Contains, Option, Some}
 use Rattle.std.proofs.Common.{None}
 use Rattle.std.proofs.Common.{Vec, Global, refl, sym, ◌∙◌, ap, subst, arith, add-one}
-use Rattle.std.specs.Prelude.{slice_get, IsTrue}
+use Rattle.std.specs.Prelude.{slice_get, IsTrue, if◌then◌else◌}
 use Rattle.std.proofs.Math.Seq.{take-suc}
 use Rattle.std.proofs.lemmas.Bool.{cases_eq, cases_lt}
 use Rattle.std.proofs.lemmas.List.{map-append}
@@ -292,6 +292,21 @@ module _ (b : LineBounds) (rules : List Rule) where
       (λ same. subst (λ cs. IsSettledAt b rules cs id t) p.0 (subst (λ k. IsSettledAt b rules mid k t) (sym same)
       (s.1 t (subst (λ xs. Contains xs t) (ap (sites_at sites) same ∙ is) among))))
       (λ other. p.1 id t (omega (arith, lt, other)) among) (cases_eq id n))
+
+  -- steps for all rules
+  pub settled_after : (sites : List (Vec Site Global)) (n : ℕ) (old new : List (Option LineContext)) (answer : Bool)
+      → answer ≡ false → AreRulesPassed b rules sites n old new answer → (id : ℕ) (s : Stood) → id < n
+      → Contains (sites_at sites id) s → IsSettledAt b rules new id s
+  settled_after sites n old new true is p id s lt among = absurd (cc is)
+  settled_after sites n old new false is p id s lt among =
+      subst (λ cs. IsSettledAt b rules cs id s) (sym p.0) (p.1 id s lt among)
+
+  pub smaller_after : (sites : List (Vec Site Global)) (n : ℕ) (old new : List (Option LineContext)) (answer : Bool)
+      → AreRulesPassed b rules sites n old new answer
+      → context_total b.limit new + context_total b.limit new + (if answer then 1 else 0)
+      < context_total b.limit old + context_total b.limit old + 1
+  smaller_after sites n old new true p = omega (arith, p)
+  smaller_after sites n old new false p = let e = ap (context_total b.limit) p.0 in omega (arith, e)
 
   -- settled contexts are as short as may be
   module _ (judged : ℕ) (sites : List (Vec Site Global)) (known : List (Option LineContext))

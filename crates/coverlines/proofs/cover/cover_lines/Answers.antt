@@ -1,0 +1,14 @@
+-- The rules and the judged one of the grammar.
+use Rattle.std.proofs.Common.{length, ap, arith}
+use Rattle.std.proofs.lemmas.List.{length-map}
+use Rattle.abnfread.specs.AbnfViews.{rule_of, rules_of}
+use Rattle.coverlines.proofs.cover.cover_lines.Goals as goal
+
+pub goal_lines-requires-clause-judged : goal.goal_lines-requires-clause-judged
+goal_lines-requires-clause-judged c =
+    let lt = c.judged.ensures.sound.sound.judged_is_rule in
+    let n = length-map c.args.grammar.now.rules.rules rule_of in
+    rw (c.rules.ensures.rules, c.judged.ensures.id) (omega (arith, lt, n))
+
+pub returns : goal.returns
+returns c = rw (c.rules.ensures.rules, c.judged.ensures.id) at c.goal_lines.ensures
