@@ -8,6 +8,7 @@ use Rattle.std.proofs.Common.{subst, arith}
 use Rattle.std.specs.Prelude.{slice_get}
 use Rattle.std.specs.List.{AllPairs, AllWithin, HoldsAt, insert}
 use Rattle.std.proofs.lemmas.Bool.{cases_eq, cases_lt}
+use Rattle.std.proofs.lemmas.List.{map-append}
 use Rattle.std.proofs.lemmas.List.Edits.{get_or-insert_above, get_or-insert_at, get_or-insert_below, length-insert}
 use Rattle.std.proofs.lemmas.List.Elements.{Contains-append_cases, Contains-append_left, Contains-append_right}
 use Rattle.std.proofs.lemmas.List.Elements.{Contains-get_or}
@@ -25,7 +26,7 @@ use Rattle.coverlines.specs.MadeWords.{AreMade, HasMade, MakesSo}
 use Rattle.coverlines.specs.RuleContexts.{AreRuleSites, AreShortestContexts, IsContext, StandsAround, context_at}
 use Rattle.coverlines.specs.RuleContexts.{context_cost, sites_at, size_of}
 use Rattle.coverlines.specs.Shortest.{IsShortestOf, may}
-use Rattle.coverlines.specs.Sites.{HasShorter, IsLeastAt, StandsAt, Stood, room_of}
+use Rattle.coverlines.specs.Sites.{HasShorter, IsLeastAt, StandsAt, Stood, room_of, stood_of}
 use Rattle.coverlines.specs.declared.bounds.LineBounds.{LineBounds}
 use Rattle.coverlines.specs.declared.context.LineContext.{LineContext}
 use Rattle.coverlines.specs.declared.cover.CoverLine.{CoverLine}
@@ -34,7 +35,8 @@ use Rattle.coverlines.specs.declared.sites.Site.{Site}
 use Rattle.coverlines.specs.declared.way.GoalWay.{GoalWay}
 use Rattle.coverlines.proofs.GoalsLemmas.{does_derived, one_element}
 use Rattle.coverlines.proofs.KnownWordsLemmas.{body_below, body_there}
-use Rattle.coverlines.proofs.MemberLemmas.{first_in, from_mapped, later_in, mapped_in, member_cases, none_in, only_in}
+use Rattle.coverlines.proofs.MemberLemmas.{first_in, from_mapped, item_in, later_in, mapped_in, member_cases}
+use Rattle.coverlines.proofs.MemberLemmas.{none_in, only_in}
 use Rattle.coverlines.proofs.MemberLemmas.{taken_more, taken_past}
 
 -- a line is put between longer ones and shorter ones
@@ -123,6 +125,27 @@ module _ (lines : List CoverLine) (at : ℕ) (line : CoverLine) where
       is = refl;
     };
   }
+
+-- whether one of the lines is a list
+pub among_here : (xs : List CoverLine) (i : ℕ) (x : CoverLine) (w : List ℕ) → i < length xs → x ≡ get_or xs i x
+    → x.line.items ≡ w → Contains (line_items xs) w
+among_here xs i x w lt at is = subst (Contains (line_items xs)) is
+    (mapped_in (λ l. l.line.items) x xs (item_in xs i x lt at))
+
+pub none_more : (xs : List CoverLine) (i : ℕ) (x : CoverLine) (w : List ℕ) → i < length xs → x ≡ get_or xs i x
+    → (Contains (line_items (take i xs)) w → ⊥) → (x.line.items ≡ w → ⊥)
+    → Contains (line_items (take (i + 1) xs)) w → ⊥
+none_more xs i x w lt at none other among =
+    let m = from_mapped (λ (l : CoverLine). l.line.items) w (take i xs ++ x ∷ [])
+        (subst (λ ys. Contains (line_items ys) w) (taken_more xs i x lt at) among) in
+    ⊎_elim (λ l. none (subst (Contains (line_items (take i xs))) m.2
+    (mapped_in (λ (l : CoverLine). l.line.items) m.0 (take i xs) l)))
+    (λ r. other (ap (λ (l : CoverLine). l.line.items) (only_in x m.0 r) ∙ m.2))
+    (Contains-append_cases (take i xs) (x ∷ []) m.0 m.1)
+
+pub none_of_all : (xs : List CoverLine) (n : ℕ) (w : List ℕ) → length xs ≤ n
+    → (Contains (line_items (take n xs)) w → ⊥) → Contains (line_items xs) w → ⊥
+none_of_all xs n w le none among = none (subst (λ ys. Contains (line_items ys) w) (sym (taken_past xs n le)) among)
 
 -- nothing is added
 pub nothing_new : (kind : CoverLine → Type 0) (lines : List CoverLine) → AddsSome kind lines lines
@@ -257,6 +280,21 @@ module _ (b : LineBounds) (rules : List Rule) (rule : ℕ) (c : LineContext) whe
         are = one.are;
         one = one.one;
       }
+
+  pub next_site_lines : (all : List Site) (i : ℕ) (site : Site) (old mid new : List CoverLine) → i < length all
+      → site ≡ get_or all i site → AddsLines b rules rule c (map stood_of (take i all)) old mid
+      → AddsLines b rules rule c (stood_of site ∷ []) mid new
+      → AddsLines b rules rule c (map stood_of (take (i + 1) all)) old new
+  next_site_lines all i site old mid new lt is h a =
+      subst (λ (xs : List Stood). AddsLines b rules rule c xs old new)
+      (sym (ap (map stood_of) (taken_more all i site lt is) ∙ map-append stood_of (take i all) (site ∷ [])))
+      (more_sites (map stood_of (take i all)) (stood_of site) old mid new h a)
+
+  pub all_site_lines : (all : List Site) (n : ℕ) (old new : List CoverLine) → length all ≤ n
+      → AddsLines b rules rule c (map stood_of (take n all)) old new
+      → AddsLines b rules rule c (map stood_of all) old new
+  all_site_lines all n old new le h = subst (λ (xs : List Site). AddsLines b rules rule c (map stood_of xs) old new)
+      (taken_past all n le) h
 
 -- the lines of all rules
 module _ (b : LineBounds) (rules : List Rule) (contexts : List (Option LineContext)) (sites : List (Vec Site Global))
@@ -423,16 +461,6 @@ module _ (b : LineBounds) (rules : List Rule) (judged : ℕ) where
     right_line : (line : CoverLine) → Contains lines line → IsRight b rules judged line
     right_line line among = by (found.right line among)
       where
-        by : IsGoalLine b rules contexts sites line → IsRight b rules judged line
-        by g =
-            let lt : g.rule < length rules = (let c = all.count in
-                let n = site_below sites g.rule g.is.stood g.is.at in omega (arith, n, c)) in
-            let body = body_there rules g.rule lt in
-            let at = (all.each g.rule body.0 body.1).right g.is.stood g.is.at in
-            let one = g.is.one in
-            let short = g.is.are.right one.made one.among in
-            shown line g.rule g.context g.is.stood body.0 at.0 one.made lt g.known body.1 at.1 short one.is
-
         shown : (line : CoverLine) (rule : ℕ) (c : LineContext) (s : Stood) (body : Element) (site : List ℕ)
             (m : MadeWord) → rule < length rules → context_at contexts rule ≡ Some c
             → slice_get (bodies rules) rule ≡ Some body → IsLeastAt b rules body site s
@@ -451,6 +479,16 @@ module _ (b : LineBounds) (rules : List Rule) (judged : ℕ) where
               site = site;
               shortest = rw (l.rule_is, l.way_is, l.line_is) short_line;
             }
+
+        by : IsGoalLine b rules contexts sites line → IsRight b rules judged line
+        by g =
+            let lt : g.rule < length rules = (let c = all.count in
+                let n = site_below sites g.rule g.is.stood g.is.at in omega (arith, n, c)) in
+            let body = body_there rules g.rule lt in
+            let at = (all.each g.rule body.0 body.1).right g.is.stood g.is.at in
+            let one = g.is.one in
+            let short = g.is.are.right one.made one.among in
+            shown line g.rule g.context g.is.stood body.0 at.0 one.made lt g.known body.1 at.1 short one.is
 
     reached_goal : (goal : Goal) (w : List ℕ) → Reaches b rules judged goal w → IsReached b rules judged lines goal w
     reached_goal goal w r = by (context_at contexts goal.rule) refl

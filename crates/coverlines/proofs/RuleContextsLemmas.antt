@@ -3,13 +3,18 @@
 use Rattle.std.proofs.Common.{◌≡◌, ◌↔◌, ◌⊎◌, ⊎_elim, ℕ, zero, suc, ◌+◌, ◌<◌, ◌≤◌, Bool, true, false, ◌||◌, List, []}
 use Rattle.std.proofs.Common.{◌∷◌}
 use Rattle.std.proofs.Common.{◌++◌, map, take, set, get_or, length, length-append, length-set, Contains, Option, Some}
-use Rattle.std.proofs.Common.{None}
+use Rattle.std.proofs.Common.{None, cond, nat_lt}
 use Rattle.std.proofs.Common.{Vec, Global, refl, sym, ◌∙◌, ap, subst, arith, add-one}
 use Rattle.std.specs.Prelude.{slice_get, IsTrue, if◌then◌else◌}
 use Rattle.std.proofs.Math.Seq.{take-suc}
+use Rattle.std.specs.List.{position_or_len}
 use Rattle.std.proofs.lemmas.Bool.{cases_eq, cases_lt}
+use Rattle.std.proofs.lemmas.Bool.Decides.{nat_tests}
 use Rattle.std.proofs.lemmas.List.{map-append}
 use Rattle.std.proofs.lemmas.List.Elements.{Contains-append_cases}
+use Rattle.ruletable.specs.Rules as table
+use Rattle.ruletable.specs.Rules.{find_in, same_name}
+use Rattle.abnfread.specs.declared.elem.Elem.{Elem}
 use Rattle.abnfread.specs.Element as e
 use Rattle.abnfread.specs.Element.{Element, Rule, bodies, id_of}
 use Rattle.abnfcheck.specs.Derivable.{AreLetters}
@@ -103,6 +108,17 @@ sites_last [] x zero is = refl
 sites_last [] x (suc id) is = absurd (omega (arith, is))
 sites_last (p ∷ ps) x zero is = absurd (omega (arith, is))
 sites_last (p ∷ ps) x (suc id) is = sites_last ps x id (omega (arith, is))
+
+-- the rule that a name finds
+found_below : (b : Bool) (k n id : ℕ) → (b ≡ true → k < n) → cond b (Some k) None ≡ Some id → id < n
+found_below true k n id below is = let same : k ≡ id = cc is in let lt = below refl in omega (arith, same, lt)
+found_below false k n id below is = absurd (cc is)
+
+pub found_inside : (rules : table.Rules Elem) (name : List ℕ) (id : ℕ) → find_in rules name ≡ Some id
+    → id < length rules.rules
+found_inside rules name id is =
+    let first = position_or_len (λ rule. same_name rules.names name rule.name) rules.rules in
+    found_below (nat_lt first (length rules.rules)) first (length rules.rules) id (λ lt. grind (arith, nat_tests)) is
 
 -- one more context at first
 pub next_first : (judged n : ℕ) (old new : List (Option LineContext)) (x : Option LineContext)

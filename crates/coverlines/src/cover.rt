@@ -85,7 +85,7 @@ fn add_line<'a>(
 ) -> Result<(), Memory>
     requires { AllPairs ComesLater found.old.items }
     ensures order { OnOk result (AllPairs ComesLater found.new.items) }
-    ensures added { IfOk result (λ _. AddsFitting limit line found.old.items found.new.items) }
+    ensures added { IfOk result (λ _. AddsFitting limit line.entry found.old.items found.new.items) }
 {
     if limit < line.line.len() {
         return Ok(());

@@ -8,6 +8,6 @@ use Rattle.coverlines.proofs.cover.add_site.Given as goal
 abbrev pub invariant-loop-one : goal.invariant-loop-one
 invariant-loop-one l = record {
   order : AllPairs ComesLater l.found.items;
-  added : AddsMadeLines l.words.bounds.limit l.rule l.outer (stood_of l.site) (take l.one-index l.made.items)
+  added : AddsMadeLines l.words.bounds.limit l.rule l.outer (stood_of l.site) (take l.one-index l.one-items)
       l.fn.found.items l.found.items;
 }

@@ -7,5 +7,5 @@ use Rattle.coverlines.proofs.cover.goal_lines.Given as goal
 abbrev pub invariant-loop-id : goal.invariant-loop-id
 invariant-loop-id l = record {
   order : AllPairs ComesLater l.found.items;
-  lines : AreGoalLines l.bounds (rules_of l.rules) l.contexts.items l.sites.items l.id l.found.items;
+  lines : AreGoalLines l.fn.bounds (rules_of l.rules) l.contexts.items l.sites.items l.id l.found.items;
 }

@@ -1,9 +1,10 @@
 -- One site more.
-use Rattle.std.proofs.Common.{◌+◌, ◌||◌, ◌∙◌, map, sym, ap, subst, take}
+use Rattle.std.proofs.Common.{◌+◌, ◌||◌, ◌∙◌, List, map, sym, ap, subst, take}
 use Rattle.abnfread.specs.AbnfViews.{rules_of}
 use Rattle.coverlines.specs.RuleContexts.{AreSitesPassed}
 use Rattle.coverlines.specs.Sites.{stood_of}
-use Rattle.coverlines.proofs.MemberLemmas.{mapped_in}
+use Rattle.coverlines.specs.declared.sites.Site.{Site}
+use Rattle.coverlines.proofs.MemberLemmas.{mapped_in, taken_past}
 use Rattle.coverlines.proofs.RuleContextsLemmas.{next_site}
 use Rattle.coverlines.proofs.rule_contexts.improve_named.Goals.{then-improved, else-improved}
 use Rattle.coverlines.proofs.rule_contexts.improve_named.Goals as goal
@@ -37,3 +38,9 @@ loop-site-preserved c = record {
             (ap (λ flag. flag || c.in_ok-step.step) w.if-improved.false ∙ sym w.improved-is) both
       ];
 }
+
+pub returns-clause-step : goal.returns-clause-step
+returns-clause-step c = λ judged h. subst (λ (ps : List Site). AreSitesPassed c.args.bounds (rules_of c.args.rules.now)
+    c.args.id (map stood_of ps) c.args.known.now.items c.loop-site.known.items c.loop-site.improved)
+    (taken_past c.args.sites.now c.loop-site.site-index c.loop-site-test.false)
+    (c.loop-site.invariant.passed judged h)

@@ -21,13 +21,13 @@ pub loop-improved-preserved : goal.loop-improved-preserved
 loop-improved-preserved c = record {
   contexts = c.in_ok-improved.ensures.contexts c.args.judged c.loop-improved.invariant.contexts;
   settled = λ is. r.settled_after c.args.bounds (rules_of c.args.rules.now) c.args.sites.now _
-      c.loop-improved.known.items c.improve_all.new.known.items c.in_ok-improved.field-0 is
+      c.loop-improved.known.items c.improve_all.new.known.items c.in_ok-improved.improved is
       (c.in_ok-improved.ensures.step c.args.judged c.loop-improved.invariant.contexts);
 }
 
 pub loop-improved-smaller : goal.loop-improved-smaller
 loop-improved-smaller c = rw c.loop-improved-test.true (r.smaller_after c.args.bounds (rules_of c.args.rules.now)
-    c.args.sites.now _ c.loop-improved.known.items c.improve_all.new.known.items c.in_ok-improved.field-0
+    c.args.sites.now _ c.loop-improved.known.items c.improve_all.new.known.items c.in_ok-improved.improved
     (c.in_ok-improved.ensures.step c.args.judged c.loop-improved.invariant.contexts))
 
 pub returns : goal.returns
