@@ -1,6 +1,6 @@
 -- Lines are added in order, and each of them is a shortest one for its goal.
 -- Serves: cover_lines
-use Rattle.std.proofs.Common.{◌≡◌, ◌⊎◌, inl, inr, ⊎_elim, ℕ, zero, suc, ◌+◌, ◌-◌, ◌<◌, ◌≤◌, List, [], ◌∷◌, ◌++◌, map}
+use Rattle.std.proofs.Common.{◌≡◌, inl, inr, ⊎_elim, ℕ, zero, suc, ◌+◌, ◌-◌, ◌<◌, ◌≤◌, List, [], ◌∷◌, ◌++◌, map}
 use Rattle.std.proofs.Common.{take}
 use Rattle.std.proofs.Common.{get_or, length, length-append, Contains, Option, Some, None, Vec, Global, refl, sym}
 use Rattle.std.proofs.Common.{◌∙◌, ap}
@@ -18,10 +18,10 @@ use Rattle.abnfcheck.specs.Derivable.{AreLetters}
 use Rattle.abnfcheck.proofs.YieldsLemmas.{letters_both, letters_parts}
 use Rattle.letters.specs.Letters.{has}
 use Rattle.coverlines.specs.CoverLines.{AddsFitting, AddsLines, AddsMadeLines, AddsSome, AreGoalLines, ComesLater}
-use Rattle.coverlines.specs.CoverLines.{HasItems, HasLinesOf, HasLinesOfAll, IsCover, IsGoalLine, IsLine, IsLineAt}
+use Rattle.coverlines.specs.CoverLines.{HasItems, HasLinesOf, IsCover, IsGoalLine, IsLineAt}
 use Rattle.coverlines.specs.CoverLines.{IsLineOf, IsLineOfOne, IsReached, IsRight, MayAddLines, Reaches, line_around}
 use Rattle.coverlines.specs.CoverLines.{line_items}
-use Rattle.coverlines.specs.Goals.{Does, Goal, Makes}
+use Rattle.coverlines.specs.Goals.{Does, Goal}
 use Rattle.coverlines.specs.MadeWords.{AreMade, HasMade, MakesSo}
 use Rattle.coverlines.specs.RuleContexts.{AreRuleSites, AreShortestContexts, IsContext, StandsAround, context_at}
 use Rattle.coverlines.specs.RuleContexts.{context_cost, sites_at, size_of}
@@ -32,7 +32,6 @@ use Rattle.coverlines.specs.declared.context.LineContext.{LineContext}
 use Rattle.coverlines.specs.declared.cover.CoverLine.{CoverLine}
 use Rattle.coverlines.specs.declared.made.MadeWord.{MadeWord}
 use Rattle.coverlines.specs.declared.sites.Site.{Site}
-use Rattle.coverlines.specs.declared.way.GoalWay.{GoalWay}
 use Rattle.coverlines.proofs.GoalsLemmas.{does_derived, one_element}
 use Rattle.coverlines.proofs.KnownWordsLemmas.{body_below, body_there}
 use Rattle.coverlines.proofs.MemberLemmas.{first_in, from_mapped, item_in, later_in, mapped_in, member_cases}
@@ -137,7 +136,7 @@ pub none_more : (xs : List CoverLine) (i : ℕ) (x : CoverLine) (w : List ℕ) �
     → Contains (line_items (take (i + 1) xs)) w → ⊥
 none_more xs i x w lt at none other among =
     let m = from_mapped (λ (l : CoverLine). l.line.items) w (take i xs ++ x ∷ [])
-        (subst (λ ys. Contains (line_items ys) w) (taken_more xs i x lt at) among) in
+    (subst (λ ys. Contains (line_items ys) w) (taken_more xs i x lt at) among) in
     ⊎_elim (λ l. none (subst (Contains (line_items (take i xs))) m.2
     (mapped_in (λ (l : CoverLine). l.line.items) m.0 (take i xs) l)))
     (λ r. other (ap (λ (l : CoverLine). l.line.items) (only_in x m.0 r) ∙ m.2))
@@ -444,16 +443,16 @@ module _ (b : LineBounds) (rules : List Rule) (judged : ℕ) where
         let few = r.line.within in
         let same : d.body ≡ body = (let there = d.body_is in cc (there, is)) in
         let stands : StandsAt b rules body goal.site (record { element = d.element; before = d.left; after = d.right })
-            = subst (λ e. StandsAt b rules e goal.site (record {
-              element = d.element;
-              before = d.left;
-              after = d.right;
-            })) same p.stands in
+        = subst (λ e. StandsAt b rules e goal.site (record {
+          element = d.element;
+          before = d.left;
+          after = d.right;
+        })) same p.stands in
         let element : d.element ≡ s.element = one_element b rules stands.inside least.stands.inside in
         let makes : MakesSo b rules s.element goal.way d.word =
-            subst (λ e. MakesSo b rules e goal.way d.word) element p.makes in
+        subst (λ e. MakesSo b rules e goal.way d.word) element p.makes in
         let one = subst (λ x. context_cost b.limit x ≤ length d.before + length d.after) at
-            (h.least goal.rule d.before d.after lt p.around (omega (arith, long, few))) in
+        (h.least goal.rule d.before d.after lt p.around (omega (arith, long, few))) in
         let two = least.least (record { element = d.element; before = d.left; after = d.right }) stands in
         let three = short.least d.word makes in
         let n = line_length c s word in omega (arith, n, long, one, two, three)
@@ -469,9 +468,9 @@ module _ (b : LineBounds) (rules : List Rule) (judged : ℕ) where
         shown line rule c s body site m lt at is least short l =
             let goal : Goal = record { rule = rule; site = site; way = m.way } in
             let fits : length (line_around c s m.word.items) ≤ b.limit =
-                subst (λ (w : List ℕ). length w ≤ b.limit) l.line_is l.within in
+            subst (λ (w : List ℕ). length w ≤ b.limit) l.line_is l.within in
             let short_line : IsShortestOf (Reaches b rules judged goal) b.limit (line_around c s m.word.items) =
-                record {
+            record {
               is = line_reaches goal c s body m.word.items (context_of rule c at) is least.stands short.is fits;
               within = fits;
               least = λ w r. none_shorter goal c s body m.word.items lt at is least short w r;
@@ -483,7 +482,7 @@ module _ (b : LineBounds) (rules : List Rule) (judged : ℕ) where
         by : IsGoalLine b rules contexts sites line → IsRight b rules judged line
         by g =
             let lt : g.rule < length rules = (let c = all.count in
-                let n = site_below sites g.rule g.is.stood g.is.at in omega (arith, n, c)) in
+            let n = site_below sites g.rule g.is.stood g.is.at in omega (arith, n, c)) in
             let body = body_there rules g.rule lt in
             let at = (all.each g.rule body.0 body.1).right g.is.stood g.is.at in
             let one = g.is.one in
@@ -535,13 +534,13 @@ module _ (b : LineBounds) (rules : List Rule) (judged : ℕ) where
             let room = site.within in
             let word = m.within in
             let fits : length (line_around c site.other m.made.word.items) ≤ length w =
-                omega (arith, long, n, own, room, word) in
+            omega (arith, long, n, own, room, word) in
             let item = there.each m.made m.among (omega (arith, fits, le)) in
             let makes = (there.are.right m.made m.among).is in
             let reaches = line_reaches goal c site.other p.does.body m.made.word.items (context_of goal.rule c at)
-                p.does.body_is site.stands
-                (subst (λ v. MakesSo b rules site.other.element v m.made.word.items) m.same makes)
-                (omega (arith, fits, le)) in record {
+            p.does.body_is site.stands
+            (subst (λ v. MakesSo b rules site.other.element v m.made.word.items) m.same makes)
+            (omega (arith, fits, le)) in record {
               line = item.line;
               among = item.among;
               reaches = subst (Reaches b rules judged goal) (sym item.is) reaches;

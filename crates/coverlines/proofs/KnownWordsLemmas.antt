@@ -260,9 +260,12 @@ module _ (b : LineBounds) (rules : List Rule) (ks : List (Option (Vec ℕ Global
             let hs = all_lower ds two.1 (omega (arith, le, n)) in
             let m = length-append h.0 hs.0 in
             let l = h.2 in
-            let k = hs.3 in
-            (h.0 ++ hs.0, letters_both (may b) h.0 hs.0 h.1.symbols hs.1, der.then h.1.is hs.2,
-            omega (arith, n, m, l, k))
+            let k = hs.3 in (
+              h.0 ++ hs.0,
+              letters_both (may b) h.0 hs.0 h.1.symbols hs.1,
+              der.then h.1.is hs.2,
+              omega (arith, n, m, l, k),
+            )
 
         some_lower : {es : Elements} {w : List ℕ} → DerivesSome (has b.alphabet) rules es w → AreLetters (may b) w
             → length w ≤ b.limit → (v : List ℕ) × AreLetters (may b) v
@@ -281,9 +284,12 @@ module _ (b : LineBounds) (rules : List Rule) (ks : List (Option (Vec ℕ Global
             let hs = times_lower ds two.1 (omega (arith, le, n)) in
             let m = length-append h.0 hs.0 in
             let l = h.2 in
-            let k = hs.3 in
-            (h.0 ++ hs.0, letters_both (may b) h.0 hs.0 h.1.symbols hs.1, der.one_more h.1.is hs.2,
-            omega (arith, n, m, l, k))
+            let k = hs.3 in (
+              h.0 ++ hs.0,
+              letters_both (may b) h.0 hs.0 h.1.symbols hs.1,
+              der.one_more h.1.is hs.2,
+              omega (arith, n, m, l, k),
+            )
 
       -- what is known of a rule is as short as any list that it derives
       pub cost_least : (id : ℕ) (body : Element) (w : List ℕ) → slice_get (bodies rules) id ≡ Some body
@@ -392,9 +398,12 @@ pub next_passed : (b : LineBounds) (rules : List Rule) (n : ℕ) (old mid new : 
 next_passed b rules n old mid new true true p s = omega (arith, p, s)
 next_passed b rules n old mid new true false p s = subst (λ ks. total b.limit ks < total b.limit old) (sym s.0) p
 next_passed b rules n old mid new false true p s = subst (λ ks. total b.limit new < total b.limit ks) p.0 s
-next_passed b rules n old mid new false false p s = (s.0 ∙ p.0, λ id lt. ⊎_elim
-    (λ same. subst (λ ks. IsSettled b rules ks id) p.0 (subst (λ k. IsSettled b rules mid k) (sym same) s.1))
-    (λ other. p.1 id (omega (arith, lt, other))) (cases_eq id n))
+next_passed b rules n old mid new false false p s = (
+  s.0 ∙ p.0,
+  λ id lt. ⊎_elim
+      (λ same. subst (λ ks. IsSettled b rules ks id) p.0 (subst (λ k. IsSettled b rules mid k) (sym same) s.1))
+      (λ other. p.1 id (omega (arith, lt, other))) (cases_eq id n),
+)
 
 pub nothing_found : (b : LineBounds) (rules : List Rule) (ks : List (Option (Vec ℕ Global)))
     → ks ≡ replicate (length rules) None → AreFound b rules ks

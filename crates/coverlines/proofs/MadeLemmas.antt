@@ -1,7 +1,7 @@
 -- A shortest list of each way.
 -- Serves: made_words
-use Rattle.std.proofs.Common.{◌≡◌, ◌⊎◌, inl, inr, ⊎_elim, ℕ, zero, suc, ◌+◌, ◌<◌, ◌≤◌, Bool, true, false, List, [], ◌∷◌}
-use Rattle.std.proofs.Common.{◌++◌, map, length, append-nil, append_assoc, Contains, Option, Some, None, Vec, Global}
+use Rattle.std.proofs.Common.{◌≡◌, ◌⊎◌, inl, inr, ⊎_elim, ℕ, ◌+◌, ◌<◌, ◌≤◌, Bool, true, false, List, [], ◌∷◌}
+use Rattle.std.proofs.Common.{◌++◌, map, append-nil, append_assoc, Option, Some, None, Vec, Global}
 use Rattle.std.proofs.Common.{refl, sym}
 use Rattle.std.proofs.Common.{◌∙◌, ap, subst, arith}
 use Rattle.std.specs.Prelude.{MatchOption}
@@ -9,7 +9,6 @@ use Rattle.std.proofs.lemmas.Bool.{cases_eq}
 use Rattle.std.proofs.lemmas.List.Elements.{Contains-append_left, Contains-append_right, Contains-append_cases}
 use Rattle.abnfread.specs.Element as e
 use Rattle.abnfread.specs.Element.{Element, Elements, Rule}
-use Rattle.abnfcheck.specs.Derivable as der
 use Rattle.abnfcheck.specs.Derivable.{AreLetters, AtMost, Derives, DerivesTimes}
 use Rattle.letters.specs.Letters.{has}
 use Rattle.coverlines.specs.Goals as g
@@ -22,7 +21,7 @@ use Rattle.coverlines.specs.declared.way.GoalWay.{GoalWay}
 use Rattle.coverlines.specs.declared.way.GoalWay.TheVariants.{Chosen, Taken, LeftOut, Rounds, First, Last, Same}
 use Rattle.coverlines.specs.declared.way.GoalWay.TheVariants.{OtherCase}
 use Rattle.coverlines.proofs.MemberLemmas.{first_in, none_in, only_in}
-use Rattle.coverlines.proofs.ShortestLemmas.{alike_shortest, same_shortest}
+use Rattle.coverlines.proofs.ShortestLemmas.{alike_shortest}
 
 -- the alternatives so far
 abbrev pub IsChosenBelow : ℕ → GoalWay → Type 0
@@ -163,8 +162,11 @@ module _ (b : LineBounds) (rules : List Rule) where
       → IsShortest (Admitted b (λ w. w ≡ t)) b.limit word
       → IsShortest (MakesSo b rules (e.Text folds t) Same) b.limit word
   same_text_shortest folds t word h = alike_shortest b.limit word
-      (λ w s. record { symbols = s.symbols; is = subst (Makes (has b.alphabet) (may b) rules (e.Text folds t) Same)
-          (sym s.is) g.same_text })
+      (λ w s. record {
+        symbols = s.symbols;
+        is = subst (Makes (has b.alphabet) (may b) rules (e.Text folds t) Same)
+            (sym s.is) g.same_text;
+      })
       (λ w s. record { symbols = s.symbols; is = own s.is }) h
     where
       own : {folds : Bool} {t w : List ℕ} → Makes (has b.alphabet) (may b) rules (e.Text folds t) Same w → w ≡ t
@@ -174,8 +176,11 @@ module _ (b : LineBounds) (rules : List Rule) where
       → IsShortest (Admitted b (λ w. w ≡ map swapped_case t)) b.limit word
       → IsShortest (MakesSo b rules (e.Text true t) OtherCase) b.limit word
   other_text_shortest t word h = alike_shortest b.limit word
-      (λ w s. record { symbols = s.symbols; is = subst (Makes (has b.alphabet) (may b) rules (e.Text true t) OtherCase)
-          (sym s.is) g.other_text })
+      (λ w s. record {
+        symbols = s.symbols;
+        is = subst (Makes (has b.alphabet) (may b) rules (e.Text true t) OtherCase)
+            (sym s.is) g.other_text;
+      })
       (λ w s. record { symbols = s.symbols; is = own s.is }) h
     where
       own : {w : List ℕ} → Makes (has b.alphabet) (may b) rules (e.Text true t) OtherCase w → w ≡ map swapped_case t
@@ -186,8 +191,11 @@ module _ (b : LineBounds) (rules : List Rule) where
       → IsShortest (Admitted b (λ w. w ≡ vs)) b.limit word
       → IsShortest (MakesSo b rules (e.Values vs) Same) b.limit word
   same_values_shortest vs word weaker h = alike_shortest b.limit word
-      (λ w s. record { symbols = s.symbols; is = subst (Makes (has b.alphabet) (may b) rules (e.Values vs) Same)
-          (sym s.is) (g.same_values (weaker vs (subst (AreLetters (may b)) s.is s.symbols))) })
+      (λ w s. record {
+        symbols = s.symbols;
+        is = subst (Makes (has b.alphabet) (may b) rules (e.Values vs) Same)
+            (sym s.is) (g.same_values (weaker vs (subst (AreLetters (may b)) s.is s.symbols)));
+      })
       (λ w s. record { symbols = s.symbols; is = own s.is }) h
     where
       own : {w : List ℕ} → Makes (has b.alphabet) (may b) rules (e.Values vs) Same w → w ≡ vs
@@ -203,8 +211,11 @@ module _ (b : LineBounds) (rules : List Rule) where
       own : {w : List ℕ} → Makes (has b.alphabet) (may b) rules (e.Range low high) First w → ⊥
       own (g.first {c = c} f) = let n = never c f.from f.to in let y = f.is in cc (n, y)
   first_shortest low high (Some c) word first h = alike_shortest b.limit word
-      (λ w s. record { symbols = s.symbols; is = subst (Makes (has b.alphabet) (may b) rules (e.Range low high) First)
-          (sym s.is) (g.first first) })
+      (λ w s. record {
+        symbols = s.symbols;
+        is = subst (Makes (has b.alphabet) (may b) rules (e.Range low high) First)
+            (sym s.is) (g.first first);
+      })
       (λ w s. record { symbols = s.symbols; is = own s.is }) h
     where
       own : {w : List ℕ} → Makes (has b.alphabet) (may b) rules (e.Range low high) First w → w ≡ c ∷ []
@@ -223,8 +234,11 @@ module _ (b : LineBounds) (rules : List Rule) where
       own : {w : List ℕ} → Makes (has b.alphabet) (may b) rules (e.Range low high) Last w → ⊥
       own (g.last {c = c} f) = let n = never c f.from f.to in let y = f.is in cc (n, y)
   last_shortest low high (Some c) word last h = alike_shortest b.limit word
-      (λ w s. record { symbols = s.symbols; is = subst (Makes (has b.alphabet) (may b) rules (e.Range low high) Last)
-          (sym s.is) (g.last last) })
+      (λ w s. record {
+        symbols = s.symbols;
+        is = subst (Makes (has b.alphabet) (may b) rules (e.Range low high) Last)
+            (sym s.is) (g.last last);
+      })
       (λ w s. record { symbols = s.symbols; is = own s.is }) h
     where
       own : {w : List ℕ} → Makes (has b.alphabet) (may b) rules (e.Range low high) Last w → w ≡ c ∷ []

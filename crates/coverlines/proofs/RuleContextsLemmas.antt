@@ -1,6 +1,6 @@
 -- Contexts of rules get shorter until they are settled, and then they are as short as may be.
 -- Serves: rule_contexts
-use Rattle.std.proofs.Common.{◌≡◌, ◌↔◌, ◌⊎◌, ⊎_elim, ℕ, zero, suc, ◌+◌, ◌<◌, ◌≤◌, Bool, true, false, ◌||◌, List, []}
+use Rattle.std.proofs.Common.{◌≡◌, ◌↔◌, ⊎_elim, ℕ, zero, suc, ◌+◌, ◌<◌, ◌≤◌, Bool, true, false, ◌||◌, List, []}
 use Rattle.std.proofs.Common.{◌∷◌}
 use Rattle.std.proofs.Common.{◌++◌, map, take, set, get_or, length, length-append, length-set, Contains, Option, Some}
 use Rattle.std.proofs.Common.{None, cond, nat_lt}
@@ -22,7 +22,7 @@ use Rattle.abnfcheck.proofs.YieldsLemmas.{letters_both, letters_parts}
 use Rattle.letters.specs.Letters.{has}
 use Rattle.coverlines.specs.Goals as g
 use Rattle.coverlines.specs.Goals.{Around, Inside}
-use Rattle.coverlines.specs.Sites.{AreSites, HasShorter, Stood, room_of, stood_of}
+use Rattle.coverlines.specs.Sites.{AreSites, Stood, room_of, stood_of}
 use Rattle.coverlines.specs.RuleContexts.{AreContexts, AreSitesPassed, AreRuleSites, AreRulesPassed}
 use Rattle.coverlines.specs.RuleContexts.{AreShortestContexts, IsContext, IsImproved, IsNamedIn, IsSiteOf, IsSiteStep}
 use Rattle.coverlines.specs.RuleContexts.{AreFirstContexts, AreSitesOf, IsFirstContext}
@@ -246,8 +246,8 @@ module _ (b : LineBounds) (rules : List Rule) where
         let size = size_named n.context s named.context n.before n.after in
         let known_cost = cost_few named.id in
         let le : context_cost b.limit (context_at known named.id) ≤ size_of named.context =
-            ⊎_elim (λ over. omega (arith, over, known_cost)) (λ le. few le)
-            (cases_lt b.limit (size_of named.context)) in
+        ⊎_elim (λ over. omega (arith, over, known_cost)) (λ le. few le)
+        (cases_lt b.limit (size_of named.context)) in
         let id_is : named.id ≡ id_of rules name = n.id_is ∙ ap (id_of rules) same in
         let sum : size_of n.context + room_of s ≡ size_of c + room_of s = ap (λ x. size_of x + room_of s) alike in
         subst (λ k. context_cost b.limit (context_at known k) ≤ size_of c + room_of s) id_is
@@ -285,12 +285,15 @@ module _ (b : LineBounds) (rules : List Rule) where
       subst (λ cs. context_total b.limit cs < context_total b.limit old) (sym s.0) p
   next_site id all i site old mid new false true lt is p s =
       subst (λ cs. context_total b.limit new < context_total b.limit cs) p.0 s
-  next_site id all i site old mid new false false lt is p s = (s.0 ∙ p.0, λ t among. ⊎_elim
-      (λ l. p.1 t l)
-      (λ r. subst (λ cs. IsSettledAt b rules cs id t) p.0 (subst (IsSettledAt b rules mid id)
-      (only_in (stood_of site) t r) s.1))
-      (Contains-append_cases (map stood_of (take i all)) (stood_of site ∷ []) t
-      (subst (λ xs. Contains xs t) taken among)))
+  next_site id all i site old mid new false false lt is p s = (
+    s.0 ∙ p.0,
+    λ t among. ⊎_elim
+        (λ l. p.1 t l)
+        (λ r. subst (λ cs. IsSettledAt b rules cs id t) p.0 (subst (IsSettledAt b rules mid id)
+        (only_in (stood_of site) t r) s.1))
+        (Contains-append_cases (map stood_of (take i all)) (stood_of site ∷ []) t
+        (subst (λ xs. Contains xs t) taken among)),
+  )
     where
       taken : map stood_of (take (i + 1) all) ≡ map stood_of (take i all) ++ stood_of site ∷ []
       taken = ap (map stood_of) (ap (λ (k : ℕ). take k all) (add-one i) ∙ take-suc all i site lt
@@ -304,10 +307,13 @@ module _ (b : LineBounds) (rules : List Rule) where
       subst (λ cs. context_total b.limit cs < context_total b.limit old) (sym s.0) p
   next_rule sites n all old mid new false true is p s =
       subst (λ cs. context_total b.limit new < context_total b.limit cs) p.0 s
-  next_rule sites n all old mid new false false is p s = (s.0 ∙ p.0, λ id t lt among. ⊎_elim
-      (λ same. subst (λ cs. IsSettledAt b rules cs id t) p.0 (subst (λ k. IsSettledAt b rules mid k t) (sym same)
-      (s.1 t (subst (λ xs. Contains xs t) (ap (sites_at sites) same ∙ is) among))))
-      (λ other. p.1 id t (omega (arith, lt, other)) among) (cases_eq id n))
+  next_rule sites n all old mid new false false is p s = (
+    s.0 ∙ p.0,
+    λ id t lt among. ⊎_elim
+        (λ same. subst (λ cs. IsSettledAt b rules cs id t) p.0 (subst (λ k. IsSettledAt b rules mid k t) (sym same)
+        (s.1 t (subst (λ xs. Contains xs t) (ap (sites_at sites) same ∙ is) among))))
+        (λ other. p.1 id t (omega (arith, lt, other)) among) (cases_eq id n),
+  )
 
   -- steps for all rules
   pub settled_after : (sites : List (Vec Site Global)) (n : ℕ) (old new : List (Option LineContext)) (answer : Bool)
@@ -356,7 +362,7 @@ module _ (b : LineBounds) (rules : List Rule) where
         by id body name x y u v p is inside front back le old lt sum (Some c) at =
             let o = subst (λ k. context_cost b.limit k ≤ length x + length y) at old in
             let m = (all.each id body is).complete p (record { element = e.Name name; before = u; after = v })
-                (record { inside = inside; before = front; after = back }) (omega (arith, le)) in
+            (record { inside = inside; before = front; after = back }) (omega (arith, le)) in
             let below = body_below rules id body is in
             let count = all.count in
             let few = settled id m.other (omega (arith, below, count)) m.among name c m.same at lt in

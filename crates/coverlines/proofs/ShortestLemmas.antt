@@ -1,6 +1,6 @@
 -- Shortest lists of sets that are made of others.
 -- Serves: shorter, joined, repeated, shortest
-use Rattle.std.proofs.Common.{◌≡◌, ◌⊎◌, inl, inr, ⊎_elim, ℕ, zero, suc, ◌+◌, ◌-◌, ◌<◌, ◌≤◌, Bool, true, false, List}
+use Rattle.std.proofs.Common.{◌≡◌, ◌⊎◌, inl, inr, ⊎_elim, ℕ, zero, suc, ◌+◌, ◌-◌, ◌<◌, ◌≤◌, List}
 use Rattle.std.proofs.Common.{[], ◌∷◌}
 use Rattle.std.proofs.Common.{◌++◌, length, length-append, Option, Some, None, Vec, Global, refl, sym, ◌∙◌, ap, subst}
 use Rattle.std.proofs.Common.{arith, append-nil, append_assoc}
@@ -9,7 +9,7 @@ use Rattle.abnfcheck.specs.Derivable as der
 use Rattle.abnfcheck.specs.Derivable.{AreLetters, Derives, DerivesAll, DerivesSome, DerivesTimes}
 use Rattle.abnfcheck.proofs.YieldsLemmas.{letters_both, letters_parts}
 use Rattle.letters.specs.Letters.{has}
-use Rattle.coverlines.specs.Shortest.{IsShortest, IsShortestOf, Joined, Admitted, may, Spells, SpellsAll, SpellsSome}
+use Rattle.coverlines.specs.Shortest.{IsShortest, IsShortestOf, Joined, may, Spells, SpellsAll, SpellsSome}
 use Rattle.coverlines.specs.Shortest.{SpellsTimes}
 use Rattle.coverlines.specs.declared.bounds.LineBounds.{LineBounds}
 
@@ -235,7 +235,7 @@ module _ (b : LineBounds) (rules : List Rule) where
       → (v : List ℕ) × SpellsTimes b rules e k v × length v ≤ length w
   fewer_rounds e k l w le s =
       let j = times_front k (l - k) w (subst (λ n. DerivesTimes (has b.alphabet) rules e n w) (omega (arith, le))
-          s.is) in
+      s.is) in
       let two = letters_parts (may b) j.front j.back (subst (AreLetters (may b)) j.is s.symbols) in
       let n = ap length j.is ∙ length-append j.front j.back in
       (j.front, record { symbols = two.0; is = j.first }, omega (arith, n))

@@ -2,7 +2,7 @@
 -- Serves: sites
 use Rattle.std.proofs.Common.{◌≡◌, ◌⊎◌, ⊎_elim, Bool, ℕ, zero, suc, ◌+◌, ◌-◌, ◌<◌, ◌≤◌, List, [], ◌∷◌, ◌++◌, map}
 use Rattle.std.proofs.Common.{take, drop}
-use Rattle.std.proofs.Common.{get_or, length, length-append, length-drop, append_assoc, append-nil, Contains, Option}
+use Rattle.std.proofs.Common.{get_or, length, length-append, length-drop, append-nil, Contains, Option}
 use Rattle.std.proofs.Common.{Some, None, Vec}
 use Rattle.std.proofs.Common.{Global, refl, sym, ◌∙◌, ap, subst, arith}
 use Rattle.std.proofs.lemmas.Bool.{cases_eq}
@@ -19,7 +19,7 @@ use Rattle.coverlines.specs.Goals as g
 use Rattle.coverlines.specs.Goals.{Beside, Inside, member_at}
 use Rattle.coverlines.specs.Sites.{AddsSites, AreSites, AreSitesTo, HasShorter, IsLeastAt, IsSiteBelow, MayAddSites}
 use Rattle.coverlines.specs.Sites.{OtherRounds, StandsAt, Stood, room_of, stood_in}
-use Rattle.coverlines.specs.Shortest.{IsShortest, IsShortestOf, may, SpellsAll, SpellsTimes}
+use Rattle.coverlines.specs.Shortest.{IsShortest, may, SpellsAll, SpellsTimes}
 use Rattle.coverlines.specs.declared.bounds.LineBounds.{LineBounds}
 use Rattle.coverlines.proofs.MemberLemmas.{first_in, from_mapped, mapped_in, only_in}
 use Rattle.coverlines.proofs.ShortestLemmas.{fewer_rounds, same_shortest, times_both}
@@ -79,8 +79,11 @@ module _ (b : LineBounds) (rules : List Rule) where
     sites_added f k old new here least h a = record {
       right = λ s among. ⊎_elim (λ l. h.right s l)
           (λ r. let m = from_mapped (stood_in f k) s a.inner r in
-          let at = a.sites.right m.0 m.1 in (i ∷ at.0, subst (IsLeastAt b rules whole (i ∷ at.0)) m.2
-          (fewest at.0 m.0 at.1)))
+          let at = a.sites.right m.0 m.1 in (
+            i ∷ at.0,
+            subst (IsLeastAt b rules whole (i ∷ at.0)) m.2
+                (fewest at.0 m.0 at.1),
+          ))
           (Contains-append_cases old (map (stood_in f k) a.inner) s (subst (λ xs. Contains xs s) a.is among));
       complete = complete;
     }
@@ -420,8 +423,11 @@ module _ (b : LineBounds) (rules : List Rule) where
   -- nothing stands round it
   pub none_least : (f k : Vec ℕ Global) → f.items ≡ [] → k.items ≡ []
       → LeastPair (λ u v. (u ≡ []) × (v ≡ [])) b.limit (Some f) (Some k)
-  none_least f k front back = ((front, back), λ u v c.
-      let n = ap length front in let m = ap length back in omega (arith, n, m))
+  none_least f k front back = (
+    (front, back),
+    λ u v c.
+        let n = ap length front in let m = ap length back in omega (arith, n, m),
+  )
 
   -- shortest lists round a round
   pub rounds_least : (a : ℕ) (most : Option ℕ) (d : Element) (f : Vec ℕ Global) (back : Option (Vec ℕ Global))

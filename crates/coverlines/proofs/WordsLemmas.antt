@@ -1,12 +1,12 @@
 -- A shortest list of each kind of element.
 -- Serves: shortest
-use Rattle.std.proofs.Common.{◌≡◌, ◌≢◌, ℕ, zero, suc, ◌+◌, ◌<◌, ◌≤◌, Bool, true, false, ◌&&◌, List, [], ◌∷◌, ◌++◌}
+use Rattle.std.proofs.Common.{◌≡◌, ℕ, zero, suc, ◌+◌, ◌<◌, ◌≤◌, Bool, true, false, ◌&&◌, List, [], ◌∷◌, ◌++◌}
 use Rattle.std.proofs.Common.{length}
 use Rattle.std.proofs.Common.{map, take, get_or, Option, Some, None, Vec, Global, refl, sym, ◌∙◌, ap, subst, arith}
 use Rattle.std.proofs.Common.{add-one}
 use Rattle.std.proofs.Math.Seq.{take-suc}
 use Rattle.std.proofs.lemmas.List.{map-append}
-use Rattle.std.specs.Prelude.{IfOk, Result, Ok, Err, MatchOption}
+use Rattle.std.specs.Prelude.{MatchOption}
 use Rattle.abnfread.specs.AbnfViews.{element_of, elements, elements_of, rules_of}
 use Rattle.abnfread.specs.Element as e
 use Rattle.abnfread.specs.Element.{Element, Elements, Rule, none, more, append, id_of}
@@ -104,7 +104,7 @@ pub next_best : (b : LineBounds) (folds : Bool) (text : List ℕ) (i : ℕ) (wor
     (w : List ℕ) → Spelled folds (take (i + 1) text) w → AreLetters (may b) w → AreLetters (may b) new
 next_best b folds text i word new c lt best one is w s a =
     let h = spelled_parts folds (take i text) (get_or text i 0) w
-        (subst (λ v. Spelled folds v w) (next_taken text i lt) s) in
+    (subst (λ v. Spelled folds v w) (next_taken text i lt) s) in
     let two = letters_last (may b) h.front h.last (subst (AreLetters (may b)) h.is a) in
     subst (AreLetters (may b)) (sym is) (letters_snoc (may b) word c (best h.front h.spelled two.0)
     (one h.last h.stands two.1))

@@ -1,5 +1,5 @@
 -- Lines that reach each goal.
-use Rattle.std.specs.Prelude.{◌≡◌, ◌≢◌, ◌⊎◌, ℕ, ◌<◌, ◌≤◌, List, ◌∷◌, ◌++◌, map, length, Contains, Option, None, Some}
+use Rattle.std.specs.Prelude.{◌≡◌, ◌≢◌, ◌⊎◌, ℕ, ◌<◌, ◌≤◌, List, ◌++◌, map, length, Contains, Option, None, Some}
 use Rattle.std.specs.List.{All, AllPairs}
 use Rattle.std.proofs.Common.{Vec, Global}
 use Rattle.abnfread.specs.Element.{Rule}

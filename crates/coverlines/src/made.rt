@@ -54,7 +54,12 @@ fn other_word(
 }
 
 // Returns what a text derives in each way.
-fn text_made(alloc: Global, bounds: LineBounds, folds: bool, text: &[u8]) -> Result<Vec<MadeWord>, Memory>
+fn text_made(
+    alloc: Global,
+    bounds: LineBounds,
+    folds: bool,
+    text: &[u8],
+) -> Result<Vec<MadeWord>, Memory>
     ensures { IfOk result (λ found. (rules : List Rule) → AreMade bounds rules (Text folds text.now) found.items) }
 {
     let mut found = Vec::new(alloc);
@@ -76,7 +81,12 @@ fn values_made(alloc: Global, bounds: LineBounds, values: &[u32]) -> Result<Vec<
 }
 
 // Returns what a range derives in each way.
-fn range_made(alloc: Global, bounds: LineBounds, low: u32, high: u32) -> Result<Vec<MadeWord>, Memory>
+fn range_made(
+    alloc: Global,
+    bounds: LineBounds,
+    low: u32,
+    high: u32,
+) -> Result<Vec<MadeWord>, Memory>
     ensures { IfOk result (λ found. (rules : List Rule) → AreMade bounds rules (Range low high) found.items) }
 {
     let mut found = Vec::new(alloc);
@@ -184,7 +194,11 @@ fn opt_made(alloc: Global, words: &Words<'_>, operand: &Elem) -> Result<Vec<Made
 }
 
 /// Returns a shortest list of each way in which an element derives some.
-pub(crate) fn made_words(alloc: Global, words: &Words<'_>, e: &Elem) -> Result<Vec<MadeWord>, Memory>
+pub(crate) fn made_words(
+    alloc: Global,
+    words: &Words<'_>,
+    e: &Elem,
+) -> Result<Vec<MadeWord>, Memory>
     requires { AreWords words.now }
     ensures { IfOk result (λ found. (rules : List Rule) → AreKnownOf words.now rules
         → AreMade words.now.bounds rules (element_of e.now) found.items) }

@@ -84,5 +84,9 @@ pub(crate) fn repeated(
 pub(crate) fn admitted(bounds: LineBounds, word: Vec<u32>) -> Option<Vec<u32>>
     ensures { IsShortest (Admitted bounds (λ w. w ≡ word.items)) bounds.limit result }
 {
-    if bounds.admits(&word) { Some(word) } else { None }
+    if bounds.admits(&word) {
+        Some(word)
+    } else {
+        None
+    }
 }

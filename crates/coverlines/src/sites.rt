@@ -160,11 +160,8 @@ fn add_operands<'a>(
             let back = Vec::new(alloc);
             add_inner(alloc, words, operand, Some(front), Some(back), found)
         }
-        Elem::Text { .. }
-        | Elem::Values(_)
-        | Elem::Range { .. }
-        | Elem::Name(_)
-        | Elem::Prose(_) => Ok(()),
+        Elem::Text { .. } | Elem::Values(_) | Elem::Range { .. } | Elem::Name(_) | Elem::Prose(_) =>
+            Ok(()),
     }
 }
 

@@ -37,11 +37,7 @@ fn copy_known(
 }
 
 // Returns the list that is known of the rule with that name.
-fn known_word(
-    alloc: Global,
-    words: &Words<'_>,
-    name: &[u8],
-) -> Result<Option<Vec<u32>>, Memory>
+fn known_word(alloc: Global, words: &Words<'_>, name: &[u8]) -> Result<Option<Vec<u32>>, Memory>
     requires { AreWords words.now }
     ensures { IfOk result (λ w. (rules : List Rule) → AreKnownOf words.now rules
         → IsShortest (Spells words.now.bounds rules (Name name.now)) words.now.bounds.limit w) }

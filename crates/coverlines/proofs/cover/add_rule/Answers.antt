@@ -1,5 +1,4 @@
 -- One site more.
-use Rattle.coverlines.specs.Sites.{stood_of}
 use Rattle.coverlines.proofs.CoverLinesLemmas as l
 use Rattle.coverlines.proofs.cover.add_rule.Goals as goal
 

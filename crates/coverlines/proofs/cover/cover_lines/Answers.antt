@@ -1,7 +1,7 @@
 -- The rules and the judged one of the grammar.
-use Rattle.std.proofs.Common.{length, ap, arith}
+use Rattle.std.proofs.Common.{arith}
 use Rattle.std.proofs.lemmas.List.{length-map}
-use Rattle.abnfread.specs.AbnfViews.{rule_of, rules_of}
+use Rattle.abnfread.specs.AbnfViews.{rule_of}
 use Rattle.coverlines.proofs.cover.cover_lines.Goals as goal
 
 pub goal_lines-requires-clause-judged : goal.goal_lines-requires-clause-judged

@@ -30,7 +30,7 @@ pub index-requires-in-loop-id : goal.index-requires-in-loop-id
 index-requires-in-loop-id c =
     let words : Words = record { rules = c.args.rules; known = c.as_slice.result; bounds = c.args.bounds } in
     let all : AreRuleSites c.args.bounds (rules_of c.args.rules.now) c.in_ok-sites.sites.items =
-        c.in_ok-sites.ensures (known_of_words words (rw c.as_slice.ensures.value c.in_ok-known.ensures)) in
+    c.in_ok-sites.ensures (known_of_words words (rw c.as_slice.ensures.value c.in_ok-known.ensures)) in
     let n = all.count in
     let m = length-map c.args.rules.now.rules rule_of in
     let k = c.len-id-end.ensures.len in
@@ -44,7 +44,7 @@ loop-id-preserved c =
     let words : Words = record { rules = c.args.rules; known = c.as_slice.result; bounds = c.args.bounds } in
     let known = known_of_words words (rw c.as_slice.ensures.value c.in_ok-known.ensures) in
     let all : AreRuleSites c.args.bounds (rules_of c.args.rules.now) c.in_ok-sites.sites.items =
-        c.in_ok-sites.ensures known in
+    c.in_ok-sites.ensures known in
     let n = all.count in
     let o = c.in_ok-contexts.ensures.count in
     let m = length-map c.args.rules.now.rules rule_of in
@@ -67,7 +67,7 @@ pub returns : goal.returns
 returns c =
     let words : Words = record { rules = c.args.rules; known = c.as_slice.result; bounds = c.args.bounds } in
     let all : AreRuleSites c.args.bounds (rules_of c.args.rules.now) c.in_ok-sites.sites.items =
-        c.in_ok-sites.ensures (known_of_words words (rw c.as_slice.ensures.value c.in_ok-known.ensures)) in
+    c.in_ok-sites.ensures (known_of_words words (rw c.as_slice.ensures.value c.in_ok-known.ensures)) in
     let m = length-map c.args.rules.now.rules rule_of in
     let k = c.len-id-end.ensures.len in
     let up = c.loop-id.auto.id-end in

@@ -1,9 +1,7 @@
 -- Each kind of element.
 use Rattle.std.proofs.lemmas.Result.{IfOk-weaker}
-use Rattle.abnfread.specs.AbnfViews.{elements_of}
-use Rattle.abnfread.proofs.ElementLemmas.{element-Text, element-Values, element-Range, element-Concat, element-Alt}
-use Rattle.abnfread.proofs.ElementLemmas.{element-Rep, element-Opt, element-Name, element-Prose}
-use Rattle.coverlines.proofs.MadeLemmas as m
+use Rattle.abnfread.proofs.ElementLemmas.{element-Text, element-Values, element-Range, element-Alt}
+use Rattle.abnfread.proofs.ElementLemmas.{element-Rep, element-Opt}
 use Rattle.coverlines.proofs.made.made_words.Goals as goal
 
 pub returns-in-Text : goal.returns-in-Text

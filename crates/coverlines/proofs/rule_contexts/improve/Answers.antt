@@ -9,9 +9,11 @@ returns-then-limit-len-clause-improved c = (refl, λ le. absurd (omega (arith, c
 
 pub returns-then-not-is_shorter-clause-improved : goal.returns-then-not-is_shorter-clause-improved
 returns-then-not-is_shorter-clause-improved c =
-    let same = context_index c.args.known.now.items c.args.id c.index.result.now c.requires c.index.ensures in
-    (refl, λ le. rw same (not_shorter c.args.limit (size_of c.args.new) c.index.result.now c.is_shorter.result
-    c.if-not-is_shorter.true (c.is_shorter.ensures c.args.limit le)))
+    let same = context_index c.args.known.now.items c.args.id c.index.result.now c.requires c.index.ensures in (
+      refl,
+      λ le. rw same (not_shorter c.args.limit (size_of c.args.new) c.index.result.now c.is_shorter.result
+          c.if-not-is_shorter.true (c.is_shorter.ensures c.args.limit le)),
+    )
 
 pub returns-clause-improved : goal.returns-clause-improved
 returns-clause-improved c =

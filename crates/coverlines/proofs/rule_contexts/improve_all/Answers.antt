@@ -22,11 +22,11 @@ loop-id-preserved c = record {
   contexts = λ judged h. c.in_ok-step.ensures.contexts judged (c.loop-id.invariant.contexts judged h);
   passed = λ judged h.
       let both = next_rule c.args.bounds (rules_of c.args.rules.now) c.args.sites.now c.loop-id.id
-          (map stood_of c.deref.result.now) c.args.known.now.items c.loop-id.known.items c.improve_named.new.known.items
-          c.loop-id.improved c.in_ok-step.step
-          (sites_index c.args.sites.now c.loop-id.id c.index-sites-id.result c.loop-id-test.true c.index-sites-id.is
-          ∙ ap (map stood_of) (sym c.deref.ensures.value)) (c.loop-id.invariant.passed judged h)
-          (c.in_ok-step.ensures.step judged (c.loop-id.invariant.contexts judged h)) in
+      (map stood_of c.deref.result.now) c.args.known.now.items c.loop-id.known.items c.improve_named.new.known.items
+      c.loop-id.improved c.in_ok-step.step
+      (sites_index c.args.sites.now c.loop-id.id c.index-sites-id.result c.loop-id-test.true c.index-sites-id.is
+      ∙ ap (map stood_of) (sym c.deref.ensures.value)) (c.loop-id.invariant.passed judged h)
+      (c.in_ok-step.ensures.step judged (c.loop-id.invariant.contexts judged h)) in
       elim c.if-improved.branch [
         | then-improved w ↦ subst (λ flag. AreRulesPassed c.args.bounds (rules_of c.args.rules.now) c.args.sites.now
             (c.loop-id.id + 1) c.args.known.now.items c.improve_named.new.known.items flag)

@@ -22,10 +22,10 @@ loop-site-preserved c = record {
   contexts = λ judged h. c.in_ok-step.ensures.contexts judged (c.loop-site.invariant.contexts judged h);
   passed = λ judged h.
       let both = next_site c.args.bounds (rules_of c.args.rules.now) c.args.id c.args.sites.now c.loop-site.site-index
-          c.site-item.result c.args.known.now.items c.loop-site.known.items c.improve_at.new.known.items
-          c.loop-site.improved c.in_ok-step.step c.loop-site-test.true c.site-item.is
-          (c.loop-site.invariant.passed judged h)
-          (c.in_ok-step.ensures.step judged (c.loop-site.invariant.contexts judged h)) in
+      c.site-item.result c.args.known.now.items c.loop-site.known.items c.improve_at.new.known.items
+      c.loop-site.improved c.in_ok-step.step c.loop-site-test.true c.site-item.is
+      (c.loop-site.invariant.passed judged h)
+      (c.in_ok-step.ensures.step judged (c.loop-site.invariant.contexts judged h)) in
       elim c.if-improved.branch [
         | then-improved w ↦ subst (λ flag. AreSitesPassed c.args.bounds (rules_of c.args.rules.now) c.args.id
             (map stood_of (take (c.loop-site.site-index + 1) c.args.sites.now)) c.args.known.now.items

@@ -10,9 +10,9 @@ use Rattle.coverlines.proofs.rule_contexts.named_context.Goals as goal
 pub returns-in_default-2 : goal.returns-in_default-2
 returns-in_default-2 c = λ name o outer element.
     let at = id_found c.args.rules.now c.in-Some-name_of.name.now c.in_ok-id.field-0 (length c.args.rules.now.rules)
-        c.requires c.in_ok-id.ensures.found refl in
+    c.requires c.in_ok-id.ensures.found refl in
     let is : length c.args.rules.now.rules ≡ id_of (rules_of c.args.rules.now) c.in-Some-name_of.name.now =
-        rw c.in_default-2.is at at in
+    rw c.in_default-2.is at at in
     let one : element_of c.args.site.now.elem.now ≡ Name c.in-Some-name_of.name.now = c.in-Some-name_of.ensures in
     let both : Name c.in-Some-name_of.name.now ≡ Name name = sym one ∙ element in
     let same : c.in-Some-name_of.name.now ≡ name = cc both in
@@ -27,10 +27,10 @@ returns c = record {
   element_is = c.in-Some-name_of.ensures;
   id_is =
       let at = id_found c.args.rules.now c.in-Some-name_of.name.now c.in_ok-id.field-0
-          (length c.args.rules.now.rules) c.requires c.in_ok-id.ensures.found refl in rw c.in-Some-2.is at at;
+      (length c.args.rules.now.rules) c.requires c.in_ok-id.ensures.found refl in rw c.in-Some-2.is at at;
   inside =
       let lt = found_inside c.args.rules.now c.in-Some-name_of.name.now c.in-Some-2.id
-          (sym c.in_ok-id.ensures.found ∙ c.in-Some-2.is) in
+      (sym c.in_ok-id.ensures.found ∙ c.in-Some-2.is) in
       let n = length-map c.args.rules.now.rules rule_of in omega (arith, lt, n);
   before = c.in_ok-context.ensures.before;
   after = c.in_ok-context.ensures.after;

@@ -11,8 +11,8 @@ loop-id-preserved c = record {
   found = c.in_ok-step.ensures.found;
   passed =
       let both = next_passed c.args.bounds (rules_of c.args.rules.now) c.loop-id.id c.args.known.now.items
-          c.loop-id.known.items c.improve.new.known.items c.loop-id.improved c.in_ok-step.step
-          c.loop-id.invariant.passed c.in_ok-step.ensures.step in
+      c.loop-id.known.items c.improve.new.known.items c.loop-id.improved c.in_ok-step.step
+      c.loop-id.invariant.passed c.in_ok-step.ensures.step in
       elim c.if-improved.branch [
         | then-improved w ↦ subst (λ flag. ArePassed c.args.bounds (rules_of c.args.rules.now) (c.loop-id.id + 1)
             c.args.known.now.items c.improve.new.known.items flag)

@@ -21,10 +21,16 @@ returns-then-limit-len c = λ b rules es e h k. s.all_joined b rules es e c.args
 pub returns : goal.returns
 returns c = λ b rules es e h k.
     let both : c.extend_from_slice.new.self.items ≡ c.in-Some.front.items ++ c.in-Some-next.back.items =
-        c.in_ok-extend_from_slice.ensures.items ∙ ap (λ w. c.in-Some.front.items ++ w) c.deref.ensures.value in
+    c.in_ok-extend_from_slice.ensures.items ∙ ap (λ w. c.in-Some.front.items ++ w) c.deref.ensures.value in
     s.all_joined b rules es e c.args.limit (Some c.extend_from_slice.new.self)
     (subst (IsShortestOf (Joined (SpellsAll b rules es) (Spells b rules e)) c.args.limit) (sym both)
     (s.both_joined c.in-Some.front.items c.in-Some-next.back.items
-    (omega (arith, c.if-limit-len.false, c.len.ensures, c.len-2.ensures, c.in-Some.front.ok.0,
-    c.in-Some-next.back.ok.0))
+    (omega (
+      arith,
+      c.if-limit-len.false,
+      c.len.ensures,
+      c.len-2.ensures,
+      c.in-Some.front.ok.0,
+      c.in-Some-next.back.ok.0,
+    ))
     (rw c.in-Some.is at h) (rw c.in-Some-next.is at k)))

@@ -1,5 +1,5 @@
 -- So many rounds fit, or no list does.
-use Rattle.std.proofs.Common.{◌≡◌, ◌∙◌, ◌+◌, ◌++◌, None, Some, length, ap, arith, subst, sym}
+use Rattle.std.proofs.Common.{◌≡◌, ◌∙◌, ◌+◌, ◌++◌, None, Some, ap, arith, subst, sym}
 use Rattle.coverlines.specs.Shortest.{IsShortestOf, Joined, Spells, SpellsTimes}
 use Rattle.coverlines.proofs.ShortestLemmas as s
 use Rattle.coverlines.proofs.short.repeated.Goals as goal
@@ -32,7 +32,7 @@ returns-then-limit-len c = λ b rules e h.
 pub loop-preserved : goal.loop-preserved
 loop-preserved c = λ b rules e round.
     let both : c.extend_from_slice.new.self.items ≡ c.loop.all.items ++ c.in-Some.round.items =
-        c.in_ok-extend_from_slice.ensures.items ∙ ap (λ w. c.loop.all.items ++ w) c.deref.ensures.value in
+    c.in_ok-extend_from_slice.ensures.items ∙ ap (λ w. c.loop.all.items ++ w) c.deref.ensures.value in
     s.times_next b rules e c.loop.counter c.args.limit (Some c.extend_from_slice.new.self)
     (subst (IsShortestOf (Joined (SpellsTimes b rules e c.loop.counter) (Spells b rules e)) c.args.limit) (sym both)
     (s.both_joined c.loop.all.items c.in-Some.round.items

@@ -1,5 +1,5 @@
 -- So many rounds so far.
-use Rattle.std.proofs.Common.{ℕ, List}
+use Rattle.std.proofs.Common.{List}
 use Rattle.abnfread.specs.Element.{Element, Rule}
 use Rattle.coverlines.specs.Shortest.{IsShortestOf, Spells, SpellsTimes}
 use Rattle.coverlines.specs.declared.bounds.LineBounds.{LineBounds}

@@ -2,8 +2,8 @@
 use Rattle.std.proofs.Common.{◌∙◌, ℕ, ◌+◌, Some, add-one, ap, drop, length, map, refl, subst}
 use Rattle.std.proofs.lemmas.Result.{IfOk-weaker}
 use Rattle.abnfread.specs.AbnfViews.{element_of, elements_of}
-use Rattle.abnfread.proofs.ElementLemmas.{element-Text, element-Values, element-Range, element-Concat, element-Alt}
-use Rattle.abnfread.proofs.ElementLemmas.{element-Rep, element-Opt, element-Name, element-Prose}
+use Rattle.abnfread.proofs.ElementLemmas.{element-Concat, element-Alt}
+use Rattle.abnfread.proofs.ElementLemmas.{element-Rep, element-Opt}
 use Rattle.abnfread.specs.Element.{Alt, Concat}
 use Rattle.abnfread.specs.declared.elem.Elem.{Elem}
 use Rattle.coverlines.specs.Sites.{MayAddSites, stood_of}
@@ -63,7 +63,7 @@ add_operands-returns-in_ok-back-in-Rep t c = IfOk-weaker c.add_inner.result _ _ 
     (element_of c.in-Rep.operand.value) c.new-front.result c.in_ok-back-in-Rep.back
     (map stood_of c.args.found.now.items) (map stood_of c.add_inner.new.found.items) c.new-front.ensures.items
     (rw c.deref-in-Rep.ensures at (c.in_ok-back-in-Rep.ensures rules known))
-    (rw (c.in-Rep.is, element-Rep) at start) 
+    (rw (c.in-Rep.is, element-Rep) at start)
     (subst (λ (x : Elem). MayAddSites c.args.words.now.bounds rules (element_of x) (Some c.new-front.result)
     c.in_ok-back-in-Rep.back (map stood_of c.args.found.now.items) (map stood_of c.add_inner.new.found.items))
     c.deref-in-Rep-2.ensures (adds rules known)))) c.add_inner.ensures

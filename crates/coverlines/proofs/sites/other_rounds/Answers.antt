@@ -14,8 +14,8 @@ returns c =
     let allowed = c.allows.ensures.0 c.if-not-allows.false in
     let low : c.args.least ≤ (c.from-rounds.result - 1) + 1 = omega (arith, max, from) in
     let few : ((c.from-rounds.result - 1) ≡ 0) ⊎ ((c.from-rounds.result - 1) + 1 ≡ c.args.least) =
-        ⊎_elim (λ lt. inr (omega (arith, max, from, lt))) (λ le. inl (omega (arith, max, from, le)))
-        (cases_lt 0 c.args.least) in
+    ⊎_elim (λ lt. inr (omega (arith, max, from, lt))) (λ le. inl (omega (arith, max, from, le)))
+    (cases_lt 0 c.args.least) in
     IfOk-weaker c.repeated.result _ _ (λ w rounds rules known.
     rounds_shortest c.args.words.now.bounds rules c.args.least c.args.most (element_of c.args.operand.now)
     (c.from-rounds.result - 1) w low few

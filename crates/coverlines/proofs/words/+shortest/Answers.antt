@@ -3,7 +3,7 @@ use Rattle.std.proofs.Common.{sym, subst, take}
 use Rattle.std.proofs.lemmas.Result.{IfOk-weaker}
 use Rattle.abnfread.specs.AbnfViews.{element_of, elements_of}
 use Rattle.abnfread.proofs.ElementLemmas.{element-Text, element-Values, element-Range, element-Concat, element-Alt}
-use Rattle.abnfread.proofs.ElementLemmas.{element-Rep, element-Opt, element-Name, element-Prose}
+use Rattle.abnfread.proofs.ElementLemmas.{element-Rep, element-Opt, element-Name}
 use Rattle.coverlines.specs.Shortest.{IsShortest, SpellsAll, SpellsSome}
 use Rattle.coverlines.proofs.ShortestLemmas.{rep_least}
 use Rattle.coverlines.proofs.WordsLemmas as w
