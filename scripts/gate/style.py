@@ -31,10 +31,10 @@ TOP = pathlib.Path(__file__).resolve().parents[2]
 # The crates whose doc comments are clean.
 SOURCES = """
     abnfblocks abnfcheck abnfd abnfexplain abnfg abnfhints abnfi abnfprint abnfread abnfrun abnftexts abnfx capi cli
-    coverlines diagnostics earley earleyitems fanquber fanquber_c feed fixpoint flatgrammar gramcheck lazydfa letterclasses
-    letters lexer linejudge lowering matchfailure memo memoryrun packrat pegexplain pegi pegmatch pegnodes pegprint
-    pegread pegrun refusedlines rfcforms rfcvalues rulelines rulenames ruletable testio tests_abnf tests_answers
-    tests_peg tests_runs toolrun uses
+    coverlines diagnostics earley earleyitems fanquber fanquber_c feed fixpoint flatgrammar gramcheck lazydfa
+    letterclasses letters lexer linejudge lowering matchfailure memo memoryrun packrat pegexplain pegi pegmatch pegnodes
+    pegprint pegread pegrun refusedlines rfcforms rfcvalues rulelines rulenames ruletable testio tests_abnf
+    tests_answers tests_peg tests_runs toolrun uses
     """.split()
 # The files whose words are clean. A file that is rewritten joins them.
 CHECKED = (

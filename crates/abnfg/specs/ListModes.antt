@@ -33,15 +33,15 @@ pub record AreOfCover (all : List (List ℕ) → List (List ℕ) → Type 0) (b 
   pub are : all (line_items lines) ws
 
 -- a list begins with another one, or is that one
-abbrev pub BeginsWith : List (List ℕ) → List (List ℕ) → Type 0
-BeginsWith all ws = (n : ℕ) × (ws ≡ take n all)
+abbrev pub HasFirstLists : List (List ℕ) → List (List ℕ) → Type 0
+HasFirstLists all ws = (n : ℕ) × (ws ≡ take n all)
 
 abbrev pub IsSameList : List (List ℕ) → List (List ℕ) → Type 0
 IsSameList all ws = ws ≡ all
 
 -- no line, or the first of those that reach the goals
 abbrev pub AreFirstOfCover : LineBounds → List Rule → ℕ → List (List ℕ) → Type 0
-AreFirstOfCover b rules id ws = (ws ≡ []) ⊎ AreOfCover BeginsWith b rules id ws
+AreFirstOfCover b rules id ws = (ws ≡ []) ⊎ AreOfCover HasFirstLists b rules id ws
 
 -- the lists of lines that a mode begins with
 abbrev pub FirstIn : ListMode → Bool → Alphabet → ℕ → ℕ → List Rule → ℕ → List (List ℕ) → Type 0
@@ -53,8 +53,8 @@ FirstIn Random edges alphabet terminator limit rules id = All (IsRuleLine alphab
 -- the lists of all its lines
 abbrev pub WholeIn : ListMode → Bool → Alphabet → ℕ → ℕ → List Rule → ℕ → List (List ℕ) → Type 0
 WholeIn InOrder edges alphabet terminator limit rules id = HoldAll (IsRuleLine alphabet terminator limit rules id)
-WholeIn Cover edges alphabet terminator limit rules id = AreOfCover IsSameList (bounds_of alphabet terminator limit) rules
-    id
+WholeIn Cover edges alphabet terminator limit rules id =
+    AreOfCover IsSameList (bounds_of alphabet terminator limit) rules id
 WholeIn Miss edges alphabet terminator limit rules id = AreAllMisses alphabet terminator limit rules id edges
 WholeIn Random edges alphabet terminator limit rules id = HoldAll (IsRuleLine alphabet terminator limit rules id)
 

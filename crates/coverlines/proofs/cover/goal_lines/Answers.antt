@@ -20,7 +20,8 @@ rule_contexts-requires-clause-sites c =
 
 pub loop-id-init : goal.loop-id-init
 loop-id-init c = record {
-  order = subst (AllPairs ComesLater) (sym c.new-found.ensures.items) (λ i j d lt within. absurd (omega (arith, within)));
+  order = subst (AllPairs ComesLater) (sym c.new-found.ensures.items)
+      (λ i j d lt within. absurd (omega (arith, within)));
   lines = subst (AreGoalLines c.args.bounds (rules_of c.args.rules.now) c.in_ok-contexts.contexts.items
       c.in_ok-sites.sites.items 0) (sym c.new-found.ensures.items) (l.no_goal_lines c.args.bounds
       (rules_of c.args.rules.now) c.in_ok-contexts.contexts.items c.in_ok-sites.sites.items);

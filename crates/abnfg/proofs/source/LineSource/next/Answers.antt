@@ -1,5 +1,6 @@
 -- The next line of each kind.
-use Rattle.std.proofs.Common.{subst, sym}
+use Rattle.std.proofs.Common.{Some, subst, sym}
+use Rattle.std.specs.Prelude.{Ok}
 use Rattle.abnfg.proofs.ReturnedLinesLemmas.{Returns, covered_returns, derived_returns, drawn_returns, missed_returns}
 use Rattle.abnfg.specs.declared.source.LineSource.{LineSource}
 use Rattle.abnfg.specs.declared.source.LineSource.TheVariants.{Covered, Derived, Drawn, Missed}
@@ -26,7 +27,8 @@ returns-in-Drawn c =
 
 pub returns-in_ok-next-in-Covered : goal.returns-in_ok-next-in-Covered
 returns-in_ok-next-in-Covered c =
-    subst (λ (v : LineSource). Returns v (Covered c.next-in-Covered.new.self) (Ok (Some c.in_ok-next-in-Covered.field-0)))
+    subst (λ (v : LineSource). Returns v (Covered c.next-in-Covered.new.self)
+    (Ok (Some c.in_ok-next-in-Covered.field-0)))
     (sym c.in-Covered.is)
     (covered_returns c.in-Covered.covered c.next-in-Covered.new.self c.next-in-Covered.ensures.lines
     c.in_ok-next-in-Covered.field-0 c.in_ok-next-in-Covered.ensures.next)
