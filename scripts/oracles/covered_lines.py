@@ -1,5 +1,6 @@
 """The short lines of symbols that reach the goals of a grammar's rules (slow_abnf.py), as sets."""
 import collections
+import math
 
 import slow_abnf
 from short_lists import ShortLists
@@ -56,33 +57,22 @@ class Reached(ShortLists):
         _, least, most, part = e
         if most is not None and (most < least or most == 0):
             return
-        inner = self.goals(part, place + (0,), found)
-        fewest = max(least - 1, 0)
-        others = self.lists(("rep", fewest, None if most is None else most - 1, part))
-        # One turn may come first, since turns before it may come after it, in another list: each split is tried.
         turn = self.lists(part)
-        for goal, lists in inner.items():
-            reached, ends = set(), {((), 0)}
-            yield goal, self.turned(turn, lists, least, most)
+        for goal, lists in self.goals(part, place + (0,), found).items():
+            yield goal, self.turned(turn, lists, least, math.inf if most is None else most)
 
     def turned(self, turn, lists, least, most):
-        """Returns what so many turns derive, one of which gives one of the lists."""
-        # The states: a list so far, how many turns (cut off where more change nothing), and whether one gave it.
-        cut = max(least, 0) if most is None else most
+        """Returns what so many turns derive, one of which gives one of the lists. Empty turns are counted at the end."""
         states, found = [((), 0, False)], {((), 0, False)}
         while states:
             w, count, has = states.pop()
-            if most is not None and count == most:
-                continue
-            more = min(count + 1, cut) if most is None else count + 1
-            for other, gives in [(it, has) for it in turn] + [(it, True) for it in lists]:
-                if len(w) + len(other) <= self.longest:
-                    # Empty turns are counted at once.
-                    step = (w + other, more, gives)
-                    if step not in found:
-                        found.add(step)
-                        states.append(step)
-        return {w for w, count, has in found if has and count >= least}
+            for other, gives in [(it, has) for it in turn if it] + [(it, True) for it in lists if it]:
+                step = (w + other, count + 1, gives)
+                if count < most and len(step[0]) <= self.longest and step not in found:
+                    found.add(step)
+                    states.append(step)
+        reached = {w for w, count, has in found if has and (count >= least or () in turn)}
+        return reached | {w for w, count, has in found if count < most and () in lists}
 
     def own(self, e):
         """Yields the ways in which an element may derive a list, and the lists."""

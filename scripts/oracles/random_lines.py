@@ -24,8 +24,8 @@ from covered_lines import Reached
 from short_lists import ShortLists, bounds_in, is_taken, line_key
 
 BIN = pathlib.Path(__file__).resolve().parents[2] / "bin"
-# The most lists that are made of the letters of a grammar.
-MOST_LISTS = 4000
+# The most lists that are made of the letters of a grammar, and that are made for its goals.
+MOST_LISTS, MOST_REACHED = 4000, 1500
 TOO_MANY = b"too many stacks\n"
 
 
@@ -42,13 +42,13 @@ def first_letters(bodies, is_utf8, end, count):
 
 def end_letters(bodies, is_utf8, end):
     """Returns the first letter and the last one of each class of letters that the elements take, without the end."""
-    bounds = sorted({0, 0xE000, end, end + 1} | {it for body in bodies for it in bounds_in(body)})
+    most = 0x110000 if is_utf8 else 256
+    bounds = sorted({0, 0xD800, 0xE000, end, end + 1} | {it for body in bodies for it in bounds_in(body)})
     found = set()
-    for low, high in itertools.zip_longest(bounds, bounds[1:], fillvalue=0x110000):
-        if any(is_taken(body, low) for body in bodies):
-            inside = [it for it in (range(low, high), range(high - 1, low - 1, -1))]
-            ends = [next((it for it in way if it != end and slow_abnf.is_letter(it, is_utf8)), None) for way in inside]
-            found |= set(ends) - {None}
+    for low, high in itertools.zip_longest(bounds, bounds[1:], fillvalue=most):
+        high = min(high, most)
+        if low < high and low != end and any(is_taken(body, low) for body in bodies):
+            found |= {it for it in (low, high - 1) if slow_abnf.is_letter(it, is_utf8)}
     return sorted(found)
 
 
@@ -92,7 +92,7 @@ class Case:
         """Sets the greatest length of lines of `-m cover`, and the lists that reach each goal."""
         bodies = [self.rules.all[it] for it in slow_abnf.reached(self.rules, self.key) if it in self.rules.all]
         letters, self.most = end_letters(bodies, self.is_utf8, self.end), self.limit
-        while self.most > 1 and len(letters) ** self.most > MOST_LISTS:
+        while self.most > 1 and len(letters) ** self.most > MOST_REACHED:
             self.most -= 1
         self.goals = Reached(self.rules, letters, self.most).goal_lists(self.key)
 
