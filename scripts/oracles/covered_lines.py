@@ -98,4 +98,5 @@ class Reached(ShortLists):
         elif e[0] == "text":
             yield "same", self.lists(("text", e[1], True))
             if not e[2]:
-                yield "other", self.lists(("text", bytes(ord(chr(c).swapcase()) if c < 128 else c for c in e[1]), True))
+                other = bytes(ord(chr(c).swapcase()) if c < 128 else c for c in e[1])
+                yield "other", self.lists(("text", other, True))
