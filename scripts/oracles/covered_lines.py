@@ -62,7 +62,7 @@ class Reached(ShortLists):
             yield goal, self.turned(turn, lists, least, math.inf if most is None else most)
 
     def turned(self, turn, lists, least, most):
-        """Returns what so many turns derive, one of which gives one of the lists. Empty turns are counted at the end."""
+        """Returns what so many turns derive, one of which gives one of the lists. Empty turns count at the end."""
         states, found = [((), 0, False)], {((), 0, False)}
         while states:
             w, count, has = states.pop()
