@@ -102,8 +102,12 @@ module _ (s : ListSettings) (rules : List Rule) (id : ℕ) where
 
   pub none_covered : (d : CoveredLines) → s.mode ≡ Cover → IsCoverOf s rules id d.lines.items → d.done ≡ 0
       → HasReturned s rules id (Covered d) []
-  none_covered d mode are none = (mode, are, sym (ap (λ n. take n (line_items d.lines.items)) none
-      ∙ take_none (line_items d.lines.items)))
+  none_covered d mode are none = (
+    mode,
+    are,
+    sym (ap (λ n. take n (line_items d.lines.items)) none
+        ∙ take_none (line_items d.lines.items)),
+  )
 
   pub none_missed : (m : MissList) → s.mode ≡ Miss
       → AreMissesOf s.letters (end_of s.nul) s.limit s.edges rules id m → HasReturned s rules id (Missed m) []

@@ -56,7 +56,13 @@ static PARAMETERS: [Parameter; 9] = [
     Parameter::Flag("explain", 'x'),
     Parameter::Operand("grammar", "GRAMMAR", true),
     Parameter::Choice("letters", 'u', "MODE", &["bytes", "utf8"], "bytes"),
-    Parameter::Choice("mode", 'm', "MODE", &["all", "cover", "miss", "random"], "all"),
+    Parameter::Choice(
+        "mode",
+        'm',
+        "MODE",
+        &["all", "cover", "miss", "random"],
+        "all",
+    ),
 ];
 
 // Returns the option `-g SEED`, whose value is a number of 64 bits. `AllocError` if an allocation fails.

@@ -135,7 +135,11 @@ fn covered_lines<'a>(
         limit: settings.limit as usize,
     };
     let lines = cover_lines(alloc, grammar, bounds)?;
-    Ok(CoveredLines { alloc, lines, done: 0 })
+    Ok(CoveredLines {
+        alloc,
+        lines,
+        done: 0,
+    })
 }
 
 /// The lines that a mode lists, one after another.
