@@ -1,6 +1,7 @@
 //! Calls on the lines that a rule derives.
 
 use crate::sound_grammars::sound;
+use coverlines::{LineBounds, cover_lines};
 use letters::Alphabet;
 use rulelines::{Lines, NextLine};
 use std::alloc::Global;
@@ -41,6 +42,21 @@ pub(crate) fn first_lines(alloc: Global, fields: &Fields, out: &mut Text) -> Opt
     }
     if matches!(step, NextLine::Done) {
         out.add(b".");
+    }
+    Some(())
+}
+
+/// `covered GRAMMAR | LIMIT`: lines of at most LIMIT bytes without LF, which reach the goals of the grammar.
+pub(crate) fn goal_lines(alloc: Global, fields: &Fields, out: &mut Text) -> Option<()> {
+    let grammar = sound(alloc, fields.text(0), "")?;
+    let bounds = LineBounds {
+        alphabet: Alphabet::Bytes,
+        terminator: 10,
+        limit: fields.number(1),
+    };
+    let lines = cover_lines(alloc, &grammar, bounds).ok()?;
+    for line in &lines {
+        add_line(&line.line, out);
     }
     Some(())
 }

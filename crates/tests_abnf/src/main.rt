@@ -37,6 +37,7 @@ impl Calls for AbnfCalls {
             "lines" => lines::lines_of(alloc, fields, out),
             "compare" => comparisons::compared(alloc, fields, out),
             "derived" => derived_lines::first_lines(alloc, fields, out),
+            "covered" => derived_lines::goal_lines(alloc, fields, out),
             "rooms" => rooms::agree(alloc, fields, out),
             "read_lines" => blocks::read_lines_of(alloc, fields, out),
             "xml" => blocks::xml_text_of(alloc, fields, out),
