@@ -177,19 +177,19 @@ is-near a b n = and_from _ _ (le-leb 3 _ (subst (λ (n : ℕ). 3 ≤ n) (sym (lo
 -- what the code's test says of a name
 module _ (name d lower : List ℕ) (near : Bool) (is_lower : lower ≡ str_to_ascii_lowercase name)
     (is : near ≡ (nat_le 3 (length lower) && (nat_le 3 (length d) && is_within_one lower (str_to_ascii_lowercase d))))
-    where
-  same-test : (nat_le 3 (length (str_to_ascii_lowercase name)) && (nat_le 3 (length d)
-      && is_within_one (str_to_ascii_lowercase name) (str_to_ascii_lowercase d))) ≡ near
-  same-test = sym (is ∙ ap (λ (z : List ℕ). nat_le 3 (length z) && (nat_le 3 (length d)
-      && is_within_one z (str_to_ascii_lowercase d))) is_lower)
+  where
+    same-test : (nat_le 3 (length (str_to_ascii_lowercase name)) && (nat_le 3 (length d)
+        && is_within_one (str_to_ascii_lowercase name) (str_to_ascii_lowercase d))) ≡ near
+    same-test = sym (is ∙ ap (λ (z : List ℕ). nat_le 3 (length z) && (nat_le 3 (length d)
+        && is_within_one z (str_to_ascii_lowercase d))) is_lower)
 
-  pub near-by : near ≡ true → AreNear name d
-  near-by holds = near-is name d (same-test ∙ holds)
+    pub near-by : near ≡ true → AreNear name d
+    near-by holds = near-is name d (same-test ∙ holds)
 
-  pub not-near-by : near ≡ false → AreNear name d → ⊥
-  not-near-by never n =
-      let both : true ≡ false = sym (is-near name d n) ∙ same-test ∙ never in
-      absurd (cc both)
+    pub not-near-by : near ≡ false → AreNear name d → ⊥
+    not-near-by never n =
+        let both : true ≡ false = sym (is-near name d n) ∙ same-test ∙ never in
+        absurd (cc both)
 
 -- one name more that is not near
 taken-at : {A : Type 0} (n : ℕ) (xs : List A) (i : ℕ) → i < n → slice_get (take n xs) i ≡ slice_get xs i
