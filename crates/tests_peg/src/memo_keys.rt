@@ -2,7 +2,6 @@
 ghost use Rattle.std.specs.Prelude.{◌≡◌};
 
 use memo::{Found, Given, KeyLog, MatchTask};
-use ruletable::Memory;
 use std::alloc::Global;
 use testio::{Fields, Text};
 
@@ -50,38 +49,4 @@ pub(crate) fn key_of(alloc: Global, fields: &Fields, out: &mut Text) -> Option<(
     add_found(&mut log, task, out)?;
     log.begin_unit(2).ok()?;
     add_found(&mut log, task, out)
-}
-
-// A log whose entries of a node hold the positions 3 to 5, 10 to 12, and 20.
-fn log_of_runs(alloc: Global) -> Result<KeyLog, Memory> {
-    let mut log = KeyLog::new(alloc);
-    log.begin_unit(2)?;
-    let found = Found::Took(9);
-    log.put_run(1, 3, 5, Given { found, events: 4 })?;
-    log.put_steps(1, 10, 13)?;
-    let failed = Given {
-        found: Found::Failed,
-        events: 0,
-    };
-    log.put(
-        MatchTask::Eval {
-            node: 1,
-            position: 20,
-        },
-        failed,
-    )?;
-    Ok(log)
-}
-
-/// `run_of_keys POSITION ..`: how many keys are stored where two entries hold positions in a row and one holds a single
-/// key, and what is found at each position.
-pub(crate) fn run_of_keys(alloc: Global, fields: &Fields, out: &mut Text) -> Option<()> {
-    let mut log = log_of_runs(alloc).ok()?;
-    out.add_number(log.len() as u128);
-    out.add(b";");
-    for at in 0..fields.len() {
-        let position = fields.number(at);
-        add_found(&mut log, MatchTask::Eval { node: 1, position }, out)?;
-    }
-    Some(())
 }
