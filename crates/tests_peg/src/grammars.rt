@@ -2,7 +2,7 @@
 
 use lexer::tokens;
 use pegread::{Kind, next_char, read_peg};
-use ruletable::ReadFault;
+use ruletable::{LineRule, ReadFault, line_of};
 use std::alloc::Global;
 use testio::{Fields, Text};
 
@@ -85,4 +85,12 @@ pub(crate) fn single_bytes_read(alloc: Global, out: &mut Text) {
     for byte in 0..=255u8 {
         out.add(mark_of(alloc, &[byte]));
     }
+}
+
+/// `line TEXT | OFFSET`: the line of an offset where LF alone ends one, and where CR LF and CR do too.
+pub(crate) fn line_at(fields: &Fields, out: &mut Text) {
+    let (text, at) = (fields.text(0), fields.number(1));
+    out.add_number(line_of(text, at, LineRule::Lf) as u128);
+    out.add(b" ");
+    out.add_number(line_of(text, at, LineRule::Any) as u128);
 }

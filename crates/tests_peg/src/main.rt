@@ -22,6 +22,7 @@ impl Calls for PegCalls {
             "spans" => Some(grammars::spans_of(fields, out)),
             "prefixes" => Some(grammars::prefixes_read(alloc, fields, out)),
             "single_bytes" => Some(grammars::single_bytes_read(alloc, out)),
+            "line" => Some(grammars::line_at(fields, out)),
             "units" => units::units_of(alloc, fields, out),
             "key" => memo_keys::key_of(alloc, fields, out),
             "text_laws" => Some(laws::of_texts()),
