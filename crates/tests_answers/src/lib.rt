@@ -8,4 +8,6 @@ mod leastset_calls;
 #[cfg(test)]
 mod ruletable_calls;
 #[cfg(test)]
+mod run_ends;
+#[cfg(test)]
 mod stepchains_calls;

@@ -1,6 +1,6 @@
 //! A writer that fails, and a table of rules of a type of one's own.
 
-use ruletable::{Defined, Memory, NameCase, RuleTable, SinkOf, Sink, Span, write_whole};
+use ruletable::{Defined, Memory, NameCase, RuleTable, Sink, SinkOf, Span, write_whole};
 use std::alloc::Global;
 use std::cell::Cell;
 use std::test::Fail;
