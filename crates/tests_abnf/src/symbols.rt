@@ -1,6 +1,6 @@
 //! Texts as code points, on the boundaries of UTF-8 (RFC 3629, sections 3 and 4).
 
-use letters::{decode, utf8_len};
+use letters::{Letter, decode, utf8_len};
 use std::alloc::Global;
 use testio::{Fields, Text};
 
