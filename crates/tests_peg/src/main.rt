@@ -4,7 +4,6 @@
 
 mod grammars;
 mod laws;
-mod memo_keys;
 mod units;
 
 use std::alloc::Global;
@@ -24,7 +23,6 @@ impl Calls for PegCalls {
             "single_bytes" => Some(grammars::single_bytes_read(alloc, out)),
             "line" => Some(grammars::line_at(fields, out)),
             "units" => units::units_of(alloc, fields, out),
-            "key" => memo_keys::key_of(alloc, fields, out),
             "text_laws" => Some(laws::of_texts()),
             "grammar_laws" => Some(laws::of_grammars()),
             "match_laws" => Some(laws::of_matches()),
