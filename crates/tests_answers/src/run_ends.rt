@@ -32,11 +32,10 @@ fn outputs_are_flushed_once(rt: HostRuntime) {
         let clock = Cell::new(0);
         let mut out = SinkOf::new(Paper::new(rt.alloc(), 3, &clock, row.0));
         let mut err = SinkOf::new(Paper::new(rt.alloc(), 3, &clock, ALL));
-        let ended = match write_whole(&mut out, b"x") {
-            Ok(()) => Ok(Stop::Quiet(Status::Done)),
-            Err(fault) => Err(fault),
+        let status = match write_whole(&mut out, b"x") {
+            Ok(()) => end_run(Ok(Stop::Quiet(Status::Done)), &mut out, &mut err),
+            Err(fault) => end_run(Err(fault), &mut out, &mut err),
         };
-        let status = end_run(ended, &mut out, &mut err);
         let (out, err) = (out.into_inner(), err.into_inner());
         assert!(rt; status == row.1 && (out.flushed, err.flushed) == row.3);
         assert!(rt; err.taken.as_slice() == row.2);
