@@ -19,7 +19,9 @@ use Rattle.refusedlines.specs.declared.letterruns.run.LetterRun.{LetterRun}
 use Rattle.ruletable.specs.Rules as table
 use Rattle.refusedlines.specs.Following.{AreFollowing}
 use Rattle.diagnostics.specs.Pictures.{picture}
-use Rattle.refusedlines.specs.RefusedText.{at_text, expected_text, refusal_text, refused_at, reported_expected}
+use Rattle.refusedlines.specs.RefusedText.{at_text, column_after, expected_text, refused_at, reported_expected}
+use Rattle.refusedlines.specs.RefusedText.{unit_text}
+use Rattle.refusedlines.specs.declared.refusal.LineUnit.{LineUnit}
 use Rattle.refusedlines.specs.Refusals.{IsExplained, name_at, octet_count, octets}
 use Rattle.refusedlines.specs.declared.refusal.RefusedAt.{RefusedAt}
 
@@ -109,18 +111,19 @@ pub octets_at_least : (xs : List ℕ) → length xs ≤ octet_count Utf8 xs
 octets_at_least [] = omega arith
 octets_at_least (x ∷ xs) = let rest = octets_at_least xs in let some = octets_some x in omega (arith, rest, some)
 
-module _ (rules : List Rule) (judged : ℕ) (line : List ℕ) (number_of : ℕ) (runs : List LetterRun) (ends : Bool)
-    (name : List ℕ) (at : RefusedAt) (position : ℕ) (old new : List ℕ) (named : name ≡ name_at rules judged) where
-  pub reported_bytes : new ≡ old ++ refusal_text Bytes name number_of line at position runs ends
+module _ (unit : LineUnit) (rules : List Rule) (judged : ℕ) (line : List ℕ) (number_of : ℕ) (runs : List LetterRun)
+    (ends : Bool) (name : List ℕ) (at : RefusedAt) (position column : ℕ) (old new : List ℕ)
+    (named : name ≡ name_at rules judged) where
+  pub reported_bytes : new ≡ old ++ unit_text unit Bytes name number_of line at position column runs ends
       → IsFurthest (has Bytes) rules judged line position
       → AreFollowing (has Bytes) rules judged line position runs ends → at ≡ refused_at position (length line) false
-      → IsExplained Bytes rules judged line number_of old new
-  reported_bytes put furthest following where_at =
+      → column ≡ column_after (take position line) → IsExplained unit Bytes rules judged line number_of old new
+  reported_bytes put furthest following where_at columned =
       let torn : nat_lt (length line) (length line) ≡ false = le-ltb (length line) (length line) (omega arith) in
       let within = furthest.within in
       let count : octet_count Bytes (take position line) ≡ position =
       bytes_count (take position line) ∙ length-take-le position line within in (
-        refusal_text Bytes name number_of line at position runs ends,
+        unit_text unit Bytes name number_of line at position column runs ends,
         put,
         record {
           first = line;
@@ -131,18 +134,19 @@ module _ (rules : List Rule) (judged : ℕ) (line : List ℕ) (number_of : ℕ) 
           runs = runs;
           ends = ends;
           following = following;
-          is = rw (named, where_at, torn, count) refl;
+          is = rw (named, where_at, columned, torn, count) refl;
         },
       )
 
-  pub reported_points : new ≡ old ++ refusal_text Utf8 name number_of line at position runs ends
+  pub reported_points : new ≡ old ++ unit_text unit Utf8 name number_of line at position column runs ends
       → (points : List ℕ) (size after : ℕ) → IsLongestText line size → Spells points (take size line)
       → IsFurthest (has Utf8) rules judged points after
       → AreFollowing (has Utf8) rules judged points after runs ends
       → at ≡ refused_at after (length points) (nat_lt size (length line))
-      → position ≡ octet_count Utf8 (take after points) → IsExplained Utf8 rules judged line number_of old new
-  reported_points put points size after longest spelled furthest following where_at count = (
-    refusal_text Utf8 name number_of line at position runs ends,
+      → position ≡ octet_count Utf8 (take after points) → column ≡ column_after (take after points)
+      → IsExplained unit Utf8 rules judged line number_of old new
+  reported_points put points size after longest spelled furthest following where_at count columned = (
+    unit_text unit Utf8 name number_of line at position column runs ends,
     put,
     record {
       first = points;
@@ -153,7 +157,7 @@ module _ (rules : List Rule) (judged : ℕ) (line : List ℕ) (number_of : ℕ) 
       runs = runs;
       ends = ends;
       following = following;
-      is = rw (named, where_at, count) refl;
+      is = rw (named, where_at, columned, count) refl;
     },
   )
 

@@ -1,18 +1,46 @@
-//! The lines that explain a rejected line.
-ghost use Rattle.std.specs.Prelude.{◌≡◌, ◌+◌, ◌<◌, ◌≤◌, ◌^◌, ◌++◌, codes, decimal, length, OnOk};
-ghost use Rattle.refusedlines.specs.RefusedText.{at_text, reported_expected, nothing_text, refused_at as the_position};
-ghost use Rattle.refusedlines.specs.RefusedText.{refusal_text};
+//! The lines that explain a rejected line or record.
+ghost use Rattle.std.specs.Prelude.{◌≡◌, ◌==◌, ◌+◌, ◌<◌, ◌≤◌, ◌^◌, ◌++◌, codes, decimal, drop, length, take, OnOk};
+ghost use Rattle.std.specs.List.{position_or_len};
+ghost use Rattle.diagnostics.specs.LinesAround.{bytes_before};
+ghost use Rattle.diagnostics.specs.Pictures.{picture};
+ghost use Rattle.ruletable.specs.declared.lines.LineRule.TheVariants.{Lf};
+ghost use Rattle.refusedlines.specs.RefusedText.{
+  at_record,
+  at_text,
+  expected_text,
+  line_in_record,
+  nothing_of_record,
+  none_of,
+  nothing_text,
+  record_end,
+  record_expected,
+  record_fault,
+  refused_at as the_position,
+  reported_expected,
+  unit_text,
+};
 
 use crate::following::Following;
-use crate::letterruns::push_expected;
-use diagnostics::{LineAround, push_cut, push_number, push_picture};
+use crate::letterruns::{LetterRun, push_expected};
+use diagnostics::{LineAround, line_around, push_cut, push_number, push_picture};
 use letters::Alphabet;
-use ruletable::Memory;
+use ruletable::{LineRule, Memory, line_of};
 use std::alloc::Global;
 
-/// A line that is rejected, with its number.
+/// What is rejected.
+#[derive(Clone, Copy)]
+pub enum LineUnit {
+    /// A line. Its symbols are numbered.
+    Line,
+    /// A record. Its lines are numbered, which end with LF, and the symbols in each of them.
+    Record,
+}
+
+/// A line or a record that is rejected, with its number.
 #[derive(Clone, Copy)]
 pub struct RefusedLine<'a> {
+    /// Which of them it is.
+    pub unit: LineUnit,
     /// Its bytes, without its end.
     pub bytes: &'a [u8],
     /// Its number, from 1.
@@ -39,6 +67,8 @@ pub(crate) struct Refusal {
     pub(crate) at: RefusedAt,
     /// After how many of its bytes it is rejected.
     pub(crate) position: usize,
+    /// In which column of its last line, by symbols from 1.
+    pub(crate) column: usize,
     /// The symbols that can follow there.
     pub(crate) following: Following,
 }
@@ -124,9 +154,134 @@ fn push_lines(
     )
 }
 
-/// Adds the lines that explain a rejected line: the symbols that are expected where it is rejected, and a picture of
-/// that position. If nothing can follow there, they report that the rule of that name derives nothing. The position
-/// must be within the line.
+// Adds what a record lacks where it is rejected.
+fn push_record_fault(at: RefusedAt, out: &mut Vec<u8>) -> Result<(), Memory>
+    ensures { OnOk result (out.new.items ≡ out.old.items ++ record_fault at) }
+{
+    let fault: &[u8] = match at {
+        RefusedAt::Letter(_) => b": expected ",
+        RefusedAt::NoText(_) => b": not UTF-8, expected ",
+        RefusedAt::End => b" ends too early: expected ",
+    };
+    out.extend_from_slice(fault)?;
+    Ok(())
+}
+
+// Adds where the record with that number is rejected: after these of its bytes, in that column.
+fn push_at_record(
+    number: usize,
+    before: &[u8],
+    column: usize,
+    at: RefusedAt,
+    out: &mut Vec<u8>,
+) -> Result<(), Memory>
+    ensures { OnOk result (out.new.items ≡ out.old.items ++ at_record number before.now column at) }
+{
+    out.extend_from_slice(b"record ")?;
+    push_number(out, number)?;
+    out.extend_from_slice(b", line ")?;
+    push_number(out, line_of(before, before.len(), LineRule::Lf))?;
+    out.extend_from_slice(b", column ")?;
+    push_number(out, column)?;
+    push_record_fault(at, out)
+}
+
+// Adds that a record may end, after the symbols that can follow.
+fn push_record_end(runs: &[LetterRun], ends: bool, out: &mut Vec<u8>) -> Result<(), Memory>
+    ensures { OnOk result (out.new.items ≡ out.old.items ++ record_end runs.now ends) }
+{
+    if !ends {
+        return Ok(());
+    }
+    if runs.is_empty() {
+        out.extend_from_slice(b"the end of the record")?;
+    } else {
+        out.extend_from_slice(b" or the end of the record")?;
+    }
+    Ok(())
+}
+
+// Returns how many bytes stand before the first LF, or in all.
+fn count_to_lf(bytes: &[u8]) -> usize
+    ensures count { result ≡ position_or_len (λ b. b == 10) bytes.now }
+    ensures within { result ≤ length bytes.now }
+{
+    let mut size = 0;
+    let mut rest = bytes;
+    while let Some((first, tail)) = rest.split_first() {
+        if *first == b'\n' {
+            break;
+        }
+        rest = tail;
+        size += 1;
+    }
+    size
+}
+
+// Adds a picture of a position of a record: of the line there.
+fn push_record_picture(bytes: &[u8], position: usize, out: &mut Vec<u8>) -> Result<(), Memory>
+    requires { position ≤ length bytes.now }
+    ensures { OnOk result (out.new.items ≡ out.old.items ++ picture (line_in_record bytes.now position)
+        (bytes_before Lf (take position bytes.now))) }
+{
+    let before = line_around(bytes, position, LineRule::Lf).before;
+    let after = count_to_lf(&bytes[position..]);
+    let start = position - before;
+    push_picture(
+        out,
+        LineAround {
+            line: &bytes[start..start + before + after],
+            before,
+        },
+    )
+}
+
+// Adds that the rule of that name derives nothing.
+fn push_nothing_of_record(number: usize, name: &[u8], out: &mut Vec<u8>) -> Result<(), Memory>
+    ensures { OnOk result (out.new.items ≡ out.old.items ++ nothing_of_record number name.now) }
+{
+    out.extend_from_slice(b"record ")?;
+    push_number(out, number)?;
+    out.extend_from_slice(b": rule '")?;
+    push_cut(out, name)?;
+    out.extend_from_slice(b"' derives nothing\n")?;
+    Ok(())
+}
+
+// Adds what is expected at a position of a record, and a picture of the position.
+fn push_record(
+    alloc: Global,
+    record: RefusedLine<'_>,
+    refusal: &Refusal,
+    out: &mut Vec<u8>,
+) -> Result<(), Memory>
+    requires { refusal.now.position ≤ length record.bytes.now }
+    ensures { OnOk result (out.new.items ≡ out.old.items ++ record_expected refusal.now.alphabet record.entry.number
+        record.entry.bytes.now refusal.now.at refusal.now.position refusal.now.column
+        refusal.now.following.runs.items refusal.now.following.ends) }
+{
+    let before = &record.bytes[..refusal.position];
+    push_at_record(record.number, before, refusal.column, refusal.at, out)?;
+    let runs = refusal.following.runs.as_slice();
+    push_expected(alloc, refusal.alphabet, runs, false, out)?;
+    push_record_end(runs, refusal.following.ends, out)?;
+    out.extend_from_slice(b"\n")?;
+    push_record_picture(record.bytes, refusal.position, out)
+}
+
+// Adds that the rule of that name derives nothing, for what is rejected.
+fn push_none(name: &[u8], line: RefusedLine<'_>, out: &mut Vec<u8>) -> Result<(), Memory>
+    ensures { OnOk result (out.new.items ≡ out.old.items ++ none_of line.entry.unit line.entry.number name.now) }
+{
+    match line.unit {
+        LineUnit::Line => push_nothing(line.number, name, out),
+        LineUnit::Record => push_nothing_of_record(line.number, name, out),
+    }
+}
+
+/// Adds the lines that explain a rejected line or record: the symbols that are expected where it is rejected, and a
+/// picture of that position. If nothing can follow there, they report that the rule of that name derives nothing. The
+/// position must be within the line.
 pub(crate) fn push_refusal(
     alloc: Global,
     name: &[u8],
@@ -135,12 +290,15 @@ pub(crate) fn push_refusal(
     out: &mut Vec<u8>,
 ) -> Result<(), Memory>
     requires { refusal.now.position ≤ length line.bytes.now }
-    ensures { OnOk result (out.new.items ≡ out.old.items ++ refusal_text refusal.now.alphabet name.now
-        line.entry.number line.entry.bytes.now refusal.now.at refusal.now.position refusal.now.following.runs.items
-        refusal.now.following.ends) }
+    ensures { OnOk result (out.new.items ≡ out.old.items ++ unit_text line.entry.unit refusal.now.alphabet name.now
+        line.entry.number line.entry.bytes.now refusal.now.at refusal.now.position refusal.now.column
+        refusal.now.following.runs.items refusal.now.following.ends) }
 {
     if refusal.following.runs.is_empty() && !refusal.following.ends {
-        return push_nothing(line.number, name, out);
+        return push_none(name, line, out);
     }
-    push_lines(alloc, line, refusal, out)
+    match line.unit {
+        LineUnit::Line => push_lines(alloc, line, refusal, out),
+        LineUnit::Record => push_record(alloc, line, refusal, out),
+    }
 }
