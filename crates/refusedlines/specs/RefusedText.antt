@@ -116,12 +116,14 @@ abbrev pub none_of : LineUnit → ℕ → List ℕ → List ℕ
 none_of Line number name = nothing_text number name
 none_of Record number name = nothing_of_record number name
 
+-- what is expected, in a line or a record
 abbrev pub expected_of : LineUnit → Alphabet → ℕ → List ℕ → RefusedAt → ℕ → ℕ → List LetterRun → Bool → List ℕ
 expected_of Line alphabet number line at position column runs ends =
     reported_expected alphabet number line at position runs ends
 expected_of Record alphabet number line at position column runs ends =
     record_expected alphabet number line at position column runs ends
 
+-- what explains a rejected line or record
 abbrev pub unit_text : LineUnit → Alphabet → List ℕ → ℕ → List ℕ → RefusedAt → ℕ → ℕ → List LetterRun → Bool → List ℕ
-unit_text unit alphabet name number line at position column runs ends = if is_none runs ends then none_of unit number name
-    else expected_of unit alphabet number line at position column runs ends
+unit_text unit alphabet name number line at position column runs ends =
+    if is_none runs ends then none_of unit number name else expected_of unit alphabet number line at position column runs ends

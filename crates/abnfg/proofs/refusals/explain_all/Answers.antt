@@ -18,7 +18,8 @@ loop-index-preserved c =
     record {
       reported = refusals_more e.letters rules id c.args.lines.now i item text new c.loop-index-test.true
           c.loop-index.invariant.reported
-          (subst (λ (v : Vec ℕ Global). IsExplained Line e.letters rules id v.items (i + 1) text new) c.index-lines-index.is
+          (subst (λ (v : Vec ℕ Global). IsExplained Line e.letters rules id v.items (i + 1) text new)
+          c.index-lines-index.is
           (subst (λ (v : List ℕ). IsExplained Line e.letters rules id v (i + 1) text new) c.deref.ensures.value
           c.in_ok-explain_refused.ensures.reported));
       flat = c.in_ok-explain_refused.ensures.flat;

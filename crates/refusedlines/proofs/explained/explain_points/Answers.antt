@@ -39,8 +39,9 @@ returns-clause-reported c =
     let f = c.in_ok-following.following in
     let points = c.as_slice-points.result.now in
     let line = c.args.line.bytes.now in
-    reported_points c.args.line.unit rules grammar.judged line c.args.line.number f.runs.items f.ends c.judged_name.result.now
-    c.refused_at-at.result c.octets_of-position.result c.column_after-column.result c.args.out.now.items c.push_refusal.new.out.items
+    reported_points c.args.line.unit rules grammar.judged line c.args.line.number f.runs.items f.ends
+    c.judged_name.result.now c.refused_at-at.result c.octets_of-position.result c.column_after-column.result
+    c.args.out.now.items c.push_refusal.new.out.items
     c.judged_name.ensures c.in_ok-push_refusal.ensures
     (numbers points) c.in_ok-first.first.size f.after e.longest
     (subst (λ v. Spells (numbers v) (take c.in_ok-first.first.size line)) (sym c.as_slice-points.ensures.value)
