@@ -126,4 +126,5 @@ expected_of Record alphabet number line at position column runs ends =
 -- what explains a rejected line or record
 abbrev pub unit_text : LineUnit → Alphabet → List ℕ → ℕ → List ℕ → RefusedAt → ℕ → ℕ → List LetterRun → Bool → List ℕ
 unit_text unit alphabet name number line at position column runs ends =
-    if is_none runs ends then none_of unit number name else expected_of unit alphabet number line at position column runs ends
+    if is_none runs ends then none_of unit number name
+    else expected_of unit alphabet number line at position column runs ends

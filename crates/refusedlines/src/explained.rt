@@ -128,7 +128,8 @@ fn explain_bytes(
         explainer.now.grammar.now.judged explainer.now.flat.now }
     ensures flat { IfSome automaton.new (λ a. a ≡ explainer.now.flat.now) }
     ensures reported { IfOk result (λ done. IsExplained line.entry.unit Alphabet.Bytes
-        (rules_of explainer.now.grammar.now.rules) explainer.now.grammar.now.judged line.entry.bytes.now line.entry.number out.old.items out.new.items) }
+        (rules_of explainer.now.grammar.now.rules) explainer.now.grammar.now.judged line.entry.bytes.now
+        line.entry.number out.old.items out.new.items) }
 {
     let following = find_following(alloc, chart, automaton, explainer.flat, line.bytes)?;
     let position = following.after;
@@ -160,7 +161,8 @@ fn explain_points(
         explainer.now.grammar.now.judged explainer.now.flat.now }
     ensures flat { IfSome automaton.new (λ a. a ≡ explainer.now.flat.now) }
     ensures reported { IfOk result (λ done. IsExplained line.entry.unit Alphabet.Utf8
-        (rules_of explainer.now.grammar.now.rules) explainer.now.grammar.now.judged line.entry.bytes.now line.entry.number out.old.items out.new.items) }
+        (rules_of explainer.now.grammar.now.rules) explainer.now.grammar.now.judged line.entry.bytes.now
+        line.entry.number out.old.items out.new.items) }
 {
     let first = first_points(alloc, line.bytes)?;
     let points = first.points.as_slice();
@@ -183,8 +185,8 @@ fn explain_points(
 
 /// Adds the lines that explain a rejected line or record: where it is rejected, what can follow there, and a picture of
 /// that position, in a record of the line there; or that the judged rule derives nothing. The flat grammar must be that
-/// of `lower_viable` for the grammar and its symbols, the automaton, if there is one, that of it, and the line must have
-/// fewer bytes than `flat.limit()`. The chart is filled anew where the automaton gives no answer.
+/// of `lower_viable` for the grammar and its symbols, the automaton, if there is one, that of it, and the line must
+/// have fewer bytes than `flat.limit()`. The chart is filled anew where the automaton gives no answer.
 ///
 /// # Errors
 /// `Memory` if an allocation fails; a part of the lines may be added then.
@@ -202,7 +204,8 @@ pub fn explain_refused(
         explainer.now.grammar.now.judged explainer.now.flat.now }
     ensures flat { IfSome automaton.new (λ a. a ≡ explainer.now.flat.now) }
     ensures reported { IfOk result (λ done. IsExplained line.entry.unit explainer.now.letters
-        (rules_of explainer.now.grammar.now.rules) explainer.now.grammar.now.judged line.entry.bytes.now line.entry.number out.old.items out.new.items) }
+        (rules_of explainer.now.grammar.now.rules) explainer.now.grammar.now.judged line.entry.bytes.now
+        line.entry.number out.old.items out.new.items) }
 {
     match explainer.letters {
         Alphabet::Bytes => explain_bytes(alloc, chart, automaton, explainer, line, out),
