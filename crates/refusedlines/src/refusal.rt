@@ -251,22 +251,22 @@ fn push_nothing_of_record(number: usize, name: &[u8], out: &mut Vec<u8>) -> Resu
 // Adds what is expected at a position of a record, and a picture of the position.
 fn push_record(
     alloc: Global,
-    record: RefusedLine<'_>,
+    line: RefusedLine<'_>,
     refusal: &Refusal,
     out: &mut Vec<u8>,
 ) -> Result<(), Memory>
-    requires { refusal.now.position ≤ length record.bytes.now }
-    ensures { OnOk result (out.new.items ≡ out.old.items ++ record_expected refusal.now.alphabet record.entry.number
-        record.entry.bytes.now refusal.now.at refusal.now.position refusal.now.column
+    requires { refusal.now.position ≤ length line.bytes.now }
+    ensures { OnOk result (out.new.items ≡ out.old.items ++ record_expected refusal.now.alphabet line.entry.number
+        line.entry.bytes.now refusal.now.at refusal.now.position refusal.now.column
         refusal.now.following.runs.items refusal.now.following.ends) }
 {
-    let before = &record.bytes[..refusal.position];
-    push_at_record(record.number, before, refusal.column, refusal.at, out)?;
+    let before = &line.bytes[..refusal.position];
+    push_at_record(line.number, before, refusal.column, refusal.at, out)?;
     let runs = refusal.following.runs.as_slice();
     push_expected(alloc, refusal.alphabet, runs, false, out)?;
     push_record_end(runs, refusal.following.ends, out)?;
     out.extend_from_slice(b"\n")?;
-    push_record_picture(record.bytes, refusal.position, out)
+    push_record_picture(line.bytes, refusal.position, out)
 }
 
 // Adds that the rule of that name derives nothing, for what is rejected.
