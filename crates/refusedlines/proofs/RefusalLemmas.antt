@@ -19,8 +19,10 @@ use Rattle.refusedlines.specs.declared.letterruns.run.LetterRun.{LetterRun}
 use Rattle.ruletable.specs.Rules as table
 use Rattle.refusedlines.specs.Following.{AreFollowing}
 use Rattle.diagnostics.specs.Pictures.{picture}
-use Rattle.refusedlines.specs.RefusedText.{at_text, column_after, expected_text, refused_at, reported_expected}
-use Rattle.refusedlines.specs.RefusedText.{unit_text}
+use Rattle.refusedlines.specs.RefusedText.{at_record, at_text, column_after, expected_text, line_in_record, record_end}
+use Rattle.refusedlines.specs.RefusedText.{record_expected, refused_at, reported_expected, unit_text}
+use Rattle.ruletable.specs.declared.lines.LineRule.TheVariants.{Lf}
+use Rattle.diagnostics.specs.LinesAround.{bytes_before}
 use Rattle.refusedlines.specs.declared.refusal.LineUnit.{LineUnit}
 use Rattle.refusedlines.specs.Refusals.{IsExplained, name_at, octet_count, octets}
 use Rattle.refusedlines.specs.declared.refusal.RefusedAt.{RefusedAt}
@@ -46,6 +48,25 @@ at_pushed old a b c line n reported first second third =
     let rest = codes ", letter " ++ (decimal n ++ reported) in
     third ∙ ap (λ v. v ++ rest) (second ∙ ap (λ v. v ++ decimal line) first)
     ∙ append_assoc (old ++ codes "line ") (decimal line) rest ∙ append_assoc old (codes "line ") (decimal line ++ rest)
+
+-- the lines on a record, put one after another
+pub record_pushed : (alphabet : Alphabet) (number : ℕ) (line : List ℕ) (at : RefusedAt) (position column : ℕ)
+    (shown runs : List LetterRun) (ends : Bool) (old a b c d new words : List ℕ) → shown ≡ runs
+    → words ≡ record_end shown ends → a ≡ old ++ at_record number (take position line) column at
+    → b ≡ a ++ expected_text alphabet shown false → c ≡ b ++ words → d ≡ c ++ codes "\n"
+    → new ≡ d ++ picture (line_in_record line position) (bytes_before Lf (take position line))
+    → new ≡ old ++ record_expected alphabet number line at position column runs ends
+record_pushed alphabet number line at position column shown runs ends old a b c d new words same said e f g h i =
+    let x = at_record number (take position line) column at in
+    let y = expected_text alphabet runs false in
+    let z = record_end runs ends in
+    let w = codes "\n" in
+    let v = picture (line_in_record line position) (bytes_before Lf (take position line)) in
+    let expected : b ≡ a ++ y = f ∙ ap (λ u. a ++ expected_text alphabet u false) same in
+    let ended : c ≡ b ++ z = g ∙ ap (λ u. b ++ u) (said ∙ ap (λ (u : List LetterRun). record_end u ends) same) in
+    i ∙ ap (λ u. u ++ v) (h ∙ ap (λ u. u ++ w) (ended ∙ ap (λ u. u ++ z) (expected ∙ ap (λ u. u ++ y) e)))
+    ∙ append_assoc (((old ++ x) ++ y) ++ z) w v ∙ append_assoc ((old ++ x) ++ y) z (w ++ v)
+    ∙ append_assoc (old ++ x) y (z ++ (w ++ v)) ∙ append_assoc old x (y ++ (z ++ (w ++ v)))
 
 -- the names of rules
 names_same : (rs : List (table.Rule Elem)) → map (λ rule. rule.name) (map rule_of rs) ≡ map (λ rule. rule.name) rs

@@ -3,7 +3,6 @@ ghost use Rattle.std.specs.Prelude.{◌≡◌, ◌==◌, ◌+◌, ◌<◌, ◌�
 ghost use Rattle.std.specs.List.{position_or_len};
 ghost use Rattle.diagnostics.specs.LinesAround.{bytes_before};
 ghost use Rattle.diagnostics.specs.Pictures.{picture};
-ghost use Rattle.ruletable.specs.declared.lines.LineRule.TheVariants.{Lf};
 ghost use Rattle.refusedlines.specs.RefusedText.{
   at_record,
   at_text,
@@ -22,7 +21,7 @@ ghost use Rattle.refusedlines.specs.RefusedText.{
 
 use crate::following::Following;
 use crate::letterruns::{LetterRun, push_expected};
-use diagnostics::{LineAround, line_around, push_cut, push_number, push_picture};
+use diagnostics::{LineAround, push_cut, push_number, push_picture};
 use letters::Alphabet;
 use ruletable::{LineRule, Memory, line_of};
 use std::alloc::Global;
@@ -154,17 +153,15 @@ fn push_lines(
     )
 }
 
-// Adds what a record lacks where it is rejected.
-fn push_record_fault(at: RefusedAt, out: &mut Vec<u8>) -> Result<(), Memory>
-    ensures { OnOk result (out.new.items ≡ out.old.items ++ record_fault at) }
+// Returns what is reported of a record after the position where it is rejected.
+fn fault_words(at: RefusedAt) -> &'static [u8]
+    ensures { result.now ≡ record_fault at }
 {
-    let fault: &[u8] = match at {
+    match at {
         RefusedAt::Letter(_) => b": expected ",
         RefusedAt::NoText(_) => b": not UTF-8, expected ",
         RefusedAt::End => b" ends too early: expected ",
-    };
-    out.extend_from_slice(fault)?;
-    Ok(())
+    }
 }
 
 // Adds where the record with that number is rejected: after these of its bytes, in that column.
@@ -183,22 +180,38 @@ fn push_at_record(
     push_number(out, line_of(before, before.len(), LineRule::Lf))?;
     out.extend_from_slice(b", column ")?;
     push_number(out, column)?;
-    push_record_fault(at, out)
+    out.extend_from_slice(fault_words(at))?;
+    Ok(())
 }
 
-// Adds that a record may end, after the symbols that can follow.
-fn push_record_end(runs: &[LetterRun], ends: bool, out: &mut Vec<u8>) -> Result<(), Memory>
-    ensures { OnOk result (out.new.items ≡ out.old.items ++ record_end runs.now ends) }
+// Returns what is reported of the end of a record, after the symbols that can follow.
+fn record_end_words(runs: &[LetterRun], ends: bool) -> &'static [u8]
+    ensures { result.now ≡ record_end runs.now ends }
 {
     if !ends {
-        return Ok(());
+        return b"";
     }
     if runs.is_empty() {
-        out.extend_from_slice(b"the end of the record")?;
-    } else {
-        out.extend_from_slice(b" or the end of the record")?;
+        return b"the end of the record";
     }
-    Ok(())
+    b" or the end of the record"
+}
+
+// Returns how many bytes stand after the last LF, or in all.
+fn count_after_lf(bytes: &[u8]) -> usize
+    ensures before { result ≡ bytes_before LineRule.Lf bytes.now }
+    ensures within { result ≤ length bytes.now }
+{
+    let mut size = 0;
+    let mut rest = bytes;
+    while let Some((last, front)) = rest.split_last() {
+        if *last == b'\n' {
+            break;
+        }
+        rest = front;
+        size += 1;
+    }
+    size
 }
 
 // Returns how many bytes stand before the first LF, or in all.
@@ -222,15 +235,14 @@ fn count_to_lf(bytes: &[u8]) -> usize
 fn push_record_picture(bytes: &[u8], position: usize, out: &mut Vec<u8>) -> Result<(), Memory>
     requires { position ≤ length bytes.now }
     ensures { OnOk result (out.new.items ≡ out.old.items ++ picture (line_in_record bytes.now position)
-        (bytes_before Lf (take position bytes.now))) }
+        (bytes_before LineRule.Lf (take position bytes.now))) }
 {
-    let before = line_around(bytes, position, LineRule::Lf).before;
+    let before = count_after_lf(&bytes[..position]);
     let after = count_to_lf(&bytes[position..]);
-    let start = position - before;
     push_picture(
         out,
         LineAround {
-            line: &bytes[start..start + before + after],
+            line: &bytes[position - before..position + after],
             before,
         },
     )
@@ -264,7 +276,7 @@ fn push_record(
     push_at_record(line.number, before, refusal.column, refusal.at, out)?;
     let runs = refusal.following.runs.as_slice();
     push_expected(alloc, refusal.alphabet, runs, false, out)?;
-    push_record_end(runs, refusal.following.ends, out)?;
+    out.extend_from_slice(record_end_words(runs, refusal.following.ends))?;
     out.extend_from_slice(b"\n")?;
     push_record_picture(line.bytes, refusal.position, out)
 }
