@@ -12,7 +12,7 @@ use earley::Chart;
 use lazydfa::Automaton;
 use letters::Alphabet;
 use lowering::lower_viable;
-use refusedlines::{Explainer, RefusedLine, explain_refused};
+use refusedlines::{Explainer, LineUnit, RefusedLine, explain_refused};
 use ruletable::Memory;
 use std::alloc::Global;
 
@@ -45,6 +45,7 @@ fn explain_all(
     let mut text = Vec::new(alloc);
     for (index, line) in lines.iter().enumerate() {
         let refused = RefusedLine {
+            unit: LineUnit::Line,
             bytes: line,
             number: index + 1,
         };

@@ -17,6 +17,8 @@ use Rattle.linejudge.specs.declared.printed.Printed.{Printed}
 use Rattle.linejudge.specs.declared.printed.Printed.TheVariants.{Nothing}
 use Rattle.linejudge.specs.declared.answers.Answer.TheVariants.{Yes, No, NoAfter}
 use Rattle.refusedlines.specs.Refusals.{IsRefusalReported}
+use Rattle.refusedlines.specs.declared.refusal.LineUnit.{LineUnit}
+use Rattle.refusedlines.specs.declared.refusal.LineUnit.TheVariants.{Line, Record}
 use Rattle.toolrun.specs.Input.{Input}
 use Rattle.toolrun.specs.Reply.{Reply, text_alone}
 use Rattle.abnfrun.specs.AbnfSettings.{AbnfSettings}
@@ -78,9 +80,14 @@ form_of settings = record {
 abbrev pub judged_size : AbnfSettings → ℕ → ℕ
 judged_size settings = kept_size (form_of settings)
 
+-- what is rejected: records, if NUL ends them
+abbrev pub unit_for : Bool → LineUnit
+unit_for nul = cond nul Record Line
+
 -- what explains a rejected line of that number
 abbrev pub RefusalFor : List Rule → ℕ → AbnfSettings → List ℕ → ℕ → List ℕ → Type 0
-RefusalFor rules judged settings = IsRefusalReported settings.options.letters rules judged
+RefusalFor rules judged settings =
+    IsRefusalReported (unit_for settings.options.nul) settings.options.letters rules judged
 
 -- each line of the input is judged by that rule, and the first rejected ones are explained if that is asked; no
 -- allocation fails

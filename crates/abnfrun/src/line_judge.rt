@@ -3,7 +3,7 @@ ghost use Rattle.std.specs.Prelude.{◌≡◌, ◌≤◌, ◌+◌, ℕ, Bool, Li
 ghost use Rattle.abnfread.specs.Element.{Rule};
 ghost use Rattle.abnfread.specs.AbnfViews.{rules_of};
 ghost use Rattle.abnfcheck.specs.Derivable.{AreLetters};
-ghost use Rattle.abnfrun.specs.AbnfReply.{IsAnswerTo, form_of, judged_size};
+ghost use Rattle.abnfrun.specs.AbnfReply.{IsAnswerTo, form_of, judged_size, unit_for};
 ghost use Rattle.abnfrun.specs.OpenJudge.{ExplainsLines};
 ghost use Rattle.abnfrun.specs.LetterAnswers.{IsAnswerOn, torn};
 ghost use Rattle.lowering.specs.Lowered.{IsLowered};
@@ -22,7 +22,7 @@ use lazydfa::Automaton;
 use letters::{Alphabet, CodePoint, Letter, decode, utf8_is_decided, utf8_len};
 use linejudge::{Answer, Judge, LineForm, Printed};
 use lowering::{items_decide, lower, lower_viable, values_are_letters};
-use refusedlines::{Explainer, RefusedLine, explain_refused};
+use refusedlines::{Explainer, LineUnit, RefusedLine, explain_refused};
 use ruletable::Memory;
 use std::alloc::Global;
 
@@ -40,6 +40,8 @@ pub struct LineJudge<'a> {
     pub(crate) flat: &'a Flat,
     /// Whether rejected lines are explained.
     pub(crate) explains: bool,
+    /// What explanations call a line.
+    pub(crate) unit: LineUnit,
     /// The flat grammar for lines of one symbol more, by which rejected lines are explained; `None` if they are not, or
     /// an allocation failed in making it.
     pub(crate) explainer: Option<&'a Flat>,
@@ -190,8 +192,9 @@ fn explain_line(
     requires more { IfSome work.old.explainer (λ a. a ≡ more.now) }
     ensures same { work.new.engines ≡ work.old.engines }
     ensures more { IfSome work.new.explainer (λ a. a ≡ more.now) }
-    ensures reported { IfOk result (λ why. IsRefusalReported judges.now.letters (rules_of judges.now.grammar.now.rules)
-        judges.now.grammar.now.judged line.entry.bytes.now line.entry.number why.items) }
+    ensures reported { IfOk result (λ why. IsRefusalReported line.entry.unit judges.now.letters
+        (rules_of judges.now.grammar.now.rules) judges.now.grammar.now.judged line.entry.bytes.now line.entry.number
+        why.items) }
 {
     let explainer = Explainer {
         grammar: judges.grammar,
@@ -224,7 +227,7 @@ impl Judge<Work> for LineJudge<'_> {
 
     ghost explains = { λ j. j.explains };
 
-    ghost refusal = { λ j. IsRefusalReported j.letters (rules_of j.grammar.now.rules) j.grammar.now.judged };
+    ghost refusal = { λ j. IsRefusalReported j.unit j.letters (rules_of j.grammar.now.rules) j.grammar.now.judged };
 
     ghost served = { λ j. j.flat.now.limit };
 
@@ -250,6 +253,7 @@ impl Judge<Work> for LineJudge<'_> {
         match self.explainer {
             Some(more) => {
                 let refused = RefusedLine {
+                    unit: self.unit,
                     bytes: line,
                     number,
                 };
@@ -324,6 +328,17 @@ fn automaton_of(alloc: Global, flat: &Flat) -> Option<Automaton>
     match Automaton::new(alloc, flat) {
         Ok(made) => made,
         Err(Memory) => None,
+    }
+}
+
+/// Returns what explanations call the lines of an input: records, if NUL ends them.
+pub(crate) fn line_unit(nul: bool) -> LineUnit
+    ensures { result ≡ unit_for nul }
+{
+    if nul {
+        LineUnit::Record
+    } else {
+        LineUnit::Line
     }
 }
 

@@ -16,6 +16,7 @@ use abnfcheck::SoundAbnf;
 use flatgrammar::Flat;
 use letters::Alphabet;
 use linejudge::{Answer, Judge};
+use refusedlines::LineUnit;
 use ruletable::{Memory, Note, ReadFault};
 use std::alloc::Global;
 use std::marker::Model;
@@ -75,6 +76,7 @@ impl AbnfJudge {
             viable: self.viable,
             flat: &self.flat,
             explains: false,
+            unit: LineUnit::Line,
             explainer: None,
         };
         judge.judge(&mut self.work, line)

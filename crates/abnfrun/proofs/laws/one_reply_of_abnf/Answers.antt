@@ -1,4 +1,4 @@
-use Rattle.abnfrun.specs.AbnfReply.{AnswersFor, RefusalFor, form_of}
+use Rattle.abnfrun.specs.AbnfReply.{AnswersFor, RefusalFor, form_of, unit_for}
 use Rattle.abnfrun.proofs.IsAnswerToLemmas.{one_answer}
 use Rattle.abnfrun.proofs.laws.one_reply_of_abnf.Goals as goal
 use Rattle.linejudge.proofs.LinesReplyLemmas.{one_lines_reply}
@@ -9,4 +9,4 @@ returns c = λ rules judged settings input a b.
     (λ line. one_answer c.utf8_is_decided.ensures.one c.furthest_is_found.ensures.one settings.options.letters rules
     judged line
     settings.options.viable) (form_of settings) input settings.explain (RefusalFor rules judged settings)
-    (c.refusal_is_one.ensures settings.options.letters rules judged) a b
+    (c.refusal_is_one.ensures (unit_for settings.options.nul) settings.options.letters rules judged) a b

@@ -13,4 +13,4 @@ returns-in_default g c =
     (c.lines_have_answers.ensures s.options.letters s.options.viable rules judged) _ _ _ _ _
 
 pub returns : goal.returns
-returns g c = rw c.line_form.ensures at c.run_lines.ensures
+returns g c = rw (c.line_form.ensures, c.line_unit.ensures) at c.run_lines.ensures
