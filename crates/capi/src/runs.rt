@@ -38,6 +38,7 @@ pub(crate) fn run_input(alloc: Global, runner: &mut Runner, input: &[u8]) -> Out
         options: PegOptions {
             style: runner.style,
             whole: runner.whole,
+            budget: None,
         },
     };
     run_opened(alloc, &mut runner.peg, &settings, input)

@@ -73,6 +73,7 @@ pub const PEG: PegOptions = PegOptions {
         escapes: false,
     },
     whole: false,
+    budget: None,
 };
 
 /// Lines are made of bytes, end with LF, and are answered by `yes` or `no` alone.
