@@ -27,12 +27,12 @@ Grammar:
   -s, --rule <RULE>  Start from this rule [default: the first rule]
 
 Input and output:
-  -l, --limit <N>  Look at no more than N bytes, or Nk, NM, in a unit, from 1 to 16777216 [default: 65536]
-  -b, --budget <N> Print no more than N bytes in a unit, from 1 [default: 4294967295, which is no limit]
-  -1, --whole      Take the input as one unit, up to its end
-  -r, --raw        Print actions verbatim
-      --escapes    Replace escapes in actions by their bytes
-  -x, --explain    Explain messages in more lines
+  -l, --limit <N>   Look at no more than N bytes, or Nk, NM, in a unit, from 1 to 16777216 [default: 65536]
+  -b, --budget <N>  Print no more than N bytes in a unit, from 1 to 4294967295 [default: 4294967295, any number]
+  -1, --whole       Take the input as one unit, up to its end
+  -r, --raw         Print actions verbatim
+      --escapes     Replace escapes in actions by their bytes
+  -x, --explain     Explain messages in more lines
 
 Other options:
   -h, --help     Print this help

@@ -40,12 +40,17 @@ impl Sink for Draft {
     fn write(&mut self, bytes: &[u8]) -> Result<usize, WriteFault> {
         let room = self.most.saturating_sub(self.text.len());
         let count = bytes.len().min(room);
-        let fits = count > 0 || bytes.is_empty();
-        if fits && self.text.extend_from_slice(&bytes[..count]).is_ok() {
-            return Ok(count);
+        if count == 0 && !bytes.is_empty() {
+            self.failed = true;
+            return Err(WriteFault);
         }
-        self.failed = true;
-        Err(WriteFault)
+        match self.text.extend_from_slice(&bytes[..count]) {
+            Ok(()) => Ok(count),
+            Err(_) => {
+                self.failed = true;
+                Err(WriteFault)
+            }
+        }
     }
 
     fn flush(&mut self) -> Result<(), WriteFault> {
