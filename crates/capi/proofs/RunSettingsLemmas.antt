@@ -73,7 +73,8 @@ module _ (rules : List Rule) (start : ℕ) (a b : PegSettings) (input : Input) (
       unexplained plain (plain_by rules start a b input limit style whole budget plain r) reported reports
       (lack_by r.point r.stop may)
   states_by_same reply (cut_short point out reported all before reports r begins) =
-      cut_short point out reported all (units_by rules start a b input limit style whole budget point out before) reports
+      cut_short point out reported all (units_by rules start a b input limit style whole budget point out before)
+      reports
       (plain_by rules start a b input limit style whole budget all r) begins
 
 -- so does what a run over memory gives

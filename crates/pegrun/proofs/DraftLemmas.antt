@@ -7,11 +7,10 @@ use Rattle.ruletable.specs.Writing.{AppendsPart}
 use Rattle.ruletable.specs.declared.sink.WriteFault.{WriteFault}
 use Rattle.gramcheck.specs.Grammar.{Grammar}
 use Rattle.pegrun.specs.Attempts.{IsAttempt, IsLimited}
-use Rattle.pegrun.specs.declared.attempt.Attempt.{Attempt}
-use Rattle.pegrun.specs.declared.attempt.Attempt.TheVariants.{Printed, Failed, TooLong, Costly, NoMemory}
+use Rattle.pegrun.specs.declared.attempt.Attempt.TheVariants.{Printed, Failed, TooLong, Costly}
 use Rattle.pegrun.specs.declared.options.PegOptions.{PegOptions}
 
-keeps_itself : (old : Option (List ℕ)) → Keeps old old
+pub keeps_itself : (old : Option (List ℕ)) → Keeps old old
 keeps_itself None = tt
 keeps_itself (Some bytes) = refl
 
@@ -58,11 +57,10 @@ module _ (g : Grammar) (window : List ℕ) (more : Bool) (options : PegOptions) 
       (k, events, looked, d, enough, is, omega (arith, l, le, proper.1), keeps_itself old)
 
   -- nothing was to be printed
-  pub nothing_printed : (r : Attempt) → ((k : ℕ) → r ≡ Printed k → ⊥)
-      → IsAttempt g window more options.style (Some []) (Some text) (Ok r)
-      → IsLimited g window more options old old (Ok r)
-  nothing_printed (Printed k) other a = absurd (other k refl)
-  nothing_printed Failed other (looked, d, enough, kept) = (looked, d, enough, keeps_itself old)
-  nothing_printed TooLong other (full, d, kept) = (full, d, keeps_itself old)
-  nothing_printed (Costly most) other a = absurd a
-  nothing_printed NoMemory other kept = keeps_itself old
+  pub fails_unprinted : IsAttempt g window more options.style (Some []) (Some text) (Ok Failed)
+      → IsLimited g window more options old old (Ok Failed)
+  fails_unprinted (looked, d, enough, kept) = (looked, d, enough, keeps_itself old)
+
+  pub needs_unprinted : IsAttempt g window more options.style (Some []) (Some text) (Ok TooLong)
+      → IsLimited g window more options old old (Ok TooLong)
+  needs_unprinted (full, d, kept) = (full, d, keeps_itself old)

@@ -280,7 +280,7 @@ module _ (rules : List Rule) (start : ℕ) (settings : PegSettings) (input : Inp
   one_end s last other stop end (costly k n es d is over) (overlong o' n' goes' may' d' over') =
       absurd (not_long s n' o' (Takes k es) d' over' d)
   one_end s last other stop end (costly k n es d is over) (costly k' n' es' d' is' over') =
-      record { lasts = refl; stops = let same : n ≡ n' = cc (is, is') in ap (CostlyUnit s) same }
+      record { lasts = refl; stops = let same : n ≡ n' = cc (is, is') in ap (λ (m : ℕ). CostlyUnit s m) same }
   one_end s last other stop end (costly k n es d is over) (no_match d' lt') = absurd (not_failed s k es d' d)
   one_end s last other stop end (costly k n es d is over) (finished w' d' all') = absurd (not_failed s k es d' d)
   one_end s last other stop end (costly k n es d is over) (no_unit w' d' all') = absurd (not_failed s k es d' d)
@@ -288,7 +288,8 @@ module _ (rules : List Rule) (start : ℕ) (settings : PegSettings) (input : Inp
       absurd (not_costly s 0 text' k n es u' d is over)
   one_end s last other stop end (costly k n es d is over) (empty_at_end text' u' all') =
       absurd (not_costly s 0 text' k n es u' d is over)
-  one_end s last other stop end (costly k n es d is over) (over_before_end is' may' lt') = absurd (not_over s d.goes is')
+  one_end s last other stop end (costly k n es d is over) (over_before_end is' may' lt') =
+      absurd (not_over s d.goes is')
   one_end s last other stop end (costly k n es d is over) (over_at_end is' may' all') = absurd (not_over s d.goes is')
   one_end s last other stop end (no_match d lt) (broken f' few') = absurd (few_bytes s f' few' d.may_run)
   one_end s last other stop end (no_match d lt) (overlong o' n' goes' may' d' over') =

@@ -36,7 +36,8 @@ Goes g settings input s text = Begins (Units (rules_of g.rules) g.start settings
 within_or_over : (budget : Option ℕ) (text : List ℕ) → (IsWithin budget text)
     ⊎ ((most : ℕ) × (budget ≡ Some most) × (most < length text))
 within_or_over None text = inl tt
-within_or_over (Some most) text = elim (cases_lt most (length text)) [ inl over ↦ inr (most, refl, over) | inr le ↦ inl le ]
+within_or_over (Some most) text = elim (cases_lt most (length text))
+    [ inl over ↦ inr (most, refl, over) | inr le ↦ inl le ]
 
 module _ (g : Grammar) (settings : PegSettings) (input : Input) where
   abbrev rest : ℕ → List ℕ

@@ -24,8 +24,8 @@ use Rattle.pegrun.specs.declared.attempt.Attempt.TheVariants.{Printed, Failed, T
 use Rattle.pegrun.specs.declared.unit.UnitStep.{UnitStep}
 use Rattle.pegrun.specs.declared.unit.UnitStep.TheVariants.{Takes as Goes, Stops}
 
--- At the front of a window a success prints its text, and all else prints nothing, unless the writer fails. No budget is
--- asked for.
+-- At the front of a window a success prints its text, of any length, and all else prints nothing, unless the writer
+-- fails.
 abbrev pub IsAttempt : Grammar → List ℕ → Bool → PrintStyle → Option (List ℕ) → Option (List ℕ)
     → Result Attempt WriteFault → Type 0
 IsAttempt g window more style old new (Ok (Printed k)) = (events : List Event) × (looked : ℕ) ×
@@ -46,7 +46,8 @@ abbrev pub IsLimited : Grammar → List ℕ → Bool → PegOptions → Option (
     → Result Attempt WriteFault → Type 0
 IsLimited g window more options old new (Ok (Printed k)) = (events : List Event) × (looked : ℕ) ×
     StartGives g window (Takes k events) looked × WasEnough window more looked
-    × IsWithin options.budget (text_of options.style window events) × Appends old new (text_of options.style window events)
+    × IsWithin options.budget (text_of options.style window events)
+    × Appends old new (text_of options.style window events)
 IsLimited g window more options old new (Ok Failed) =
     (looked : ℕ) × StartGives g window Fails looked × WasEnough window more looked × Keeps old new
 IsLimited g window more options old new (Ok TooLong) =

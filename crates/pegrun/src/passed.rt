@@ -55,8 +55,8 @@ fn known_front<R: Source>(units: &ByteUnits, feed: &Feed<'_, R>) -> Option<Vec<u
     }
 }
 
-/// Prints the units at the front of a feed from the table. It reads as many bytes as it drops. If explanations, one unit
-/// or a budget are asked for, it prints none.
+/// Prints the units at the front of a feed from the table. It reads as many bytes as it drops. If explanations, one
+/// unit or a budget are asked for, it prints none.
 pub(crate) fn pass_known<R: Source, O: Sink>(
     units: &ByteUnits,
     settings: &PegSettings<'_>,

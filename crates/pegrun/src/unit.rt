@@ -177,16 +177,18 @@ fn print_draft<O: Sink>(
     ensures flag { Flags (O.failed out.old) (O.failed out.new) result }
 {
     match attempted {
-        Ok(Attempt::Printed(_)) => {
+        Ok(Attempt::Printed(end)) => {
             if text.len() > budget {
                 return Ok(Attempt::Costly(budget));
             }
             match write_whole(out, text) {
-                Ok(()) => attempted,
+                Ok(()) => Ok(Attempt::Printed(end)),
                 Err(fault) => Err(fault),
             }
         }
-        Ok(_) => attempted,
+        Ok(Attempt::Failed) => Ok(Attempt::Failed),
+        Ok(Attempt::TooLong) => Ok(Attempt::TooLong),
+        Ok(_) => Ok(Attempt::NoMemory),
         Err(_) => {
             if text.len() < budget {
                 return Ok(Attempt::NoMemory);
@@ -210,7 +212,8 @@ fn attempt_within<M: Matcher, R: Source, O: Sink>(
     requires some { more ≡ true → 0 < length (bytes_of feed.old) }
     requires out_is_fresh { O.failed out.old ≡ false }
     ensures same { SameFeed feed.old feed.new }
-    ensures answer { IsLimited peg.now (bytes_of feed.old) more options (O.contents out.old) (O.contents out.new) result }
+    ensures answer { IsLimited peg.now (bytes_of feed.old) more options (O.contents out.old) (O.contents out.new)
+        result }
     ensures flag { Flags (O.failed out.old) (O.failed out.new) result }
     ensures twice { calls_of M.matches matcher.new ≤ calls_of M.matches matcher.old + 2 }
     ensures units { AreByteUnits peg.now options.style matcher.old.units
