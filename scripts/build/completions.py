@@ -69,6 +69,7 @@ PROGRAMS = (
         MODE,
         Option("s", "rule", "RULE", (), "Start from this rule [default: the first rule]"),
         Option("l", "limit", "N", (), "Look at no more than N bytes, or Nk, NM, in a unit, from 1 to 16777216"),
+        Option("b", "budget", "N", (), "Print no more than N bytes in a unit, from 1 to 4294967295"),
         Option("1", "whole", "", (), "Take the input as one unit, up to its end"),
         Option("r", "raw", "", (), "Print actions verbatim"),
         Option("", "escapes", "", (), "Replace escapes in actions by their bytes"),

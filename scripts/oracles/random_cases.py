@@ -78,16 +78,18 @@ def peg_case(r, may):
     is_whole = "1" in may and r.random() < 0.3
     is_escaped = "e" in may and r.random() < 0.5
     words = ["-l", str(limit)] + ["-r"] * raw + (["-s", start] if start else []) + ["-1"] * is_whole
-    words += ["--escapes"] * is_escaped
+    budget = r.choice([1, 2, 3, 5, 10, 20]) if "d" in may and r.random() < 0.5 else None
+    words += ["--escapes"] * is_escaped + (["-b", str(budget)] if budget else [])
     text = random_peg.grammar_text(r, rules)
     try:
-        *wanted, count = slow_peg.answer(rules, given, limit, start, raw, is_whole, is_escaped)
+        *wanted, count = slow_peg.answer(rules, given, limit, start, raw, is_whole, is_escaped, budget)
     except (slow_peg.TooSlow, RecursionError):
         return None
     case = Case(words, text, given, tuple(wanted), count)
     if "x" in may and r.random() < 0.5:
         out, message, status = wanted
-        after = slow_stops.after_stop(rules, given, limit, start, is_whole) if status in (1, 3) else b""
+        is_reported = status in (1, 3) and b" prints more than " not in message
+        after = slow_stops.after_stop(rules, given, limit, start, is_whole) if is_reported else b""
         case = case._replace(wanted=(out, message + after, status))
         return explained(r, case, start, slow_faults.peg, functools.partial(slow_notes.peg, grammar=rules),
                          functools.partial(slow_notes.peg_hints, grammar=rules))
@@ -221,13 +223,14 @@ def main():
     words.add_argument("-q", action="store_true", help="some of the runs of abnfi by `-q`")
     words.add_argument("-b", action="store_true", help="half of the runs of abnfi by `--line-buffered`")
     words.add_argument("-1", action="store_true", help="a third of the runs of pegi by `-1`")
+    words.add_argument("-d", action="store_true", help="half of the runs of pegi by `-b`")
     words.add_argument("-e", action="store_true", help="half of the runs of pegi by `--escapes`")
     words.add_argument("-x", action="store_true", help="half of the runs of both by `-x`")
     words.add_argument("program", nargs="?", choices=["pegi", "abnfi"])
     given = words.parse_args()
     sys.setrecursionlimit(20000)
     count = given.n // 2 if given.program is None else given.n
-    may = [it for it in "uwzkpqb1ex" if getattr(given, it)]
+    may = [it for it in "uwzkpqb1edx" if getattr(given, it)]
     right = True
     with tempfile.TemporaryDirectory(prefix="random_cases-") as folder:
         for name, make in (("pegi", lambda r: peg_case(r, may)),

@@ -34,6 +34,7 @@ pub record PegMeant (asked : CSettings) (options : PegOptions) : Type 0 where
   pub raw : options.style.raw ≡ asked.raw
   pub escapes : options.style.escapes ≡ false
   pub whole : options.whole ≡ false
+  pub budget : options.budget ≡ None
 
 -- C asks for these options of the ABNF tool
 pub record AbnfMeant (asked : CSettings) (options : AbnfOptions) : Type 0 where

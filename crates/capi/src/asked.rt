@@ -84,6 +84,7 @@ impl COptions for PegOptions {
                 escapes: false,
             },
             whole: false,
+            budget: None,
         }
     }
 }

@@ -9,7 +9,7 @@ use Rattle.toolrun.specs.RunSteps as steps
 use Rattle.toolrun.specs.Stop.{not_explained}
 use Rattle.toolrun.specs.declared.stop.Stop.{Stop}
 use Rattle.toolrun.specs.declared.stop.Stop.TheVariants.{Quiet, NoMatch, LongUnit, LongLine, Broken, NoMemory, Refused}
-use Rattle.toolrun.specs.declared.stop.Stop.TheVariants.{Unreadable}
+use Rattle.toolrun.specs.declared.stop.Stop.TheVariants.{CostlyUnit, Unreadable}
 use Rattle.linejudge.specs.InputLines.{GoesBy, LinesEnd, Lines, at_front, next_position, position_taken, says_yes}
 use Rattle.linejudge.specs.declared.answers.Answer.{Answer}
 use Rattle.linejudge.specs.declared.line.LineForm.{LineForm}
@@ -33,6 +33,7 @@ abbrev pub stop_lines : Stop → List ℕ
 stop_lines (Quiet status) = []
 stop_lines (NoMatch at) = []
 stop_lines (LongUnit at limit) = []
+stop_lines (CostlyUnit at budget) = []
 stop_lines (LongLine line limit) = limit_line
 stop_lines Broken = []
 stop_lines NoMemory = []

@@ -1,6 +1,7 @@
 pub mod AttemptLemmas
 pub mod ByteUnitLemmas
 pub mod CutLemmas
+pub mod DraftLemmas
 pub mod ExplainedByLemmas
 pub mod FirstsLemmas
 pub mod FollowsLemmas

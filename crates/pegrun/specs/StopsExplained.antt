@@ -10,13 +10,14 @@ use Rattle.toolrun.specs.Input.{Input}
 use Rattle.pegrun.specs.PegSettings.{PegSettings}
 use Rattle.toolrun.specs.declared.stop.Stop.{Stop}
 use Rattle.toolrun.specs.declared.stop.Stop.TheVariants.{Quiet, NoMatch, LongUnit, LongLine, Broken, NoMemory, Refused}
-use Rattle.toolrun.specs.declared.stop.Stop.TheVariants.{Unreadable}
+use Rattle.toolrun.specs.declared.stop.Stop.TheVariants.{CostlyUnit, Unreadable}
 
 -- lines explain such a stop
 abbrev pub HasLines : Stop → Type 0
 HasLines (Quiet status) = ⊥
 HasLines (NoMatch at) = ⊤
 HasLines (LongUnit at limit) = ⊤
+HasLines (CostlyUnit at budget) = ⊥
 HasLines (LongLine line limit) = ⊥
 HasLines Broken = ⊥
 HasLines NoMemory = ⊥
@@ -41,6 +42,7 @@ module _ (rules : List Rule) (start : ℕ) (settings : PegSettings) (input : Inp
   StopLines s (NoMatch at) why = (before : Option ℕ) × UnitBefore s before
       × IsNoMatchReported rules start (take (taken_at settings input s) input.bytes) before s why
   StopLines s (LongUnit at limit) why = why ≡ long_unit_lines (position_after (take s input.bytes))
+  StopLines s (CostlyUnit at budget) why = why ≡ []
   StopLines s (LongLine line limit) why = why ≡ []
   StopLines s Broken why = why ≡ []
   StopLines s NoMemory why = why ≡ []

@@ -7,12 +7,13 @@ use Rattle.toolrun.specs.declared.status.Status.{Status}
 use Rattle.toolrun.specs.declared.status.Status.TheVariants as status
 use Rattle.toolrun.specs.declared.stop.Stop.{Stop}
 use Rattle.toolrun.specs.declared.stop.Stop.TheVariants.{Quiet, NoMatch, LongUnit, LongLine, Broken, NoMemory, Refused}
-use Rattle.toolrun.specs.declared.stop.Stop.TheVariants.{Unreadable}
+use Rattle.toolrun.specs.declared.stop.Stop.TheVariants.{CostlyUnit, Unreadable}
 
 abbrev pub status_of : Stop → Status
 status_of (Quiet status) = status
 status_of (NoMatch s) = status.NoMatch
 status_of (LongUnit s limit) = status.Overlong
+status_of (CostlyUnit s budget) = status.Overlong
 status_of (LongLine n limit) = status.Overlong
 status_of Broken = status.Fault
 status_of NoMemory = status.NoMemory
@@ -33,6 +34,8 @@ abbrev pub message_of : Stop → List ℕ
 message_of (Quiet status) = []
 message_of (NoMatch s) = codes "no match at byte " ++ decimal s ++ codes "\n"
 message_of (LongUnit s limit) = codes "unit at byte " ++ decimal s ++ codes " longer than " ++ decimal limit
+    ++ codes " bytes\n"
+message_of (CostlyUnit s budget) = codes "unit at byte " ++ decimal s ++ codes " prints more than " ++ decimal budget
     ++ codes " bytes\n"
 message_of (LongLine n limit) = codes "line " ++ decimal n ++ codes " longer than " ++ decimal limit ++ codes " bytes\n"
 message_of Broken = codes "read error\n"
