@@ -73,11 +73,15 @@ impl AbnfJudge {
             grammar: &self.grammar,
             letters: self.letters,
             viable: self.viable,
+            budget: None,
             flat: &self.flat,
             explains: false,
             explainer: None,
         };
-        judge.judge(&mut self.work, line)
+        match judge.judge(&mut self.work, line) {
+            Ok(said) => Ok(said),
+            Err(_) => Err(Memory),
+        }
     }
 }
 

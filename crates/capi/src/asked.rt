@@ -102,6 +102,7 @@ impl COptions for AbnfOptions {
             numbered: false,
             quiet: false,
             line_buffered: false,
+            budget: None,
         }
     }
 }

@@ -1,9 +1,9 @@
 //! The answers to the lines of small inputs, by hand.
-ghost use Rattle.std.specs.Prelude.{◌≡◌, ◌-◌, codes, length, ltb, if◌then◌else◌};
+ghost use Rattle.std.specs.Prelude.{◌≡◌, ◌-◌, ⊥, codes, length, ltb, if◌then◌else◌};
 ghost use Rattle.linejudge.specs.declared.answers.Answer.TheVariants as answer;
 
 use feed::SourceOf;
-use linejudge::{Answer, Judge, LineForm, Printed, run_lines};
+use linejudge::{Answer, Judge, LineForm, NoAnswer, Printed, run_lines};
 use ruletable::{Memory, SinkOf};
 use std::alloc::Global;
 use std::process::Abort;
@@ -39,6 +39,8 @@ impl Judge<u8> for Short {
     ghost reported = { λ short line said. said ≡ (if ltb short.most (length line)
         then (if short.counts then answer.NoAfter (length line - short.most) else answer.No) else answer.Yes) };
 
+    ghost costly = { λ _ _ _. ⊥ };
+
     ghost explains = { λ short. short.explains };
 
     ghost refusal = { λ _ line number why. why ≡ codes "long\n" };
@@ -47,7 +49,7 @@ impl Judge<u8> for Short {
 
     ghost works_in = { λ _ _. Unit {0} };
 
-    fn judge(&self, _work: &mut u8, line: &[u8]) -> Result<Answer, Memory> {
+    fn judge(&self, _work: &mut u8, line: &[u8]) -> Result<Answer, NoAnswer> {
         if self.most < line.len() {
             if self.counts {
                 return Ok(Answer::NoAfter(line.len() - self.most));

@@ -86,6 +86,7 @@ pub const ABNF: AbnfOptions = AbnfOptions {
     numbered: false,
     quiet: false,
     line_buffered: false,
+    budget: None,
 };
 
 /// The settings of a run that tests change.
