@@ -4,7 +4,7 @@ use Rattle.std.proofs.Common.{◌≡◌, ℕ, ◌+◌, Bool, false, Option, List
 use Rattle.std.proofs.Common.{inl, inr, subst}
 use Rattle.std.specs.Prelude.{Result, Ok, Err, IfOk, IfErr, OnErr}
 use Rattle.std.proofs.lemmas.List.{take_all}
-use Rattle.ruletable.proofs.AppendsLemmas.{Appends-same}
+use Rattle.ruletable.proofs.AppendsLemmas.{Appends-kept, Appends-same}
 use Rattle.ruletable.specs.Writing.{Writes}
 use Rattle.ruletable.specs.declared.sink.WriteFault.{WriteFault}
 use Rattle.toolrun.specs.Input.{Input}
@@ -46,7 +46,7 @@ module _ (Reported : List ℕ → Answer → Type 0) (asked : Bool) (Refusal : L
       let shown = is.prints in (_, of_line line n said stands is.is_reported is.adds, rw shown at part)
   line_is line n text (Err no_answer.Memory) r stands is none kept (keeps, same) = rw same (kept, inl (refl, keeps))
   line_is line n text (Err (no_answer.Costly budget)) r stands is none kept (keeps, same) =
-      rw same (kept, inr ([], costly line n budget stands none, rw keeps (Appends-same old)))
+      rw same (kept, inr ([], costly line n budget stands none, Appends-kept old old new [] (Appends-same old) keeps)))
 
   -- a line and its end
   pub whole_is : (n : ℕ) (held text : List ℕ) (answered : Result Answer NoAnswer) (r : Result LineStep WriteFault)

@@ -122,19 +122,17 @@ fn next_step<W, J: Judge<W>, R: Source, O: Sink>(
         feed.fill();
         return end_step(form, reached.at, out);
     }
+    let line = reached.at.count + 1;
     match next_line(feed, form) {
         Line::Whole(n) => {
             let answered = answer_held(judge, work, form, feed, form.kept_size(n), reached);
-            let number = reached.at.count + 1;
-            step_of(answered, reached.text.as_slice(), number, n + 1, out)
+            step_of(answered, reached.text.as_slice(), line, n + 1, out)
         }
         Line::Last(n) => {
             let answered = answer_held(judge, work, form, feed, n, reached);
-            let number = reached.at.count + 1;
-            step_of(answered, reached.text.as_slice(), number, n, out)
+            step_of(answered, reached.text.as_slice(), line, n, out)
         }
         Line::Overlong => {
-            let line = reached.at.count + 1;
             let limit = form.limit;
             Ok(LineStep::Stops(Stop::LongLine { line, limit }))
         }
