@@ -46,7 +46,7 @@ module _ (Reported : List ℕ → Answer → Type 0) (asked : Bool) (Refusal : L
       let shown = is.prints in (_, of_line line n said stands is.is_reported is.adds, rw shown at part)
   line_is line n text (Err no_answer.Memory) r stands is none kept (keeps, same) = rw same (kept, inl (refl, keeps))
   line_is line n text (Err (no_answer.Costly budget)) r stands is none kept (keeps, same) =
-      rw same (kept, inr ([], costly line n budget stands none, Appends-kept old old new [] (Appends-same old) keeps)))
+      rw same (kept, inr ([], costly line n budget stands none, Appends-kept old old new [] (Appends-same old) keeps))
 
   -- a line and its end
   pub whole_is : (n : ℕ) (held text : List ℕ) (answered : Result Answer NoAnswer) (r : Result LineStep WriteFault)
