@@ -82,7 +82,8 @@ module _ (settings : AbnfSettings) (input : Input) (text : List ℕ) where
       is_itself reply (inr (record { definitions = ds; reads = r; states = is_printed are mode }))
   bare_suffixes notes reply (no_memory within) ample = absurd (ample refl)
 
-  one_bare : AnswersAreOne settings → settings.options.budget ≡ None → (a b : Reply) → IsBare a → IsBare b → a.status ≢ 5 → b.status ≢ 5 → a ≡ b
+  one_bare : AnswersAreOne settings → settings.options.budget ≡ None → (a b : Reply) → IsBare a → IsBare b →
+      a.status ≢ 5 → b.status ≢ 5 → a ≡ b
   one_bare one free a b g h m n =
       let both = one_stated (IsFaultOf text) (λ fault why. why ≡ []) (Reads text)
       (λ definitions. AreNotesOn definitions (rule_given settings))

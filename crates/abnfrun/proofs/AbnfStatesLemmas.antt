@@ -162,7 +162,8 @@ module _ (settings : AbnfSettings) (input : Input) where
     suffixes_of_states notes reply (no_memory within) ample = absurd (ample refl)
 
     one_of_text : ExplanationsAreOne → NotesAreOne → HintsAreOne → AnswersAreOne settings
-        → settings.options.budget ≡ None → (notes others : List ℕ) (a b : Reply) → IsStated notes a → IsStated others b → a.status ≢ 5
+        → settings.options.budget ≡ None → (notes others : List ℕ) (a b : Reply) → IsStated notes a → IsStated others
+        b → a.status ≢ 5
         → b.status ≢ 5 → (notes ≡ others) × (a ≡ b)
     one_of_text explained reported hints one free = one_stated (IsFaultOf text)
         (λ fault. Explained settings (Explains text fault)) (Reads text)
@@ -186,7 +187,8 @@ module _ (settings : AbnfSettings) (input : Input) where
 -- one list of notes, and one reply but for what explains it
 pub one_statement : ExplanationsAreOne → NotesAreOne → HintsAreOne → TextIsOne → FurthestIsOne
     → (text : List ℕ) (settings : AbnfSettings) (input : Input) (notes others : List ℕ) (a b : Reply) →
-    settings.options.budget ≡ None → AbnfStates text settings input notes a → AbnfStates text settings input others b → a.status ≢ 5 → b.status ≢ 5
+    settings.options.budget ≡ None → AbnfStates text settings input notes a → AbnfStates text settings input others b
+    → a.status ≢ 5 → b.status ≢ 5
     → (notes ≡ others) × SameButWhy settings.explain a b
 one_statement explained reported hints one furthest text settings input notes others a b free g h m n =
     let p = suffixes_of_states settings input text notes a g m in

@@ -20,8 +20,8 @@ pub(crate) struct Engines {
 }
 
 impl Engines {
-    /// Returns whether a flat grammar derives symbols, no more than it serves. `Memory` if an allocation fails, `Costly`
-    /// if the automaton has no answer and the sets have more items than the budget.
+    /// Returns whether a flat grammar derives symbols, no more than it serves. `Memory` if an allocation fails,
+    /// `Costly` if the automaton has no answer and the sets have more items than the budget.
     #[inline(always)]
     pub(crate) fn judge<L: Letter>(
         &mut self,

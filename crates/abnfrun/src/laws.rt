@@ -21,7 +21,8 @@ use refusedlines::refusal_is_one;
 /// States that a list of rules, a judged rule and settings without a budget have at most one reply to an input.
 pub fn one_reply_of_abnf()
     ensures { (rules : List Rule) (judged : ℕ) (settings : AbnfSettings) (input : Input) (a b : Reply) →
-        settings.options.budget ≡ None → JudgeReplies rules judged settings input a → JudgeReplies rules judged settings input b → a ≡ b }
+        settings.options.budget ≡ None → JudgeReplies rules judged settings input a →
+        JudgeReplies rules judged settings input b → a ≡ b }
 {
     furthest_is_found();
     utf8_is_decided();
@@ -30,8 +31,9 @@ pub fn one_reply_of_abnf()
 
 /// States that a text in ABNF is a grammar of at most one list of definitions, or has at most one fault, and never
 /// both; but an allocation may fail in reading it. A text, settings without a budget and an input have at most one list
-/// of notes and one reply, but for those after a failed allocation, status 5. Where an allocation fails in the explanation of a line,
-/// the reply is the same but for explanations. A text that is too long is reported as that, whatever allocations do.
+/// of notes and one reply, but for those after a failed allocation, status 5. Where an allocation fails in the
+/// explanation of a line, the reply is the same but for explanations. A text that is too long is reported as that,
+/// whatever allocations do.
 pub fn one_statement_of_abnf()
     ensures definitions { (text : List ℕ) (a b : List Definition) → Reads text a → Reads text b → a ≡ b }
     ensures no_fault { (text : List ℕ) (definitions : List Definition) (fault : ReadFault) →

@@ -58,11 +58,13 @@ use Rattle.linejudge.proofs.LinesLemmas.{lines_go_on, goes_further}
 module _ (Reported : List ℕ → Answer → Type 0) (asked : Bool) (Refusal : List ℕ → ℕ → List ℕ → Type 0)
     (NeedsMore : List ℕ → ℕ → Type 0) (form : LineForm) (input : Input) where
   abbrev Runs : ℕ → Option (List ℕ) → Option (List ℕ) → Result Ending WriteFault → Type 0
-  Runs taken a b r = HasReportedRun (LinesTo Reported form input) (EndsAt NeedsMore form input) (taken_by form.limit input)
+  Runs taken a b r = HasReportedRun (LinesTo Reported form input) (EndsAt NeedsMore form input)
+      (taken_by form.limit input)
       (ReportsTo Reported asked Refusal form input) (WhyTo asked input) (NeverLacks input) taken a b r
 
   abbrev EndsSo : RunPoint → List ℕ → Ending → Type 0
-  EndsSo point last ending = EndsReported (LinesTo Reported form input) (EndsAt NeedsMore form input) (taken_by form.limit input)
+  EndsSo point last ending = EndsReported (LinesTo Reported form input) (EndsAt NeedsMore form input)
+      (taken_by form.limit input)
       (ReportsTo Reported asked Refusal form input) (WhyTo asked input) (NeverLacks input) point last ending
 
   -- where it is not asked, no line is explained
@@ -185,7 +187,8 @@ module _ (Reported : List ℕ → Answer → Type 0) (asked : Bool) (Refusal : L
   })
 
   -- where no allocation fails but in an explanation, a run states its reply without explanations, but for these
-  pub same_but_why : (reply : Reply) → LinesStates Reported asked Refusal NeedsMore form input reply → reply.status ≢ 5 →
+  pub same_but_why : (reply : Reply) → LinesStates Reported asked Refusal NeedsMore form input reply →
+      reply.status ≢ 5 →
       (plain : Reply) × Replies (Lines Reported form input) (LinesEnd NeedsMore form input)
       (position_taken form.limit input) plain
       × SameButWhy asked reply plain
@@ -356,7 +359,8 @@ module _ (Reported : List ℕ → Answer → Type 0) (asked : Bool) (Refusal : L
             )
 
         -- the output fails in what is printed last
-        fails_last : (last : List ℕ) (stop : Stop) → LinesEnd NeedsMore form input at last stop → AppendsPart mid new last
+        fails_last : (last : List ℕ) (stop : Stop) → LinesEnd NeedsMore form input at last stop → AppendsPart mid new
+            last
             → Runs taken old new (Err fault)
         fails_last last stop ends part =
             let all : List ℕ = reported.text.items ++ more_refused (count_unreported
@@ -397,7 +401,8 @@ module _ (Reported : List ℕ → Answer → Type 0) (asked : Bool) (Refusal : L
               AppendsPart-join old mid new text last wrote part,
             )
 
-        fails_in : (added : List ℕ) (more : Explanations) → StepText Reported asked Refusal NeedsMore form input at reported more
+        fails_in : (added : List ℕ) (more : Explanations) → StepText Reported asked Refusal NeedsMore form input at
+            reported more
             added
             → AppendsPart mid new added → Runs taken old new (Err fault)
         fails_in added more (of_line line n said stands says adds) part =
@@ -408,7 +413,8 @@ module _ (Reported : List ℕ → Answer → Type 0) (asked : Bool) (Refusal : L
             part
         fails_in added more (of_end last why ends same) part = fails_last last why ends part
 
-        pub fails_there : (more : Explanations) → IsStep Reported asked Refusal NeedsMore form input at mid new reported more
+        pub fails_there : (more : Explanations) → IsStep Reported asked Refusal NeedsMore form input at mid new
+            reported more
             (Err fault)
             → Runs taken old new (Err fault)
         fails_there more (added, texts, part) = fails_in added more texts part
@@ -470,7 +476,13 @@ module _ (Reported : List ℕ → Answer → Type 0) (asked : Bool) (Refusal : L
   -- an allocation failed before the first line
   pub no_line_was_run : (r0 s0 : Option (List ℕ)) (r_was r_failed o_was : Bool) →
       let r : Result Ending WriteFault = Ok (Plain NoMemory) in
-      Fulfils (LinesStates Reported asked Refusal NeedsMore form) (record { old = r0; new = r0; was = r_was; failed = r_failed })
+      Fulfils (LinesStates Reported asked Refusal NeedsMore form) (record {
+        old = r0;
+        new = r0;
+        was = r_was;
+        failed =
+            r_failed;
+      })
       (record { old = s0; new = s0; was = o_was; failed = o_was }) r
   no_line_was_run r0 s0 r_was r_failed o_was =
       did_not_report (LinesTo Reported form) (EndsAt NeedsMore form) (taken_by form.limit) goes_on

@@ -25,7 +25,8 @@ use Rattle.linejudge.specs.declared.reached.Explanations.{Explanations}
 use Rattle.linejudge.proofs.KeptLineLemmas.{kept_is}
 
 module _ (Reported : List ℕ → Answer → Type 0) (asked : Bool) (Refusal : List ℕ → ℕ → List ℕ → Type 0)
-    (NeedsMore : List ℕ → ℕ → Type 0) (form : LineForm) (input : Input) (at : LinePosition) (old new : Option (List ℕ)) (reported more : Explanations) where
+    (NeedsMore : List ℕ → ℕ → Type 0) (form : LineForm) (input : Input) (at : LinePosition)
+    (old new : Option (List ℕ)) (reported more : Explanations) where
   abbrev rest : List ℕ
   rest = drop at.position input.bytes
 
@@ -52,7 +53,8 @@ module _ (Reported : List ℕ → Answer → Type 0) (asked : Bool) (Refusal : L
   pub whole_is : (n : ℕ) (held text : List ℕ) (answered : Result Answer NoAnswer) (r : Result LineStep WriteFault)
       → is_over form at ≡ false → held ≡ take (kept_size form n) rest → IsNext form input at.position (line.Whole n)
       → IfOk answered (IsAnswered held text) → IfErr answered (IsCostly held) → OnErr answered (more ≡ reported)
-      → StepsAfter (at.count + 1) (n + 1) old new text answered r → IsStep Reported asked Refusal NeedsMore form input at old new reported more r
+      → StepsAfter (at.count + 1) (n + 1) old new text answered r → IsStep Reported asked Refusal NeedsMore form input
+      at old new reported more r
   whole_is n held text answered r goes is next answers none fails steps =
       let judged : List ℕ = kept_line form (take n rest) in
       let stands : StandsAt form input at.position judged (n + 1) =
@@ -65,7 +67,8 @@ module _ (Reported : List ℕ → Answer → Type 0) (asked : Bool) (Refusal : L
   pub last_is : (n : ℕ) (held text : List ℕ) (answered : Result Answer NoAnswer) (r : Result LineStep WriteFault)
       → is_over form at ≡ false → held ≡ take n rest → IsNext form input at.position (line.Last n)
       → IfOk answered (IsAnswered held text)
-      → IfErr answered (IsCostly held) → OnErr answered (more ≡ reported) → StepsAfter (at.count + 1) n old new text answered r
+      → IfErr answered (IsCostly held) → OnErr answered (more ≡ reported) → StepsAfter (at.count + 1) n old new text
+      answered r
       → IsStep Reported asked Refusal NeedsMore form input at old new reported more r
   last_is n held text answered r goes is next answers none fails steps =
       let all : held ≡ rest = is ∙ take_all n rest (let len = next.1 in omega (arith, len)) in
@@ -75,14 +78,16 @@ module _ (Reported : List ℕ → Answer → Type 0) (asked : Bool) (Refusal : L
       (rw all at none) fails steps
 
 module _ (Reported : List ℕ → Answer → Type 0) (asked : Bool) (Refusal : List ℕ → ℕ → List ℕ → Type 0)
-    (NeedsMore : List ℕ → ℕ → Type 0) (form : LineForm) (input : Input) (at : LinePosition) (old new : Option (List ℕ)) (reported : Explanations) where
+    (NeedsMore : List ℕ → ℕ → Type 0) (form : LineForm) (input : Input) (at : LinePosition)
+    (old new : Option (List ℕ)) (reported : Explanations) where
   -- no line
   pub long_is : is_over form at ≡ false → IsNext form input at.position line.Overlong
       → IsStep Reported asked Refusal NeedsMore form input at old old reported reported
       (Ok (Stops (LongLine (at.count + 1) form.limit)))
   long_is goes next = (refl, inr ([], overlong goes next, Appends-same old))
 
-  pub end_is : (r : Result LineStep WriteFault) → LinesEnd NeedsMore form input at (printed_last form.name form.printed at)
+  pub end_is : (r : Result LineStep WriteFault) → LinesEnd NeedsMore form input at
+      (printed_last form.name form.printed at)
       (Quiet (status_after at.refused))
       → Writes old new (printed_last form.name form.printed at) r
       → IfOk r (λ s. s ≡ Stops (Quiet (status_after at.refused)))

@@ -226,7 +226,8 @@ module _ (Reported : List ℕ → Answer → Type 0) (one_answer : (line : List 
       no_end NeedsMore never form input at g.line last g.size why by.goes by.stands ends
 
   abbrev HasReply : Reply → Type 0
-  HasReply reply = Replies (Lines Reported form input) (LinesEnd NeedsMore form input) (position_taken form.limit input) reply
+  HasReply reply = Replies (Lines Reported form input) (LinesEnd NeedsMore form input)
+      (position_taken form.limit input) reply
 
   -- two replies end at one position, in one way
   record OneReply (a b : Reply) (r : HasReply a) (q : HasReply b) : Type 0 where

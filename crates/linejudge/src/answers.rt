@@ -205,8 +205,8 @@ fn is_copied<R: Source>(feed: &Feed<'_, R>, n: usize, line: &mut Vec<u8>) -> boo
 
 /// Judges the first `n` bytes that are held as a line, puts what is printed for it into `reached.text`, and adds its
 /// explanation, if it has one. `Memory` if an allocation fails in that but the explanation; then no explanation is
-/// added. Nor is one of a line that needs more items than a budget: `Costly`. Bytes in two pieces are copied. If they are too many for that, or the copy cannot be allocated, all that is
-/// held is put in one piece.
+/// added. Nor is one of a line that needs more items than a budget: `Costly`. Bytes in two pieces are copied. If they
+/// are too many for that, or the copy cannot be allocated, all that is held is put in one piece.
 pub fn answer_held<W, J: Judge<W>, R: Source>(
     judge: &J,
     work: &mut W,

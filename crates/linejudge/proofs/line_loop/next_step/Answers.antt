@@ -54,7 +54,8 @@ returns-then-is_over g c = record {
   follows = λ before input here a.
       let feed = c.fill.new.self in (
         end_is (g.J.Judge.reported c.args.judge.now) (g.J.Judge.explains c.args.judge.now)
-            (g.J.Judge.refusal c.args.judge.now) (g.J.Judge.costly c.args.judge.now) c.args.form input c.args.reached.now.at
+            (g.J.Judge.refusal c.args.judge.now) (g.J.Judge.costly c.args.judge.now) c.args.form input
+            c.args.reached.now.at
             (g.O.Sink.contents c.args.out.now) (g.O.Sink.contents c.end_step.new.out) c.args.reached.now.reported
             c.end_step.result (rejected (sym c.is_over.ensures ∙ c.if-is_over.true)) c.end_step.ensures.bytes
             c.end_step.ensures.step,
@@ -86,7 +87,8 @@ returns-in-Whole g c =
           c.args.reached.now.at.position b.bytes here
           (let fits = c.in-Whole.ensures.fits in omega (arith, fits, kept_most c.args.form c.in-Whole.n)) in (
             whole_is (g.J.Judge.reported c.args.judge.now) (g.J.Judge.explains c.args.judge.now)
-                (g.J.Judge.refusal c.args.judge.now) (g.J.Judge.costly c.args.judge.now) c.args.form input c.args.reached.now.at
+                (g.J.Judge.refusal c.args.judge.now) (g.J.Judge.costly c.args.judge.now) c.args.form input
+                c.args.reached.now.at
                 (g.O.Sink.contents c.args.out.now) (g.O.Sink.contents c.step_of.new.out)
                 c.args.reached.now.reported on.new.reached.reported c.in-Whole.n _ on.new.reached.text.items
                 on.result c.step_of.result (sym c.is_over.ensures ∙ c.if-is_over.false) front next.0
@@ -120,7 +122,8 @@ returns-in-Last g c =
           let front = held_front before (bytes_of c.next_line.new.feed) b.more input.bytes c.in-Last.n
           c.args.reached.now.at.position b.bytes here (let fits = c.in-Last.ensures.fits in omega (arith, fits.1)) in (
             last_is (g.J.Judge.reported c.args.judge.now) (g.J.Judge.explains c.args.judge.now)
-                (g.J.Judge.refusal c.args.judge.now) (g.J.Judge.costly c.args.judge.now) c.args.form input c.args.reached.now.at
+                (g.J.Judge.refusal c.args.judge.now) (g.J.Judge.costly c.args.judge.now) c.args.form input
+                c.args.reached.now.at
                 (g.O.Sink.contents c.args.out.now) (g.O.Sink.contents c.step_of-in-Last.new.out)
                 c.args.reached.now.reported on.new.reached.reported c.in-Last.n _ on.new.reached.text.items
                 on.result c.step_of-in-Last.result (sym c.is_over.ensures ∙ c.if-is_over.false) front next.0
@@ -146,7 +149,8 @@ returns-in-Overlong g c = record {
       let next = rw here at (c.in-Overlong.ensures.follows before input
       (c.next_line.ensures.grows.capacity ∙ c.requires.capacity) a) in (
         long_is (g.J.Judge.reported c.args.judge.now) (g.J.Judge.explains c.args.judge.now)
-            (g.J.Judge.refusal c.args.judge.now) (g.J.Judge.costly c.args.judge.now) c.args.form input c.args.reached.now.at
+            (g.J.Judge.refusal c.args.judge.now) (g.J.Judge.costly c.args.judge.now) c.args.form input
+            c.args.reached.now.at
             (g.O.Sink.contents c.args.out.now) (g.O.Sink.contents c.args.out.now) c.args.reached.now.reported
             (sym c.is_over.ensures ∙ c.if-is_over.false) next.0,
         next.1,
@@ -167,7 +171,8 @@ returns-in-End g c = record {
       let next = rw here at (c.in-End.ensures.follows before input
       (c.next_line.ensures.grows.capacity ∙ c.requires.capacity) a) in (
         end_is (g.J.Judge.reported c.args.judge.now) (g.J.Judge.explains c.args.judge.now)
-            (g.J.Judge.refusal c.args.judge.now) (g.J.Judge.costly c.args.judge.now) c.args.form input c.args.reached.now.at
+            (g.J.Judge.refusal c.args.judge.now) (g.J.Judge.costly c.args.judge.now) c.args.form input
+            c.args.reached.now.at
             (g.O.Sink.contents c.args.out.now) (g.O.Sink.contents c.end_step-in-End.new.out)
             c.args.reached.now.reported
             c.end_step-in-End.result (finished (sym c.is_over.ensures ∙ c.if-is_over.false) next.0)
@@ -190,7 +195,8 @@ returns-in-Broken g c = record {
       let next = rw here at (c.in-Broken.ensures.follows before input
       (c.next_line.ensures.grows.capacity ∙ c.requires.capacity) a) in (
         broken_is (g.J.Judge.reported c.args.judge.now) (g.J.Judge.explains c.args.judge.now)
-            (g.J.Judge.refusal c.args.judge.now) (g.J.Judge.costly c.args.judge.now) c.args.form input c.args.reached.now.at
+            (g.J.Judge.refusal c.args.judge.now) (g.J.Judge.costly c.args.judge.now) c.args.form input
+            c.args.reached.now.at
             (g.O.Sink.contents c.args.out.now) (g.O.Sink.contents c.args.out.now) c.args.reached.now.reported
             (sym c.is_over.ensures ∙ c.if-is_over.false) next.0,
         next.1,
