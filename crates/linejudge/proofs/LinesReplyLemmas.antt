@@ -232,7 +232,7 @@ module _ (Reported : List ℕ → Answer → Type 0) (one_answer : (line : List 
   -- two replies end at one position, in one way
   record OneReply (a b : Reply) (r : HasReply a) (q : HasReply b) : Type 0 where
     same : Same r.point q.point r.before q.before
-    ends : OneEnd form input r.last q.last r.stop q.stop
+    ends : OneEnd NeedsMore never form input r.last q.last r.stop q.stop
 
   ends_there : (a b : Reply) (r : HasReply a) (q : HasReply b) → Same r.point q.point r.before q.before
       → OneReply a b r q
