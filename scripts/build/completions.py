@@ -84,6 +84,7 @@ PROGRAMS = (
         Option("u", "letters", "MODE", ("bytes", "utf8"), "Take bytes or code points of UTF-8 as letters"),
         Option("z", "null-data", "", (), "Cut the input at NUL bytes in place of line feeds"),
         Option("k", "keep-ends", "", (), "Judge each line with its line feed, or its NUL byte"),
+        Option("b", "budget", "N", (), "Keep at most N items for a line, from 1 to 4294967295, which is no limit"),
         Option("p", "print", "WHAT", ("answers", "derived", "refused", "count", "none"),
                "Choose what to print"),
         Option("H", "with-filename", "", (), "Print the name of the input before each line"),

@@ -16,7 +16,7 @@ use Rattle.toolrun.specs.RunSteps.{cut_short, replied_reported, unexplained}
 use Rattle.pegrun.specs.PegSettings.{PegSettings}
 use Rattle.toolrun.specs.declared.stop.Stop.{Stop}
 use Rattle.toolrun.specs.declared.stop.Stop.TheVariants.{Quiet, NoMatch, LongUnit, LongLine, Broken, NoMemory, Refused}
-use Rattle.toolrun.specs.declared.stop.Stop.TheVariants.{CostlyUnit, Unreadable}
+use Rattle.toolrun.specs.declared.stop.Stop.TheVariants.{CostlyUnit, CostlyLine, Unreadable}
 
 explained_so : (asked : Bool) (Why Other : List ℕ → Type 0) → ((why : List ℕ) → Why why → Other why)
     → (why : List ℕ) → ExplainedIf asked Why why → ExplainedIf asked Other why
@@ -40,6 +40,7 @@ module _ (rules : List Rule) (start : ℕ) (a b : PegSettings) (input : Input) (
   lines_by s (LongUnit at l) why is = is
   lines_by s (CostlyUnit at budget) why is = is
   lines_by s (LongLine line l) why is = is
+  lines_by s (CostlyLine line budget) why is = is
   lines_by s Broken why is = is
   lines_by s NoMemory why is = is
   lines_by s (Refused fault) why is = is

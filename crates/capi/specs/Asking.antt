@@ -47,6 +47,7 @@ pub record AbnfMeant (asked : CSettings) (options : AbnfOptions) : Type 0 where
   pub numbered : options.numbered ≡ false
   pub quiet : options.quiet ≡ false
   pub line_buffered : options.line_buffered ≡ false
+  pub budget : options.budget ≡ None
 
 -- C asks for these settings, by a struct of the size that this version knows. AreMeant says which options it asks for.
 pub record IsMeant {O : Type 0} (AreMeant : CSettings → O → Type 0) (asked : CSettings) (name : List ℕ)

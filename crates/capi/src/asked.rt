@@ -103,6 +103,7 @@ impl COptions for AbnfOptions {
             numbered: false,
             quiet: false,
             line_buffered: false,
+            budget: None,
         }
     }
 }

@@ -19,7 +19,7 @@ use Rattle.pegrun.specs.Units.{IsWithin, costly, over_before_end, over_at_end}
 use Rattle.pegrun.specs.PegSettings.{PegSettings}
 use Rattle.toolrun.specs.declared.stop.Stop.{Stop}
 use Rattle.toolrun.specs.declared.stop.Stop.TheVariants.{Quiet, NoMatch, LongUnit, LongLine, Broken, NoMemory, Refused}
-use Rattle.toolrun.specs.declared.stop.Stop.TheVariants.{CostlyUnit, Unreadable}
+use Rattle.toolrun.specs.declared.stop.Stop.TheVariants.{CostlyUnit, CostlyLine, Unreadable}
 use Rattle.toolrun.proofs.OneStatementLemmas.{one-explained}
 
 -- what explains that no unit goes on is one text
@@ -460,6 +460,7 @@ module _ (rules : List Rule) (start : ℕ) (settings : PegSettings) (input : Inp
     one_lines s (LongUnit at limit) a b g h = g ∙ sym h
     one_lines s (CostlyUnit at budget) a b g h = g ∙ sym h
     one_lines s (LongLine line limit) a b g h = g ∙ sym h
+    one_lines s (CostlyLine line budget) a b g h = g ∙ sym h
     one_lines s Broken a b g h = g ∙ sym h
     one_lines s NoMemory a b g h = g ∙ sym h
     one_lines s (Refused fault) a b g h = g ∙ sym h

@@ -23,6 +23,8 @@ pub enum Stop {
     CostlyUnit { position: usize, budget: usize },
     /// The line of this number has more bytes than the limit.
     LongLine { line: usize, limit: usize },
+    /// The line of this number needs more items than its budget.
+    CostlyLine { line: usize, budget: usize },
     /// The reader failed before all that was to be looked at was held.
     Broken,
     /// An allocation failed.
@@ -43,6 +45,7 @@ pub fn status(stop: Stop) -> Status
         Stop::LongUnit { .. } => Status::Overlong,
         Stop::CostlyUnit { .. } => Status::Overlong,
         Stop::LongLine { .. } => Status::Overlong,
+        Stop::CostlyLine { .. } => Status::Overlong,
         Stop::Broken => Status::Fault,
         Stop::NoMemory => Status::NoMemory,
         Stop::Refused(_) => Status::Refused,
@@ -70,13 +73,19 @@ pub fn write_stop<W: Sink>(stop: Stop, w: &mut W) -> Result<(), WriteFault>
         Stop::Quiet(_) => Ok(()),
         Stop::NoMatch(at) => write_numbers(b"no match at byte ", at, b"\n", w),
         Stop::LongUnit { position, limit } => {
-            write_excess(b"unit at byte ", position, b" longer than ", limit, w)
+            let over: &[u8] = b" longer than ";
+            write_excess(b"unit at byte ", position, over, limit, b" bytes\n", w)
         }
         Stop::CostlyUnit { position, budget } => {
-            write_excess(b"unit at byte ", position, b" prints more than ", budget, w)
+            let over: &[u8] = b" prints more than ";
+            write_excess(b"unit at byte ", position, over, budget, b" bytes\n", w)
         }
         Stop::LongLine { line, limit } => {
-            write_excess(b"line ", line, b" longer than ", limit, w)
+            write_excess(b"line ", line, b" longer than ", limit, b" bytes\n", w)
+        }
+        Stop::CostlyLine { line, budget } => {
+            let over: &[u8] = b" needs more than ";
+            write_excess(b"line ", line, over, budget, b" items\n", w)
         }
         Stop::Broken => write_whole(w, b"read error\n"),
         Stop::NoMemory => write_whole(w, b"out of memory\n"),
@@ -101,22 +110,23 @@ fn write_numbers<W: Sink>(
     write_pieces(w, &pieces)
 }
 
-fn write_excess<W: Sink>(
-    what: &[u8],
+fn write_excess<'a, W: Sink>(
+    what: &'a [u8],
     at: usize,
-    over: &[u8],
+    over: &'a [u8],
     limit: usize,
+    unit: &'a [u8],
     w: &mut W,
 ) -> Result<(), WriteFault>
     requires { W.failed w.old ≡ false }
     ensures bytes { Writes (W.contents w.old) (W.contents w.new)
-        (what.now ++ decimal at ++ over.now ++ decimal limit ++ codes " bytes\n") result }
+        (what.now ++ decimal at ++ over.now ++ decimal limit ++ unit.now) result }
     ensures flag { Flags (W.failed w.old) (W.failed w.new) result }
 {
     let mut position_digits = Buffer::new();
     let mut limit_digits = Buffer::new();
     let position = position_digits.format(at).as_bytes();
     let most = limit_digits.format(limit).as_bytes();
-    let pieces: [&[u8]; 5] = [what, position, over, most, b" bytes\n"];
+    let pieces: [&[u8]; 5] = [what, position, over, most, unit];
     write_pieces(w, &pieces)
 }

@@ -1,5 +1,5 @@
 -- The pieces, joined.
-use Rattle.std.proofs.Common.{◌≡◌, List, ℕ, ◌++◌, codes, decimal, rules, subst, append_assoc, []}
+use Rattle.std.proofs.Common.{◌≡◌, List, ℕ, ◌++◌, decimal, rules, subst, append_assoc, []}
 use Rattle.std.proofs.lemmas.List.{append-nil}
 use Rattle.ruletable.specs.Writing.{Writes}
 use Rattle.toolrun.proofs.stop.write_excess.Goals as goal
@@ -15,4 +15,4 @@ returns-clause-bytes g c =
     let h = (rw (position, most) at c.write_pieces.ensures.bytes) in
     subst (λ (t : List ℕ). Writes (g.W.Sink.contents c.args.w.now) (g.W.Sink.contents c.write_pieces.new.w) t
     c.write_pieces.result)
-    (joined c.args.what.now (decimal c.args.at) c.args.over.now (decimal c.args.limit) (codes " bytes\n")) h
+    (joined c.args.what.now (decimal c.args.at) c.args.over.now (decimal c.args.limit) c.args.unit.now) h
