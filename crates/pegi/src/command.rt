@@ -1,11 +1,9 @@
 //! The command of the program.
-ghost use Rattle.std.specs.Prelude.{codes};
-ghost use Rattle.clap.specs.Words.{found_of, one_of, rows_of};
-ghost use Rattle.pegi.specs.PegiCommand.{AsksPegi, IsBudgetOf, IsPegiApp};
+ghost use Rattle.pegi.specs.PegiCommand.{AsksPegi, IsPegiApp};
 ghost use Rattle.pegrun.specs.Answers.{States};
 
 use clap::{ArgMatches, Command};
-use cli::{BufferedSink, Parameter, Program, is_given, number_of, tool_command};
+use cli::{BufferedSink, Parameter, Program, budget_of, is_given, tool_command};
 use feed::Source;
 use pegrun::{PegOptions, PegSettings, PrintStyle, run_peg};
 use ruletable::Sink;
@@ -57,17 +55,6 @@ static OWN: [Parameter; 4] = [
     Parameter::LongFlag("escapes"),
 ];
 
-/// Returns how many bytes the words let a unit print; `None` for any number.
-fn budget_of(matches: &ArgMatches<'_>) -> Option<usize>
-    ensures { IsBudgetOf (one_of (codes "budget") (rows_of (found_of matches.now))) result }
-{
-    let budget = number_of(matches, "budget", u32::MAX);
-    if budget == u32::MAX {
-        return None;
-    }
-    Some(budget as usize)
-}
-
 /// The program `pegi [-m MODE] [-l N] [-s RULE] [-b N] [-r] [-1] [--escapes] [-x] GRAMMAR [FILE]..`.
 pub(crate) struct Pegi;
 
@@ -91,7 +78,7 @@ impl Program for Pegi {
                 escapes: is_given(matches, "escapes"),
             },
             whole: is_given(matches, "whole"),
-            budget: budget_of(matches),
+            budget: budget_of(matches, "budget"),
         }
     }
 
