@@ -2,10 +2,12 @@
 -- Serves: explain_refused
 use Rattle.std.proofs.Common.{◌≡◌, ℕ, zero, suc, ◌+◌, ◌<◌, ◌≤◌, nat_lt, Bool, false, List, [], ◌∷◌, ◌++◌, map}
 use Rattle.std.proofs.Common.{Some, length, take, get_or, slice_get, slice_index_or, refl, sym, ◌∙◌, ap, subst, arith}
-use Rattle.std.proofs.Common.{append_assoc, codes, decimal, length-append}
+use Rattle.std.proofs.Common.{append_assoc, codes, decimal, drop, length-append, ◌-◌, ◌==◌}
 use Rattle.std.proofs.lemmas.Bool.{le-ltb, lt-ltb}
 use Rattle.std.proofs.lemmas.List.{length-map, length-take-le, map-append, take-map, take_more}
 use Rattle.std.proofs.lemmas.Option.{get_or_from_slice_get}
+use Rattle.std.specs.List.{position_or_len}
+use Prim.Native.Char.{code}
 use Rattle.abnfread.specs.AbnfViews.{rule_of, rules_of}
 use Rattle.abnfread.specs.Element.{Rule}
 use Rattle.abnfread.specs.declared.elem.Elem.{Elem}
@@ -49,6 +51,24 @@ at_pushed old a b c line n reported first second third =
     third ∙ ap (λ v. v ++ rest) (second ∙ ap (λ v. v ++ decimal line) first)
     ∙ append_assoc (old ++ codes "line ") (decimal line) rest ∙ append_assoc old (codes "line ") (decimal line ++ rest)
 
+-- five texts, put one after another
+pub five_pushed : (old x y z w v a b c d new : List ℕ) → a ≡ old ++ x → b ≡ a ++ y → c ≡ b ++ z → d ≡ c ++ w
+    → new ≡ d ++ v → new ≡ old ++ (x ++ (y ++ (z ++ (w ++ v))))
+five_pushed old x y z w v a b c d new e f g h i =
+    i ∙ ap (λ u. u ++ v) (h ∙ ap (λ u. u ++ w) (g ∙ ap (λ u. u ++ z) (f ∙ ap (λ u. u ++ y) e)))
+    ∙ append_assoc (((old ++ x) ++ y) ++ z) w v ∙ append_assoc ((old ++ x) ++ y) z (w ++ v)
+    ∙ append_assoc (old ++ x) y (z ++ (w ++ v)) ∙ append_assoc old x (y ++ (z ++ (w ++ v)))
+
+-- the line that the code shows of a record
+pub line_shown : (bytes : List ℕ) (position before after : ℕ) → before ≡ bytes_before Lf (take position bytes)
+    → after ≡ position_or_len (λ b. b == code "\n") (drop position bytes) → before ≤ position
+    → take ((position + after) - (position - before)) (drop (position - before) bytes)
+    ≡ line_in_record bytes position
+line_shown bytes position before after e f within =
+    let size : (position + after) - (position - before) ≡ before + after = omega (arith, within) in
+    ap (λ (n : ℕ). take n (drop (position - before) bytes)) size
+    ∙ (λ i. take (e i + f i) (drop (position - e i) bytes))
+
 -- the lines on a record, put one after another
 pub record_pushed : (alphabet : Alphabet) (number : ℕ) (line : List ℕ) (at : RefusedAt) (position column : ℕ)
     (shown runs : List LetterRun) (ends : Bool) (old a b c d new words : List ℕ) → shown ≡ runs
@@ -64,9 +84,7 @@ record_pushed alphabet number line at position column shown runs ends old a b c 
     let v = picture (line_in_record line position) (bytes_before Lf (take position line)) in
     let expected : b ≡ a ++ y = f ∙ ap (λ u. a ++ expected_text alphabet u false) same in
     let ended : c ≡ b ++ z = g ∙ ap (λ u. b ++ u) (said ∙ ap (λ (u : List LetterRun). record_end u ends) same) in
-    i ∙ ap (λ u. u ++ v) (h ∙ ap (λ u. u ++ w) (ended ∙ ap (λ u. u ++ z) (expected ∙ ap (λ u. u ++ y) e)))
-    ∙ append_assoc (((old ++ x) ++ y) ++ z) w v ∙ append_assoc ((old ++ x) ++ y) z (w ++ v)
-    ∙ append_assoc (old ++ x) y (z ++ (w ++ v)) ∙ append_assoc old x (y ++ (z ++ (w ++ v)))
+    five_pushed old x y z w v a b c d new e expected ended h i
 
 -- the names of rules
 names_same : (rs : List (table.Rule Elem)) → map (λ rule. rule.name) (map rule_of rs) ≡ map (λ rule. rule.name) rs
