@@ -1,7 +1,6 @@
 pub mod AttemptLemmas
 pub mod ByteUnitLemmas
 pub mod CutLemmas
-pub mod DraftLemmas
 pub mod ExplainedByLemmas
 pub mod FirstsLemmas
 pub mod FollowsLemmas
