@@ -1,5 +1,5 @@
 //! The answers to the lines of small inputs, by hand.
-ghost use Rattle.std.specs.Prelude.{◌≡◌, ◌-◌, ⊥, codes, length, ltb, if◌then◌else◌};
+ghost use Rattle.std.specs.Prelude.{◌≡◌, ◌-◌, codes, length, ltb, if◌then◌else◌};
 ghost use Rattle.linejudge.specs.declared.answers.Answer.TheVariants as answer;
 
 use feed::SourceOf;
