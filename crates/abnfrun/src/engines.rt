@@ -1,5 +1,5 @@
 //! The two judges of symbols: an automaton, which is asked first, and a chart. Both judge by a flat grammar.
-ghost use Rattle.std.specs.Prelude.{◌≡◌, ◌↔◌, ◌≤◌, ◌×◌, Some, length, map, IfErr, IfOk, IfSome, IsTrue};
+ghost use Rattle.std.specs.Prelude.{◌≡◌, ◌↔◌, ◌≤◌, Some, length, map, IfErr, IfOk, IfSome, IsTrue};
 ghost use Rattle.earleyitems.specs.ChartSets.{HaveMoreItems};
 ghost use Rattle.flatgrammar.specs.FlatVerdicts.{DerivesLine, IsFlatVerdict};
 ghost use Rattle.linejudge.specs.InputLines.{IsNoAnswer};

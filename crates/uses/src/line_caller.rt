@@ -1,5 +1,5 @@
 //! A caller of `linejudge`.
-ghost use Rattle.std.specs.Prelude.{◌≡◌, ⊥, false, true};
+ghost use Rattle.std.specs.Prelude.{◌≡◌, false, true};
 ghost use Rattle.uses.specs.CommentLines.{IsCommentAnswer, LacksSign, comment_form};
 ghost use Rattle.linejudge.specs.LineRefusals.{LinesStates};
 ghost use Rattle.toolrun.specs.Stopped.{Fulfils};
