@@ -1,5 +1,5 @@
 -- What is stated of an input that its run takes whole.
--- Serves: is_all_taken, are_both_taken
+-- Serves: is_all_taken, are_all_derived, are_both_taken
 use Rattle.std.proofs.Common.{◌≡◌, ℕ, List, [], sym, ◌∙◌, arith}
 use Rattle.std.specs.Prelude.{Result}
 use Rattle.memoryrun.specs.MemoryRun.{IsMemoryRun}

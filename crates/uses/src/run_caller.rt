@@ -1,12 +1,13 @@
-//! Callers of `memoryrun`, `pegrun` and `toolrun`: whole runs in memory, and a grammar that is read and
+//! Callers of `memoryrun`, `pegrun`, `abnfrun` and `toolrun`: whole runs in memory, and a grammar that is read and
 //! checked once.
 ghost use Rattle.std.specs.Prelude.{◌≡◌, true};
 ghost use Rattle.uses.specs.Taken.{IsTaken};
+ghost use Rattle.fanquber.specs.AbnfAnswers.{AbnfStates};
 ghost use Rattle.fanquber.specs.Answers.{States};
 ghost use Rattle.fanquber.specs.Status.{code_of};
 
-use fanquber::{PegLanguage, PegSettings, Status};
-use memoryrun::{Outputs, peg_in_memory, run_plan};
+use fanquber::{AbnfSettings, PegLanguage, PegSettings, Status};
+use memoryrun::{Outputs, abnf_in_memory, peg_in_memory, run_plan};
 use std::alloc::Global;
 use toolrun::plan_of;
 
@@ -22,6 +23,18 @@ pub fn is_all_taken(alloc: Global, grammar: &[u8], settings: &PegSettings<'_>, i
     ensures { result ≡ true → IsTaken (States grammar.now settings.now) input.now }
 {
     is_done(&peg_in_memory(alloc, grammar, settings, input))
+}
+
+/// Returns whether a grammar in ABNF derives each line of an input. No where an allocation fails.
+pub fn are_all_derived(
+    alloc: Global,
+    grammar: &[u8],
+    settings: &AbnfSettings<'_>,
+    input: &[u8],
+) -> bool
+    ensures { result ≡ true → IsTaken (AbnfStates grammar.now settings.now) input.now }
+{
+    is_done(&abnf_in_memory(alloc, grammar, settings, input))
 }
 
 /// Returns of two inputs whether runs of a grammar of peg(1) take all of them. The grammar is read and checked once. No
