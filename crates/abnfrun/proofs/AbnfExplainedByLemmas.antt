@@ -1,6 +1,6 @@
 -- Explanations change no answer and no status.
 -- Serves: explanations_change_no_answer
-use Rattle.std.proofs.Common.{◌≡◌, ◌≢◌, ℕ, Bool, true, inl, inr, List, [], refl, sym, ◌∙◌}
+use Rattle.std.proofs.Common.{◌≡◌, ◌≢◌, ℕ, Bool, true, inl, inr, List, [], refl, sym, ◌∙◌, None}
 use Rattle.abnfread.specs.AbnfReading.{IsFaultOf, Reads}
 use Rattle.abnfread.proofs.AbnfFaultLemmas.{one-reading, one-fault, no-fault}
 use Rattle.abnfprint.specs.AbnfReadBack.{file_rules}

@@ -1,6 +1,7 @@
 -- The line's longest prefix that is UTF-8 is decoded, and its code points have this answer.
 use Rattle.std.proofs.Common.{◌≡◌, arith, length, length-take-le}
 use Rattle.std.proofs.lemmas.List.{length-map}
+use Rattle.std.proofs.lemmas.Result.{err_from_is_err_and}
 use Rattle.abnfread.specs.AbnfViews.{rules_of}
 use Rattle.abnfrun.proofs.IsAnswerToLemmas.{decoded_as, line_costly, torn_answer}
 use Rattle.abnfrun.proofs.SpellsLengthLemmas.{points_at_most}
@@ -47,5 +48,7 @@ returns-in_err-said-clause-costly c =
     let spelled = rw (← c.as_slice-points.ensures.value) at
     (decoded_as _ _ _ c.in_ok-_is_text._is_text longest.text c.in_ok-_is_text.ensures.text
     c.in_ok-_is_text.ensures.none) in
-    line_costly j.viable (rules_of j.grammar.now.rules) j.grammar.now.judged c.args.line.now j.budget Utf8 points
-    (c.utf8_len-len.result, longest, spelled) _ (rw c.requires.letters at c.in_err-said.ensures.costly)
+    let none = err_from_is_err_and c.from_residual-in_err-said.result c.from_residual-in_err-said.ensures.1 in
+    rw (none.1, none.2) (line_costly j.viable (rules_of j.grammar.now.rules) j.grammar.now.judged c.args.line.now
+    j.budget Utf8 points (c.utf8_len-len.result, longest, spelled) _
+    (rw c.requires.letters at c.in_err-said.ensures.costly))
