@@ -9,9 +9,8 @@ many cases were compared; at the first disagreement it prints the case and ends 
 built is skipped. With -u half of the runs of abnfi have its option `-u utf8`; so it is with -w, -z and -k, and its
 options of these names. With -p most of them have its option `-p`, `-n` or `-H`, with -q some its option `-q`, with -b
 half of them `--line-buffered`. With -1 a third of the runs of pegi have its option `-1`, with -e half of them
-`--escapes`. With -d half of those of abnfi have its option `-b`, and may end at a line that needs more items. With -x
-half of the runs of both have the option `-x`, half of these with what explains their notes, with
-hints (slow_notes.py, slow_hints.py), how the run of pegi stops (slow_stops.py), and rejected lines (slow_refused.py),
+`--escapes`. With -d half of the runs of both have the option `-b`; those of abnfi may end at a line that needs more
+items. With -x half of the runs of both have the option `-x`, half of these with what explains their notes, with hints (slow_notes.py, slow_hints.py), how the run of pegi stops (slow_stops.py), and rejected lines (slow_refused.py),
 the others of a text with a fault (slow_faults.py): a grammar's, of which some bytes are changed.
 """
 import argparse
@@ -238,9 +237,8 @@ def main():
     words.add_argument("-q", action="store_true", help="some of the runs of abnfi by `-q`")
     words.add_argument("-b", action="store_true", help="half of the runs of abnfi by `--line-buffered`")
     words.add_argument("-1", action="store_true", help="a third of the runs of pegi by `-1`")
-    words.add_argument("-d", action="store_true", help="half of the runs of pegi by `-b`")
     words.add_argument("-e", action="store_true", help="half of the runs of pegi by `--escapes`")
-    words.add_argument("-d", action="store_true", help="half of the runs of abnfi by `-b`")
+    words.add_argument("-d", action="store_true", help="half of the runs of both by `-b`")
     words.add_argument("-x", action="store_true", help="half of the runs of both by `-x`")
     words.add_argument("program", nargs="?", choices=["pegi", "abnfi"])
     given = words.parse_args()
