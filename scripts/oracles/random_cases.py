@@ -10,7 +10,9 @@ built is skipped. With -u half of the runs of abnfi have its option `-u utf8`; s
 options of these names. With -p most of them have its option `-p`, `-n` or `-H`, with -q some its option `-q`, with -b
 half of them `--line-buffered`. With -1 a third of the runs of pegi have its option `-1`, with -e half of them
 `--escapes`. With -d half of the runs of both have the option `-b`; those of abnfi may end at a line that needs more
-items. With -x XX of a text with a fault (slow_faults.py): a grammar's, of which some bytes are changed.
+items. With -x half of the runs of both have the option `-x`, half of these with what explains their notes, with hints
+(slow_notes.py, slow_hints.py), how the run of pegi stops (slow_stops.py), and rejected lines (slow_refused.py), the
+others of a text with a fault (slow_faults.py): a grammar's, of which some bytes are changed.
 """
 import argparse
 import collections
