@@ -4,8 +4,8 @@ by lot and by goal, or with `-m miss` none is. What `-x` explains of those is wh
 
 usage: listed_lines.py [-c LINES]
 
-Lines that are judged end with NUL bytes in both, so that they may hold line feeds. Prints how many lines were judged; if one is
-rejected, the grammar's name and the status is 1. A program that is not built is skipped.
+Lines that are judged end with NUL bytes in both, so that they may hold line feeds. Prints how many lines were judged;
+if one is rejected, the grammar's name and the status is 1. A program that is not built is skipped.
 """
 import argparse
 import pathlib
