@@ -4,8 +4,8 @@ by lot and by goal, or with `-m miss` none is. What `-x` explains of those is wh
 
 usage: listed_lines.py [-c LINES]
 
-Lines that are judged end with NUL bytes in both, so that they may hold line feeds. Prints how many lines were judged;
-if one is rejected, the grammar's name and the status is 1. A program that is not built is skipped.
+Lines end with NUL bytes in both, so that they may hold line feeds. Prints how many lines were judged; if one is
+rejected, the grammar's name and the status is 1. A program that is not built is skipped.
 """
 import argparse
 import pathlib
@@ -16,12 +16,8 @@ TOP = pathlib.Path(__file__).resolve().parents[2]
 BIN = TOP / "bin"
 
 
-def run_plain(program, *words, lines=b""):
-    return subprocess.run([BIN / program, *words], input=lines, capture_output=True, check=False)
-
-
 def run(program, *words, lines=b""):
-    return run_plain(program, "-z", *words, lines=lines)
+    return subprocess.run([BIN / program, "-z", *words], input=lines, capture_output=True, check=False)
 
 
 def listed(grammar, mode, count):
@@ -31,15 +27,15 @@ def listed(grammar, mode, count):
 
 
 def is_explained_alike(grammar):
-    """Returns whether both explain the first rejected lines alike, as many as abnfi explains. They end with LF."""
-    plain = run_plain("abnfg", "-m", "miss", "-c", "16", grammar)
+    """Returns whether both explain the first rejected lines alike, as many as abnfi explains."""
+    plain = run("abnfg", "-m", "miss", "-c", "16", grammar)
     if plain.returncode != 0:
         return True
-    ran = run_plain("abnfg", "-x", "-m", "miss", "-c", "16", grammar)
+    ran = run("abnfg", "-x", "-m", "miss", "-c", "16", grammar)
     why = ran.stderr[len(plain.stderr):]
-    count = sum(it.startswith(b"line ") for it in why.splitlines())
+    count = sum(it.startswith(b"record ") for it in why.splitlines())
     return (ran.stdout, ran.stderr, ran.returncode, count) == (
-        plain.stdout, plain.stderr + why, 0, plain.stdout.count(b"\n")) and run_plain(
+        plain.stdout, plain.stderr + why, 0, plain.stdout.count(b"\0")) and run(
         "abnfi", "-x", grammar, lines=plain.stdout).stderr.endswith(why)
 
 
