@@ -1,5 +1,5 @@
 -- The verdict on a line by the sets of a chart.
--- Serves: judge, viable
+-- Serves: judge, judge_many, viable, viable_few
 use Rattle.std.proofs.Common.{◌≡◌, ◌↔◌, ℕ, ◌<◌, ◌≤◌, Bool, IsTrue, List, [], ◌∷◌, length, map, refl, subst, sym, arith}
 use Rattle.std.proofs.lemmas.List.{length-map}
 use Rattle.flatgrammar.specs.Flat.{Flat, Dot, at}
