@@ -1,9 +1,10 @@
 -- The verdict on a line by the sets of a chart.
--- Serves: viable, viable_few
-use Rattle.std.proofs.Common.{◌≡◌, ℕ, ◌<◌, ◌≤◌, List, [], ◌∷◌, length, refl, arith}
-use Rattle.flatgrammar.specs.Flat.{Flat, Dot}
+-- Serves: judge, judge_many, viable, viable_few
+use Rattle.std.proofs.Common.{◌≡◌, ◌↔◌, ℕ, ◌<◌, ◌≤◌, Bool, IsTrue, List, [], ◌∷◌, length, map, refl, subst, sym, arith}
+use Rattle.std.proofs.lemmas.List.{length-map}
+use Rattle.flatgrammar.specs.Flat.{Flat, Dot, at}
 use Rattle.flatgrammar.specs.FlatVerdicts.{DerivesLine, IsFlatVerdict}
-use Rattle.flatgrammar.specs.Holds.{HasItem}
+use Rattle.flatgrammar.specs.Holds.{Holds, HasItem}
 use Rattle.flatgrammar.specs.Positions.{In, now}
 use Rattle.flatgrammar.specs.declared.verdict.Verdict.TheVariants.{No}
 use Rattle.earleyitems.specs.ChartSets.{set_at, IsSet}
@@ -35,3 +36,9 @@ is_no flat x sets end n are size derives le some none = (
         no_item flat x m (set_at sets m) (are m) (none m past (omega (arith, most, size))) item;
   },
 )
+
+pub derives_line : {T : Type 0} (number : T → ℕ) (flat : Flat) (line : List T) (yes : Bool)
+    → IsTrue yes ↔ Holds flat (map number line) (length line) (at flat.start 1) 0
+    → IsTrue yes ↔ DerivesLine flat (map number line)
+derives_line number flat line yes holds =
+    subst (λ n. IsTrue yes ↔ Holds flat (map number line) n (at flat.start 1) 0) (sym (length-map line number)) holds

@@ -92,6 +92,24 @@ fn few_items(letters: usize) -> usize {
     letters.saturating_mul(FEW_FOR_EACH_LETTER).max(FEW_ITEMS)
 }
 
+// Fills the chart item by item with the item sets of a line, however many there are, and returns whether the flat
+// grammar derives the line.
+fn judge_items<L: Letter>(
+    items: &mut earleyitems::ItemChart,
+    flat: &Flat,
+    line: &[L],
+) -> Result<bool, Memory>
+    requires { length line.now ≤ flat.now.limit }
+    ensures sets { IfOk result (λ _. (j : ℕ) → IsSet flat.now (map L.number line.now) j (set_at items.new j)) }
+    ensures answer { IfOk result (λ yes. IsTrue yes ↔ DerivesLine flat.now (map L.number line.now)) }
+    ensures empty { OnErr result (items.new ≡ []) }
+{
+    match judge_within(items, flat, line, usize::MAX)? {
+        Some(yes) => Ok(yes),
+        None => Err(Memory),
+    }
+}
+
 // Fills the chart anew with the item sets of a line that has many items, and returns whether the flat grammar derives
 // the line. The sets are kept as rows, or item by item if the grammar has too many dotted rules.
 fn judge_many<L: Letter>(chart: &mut Chart, flat: &Flat, line: &[L]) -> Result<bool, Memory>
@@ -103,14 +121,12 @@ fn judge_many<L: Letter>(chart: &mut Chart, flat: &Flat, line: &[L]) -> Result<b
     // gives back what the items so far took
     chart.rows = None;
     chart.items = earleyitems::ItemChart::new(chart.alloc);
-    let tables = flat.share()?;
-    if let Some(judged) = judge_rows(chart.alloc, tables, line)? {
-        chart.rows = Some(judged.chart);
-        return Ok(judged.yes);
-    }
-    match judge_within(&mut chart.items, flat, line, usize::MAX)? {
-        Some(yes) => Ok(yes),
-        None => Err(Memory),
+    match judge_rows(chart.alloc, flat, line)? {
+        Some(judged) => {
+            chart.rows = Some(judged.chart);
+            Ok(judged.yes)
+        }
+        None => judge_items(&mut chart.items, flat, line),
     }
 }
 

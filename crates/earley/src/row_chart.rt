@@ -7,6 +7,7 @@ ghost use Rattle.earleyitems.specs.Charts.{IsWhole, IsFirst, IsBuilt};
 ghost use Rattle.earleyitems.specs.ScannedItems.{IsScannedItem};
 ghost use Rattle.flatgrammar.specs.ItemClosures.{AreExact, dot};
 ghost use Rattle.flatgrammar.specs.Flat.{Dot};
+ghost use Rattle.flatgrammar.specs.FlatVerdicts.{DerivesLine};
 ghost use Rattle.flatgrammar.specs.Holds.{Holds};
 ghost use Rattle.flatgrammar.specs.NodeSteps.{flat_of};
 ghost use Rattle.earley.specs.DotTables.{IsDotTable};
@@ -20,11 +21,10 @@ use crate::row_index::{FilledSets, keep_set, no_sets};
 use crate::row_sets::{KeptRows, RowChart, kept_rows};
 use crate::row_step::{advance_call, predict_target};
 use crate::{BitRow, RowSet};
-use flatgrammar::{DottedRule, Item, Tables, reads, start_target};
+use flatgrammar::{DottedRule, Flat, Item, reads, start_target};
 use letters::Letter;
 use ruletable::Memory;
 use std::alloc::Global;
-use std::rc::Rc;
 
 // A longer line is not judged by rows.
 const LONGEST: usize = 1 << 32;
@@ -258,26 +258,25 @@ fn judge_by_table<L: Letter>(
     Ok(JudgedRows { chart, yes })
 }
 
-/// Judges a line by rows: returns its sets, and whether the last holds the augmented start's end with origin 0. `None`
-/// if the line is too long, or the grammar has too many dotted rules. `Memory` if an allocation fails.
+/// Judges a line by rows: returns its sets, and whether the flat grammar derives the line. `None` if the line is too
+/// long, or the grammar has too many dotted rules. `Memory` if an allocation fails.
 pub(crate) fn judge_rows<L: Letter>(
     alloc: Global,
-    flat: Rc<Tables>,
+    flat: &Flat,
     line: &[L],
 ) -> Result<Option<JudgedRows>, Memory>
-    requires { AreExact flat.value }
     ensures sized { IfOk result (λ reported. IfSome reported (λ d. AreSizedRows d.chart.table.dots.items
         d.chart.sets.items)) }
-    ensures sets { IfOk result (λ reported. IfSome reported (λ d. (j : ℕ)
-        → IsSet (flat_of flat.value) (map L.number line.now) j
+    ensures sets { IfOk result (λ reported. IfSome reported (λ d. (j : ℕ) → IsSet flat.now (map L.number line.now) j
         (set_at (rows_chart d.chart) j))) }
-    ensures answer { IfOk result (λ reported. IfSome reported (λ d. IsTrue d.yes ↔ Holds (flat_of flat.value)
-        (map L.number line.now) (length line.now) (Dot.at (flat_of flat.value).start 1) 0)) }
+    ensures answer { IfOk result (λ reported. IfSome reported (λ d. IsTrue d.yes
+        ↔ DerivesLine flat.now (map L.number line.now))) }
 {
     if line.len() >= LONGEST {
         return Ok(None);
     }
-    let Some(table) = dot_table(alloc, flat)? else {
+    let tables = flat.share()?;
+    let Some(table) = dot_table(alloc, tables)? else {
         return Ok(None);
     };
     let judged = judge_by_table(alloc, table, line)?;

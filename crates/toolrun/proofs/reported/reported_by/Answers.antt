@@ -1,7 +1,8 @@
 -- The notes so far, with what explains them.
-use Rattle.std.proofs.Common.{◌≡◌, ◌∙◌, ap, ◌++◌, List, ℕ, append_assoc}
+use Rattle.std.proofs.Common.{◌≡◌, ◌∙◌, ap, ◌++◌, List, ℕ, append_assoc, map, option_copied, subst}
+use Rattle.std.proofs.lemmas.List.{take_all}
 use Rattle.ruletable.specs.Notes.{note_text, said_of}
-use Rattle.toolrun.specs.ReportedNotes.{no_note}
+use Rattle.toolrun.specs.ReportedNotes.{AreNotesReported, no_note}
 use Rattle.toolrun.proofs.ReportedNotesLemmas.{begun-here, begun-there, reported-there}
 use Rattle.toolrun.proofs.reported.reported_by.Goals as goal
 
@@ -30,3 +31,9 @@ loop-note-preserved g c = λ text positions.
     ∙ append_assoc c.loop-note.reported.items (note_text (said_of c.note-item.result)) why.0 in
     rw items (reported-there said_of c.args.notes.now c.loop-note.note-index c.loop-note.reported.items
     (c.loop-note.invariant text positions) c.note-item.result why.0 c.loop-note-test.true c.note-item.is why.1)
+
+pub returns : goal.returns
+returns g c = λ text positions.
+    subst (λ v. AreNotesReported (g.L.Language.explains_note text (option_copied c.args.start)) (map said_of v)
+    c.loop-note.reported.items) (take_all c.loop-note.note-index c.args.notes.now c.loop-note-test.false)
+    (c.loop-note.invariant text positions)
