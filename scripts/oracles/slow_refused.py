@@ -140,24 +140,33 @@ def letters_text(runs, is_utf8):
     return " / ".join(reported[:MOST]) + (f" and {len(reported) - MOST} more" if len(reported) > MOST else "")
 
 
-def refusal(following, name, line, number):
-    """Returns the lines that explain a rejected line of that number."""
+def place_in_record(line, front, before):
+    """Returns a position of a record: its line and column there, the bytes of that line, and how many are before it."""
+    start, stop = line[:before].rfind(b"\n") + 1, line.find(b"\n", before)
+    column = front[::-1].index(10) + 1 if 10 in front else len(front) + 1
+    return line[:before].count(b"\n") + 1, column, line[start:stop if stop >= 0 else None], before - start
+
+
+def refusal(following, name, line, number, unit="line"):
+    """Returns the lines that explain a rejected line or record of that number."""
     letters, is_text = slow_abnf.letters_of(line, following.is_utf8)
     after = slow_abnf.furthest(following.rules, letters, following.key, following.is_utf8)
     front = letters[:after]
     runs = following.runs(front)
     ends = slow_abnf.Deriver(following.rules, front).derives(following.key)
     if not runs and not ends:
-        return f"line {number}: rule '{slow_stops.cut(name)}' derives nothing\n"
+        return f"{unit} {number}: rule '{slow_stops.cut(name)}' derives nothing\n"
     expected = letters_text(runs, following.is_utf8)
     if ends:
-        expected += " or the end of the line" if runs else "the end of the line"
-    at = f"line {number}, letter {after + 1}: expected "
-    if after == len(letters):
-        at = f"line {number} ends too early: expected "
-        if not is_text:
-            at = f"line {number}, letter {after + 1}: not UTF-8, expected "
+        expected += f" or the end of the {unit}" if runs else f"the end of the {unit}"
     before = len("".join(map(chr, front)).encode()) if following.is_utf8 else after
+    place, ended = f"line {number}, letter {after + 1}", f"line {number}"
+    if unit == "record":
+        row, column, line, before = place_in_record(line, front, before)
+        place = ended = f"record {number}, line {row}, column {column}"
+    at = f"{place}: expected "
+    if after == len(letters):
+        at = f"{ended} ends too early: expected " if is_text else f"{place}: not UTF-8, expected "
     return at + expected + "\n" + slow_stops.picture(line, before)
 
 
@@ -175,7 +184,8 @@ def after_notes(grammar, given, limit, judged, is_utf8, end, is_kept=False):
         if is_text and slow_abnf.Deriver(rules, letters).derives(key):
             continue
         if len(reported) < MOST:
-            reported.append(refusal(following, rules.spelled.get(key, key), line, number))
+            unit = "record" if end == b"\0" else "line"
+            reported.append(refusal(following, rules.spelled.get(key, key), line, number, unit))
         else:
             more += 1
     if more:

@@ -4,6 +4,7 @@ use Rattle.abnfcheck.specs.AbnfGrammar.{Grammar}
 use Rattle.abnfread.specs.AbnfViews.{rules_of}
 use Rattle.letters.specs.declared.alphabet.Alphabet.{Alphabet}
 use Rattle.refusedlines.specs.Refusals.{IsRefusalReported}
+use Rattle.refusedlines.specs.declared.refusal.LineUnit.TheVariants.{Line}
 use Rattle.rulelines.specs.LineBytes.{line_bytes}
 use Rattle.rulelines.specs.declared.alone.Alone.{Alone}
 use Rattle.rulelines.specs.declared.alone.Alone.TheVariants.{First, Never, NeverUpTo, Unknown}
@@ -13,7 +14,7 @@ use Rattle.rulelines.specs.declared.comparison.Comparison.{Comparison}
 -- the name of the side in place of `line 1`.
 pub record IsRefusalBy (alphabet : Alphabet) (side : List ℕ) (grammar : Grammar) (line text : List ℕ) : Type 0 where
   pub rest : List ℕ
-  pub reported : IsRefusalReported alphabet (rules_of grammar.rules) grammar.judged (line_bytes alphabet line) 1
+  pub reported : IsRefusalReported Line alphabet (rules_of grammar.rules) grammar.judged (line_bytes alphabet line) 1
       (codes "line 1" ++ rest)
   pub is : text ≡ side ++ rest
 

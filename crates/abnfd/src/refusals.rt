@@ -12,7 +12,7 @@ use earley::Chart;
 use lazydfa::Automaton;
 use letters::Alphabet;
 use lowering::lower_viable;
-use refusedlines::{Explainer, RefusedLine, explain_refused};
+use refusedlines::{Explainer, LineUnit, RefusedLine, explain_refused};
 use rulelines::{Alone, Comparison, line_bytes};
 use ruletable::Memory;
 use std::alloc::Global;
@@ -25,13 +25,14 @@ fn explain_first(alloc: Global, explainer: &Explainer<'_>, line: &[u8]) -> Resul
     requires within { length line.now + 1 ≤ explainer.now.flat.now.limit }
     requires prefixes { GivesPrefixes (has explainer.now.letters) (rules_of explainer.now.grammar.now.rules)
         explainer.now.grammar.now.judged explainer.now.flat.now }
-    ensures { IfOk result (λ why. IsRefusalReported explainer.now.letters (rules_of explainer.now.grammar.now.rules)
-        explainer.now.grammar.now.judged line.now 1 why.items) }
+    ensures { IfOk result (λ why. IsRefusalReported LineUnit.Line explainer.now.letters
+        (rules_of explainer.now.grammar.now.rules) explainer.now.grammar.now.judged line.now 1 why.items) }
 {
     let mut automaton = Automaton::new(alloc, explainer.flat)?;
     let mut chart = Chart::new(alloc);
     let mut why = Vec::new(alloc);
     let refused = RefusedLine {
+        unit: LineUnit::Line,
         bytes: line,
         number: 1,
     };
@@ -53,8 +54,8 @@ fn explain_bytes(
     grammar: &SoundAbnf,
     line: &[u8],
 ) -> Result<Vec<u8>, Memory>
-    ensures { IfOk result (λ why. IsRefusalReported letters (rules_of grammar.now.rules) grammar.now.judged line.now 1
-        why.items) }
+    ensures { IfOk result (λ why. IsRefusalReported LineUnit.Line letters (rules_of grammar.now.rules)
+        grammar.now.judged line.now 1 why.items) }
 {
     let flat = lower_viable(alloc, grammar, letters, line.len() + 1)?;
     let explainer = Explainer {

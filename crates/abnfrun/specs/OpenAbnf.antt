@@ -4,7 +4,7 @@ use Rattle.abnfread.specs.AbnfReading.{Reads}
 use Rattle.abnfread.specs.AbnfViews.{rules_of}
 use Rattle.abnfread.specs.Element.{Definition}
 use Rattle.abnfrun.specs.AbnfNoted.{all_rules, judged_of, AreNotesOn, IsRefusedFor, rule_given}
-use Rattle.abnfrun.specs.AbnfReply.{IsAnswerTo, form_of, judged_size}
+use Rattle.abnfrun.specs.AbnfReply.{IsAnswerTo, form_of, judged_size, unit_for}
 use Rattle.abnfrun.specs.OpenJudge.{OpenJudge}
 use Rattle.linejudge.specs.InputLines.{at_front, next_position, kept_line, printed_last, printed_line, refused_by}
 use Rattle.linejudge.specs.InputLines.{status_after}
@@ -42,7 +42,8 @@ line_alone settings line = record { bytes = line ++ (form_of settings).end ∷ [
 abbrev pub ReportsAlone : OpenJudge → AbnfSettings → List ℕ → Answer → List ℕ → Type 0
 ReportsAlone judge settings = ReportsLine
     (IsAnswerTo judge.letters judge.viable (rules_of judge.grammar.rules) judge.grammar.judged) settings.explain
-    (IsRefusalReported judge.letters (rules_of judge.grammar.rules) judge.grammar.judged) at_front
+    (IsRefusalReported (unit_for settings.options.nul) judge.letters (rules_of judge.grammar.rules)
+    judge.grammar.judged) at_front
 
 -- what is judged of that line: the line, or the line with its end, if settings ask for it
 abbrev pub judged_line : AbnfSettings → List ℕ → List ℕ

@@ -16,7 +16,9 @@ ghost use Rattle.abnfrun.specs.AbnfReply.{JudgeReply};
 
 use crate::abnf_positions::AbnfPositions;
 use crate::hints::hints_of;
-use crate::line_judge::{LineJudge, Work, explainer_of, line_form, lines_have_answers, lowered};
+use crate::line_judge::{
+    LineJudge, Work, explainer_of, line_form, line_unit, lines_have_answers, lowered,
+};
 use crate::note_positions::{explain_reached, note_positions};
 use crate::options::{AbnfOptions, AbnfSettings};
 use abnfcheck::{AllRules, JudgedAbnf, SoundAbnf, judge_abnf};
@@ -188,8 +190,10 @@ impl Language for AbnfLanguage {
             grammar,
             letters: settings.options.letters,
             viable: settings.options.viable,
+            budget: settings.options.budget,
             flat: &flat,
             explains: settings.explain,
+            unit: line_unit(settings.options.nul),
             explainer,
         };
         run_lines(alloc, &judge, &mut work, line_form(settings), reader, out)

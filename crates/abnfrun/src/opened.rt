@@ -16,6 +16,7 @@ use abnfcheck::SoundAbnf;
 use flatgrammar::Flat;
 use letters::Alphabet;
 use linejudge::{Answer, Judge};
+use refusedlines::LineUnit;
 use ruletable::{Memory, Note, ReadFault};
 use std::alloc::Global;
 use std::marker::Model;
@@ -73,11 +74,16 @@ impl AbnfJudge {
             grammar: &self.grammar,
             letters: self.letters,
             viable: self.viable,
+            budget: None,
             flat: &self.flat,
             explains: false,
+            unit: LineUnit::Line,
             explainer: None,
         };
-        judge.judge(&mut self.work, line)
+        match judge.judge(&mut self.work, line) {
+            Ok(said) => Ok(said),
+            Err(_) => Err(Memory),
+        }
     }
 }
 

@@ -14,7 +14,8 @@ use Rattle.letters.specs.declared.alphabet.Alphabet.{Alphabet}
 use Rattle.letters.specs.declared.alphabet.Alphabet.TheVariants.{Bytes, Utf8}
 use Rattle.refusedlines.specs.declared.letterruns.run.LetterRun.{LetterRun}
 use Rattle.refusedlines.specs.Following.{AreFollowing, DerivesNothing}
-use Rattle.refusedlines.specs.RefusedText.{refusal_text, refused_at}
+use Rattle.refusedlines.specs.RefusedText.{column_after, refused_at, unit_text}
+use Rattle.refusedlines.specs.declared.refusal.LineUnit.{LineUnit}
 use Rattle.refusedlines.specs.Refusals.{AreFirstLetters, IsRefusalReported, name_at, octet_count}
 
 longest_one : (line : List ℕ) (a b : ℕ) → IsLongestText line a → IsLongestText line b → a ≡ b
@@ -38,10 +39,10 @@ module _ (one_spelled : (line points others : List ℕ) → Spells points line �
       let same = longest_one line s t h.0 g.0 in
       (one_spelled (take t line) x y (subst (λ v. Spells x (take v line)) same h.1) g.1, same)
 
-  pub one_text : (alphabet : Alphabet) (rules : List Rule) (judged : ℕ) (line : List ℕ) (number : ℕ) (a b : List ℕ)
-      → IsRefusalReported alphabet rules judged line number a → IsRefusalReported alphabet rules judged line number b
-      → a ≡ b
-  one_text alphabet rules judged line number a b p q =
+  pub one_text : (unit : LineUnit) (alphabet : Alphabet) (rules : List Rule) (judged : ℕ) (line : List ℕ) (number : ℕ)
+      (a b : List ℕ) → IsRefusalReported unit alphabet rules judged line number a
+      → IsRefusalReported unit alphabet rules judged line number b → a ≡ b
+  one_text unit alphabet rules judged line number a b p q =
       let letters = letters_one alphabet line p.first q.first p.size q.size p.letters q.letters in
       let x = letters.0 in
       let s = letters.1 in
@@ -51,8 +52,8 @@ module _ (one_spelled : (line points others : List ℕ) → Spells points line �
       (subst (λ v. AreFollowing (has alphabet) rules judged v p.after p.runs p.ends) x p.following) in
       let f = one_following (has alphabet) rules judged q.first q.after p.runs q.runs p.ends q.ends moved q.following in
       p.is
-      ∙ (λ i. refusal_text alphabet (name_at rules judged) number line (refused_at (n i) (length (x i)) (nat_lt (s i)
-      (length line))) (octet_count alphabet (take (n i) (x i))) (f.0 i) (f.1 i))
+      ∙ (λ i. unit_text unit alphabet (name_at rules judged) number line (refused_at (n i) (length (x i)) (nat_lt (s i)
+      (length line))) (octet_count alphabet (take (n i) (x i))) (column_after (take (n i) (x i))) (f.0 i) (f.1 i))
       ∙ sym q.is
 
 module _ (has : ℕ → Bool) (rules : List Rule) (id : ℕ) (x : List ℕ) (n : ℕ) (furthest : IsFurthest has rules id x n)

@@ -2,10 +2,12 @@
 -- Serves: explain_refused
 use Rattle.std.proofs.Common.{◌≡◌, ℕ, zero, suc, ◌+◌, ◌<◌, ◌≤◌, nat_lt, Bool, false, List, [], ◌∷◌, ◌++◌, map}
 use Rattle.std.proofs.Common.{Some, length, take, get_or, slice_get, slice_index_or, refl, sym, ◌∙◌, ap, subst, arith}
-use Rattle.std.proofs.Common.{append_assoc, codes, decimal, length-append}
+use Rattle.std.proofs.Common.{append_assoc, codes, decimal, drop, length-append, ◌-◌, ◌==◌}
 use Rattle.std.proofs.lemmas.Bool.{le-ltb, lt-ltb}
 use Rattle.std.proofs.lemmas.List.{length-map, length-take-le, map-append, take-map, take_more}
 use Rattle.std.proofs.lemmas.Option.{get_or_from_slice_get}
+use Rattle.std.specs.List.{position_or_len}
+use Prim.Native.Char.{code}
 use Rattle.abnfread.specs.AbnfViews.{rule_of, rules_of}
 use Rattle.abnfread.specs.Element.{Rule}
 use Rattle.abnfread.specs.declared.elem.Elem.{Elem}
@@ -19,7 +21,11 @@ use Rattle.refusedlines.specs.declared.letterruns.run.LetterRun.{LetterRun}
 use Rattle.ruletable.specs.Rules as table
 use Rattle.refusedlines.specs.Following.{AreFollowing}
 use Rattle.diagnostics.specs.Pictures.{picture}
-use Rattle.refusedlines.specs.RefusedText.{at_text, expected_text, refusal_text, refused_at, reported_expected}
+use Rattle.refusedlines.specs.RefusedText.{at_record, at_text, column_after, expected_text, line_in_record, record_end}
+use Rattle.refusedlines.specs.RefusedText.{record_expected, refused_at, reported_expected, unit_text}
+use Rattle.ruletable.specs.declared.lines.LineRule.TheVariants.{Lf}
+use Rattle.diagnostics.specs.LinesAround.{bytes_before}
+use Rattle.refusedlines.specs.declared.refusal.LineUnit.{LineUnit}
 use Rattle.refusedlines.specs.Refusals.{IsExplained, name_at, octet_count, octets}
 use Rattle.refusedlines.specs.declared.refusal.RefusedAt.{RefusedAt}
 
@@ -44,6 +50,41 @@ at_pushed old a b c line n reported first second third =
     let rest = codes ", letter " ++ (decimal n ++ reported) in
     third ∙ ap (λ v. v ++ rest) (second ∙ ap (λ v. v ++ decimal line) first)
     ∙ append_assoc (old ++ codes "line ") (decimal line) rest ∙ append_assoc old (codes "line ") (decimal line ++ rest)
+
+-- five texts, put one after another
+pub five_pushed : (old x y z w v a b c d new : List ℕ) → a ≡ old ++ x → b ≡ a ++ y → c ≡ b ++ z → d ≡ c ++ w
+    → new ≡ d ++ v → new ≡ old ++ (x ++ (y ++ (z ++ (w ++ v))))
+five_pushed old x y z w v a b c d new e f g h i =
+    i ∙ ap (λ u. u ++ v) (h ∙ ap (λ u. u ++ w) (g ∙ ap (λ u. u ++ z) (f ∙ ap (λ u. u ++ y) e)))
+    ∙ append_assoc (((old ++ x) ++ y) ++ z) w v ∙ append_assoc ((old ++ x) ++ y) z (w ++ v)
+    ∙ append_assoc (old ++ x) y (z ++ (w ++ v)) ∙ append_assoc old x (y ++ (z ++ (w ++ v)))
+
+-- the line that the code shows of a record
+pub line_shown : (bytes : List ℕ) (position before after : ℕ) → before ≡ bytes_before Lf (take position bytes)
+    → after ≡ position_or_len (λ b. b == code "\n") (drop position bytes) → before ≤ position
+    → take ((position + after) - (position - before)) (drop (position - before) bytes)
+    ≡ line_in_record bytes position
+line_shown bytes position before after e f within =
+    let size : (position + after) - (position - before) ≡ before + after = omega (arith, within) in
+    ap (λ (n : ℕ). take n (drop (position - before) bytes)) size
+    ∙ (λ i. take (e i + f i) (drop (position - e i) bytes))
+
+-- the lines on a record, put one after another
+pub record_pushed : (alphabet : Alphabet) (number : ℕ) (line : List ℕ) (at : RefusedAt) (position column : ℕ)
+    (shown runs : List LetterRun) (ends : Bool) (old a b c d new words : List ℕ) → shown ≡ runs
+    → words ≡ record_end shown ends → a ≡ old ++ at_record number (take position line) column at
+    → b ≡ a ++ expected_text alphabet shown false → c ≡ b ++ words → d ≡ c ++ codes "\n"
+    → new ≡ d ++ picture (line_in_record line position) (bytes_before Lf (take position line))
+    → new ≡ old ++ record_expected alphabet number line at position column runs ends
+record_pushed alphabet number line at position column shown runs ends old a b c d new words same said e f g h i =
+    let x = at_record number (take position line) column at in
+    let y = expected_text alphabet runs false in
+    let z = record_end runs ends in
+    let w = codes "\n" in
+    let v = picture (line_in_record line position) (bytes_before Lf (take position line)) in
+    let expected : b ≡ a ++ y = f ∙ ap (λ u. a ++ expected_text alphabet u false) same in
+    let ended : c ≡ b ++ z = g ∙ ap (λ u. b ++ u) (said ∙ ap (λ (u : List LetterRun). record_end u ends) same) in
+    five_pushed old x y z w v a b c d new e expected ended h i
 
 -- the names of rules
 names_same : (rs : List (table.Rule Elem)) → map (λ rule. rule.name) (map rule_of rs) ≡ map (λ rule. rule.name) rs
@@ -109,18 +150,19 @@ pub octets_at_least : (xs : List ℕ) → length xs ≤ octet_count Utf8 xs
 octets_at_least [] = omega arith
 octets_at_least (x ∷ xs) = let rest = octets_at_least xs in let some = octets_some x in omega (arith, rest, some)
 
-module _ (rules : List Rule) (judged : ℕ) (line : List ℕ) (number_of : ℕ) (runs : List LetterRun) (ends : Bool)
-    (name : List ℕ) (at : RefusedAt) (position : ℕ) (old new : List ℕ) (named : name ≡ name_at rules judged) where
-  pub reported_bytes : new ≡ old ++ refusal_text Bytes name number_of line at position runs ends
+module _ (unit : LineUnit) (rules : List Rule) (judged : ℕ) (line : List ℕ) (number_of : ℕ) (runs : List LetterRun)
+    (ends : Bool) (name : List ℕ) (at : RefusedAt) (position column : ℕ) (old new : List ℕ)
+    (named : name ≡ name_at rules judged) where
+  pub reported_bytes : new ≡ old ++ unit_text unit Bytes name number_of line at position column runs ends
       → IsFurthest (has Bytes) rules judged line position
       → AreFollowing (has Bytes) rules judged line position runs ends → at ≡ refused_at position (length line) false
-      → IsExplained Bytes rules judged line number_of old new
-  reported_bytes put furthest following where_at =
+      → column ≡ column_after (take position line) → IsExplained unit Bytes rules judged line number_of old new
+  reported_bytes put furthest following where_at columned =
       let torn : nat_lt (length line) (length line) ≡ false = le-ltb (length line) (length line) (omega arith) in
       let within = furthest.within in
       let count : octet_count Bytes (take position line) ≡ position =
       bytes_count (take position line) ∙ length-take-le position line within in (
-        refusal_text Bytes name number_of line at position runs ends,
+        unit_text unit Bytes name number_of line at position column runs ends,
         put,
         record {
           first = line;
@@ -131,18 +173,19 @@ module _ (rules : List Rule) (judged : ℕ) (line : List ℕ) (number_of : ℕ) 
           runs = runs;
           ends = ends;
           following = following;
-          is = rw (named, where_at, torn, count) refl;
+          is = rw (named, where_at, columned, torn, count) refl;
         },
       )
 
-  pub reported_points : new ≡ old ++ refusal_text Utf8 name number_of line at position runs ends
+  pub reported_points : new ≡ old ++ unit_text unit Utf8 name number_of line at position column runs ends
       → (points : List ℕ) (size after : ℕ) → IsLongestText line size → Spells points (take size line)
       → IsFurthest (has Utf8) rules judged points after
       → AreFollowing (has Utf8) rules judged points after runs ends
       → at ≡ refused_at after (length points) (nat_lt size (length line))
-      → position ≡ octet_count Utf8 (take after points) → IsExplained Utf8 rules judged line number_of old new
-  reported_points put points size after longest spelled furthest following where_at count = (
-    refusal_text Utf8 name number_of line at position runs ends,
+      → position ≡ octet_count Utf8 (take after points) → column ≡ column_after (take after points)
+      → IsExplained unit Utf8 rules judged line number_of old new
+  reported_points put points size after longest spelled furthest following where_at count columned = (
+    unit_text unit Utf8 name number_of line at position column runs ends,
     put,
     record {
       first = points;
@@ -153,7 +196,7 @@ module _ (rules : List Rule) (judged : ℕ) (line : List ℕ) (number_of : ℕ) 
       runs = runs;
       ends = ends;
       following = following;
-      is = rw (named, where_at, count) refl;
+      is = rw (named, where_at, columned, count) refl;
     },
   )
 

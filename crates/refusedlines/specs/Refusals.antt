@@ -9,7 +9,8 @@ use Rattle.letters.specs.declared.alphabet.Alphabet.{Alphabet}
 use Rattle.letters.specs.declared.alphabet.Alphabet.TheVariants.{Bytes, Utf8}
 use Rattle.refusedlines.specs.declared.letterruns.run.LetterRun.{LetterRun}
 use Rattle.refusedlines.specs.Following.{AreFollowing}
-use Rattle.refusedlines.specs.RefusedText.{refusal_text, refused_at}
+use Rattle.refusedlines.specs.RefusedText.{column_after, refused_at, unit_text}
+use Rattle.refusedlines.specs.declared.refusal.LineUnit.{LineUnit}
 
 -- how many bytes a symbol takes: one, or in UTF-8 as many as the table in section 3 of RFC 3629 says
 abbrev pub octets : Alphabet → ℕ → ℕ
@@ -28,10 +29,10 @@ AreFirstLetters Utf8 line x size = IsLongestText line size × Spells x (take siz
 abbrev pub name_at : List Rule → ℕ → List ℕ
 name_at rules id = slice_index_or (map (λ rule. rule.name) rules) id []
 
--- The text explains where the line with that number is rejected, and what can follow the longest viable prefix of its
--- symbols.
-pub record IsRefusalReported (alphabet : Alphabet) (rules : List Rule) (judged : ℕ) (line : List ℕ) (number : ℕ)
-    (text : List ℕ) : Type 0 where
+-- The text explains where the line or the record with that number is rejected, and what can follow the longest viable
+-- prefix of its symbols.
+pub record IsRefusalReported (unit : LineUnit) (alphabet : Alphabet) (rules : List Rule) (judged : ℕ) (line : List ℕ)
+    (number : ℕ) (text : List ℕ) : Type 0 where
   pub first : List ℕ
   pub size : ℕ
   pub letters : AreFirstLetters alphabet line first size
@@ -40,10 +41,11 @@ pub record IsRefusalReported (alphabet : Alphabet) (rules : List Rule) (judged :
   pub runs : List LetterRun
   pub ends : Bool
   pub following : AreFollowing (has alphabet) rules judged first after runs ends
-  pub is : text ≡ refusal_text alphabet (name_at rules judged) number line
-      (refused_at after (length first) (nat_lt size (length line))) (octet_count alphabet (take after first)) runs ends
+  pub is : text ≡ unit_text unit alphabet (name_at rules judged) number line
+      (refused_at after (length first) (nat_lt size (length line))) (octet_count alphabet (take after first))
+      (column_after (take after first)) runs ends
 
 -- such a text was added
-abbrev pub IsExplained : Alphabet → List Rule → ℕ → List ℕ → ℕ → List ℕ → List ℕ → Type 0
-IsExplained alphabet rules judged line number old new = (text : List ℕ) × (new ≡ old ++ text)
-    × IsRefusalReported alphabet rules judged line number text
+abbrev pub IsExplained : LineUnit → Alphabet → List Rule → ℕ → List ℕ → ℕ → List ℕ → List ℕ → Type 0
+IsExplained unit alphabet rules judged line number old new = (text : List ℕ) × (new ≡ old ++ text)
+    × IsRefusalReported unit alphabet rules judged line number text

@@ -1,16 +1,22 @@
 -- The lines that explain a rejected line.
+use Prim.Native.Char.{code}
 use Rattle.std.specs.Prelude.{ℕ, ◌+◌, nat_lt, Bool, true, false, if◌then◌else◌, List, [], ◌∷◌, ◌++◌, codes, decimal}
-use Rattle.std.specs.Prelude.{zero, suc, map, take, length, ◌-◌}
-use Rattle.std.specs.List.{flat_map}
+use Rattle.std.specs.Prelude.{zero, suc, map, take, drop, length, not, ◌-◌, ◌==◌}
+use Rattle.std.specs.List.{flat_map, position_or_len, suffix_len}
 use Rattle.letters.specs.declared.alphabet.Alphabet.{Alphabet}
 use Rattle.refusedlines.specs.SymbolPieces.{pieces}
 use Rattle.refusedlines.specs.ReportedLetters.{reported_text}
 use Rattle.refusedlines.specs.declared.letterruns.reported.ReportedLetters.{ReportedLetters}
 use Rattle.refusedlines.specs.declared.letterruns.run.LetterRun.{LetterRun}
+use Rattle.diagnostics.specs.LinesAround.{bytes_before}
 use Rattle.diagnostics.specs.Pictures.{picture}
 use Rattle.diagnostics.specs.ShownBytes.{cut}
+use Rattle.refusedlines.specs.declared.refusal.LineUnit.{LineUnit}
+use Rattle.refusedlines.specs.declared.refusal.LineUnit.TheVariants.{Line, Record}
 use Rattle.refusedlines.specs.declared.refusal.RefusedAt.{RefusedAt}
 use Rattle.refusedlines.specs.declared.refusal.RefusedAt.TheVariants.{Letter, NoText, End}
+use Rattle.ruletable.specs.Lines.{line_at}
+use Rattle.ruletable.specs.declared.lines.LineRule.TheVariants.{Lf}
 
 -- texts with slashes between
 abbrev pub slashed : List (List ℕ) → List ℕ
@@ -52,6 +58,27 @@ at_text number (NoText n) = codes "line " ++ (decimal number ++ (codes ", letter
     ++ codes ": not UTF-8, expected ")))
 at_text number End = codes "line " ++ (decimal number ++ codes " ends too early: expected ")
 
+-- the symbols after the last LF among these, counted from 1
+abbrev pub column_after : List ℕ → ℕ
+column_after symbols = suffix_len (λ c. not (c == code "\n")) symbols + 1
+
+-- why a record is rejected there
+abbrev pub record_fault : RefusedAt → List ℕ
+record_fault (Letter n) = codes ": expected "
+record_fault (NoText n) = codes ": not UTF-8, expected "
+record_fault End = codes " ends too early: expected "
+
+-- where a record is rejected: after these of its bytes, in that column
+abbrev pub at_record : ℕ → List ℕ → ℕ → RefusedAt → List ℕ
+at_record number before column at = codes "record " ++ (decimal number ++ (codes ", line "
+    ++ (decimal (line_at Lf before (length before)) ++ (codes ", column " ++ (decimal column ++ record_fault at)))))
+
+-- the line of a record in which so many bytes end: without its LF, but with its CR
+abbrev pub line_in_record : List ℕ → ℕ → List ℕ
+line_in_record bytes position =
+    let before = bytes_before Lf (take position bytes) in
+    take (before + position_or_len (λ b. b == code "\n") (drop position bytes)) (drop (position - before) bytes)
+
 -- neither a symbol nor the end can follow there
 abbrev pub is_none : List LetterRun → Bool → Bool
 is_none [] ends = if ends then false else true
@@ -67,6 +94,37 @@ abbrev pub reported_expected : Alphabet → ℕ → List ℕ → RefusedAt → �
 reported_expected alphabet number line at position runs ends = at_text number at ++ (expected_text alphabet runs ends
     ++ (codes "\n" ++ picture line position))
 
-abbrev pub refusal_text : Alphabet → List ℕ → ℕ → List ℕ → RefusedAt → ℕ → List LetterRun → Bool → List ℕ
-refusal_text alphabet name number line at position runs ends = if is_none runs ends then nothing_text number name
-    else reported_expected alphabet number line at position runs ends
+-- that a record may end, after the symbols that can follow
+abbrev pub record_end : List LetterRun → Bool → List ℕ
+record_end runs false = []
+record_end [] true = codes "the end of the record"
+record_end (run ∷ runs) true = codes " or the end of the record"
+
+-- what is expected at a position of a record, and a picture of the position
+abbrev pub record_expected : Alphabet → ℕ → List ℕ → RefusedAt → ℕ → ℕ → List LetterRun → Bool → List ℕ
+record_expected alphabet number line at position column runs ends =
+    at_record number (take position line) column at ++ (expected_text alphabet runs false ++ (record_end runs ends
+    ++ (codes "\n" ++ picture (line_in_record line position) (bytes_before Lf (take position line)))))
+
+-- the rule derives nothing
+abbrev pub nothing_of_record : ℕ → List ℕ → List ℕ
+nothing_of_record number name = codes "record " ++ (decimal number ++ (codes ": rule '" ++ (cut name
+    ++ codes "' derives nothing\n")))
+
+-- that the rule derives nothing, for a line or a record
+abbrev pub none_of : LineUnit → ℕ → List ℕ → List ℕ
+none_of Line number name = nothing_text number name
+none_of Record number name = nothing_of_record number name
+
+-- what is expected, in a line or a record
+abbrev pub expected_of : LineUnit → Alphabet → ℕ → List ℕ → RefusedAt → ℕ → ℕ → List LetterRun → Bool → List ℕ
+expected_of Line alphabet number line at position column runs ends =
+    reported_expected alphabet number line at position runs ends
+expected_of Record alphabet number line at position column runs ends =
+    record_expected alphabet number line at position column runs ends
+
+-- what explains a rejected line or record
+abbrev pub unit_text : LineUnit → Alphabet → List ℕ → ℕ → List ℕ → RefusedAt → ℕ → ℕ → List LetterRun → Bool → List ℕ
+unit_text unit alphabet name number line at position column runs ends =
+    if is_none runs ends then none_of unit number name
+    else expected_of unit alphabet number line at position column runs ends

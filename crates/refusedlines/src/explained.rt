@@ -1,5 +1,5 @@
 //! The explanations of rejected lines.
-ghost use Rattle.std.specs.Prelude.{◌≡◌, ◌+◌, ◌<◌, ◌≤◌, ◌^◌, ℕ, Bool, false, List, [], length, take, IfOk, IfSome};
+ghost use Rattle.std.specs.Prelude.{◌≡◌, ◌+◌, ◌<◌, ◌≤◌, ◌^◌, ℕ, Bool, false, List, [], length, map, take, IfOk, IfSome};
 ghost use Rattle.abnfcheck.specs.Prefixes.{IsFurthest};
 ghost use Rattle.abnfread.specs.Element.{Rule};
 ghost use Rattle.letters.specs.declared.alphabet.Alphabet.{Alphabet as the_alphabet};
@@ -8,6 +8,8 @@ ghost use Rattle.abnfread.specs.AbnfViews.{rules_of};
 ghost use Rattle.lowering.specs.GivenPrefixes.{GivesPrefixes};
 ghost use Rattle.letters.specs.Letters.{has};
 ghost use Rattle.letters.specs.Utf8Text.{IsLongestText, Spells, numbers};
+ghost use Rattle.refusedlines.specs.RefusedText.{column_after as the_column};
+ghost use Rattle.refusedlines.specs.declared.refusal.LineUnit.{LineUnit as the_unit};
 ghost use Rattle.refusedlines.specs.Refusals.{
   IsExplained,
   IsRefusalReported,
@@ -86,6 +88,23 @@ fn octets_of(points: &[CodePoint]) -> usize
     count
 }
 
+// Returns the column after these symbols: how many stand after the last LF, from 1.
+fn column_after<L: Letter>(symbols: &[L]) -> usize
+    requires { length symbols.now + 1 < 2 ^ 64 }
+    ensures { result ≡ the_column (map L.number symbols.now) }
+{
+    let mut column = 1;
+    let mut rest = symbols;
+    while let Some((last, front)) = rest.split_last() {
+        if last.value() == 10 {
+            break;
+        }
+        rest = front;
+        column += 1;
+    }
+    column
+}
+
 // Returns the name of the judged rule.
 fn judged_name(grammar: &SoundAbnf) -> &[u8]
     ensures { result.now ≡ name_at (rules_of grammar.now.rules) grammar.now.judged }
@@ -108,16 +127,19 @@ fn explain_bytes(
     requires prefixes { GivesPrefixes (has Alphabet.Bytes) (rules_of explainer.now.grammar.now.rules)
         explainer.now.grammar.now.judged explainer.now.flat.now }
     ensures flat { IfSome automaton.new (λ a. a ≡ explainer.now.flat.now) }
-    ensures reported { IfOk result (λ done. IsExplained Alphabet.Bytes (rules_of explainer.now.grammar.now.rules)
-        explainer.now.grammar.now.judged line.entry.bytes.now line.entry.number out.old.items out.new.items) }
+    ensures reported { IfOk result (λ done. IsExplained line.entry.unit Alphabet.Bytes
+        (rules_of explainer.now.grammar.now.rules) explainer.now.grammar.now.judged line.entry.bytes.now
+        line.entry.number out.old.items out.new.items) }
 {
     let following = find_following(alloc, chart, automaton, explainer.flat, line.bytes)?;
     let position = following.after;
     let at = refused_at(position, line.bytes.len(), false);
+    let column = column_after(&line.bytes[..position]);
     let refusal = Refusal {
         alphabet: Alphabet::Bytes,
         at,
         position,
+        column,
         following,
     };
     push_refusal(alloc, judged_name(explainer.grammar), line, &refusal, out)?;
@@ -138,29 +160,33 @@ fn explain_points(
     requires prefixes { GivesPrefixes (has Alphabet.Utf8) (rules_of explainer.now.grammar.now.rules)
         explainer.now.grammar.now.judged explainer.now.flat.now }
     ensures flat { IfSome automaton.new (λ a. a ≡ explainer.now.flat.now) }
-    ensures reported { IfOk result (λ done. IsExplained Alphabet.Utf8 (rules_of explainer.now.grammar.now.rules)
-        explainer.now.grammar.now.judged line.entry.bytes.now line.entry.number out.old.items out.new.items) }
+    ensures reported { IfOk result (λ done. IsExplained line.entry.unit Alphabet.Utf8
+        (rules_of explainer.now.grammar.now.rules) explainer.now.grammar.now.judged line.entry.bytes.now
+        line.entry.number out.old.items out.new.items) }
 {
     let first = first_points(alloc, line.bytes)?;
     let points = first.points.as_slice();
     let following = find_following(alloc, chart, automaton, explainer.flat, points)?;
     let after = following.after;
     let at = refused_at(after, points.len(), first.size < line.bytes.len());
-    let position = octets_of(&points[..after]);
+    let before = &points[..after];
+    let position = octets_of(before);
+    let column = column_after(before);
     let refusal = Refusal {
         alphabet: Alphabet::Utf8,
         at,
         position,
+        column,
         following,
     };
     push_refusal(alloc, judged_name(explainer.grammar), line, &refusal, out)?;
     Ok(())
 }
 
-/// Adds the lines that explain a rejected line: where it is rejected, what can follow there, and a picture of that
-/// position; or that the judged rule derives nothing. The flat grammar must be that of `lower_viable` for the grammar
-/// and its symbols, the automaton, if there is one, that of it, and the line must have fewer bytes than `flat.limit()`.
-/// The chart is filled anew where the automaton gives no answer.
+/// Adds the lines that explain a rejected line or record: where it is rejected, what can follow there, and a picture of
+/// that position, in a record of the line there; or that the judged rule derives nothing. The flat grammar must be that
+/// of `lower_viable` for the grammar and its symbols, the automaton, if there is one, that of it, and the line must
+/// have fewer bytes than `flat.limit()`. The chart is filled anew where the automaton gives no answer.
 ///
 /// # Errors
 /// `Memory` if an allocation fails; a part of the lines may be added then.
@@ -177,8 +203,9 @@ pub fn explain_refused(
     requires prefixes { GivesPrefixes (has explainer.now.letters) (rules_of explainer.now.grammar.now.rules)
         explainer.now.grammar.now.judged explainer.now.flat.now }
     ensures flat { IfSome automaton.new (λ a. a ≡ explainer.now.flat.now) }
-    ensures reported { IfOk result (λ done. IsExplained explainer.now.letters (rules_of explainer.now.grammar.now.rules)
-        explainer.now.grammar.now.judged line.entry.bytes.now line.entry.number out.old.items out.new.items) }
+    ensures reported { IfOk result (λ done. IsExplained line.entry.unit explainer.now.letters
+        (rules_of explainer.now.grammar.now.rules) explainer.now.grammar.now.judged line.entry.bytes.now
+        line.entry.number out.old.items out.new.items) }
 {
     match explainer.letters {
         Alphabet::Bytes => explain_bytes(alloc, chart, automaton, explainer, line, out),
@@ -188,9 +215,9 @@ pub fn explain_refused(
 
 /// Returns nothing. Its contract is a law: at most one text explains a rejected line.
 pub fn refusal_is_one()
-    ensures { (alphabet : the_alphabet) (rules : List Rule) (judged : ℕ) (line : List ℕ) (number : ℕ) (a b : List ℕ) →
-        IsRefusalReported alphabet rules judged line number a → IsRefusalReported alphabet rules judged line number b
-        → a ≡ b }
+    ensures { (unit : the_unit) (alphabet : the_alphabet) (rules : List Rule) (judged : ℕ) (line : List ℕ) (number : ℕ)
+        (a b : List ℕ) → IsRefusalReported unit alphabet rules judged line number a
+        → IsRefusalReported unit alphabet rules judged line number b → a ≡ b }
 {
     furthest_is_found();
     following_is_one();

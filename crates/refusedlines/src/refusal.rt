@@ -1,18 +1,45 @@
-//! The lines that explain a rejected line.
-ghost use Rattle.std.specs.Prelude.{◌≡◌, ◌+◌, ◌<◌, ◌≤◌, ◌^◌, ◌++◌, codes, decimal, length, OnOk};
-ghost use Rattle.refusedlines.specs.RefusedText.{at_text, reported_expected, nothing_text, refused_at as the_position};
-ghost use Rattle.refusedlines.specs.RefusedText.{refusal_text};
+//! The lines that explain a rejected line or record.
+ghost use Rattle.std.specs.Prelude.{◌≡◌, ◌==◌, ◌+◌, ◌<◌, ◌≤◌, ◌^◌, ◌++◌, codes, decimal, drop, length, take, OnOk};
+ghost use Rattle.std.specs.List.{position_or_len};
+ghost use Rattle.diagnostics.specs.LinesAround.{bytes_before};
+ghost use Rattle.diagnostics.specs.Pictures.{picture};
+ghost use Rattle.refusedlines.specs.RefusedText.{
+  at_record,
+  at_text,
+  expected_text,
+  line_in_record,
+  nothing_of_record,
+  none_of,
+  nothing_text,
+  record_end,
+  record_expected,
+  record_fault,
+  refused_at as the_position,
+  reported_expected,
+  unit_text,
+};
 
 use crate::following::Following;
-use crate::letterruns::push_expected;
+use crate::letterruns::{LetterRun, push_expected};
 use diagnostics::{LineAround, push_cut, push_number, push_picture};
 use letters::Alphabet;
-use ruletable::Memory;
+use ruletable::{LineRule, Memory, line_of};
 use std::alloc::Global;
 
-/// A line that is rejected, with its number.
+/// What is rejected.
+#[derive(Clone, Copy)]
+pub enum LineUnit {
+    /// A line. Its symbols are numbered.
+    Line,
+    /// A record. Its lines are numbered, which end with LF, and the symbols in each of them.
+    Record,
+}
+
+/// A line or a record that is rejected, with its number.
 #[derive(Clone, Copy)]
 pub struct RefusedLine<'a> {
+    /// Which of them it is.
+    pub unit: LineUnit,
     /// Its bytes, without its end.
     pub bytes: &'a [u8],
     /// Its number, from 1.
@@ -39,6 +66,8 @@ pub(crate) struct Refusal {
     pub(crate) at: RefusedAt,
     /// After how many of its bytes it is rejected.
     pub(crate) position: usize,
+    /// In which column of its last line, by symbols from 1.
+    pub(crate) column: usize,
     /// The symbols that can follow there.
     pub(crate) following: Following,
 }
@@ -124,9 +153,147 @@ fn push_lines(
     )
 }
 
-/// Adds the lines that explain a rejected line: the symbols that are expected where it is rejected, and a picture of
-/// that position. If nothing can follow there, they report that the rule of that name derives nothing. The position
-/// must be within the line.
+// Returns what is reported of a record after the position where it is rejected.
+fn fault_words(at: RefusedAt) -> &'static [u8]
+    ensures { result.now ≡ record_fault at }
+{
+    match at {
+        RefusedAt::Letter(_) => b": expected ",
+        RefusedAt::NoText(_) => b": not UTF-8, expected ",
+        RefusedAt::End => b" ends too early: expected ",
+    }
+}
+
+// Adds where the record with that number is rejected: after these of its bytes, in that column.
+fn push_at_record(
+    number: usize,
+    before: &[u8],
+    column: usize,
+    at: RefusedAt,
+    out: &mut Vec<u8>,
+) -> Result<(), Memory>
+    ensures { OnOk result (out.new.items ≡ out.old.items ++ at_record number before.now column at) }
+{
+    out.extend_from_slice(b"record ")?;
+    push_number(out, number)?;
+    out.extend_from_slice(b", line ")?;
+    push_number(out, line_of(before, before.len(), LineRule::Lf))?;
+    out.extend_from_slice(b", column ")?;
+    push_number(out, column)?;
+    out.extend_from_slice(fault_words(at))?;
+    Ok(())
+}
+
+// Returns what is reported of the end of a record, after the symbols that can follow.
+fn record_end_words(runs: &[LetterRun], ends: bool) -> &'static [u8]
+    ensures { result.now ≡ record_end runs.now ends }
+{
+    if !ends {
+        return b"";
+    }
+    if runs.is_empty() {
+        return b"the end of the record";
+    }
+    b" or the end of the record"
+}
+
+// Returns how many bytes stand after the last LF, or in all.
+fn count_after_lf(bytes: &[u8]) -> usize
+    ensures before { result ≡ bytes_before LineRule.Lf bytes.now }
+    ensures within { result ≤ length bytes.now }
+{
+    let mut size = 0;
+    let mut rest = bytes;
+    while let Some((last, front)) = rest.split_last() {
+        if *last == b'\n' {
+            break;
+        }
+        rest = front;
+        size += 1;
+    }
+    size
+}
+
+// Returns how many bytes stand before the first LF, or in all.
+fn count_to_lf(bytes: &[u8]) -> usize
+    ensures count { result ≡ position_or_len (λ b. b == 10) bytes.now }
+    ensures within { result ≤ length bytes.now }
+{
+    let mut size = 0;
+    let mut rest = bytes;
+    while let Some((first, tail)) = rest.split_first() {
+        if *first == b'\n' {
+            break;
+        }
+        rest = tail;
+        size += 1;
+    }
+    size
+}
+
+// Adds a picture of a position of a record: of the line there.
+fn push_record_picture(bytes: &[u8], position: usize, out: &mut Vec<u8>) -> Result<(), Memory>
+    requires { position ≤ length bytes.now }
+    ensures { OnOk result (out.new.items ≡ out.old.items ++ picture (line_in_record bytes.now position)
+        (bytes_before LineRule.Lf (take position bytes.now))) }
+{
+    let before = count_after_lf(&bytes[..position]);
+    let after = count_to_lf(&bytes[position..]);
+    push_picture(
+        out,
+        LineAround {
+            line: &bytes[position - before..position + after],
+            before,
+        },
+    )
+}
+
+// Adds that the rule of that name derives nothing.
+fn push_nothing_of_record(number: usize, name: &[u8], out: &mut Vec<u8>) -> Result<(), Memory>
+    ensures { OnOk result (out.new.items ≡ out.old.items ++ nothing_of_record number name.now) }
+{
+    out.extend_from_slice(b"record ")?;
+    push_number(out, number)?;
+    out.extend_from_slice(b": rule '")?;
+    push_cut(out, name)?;
+    out.extend_from_slice(b"' derives nothing\n")?;
+    Ok(())
+}
+
+// Adds what is expected at a position of a record, and a picture of the position.
+fn push_record(
+    alloc: Global,
+    line: RefusedLine<'_>,
+    refusal: &Refusal,
+    out: &mut Vec<u8>,
+) -> Result<(), Memory>
+    requires { refusal.now.position ≤ length line.bytes.now }
+    ensures { OnOk result (out.new.items ≡ out.old.items ++ record_expected refusal.now.alphabet line.entry.number
+        line.entry.bytes.now refusal.now.at refusal.now.position refusal.now.column
+        refusal.now.following.runs.items refusal.now.following.ends) }
+{
+    let before = &line.bytes[..refusal.position];
+    push_at_record(line.number, before, refusal.column, refusal.at, out)?;
+    let runs = refusal.following.runs.as_slice();
+    push_expected(alloc, refusal.alphabet, runs, false, out)?;
+    out.extend_from_slice(record_end_words(runs, refusal.following.ends))?;
+    out.extend_from_slice(b"\n")?;
+    push_record_picture(line.bytes, refusal.position, out)
+}
+
+// Adds that the rule of that name derives nothing, for what is rejected.
+fn push_none(name: &[u8], line: RefusedLine<'_>, out: &mut Vec<u8>) -> Result<(), Memory>
+    ensures { OnOk result (out.new.items ≡ out.old.items ++ none_of line.entry.unit line.entry.number name.now) }
+{
+    match line.unit {
+        LineUnit::Line => push_nothing(line.number, name, out),
+        LineUnit::Record => push_nothing_of_record(line.number, name, out),
+    }
+}
+
+/// Adds the lines that explain a rejected line or record: the symbols that are expected where it is rejected, and a
+/// picture of that position. If nothing can follow there, they report that the rule of that name derives nothing. The
+/// position must be within the line.
 pub(crate) fn push_refusal(
     alloc: Global,
     name: &[u8],
@@ -135,12 +302,15 @@ pub(crate) fn push_refusal(
     out: &mut Vec<u8>,
 ) -> Result<(), Memory>
     requires { refusal.now.position ≤ length line.bytes.now }
-    ensures { OnOk result (out.new.items ≡ out.old.items ++ refusal_text refusal.now.alphabet name.now
-        line.entry.number line.entry.bytes.now refusal.now.at refusal.now.position refusal.now.following.runs.items
-        refusal.now.following.ends) }
+    ensures { OnOk result (out.new.items ≡ out.old.items ++ unit_text line.entry.unit refusal.now.alphabet name.now
+        line.entry.number line.entry.bytes.now refusal.now.at refusal.now.position refusal.now.column
+        refusal.now.following.runs.items refusal.now.following.ends) }
 {
     if refusal.following.runs.is_empty() && !refusal.following.ends {
-        return push_nothing(line.number, name, out);
+        return push_none(name, line, out);
     }
-    push_lines(alloc, line, refusal, out)
+    match line.unit {
+        LineUnit::Line => push_lines(alloc, line, refusal, out),
+        LineUnit::Record => push_record(alloc, line, refusal, out),
+    }
 }

@@ -7,9 +7,11 @@ use Rattle.abnfread.specs.AbnfViews.{rules_of}
 use Rattle.abnfread.specs.Element.{Rule}
 use Rattle.diagnostics.specs.ShownBytes.{cut}
 use Rattle.letters.specs.declared.alphabet.Alphabet.{Alphabet}
-use Rattle.refusedlines.specs.RefusedText.{is_none, nothing_text, refused_at, refusal_text, reported_expected}
+use Rattle.refusedlines.specs.RefusedText.{column_after, is_none, nothing_text, refused_at, reported_expected}
+use Rattle.refusedlines.specs.RefusedText.{unit_text}
 use Rattle.refusedlines.specs.Refusals.{IsRefusalReported, name_at, octet_count}
 use Rattle.refusedlines.specs.declared.letterruns.run.LetterRun.{LetterRun}
+use Rattle.refusedlines.specs.declared.refusal.LineUnit.TheVariants.{Line}
 use Rattle.rulelines.specs.LineBytes.{line_bytes}
 use Rattle.abnfd.proofs.refusals.explain_symbols.Goals as goal
 
@@ -40,22 +42,22 @@ expected_of_first alphabet line n count torn position runs ends =
     (either_case (λ at. IsOfFirst (reported_expected alphabet 1 line at position runs ends)) torn _ _
     (parts_of_first _ _) (parts_of_first _ _))
 
-text_of_first : (alphabet : Alphabet) (name line : List ℕ) (n count : ℕ) (torn : Bool) (position : ℕ)
+text_of_first : (alphabet : Alphabet) (name line : List ℕ) (n count : ℕ) (torn : Bool) (position column : ℕ)
     (runs : List LetterRun) (ends : Bool)
-    → IsOfFirst (refusal_text alphabet name 1 line (refused_at n count torn) position runs ends)
-text_of_first alphabet name line n count torn position runs ends =
+    → IsOfFirst (unit_text Line alphabet name 1 line (refused_at n count torn) position column runs ends)
+text_of_first alphabet name line n count torn position column runs ends =
     either_case IsOfFirst (is_none runs ends) (nothing_text 1 name)
     (reported_expected alphabet 1 line (refused_at n count torn) position runs ends)
     (nothing_of_first name) (expected_of_first alphabet line n count torn position runs ends)
 
 refusal_of_first : (alphabet : Alphabet) (rules : List Rule) (judged : ℕ) (line text : List ℕ)
-    → IsRefusalReported alphabet rules judged line 1 text → IsOfFirst text
+    → IsRefusalReported Line alphabet rules judged line 1 text → IsOfFirst text
 refusal_of_first alphabet rules judged line text r = subst IsOfFirst (sym r.is)
     (text_of_first alphabet (name_at rules judged) line r.after (length r.first) (nat_lt r.size (length line))
-    (octet_count alphabet (take r.after r.first)) r.runs r.ends)
+    (octet_count alphabet (take r.after r.first)) (column_after (take r.after r.first)) r.runs r.ends)
 
 first_has_number : (alphabet : Alphabet) (rules : List Rule) (judged : ℕ) (line text part : List ℕ)
-    → IsRefusalReported alphabet rules judged line 1 text → part ≡ text → 6 ≤ length part
+    → IsRefusalReported Line alphabet rules judged line 1 text → part ≡ text → 6 ≤ length part
 first_has_number alphabet rules judged line text part r is =
     let size = ap length (refusal_of_first alphabet rules judged line text r) in
     let same = ap length is in
@@ -78,11 +80,11 @@ returns c =
     let rules = rules_of c.args.grammar.now.rules in
     let judged = c.args.grammar.now.judged in
     let line = line_bytes letters c.args.line.now in
-    let r : IsRefusalReported letters rules judged line 1 why =
+    let r : IsRefusalReported Line letters rules judged line 1 why =
     rw (c.as_slice.ensures.value, c.in_ok-bytes.ensures) at c.in_ok-why.ensures in
     record {
       rest = drop 6 why;
-      reported = subst (λ (t : List ℕ). IsRefusalReported letters rules judged line 1 t)
+      reported = subst (λ (t : List ℕ). IsRefusalReported Line letters rules judged line 1 t)
           (refusal_of_first letters rules judged line why r) r;
       is = rw (
         c.in_ok-extend_from_slice-2.ensures.items,

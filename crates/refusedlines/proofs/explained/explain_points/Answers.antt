@@ -3,7 +3,7 @@ use Rattle.std.proofs.lemmas.List.{length-map, take-map}
 use Rattle.abnfread.specs.AbnfViews.{rules_of}
 use Rattle.letters.specs.Utf8Text.{Spells, number, numbers}
 use Rattle.letters.specs.declared.alphabet.Alphabet.TheVariants.{Utf8}
-use Rattle.refusedlines.specs.RefusedText.{refused_at}
+use Rattle.refusedlines.specs.RefusedText.{column_after, refused_at}
 use Rattle.refusedlines.specs.Refusals.{octet_count}
 use Rattle.refusedlines.proofs.RefusalLemmas.{points_bound, reported_points}
 use Rattle.refusedlines.proofs.explained.explain_points.Goals as goal
@@ -39,8 +39,9 @@ returns-clause-reported c =
     let f = c.in_ok-following.following in
     let points = c.as_slice-points.result.now in
     let line = c.args.line.bytes.now in
-    reported_points rules grammar.judged line c.args.line.number f.runs.items f.ends c.judged_name.result.now
-    c.refused_at-at.result c.octets_of-position.result c.args.out.now.items c.push_refusal.new.out.items
+    reported_points c.args.line.unit rules grammar.judged line c.args.line.number f.runs.items f.ends
+    c.judged_name.result.now c.refused_at-at.result c.octets_of-position.result c.column_after-column.result
+    c.args.out.now.items c.push_refusal.new.out.items
     c.judged_name.ensures c.in_ok-push_refusal.ensures
     (numbers points) c.in_ok-first.first.size f.after e.longest
     (subst (λ v. Spells (numbers v) (take c.in_ok-first.first.size line)) (sym c.as_slice-points.ensures.value)
@@ -50,3 +51,4 @@ returns-clause-reported c =
     (c.refused_at-at.ensures
     ∙ ap (λ v. refused_at f.after v (nat_lt c.in_ok-first.first.size (length line))) (sym (length-map points number)))
     (c.octets_of-position.ensures ∙ ap (λ v. octet_count Utf8 v) (sym (take-map number f.after points)))
+    (c.column_after-column.ensures ∙ ap (λ v. column_after v) (sym (take-map number f.after points)))

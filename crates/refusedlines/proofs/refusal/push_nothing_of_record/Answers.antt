@@ -1,0 +1,10 @@
+use Rattle.std.proofs.Common.{codes, decimal}
+use Rattle.diagnostics.specs.ShownBytes.{cut}
+use Rattle.refusedlines.proofs.RefusalLemmas.{five_pushed}
+use Rattle.refusedlines.proofs.refusal.push_nothing_of_record.Goals as goal
+
+pub returns : goal.returns
+returns c =
+    five_pushed c.args.out.now.items (codes "record ") (decimal c.args.number) (codes ": rule '") (cut c.args.name.now)
+    (codes "' derives nothing\n") _ _ _ _ _ c.in_ok-extend_from_slice.ensures.items c.in_ok-push_number.ensures
+    c.in_ok-extend_from_slice-2.ensures.items c.in_ok-push_cut.ensures c.in_ok-extend_from_slice-3.ensures.items
