@@ -1,6 +1,6 @@
 -- States over suffixes.
 -- Serves: judge, viable.
-use Rattle.std.proofs.Common.{◌≡◌, ℕ, suc, ◌≤◌, Bool, true, false, List, [], ◌∷◌, ◌++◌, length, refl}
+use Rattle.std.proofs.Common.{◌≡◌, ℕ, suc, ◌≤◌, ◌<◌, Bool, true, false, List, [], ◌∷◌, ◌++◌, length, refl}
 use Rattle.std.proofs.Common.{sym, ◌∙◌, ap, subst, arith, ◌⊎◌, inl, inr}
 use Rattle.std.proofs.lemmas.List.Elements.{Contains-append_left, Contains-push, Contains-push_cases}
 use Rattle.std.specs.Prelude.{slice_get, Some, Contains}
@@ -13,14 +13,15 @@ use Rattle.lazydfa.proofs.IsCoverLemmas.{resumed_cover}
 use Rattle.lazydfa.specs.declared.conts.Cont.{Cont}
 use Rattle.lazydfa.specs.declared.cache.State.{State}
 use Rattle.lazydfa.specs.declared.memo.ResumedState.{ResumedState}
-use Rattle.lazydfa.specs.Conts.{last_of, stack_of, AreKept, IsStackOf}
+use Rattle.lazydfa.specs.Conts.{last_of, stack_of, AreKept, IsStackOf, TopReads}
 use Rattle.lazydfa.specs.Cached.{AreGrown, IsStartAt, IsAt, IsInterned}
-use Rattle.lazydfa.specs.StackSuffixes.{PutsBack, AreSuffixes, below_onto, below_of}
-use Rattle.lazydfa.specs.Memos.{IsResumedState, IsKnown, AreResumes, IsOver, IsSettled}
-use Rattle.lazydfa.proofs.ContsLemmas.{kept_stack, kept_within, kept_same}
-use Rattle.lazydfa.proofs.AreCachedLemmas.{stack_on, stack_off, grown_at}
-use Rattle.lazydfa.proofs.IsAtLemmas.{cover_as, at_start}
+use Rattle.lazydfa.specs.StackSuffixes.{IsSplitOff, PutsBack, AreSuffixes, below_onto, below_of}
+use Rattle.lazydfa.specs.Memos.{AreResumedStacks, IsResumedBy, IsResumedState, IsKnown, AreResumes, IsOver, IsSettled}
+use Rattle.lazydfa.proofs.ContsLemmas.{kept_both, kept_stack, kept_within, stack_none}
+use Rattle.lazydfa.proofs.AreCachedLemmas.{stack_on, stack_off, grown_at, split_kept}
+use Rattle.lazydfa.proofs.IsAtLemmas.{cover_as, cover_split, at_start}
 use Rattle.lazydfa.proofs.PutsBackLemmas.{put_back_kept, put_back_resumes}
+use Rattle.lazydfa.proofs.ReportLemmas.{reported_top}
 use Rattle.flatgrammar.proofs.SliceGetLemmas.{push_cases}
 
 pub below_end : (conts : List Cont) (suffixes : List ℕ) (suffix : ℕ) (under : List Dot)
@@ -60,6 +61,13 @@ suffixes_pushed conts suffixes new suffix is within full are other h =
     by (inl old) = are other old
     by (inr same) = subst (λ v. (v ≤ length conts) × (stack_of conts v ≡ [] → ⊥)) same (within, full)
 
+left_kept : (tables : code_flat.Tables) (old new : List Cont) → AreKept old new → (whole : List ℕ) (ended : Bool)
+    (to : State) (below : ℕ) → ((id : ℕ) → Contains whole id → id ≤ length old)
+    → AreResumedStacks tables old whole ended to below → AreResumedStacks tables new whole ended to below
+left_kept tables old new kept whole ended to below within (inl same) = inl same
+left_kept tables old new kept whole ended to below within (inr split) =
+    inr (split.0, split.1, split_kept tables old new whole to.tops.items below kept within split.2)
+
 module _ (tables : code_flat.Tables) (old new : List Cont) (states more : List State) (kept : AreKept old new)
     (grown : AreGrown states more) (within : (s : ℕ) (state : State) → slice_get states s ≡ Some state → (id : ℕ)
     → Contains state.tops.items id → id ≤ length old) where
@@ -74,27 +82,30 @@ module _ (tables : code_flat.Tables) (old new : List Cont) (states more : List S
         (stack_off old new kept a.state.tops.items (within s a.state a.is)) a.cover;
   }
 
-  pub resume_kept : (s suffix t : ℕ) → IsResumedState tables old states s suffix t
-      → IsResumedState tables new more s suffix t
-  resume_kept s suffix t u = record {
+  pub resume_kept : (s suffix t below : ℕ) → IsResumedState tables old states s suffix t below
+      → IsResumedState tables new more s suffix t below
+  resume_kept s suffix t below u = record {
     from = u.from;
     to = u.to;
+    whole = u.whole;
+    ended = u.ended;
     from_is = grown_at states more grown s u.from u.from_is;
     to_is = grown_at states more grown t u.to u.to_is;
     suffix_within = kept_within old new kept suffix u.suffix_within;
-    is = put_back_kept tables old new old new u.from.tops.items suffix u.to.tops.items u.to.ended kept kept
+    is = put_back_kept tables old new old new u.from.tops.items suffix u.whole u.ended kept kept
         (within s u.from u.from_is) u.suffix_within u.is;
+    left = left_kept tables old new kept u.whole u.ended u.to below u.is.within u.left;
   }
 
   pub resumes_kept : (resumes : List ResumedState) → AreResumes tables old states resumes
       → AreResumes tables new more resumes
-  resumes_kept resumes are k u is = resume_kept u.state u.suffix u.to (are k u is)
+  resumes_kept resumes are k u is = resume_kept u.state u.suffix u.to u.below (are k u is)
 
   -- the last suffix is put back
-  module _ (targets : GiveTargets (flat_of tables) tables.targets.items) (x : List ℕ) (j s suffix t : ℕ)
+  module _ (targets : GiveTargets (flat_of tables) tables.targets.items) (x : List ℕ) (j s suffix t below : ℕ)
       (suffixes older : List ℕ) (split : suffixes ≡ older ++ suffix ∷ [])
       (over : IsOver tables old states suffixes s x j)
-      (ended : over.at.state.ended ≡ true) (resumes : IsResumedState tables new more s suffix t) where
+      (ended : over.at.state.ended ≡ true) (resumes : IsResumedState tables new more s suffix t below) where
     suffix_in : (suffix ≤ length old) × (stack_of old suffix ≡ [] → ⊥)
     suffix_in = over.suffixes_are suffix (subst (λ v. Contains v suffix) (sym split) (Contains-push older suffix))
 
@@ -135,20 +146,65 @@ module _ (tables : code_flat.Tables) (old new : List Cont) (states more : List S
         (subst (λ v. IsCover (flat_of tables) (last_of tables) x j (IsStackOf new v.tops.items) v.ended
         (below_of old suffixes)) same_state cover_now))
 
-    pub over_resumed : IsOver tables new more older t x j
-    over_resumed = record {
-      suffixes_are = suffixes_kept old new kept older older_are;
-      at = record {
-        state = resumes.to;
-        is = resumes.to_is;
-        cover = resumed_cover (flat_of tables) (last_of tables) x j (IsStackOf new resumes.from.tops.items)
-            (stack_of new suffix) (below_of new older) (λ empty. suffix_in.1 (sym same_suffix ∙ empty)) cover_before
-            (IsStackOf new resumes.to.tops.items) resumes.to.ended
-            (put_back_resumes tables targets new resumes.from.tops.items suffix new resumes.to.tops.items
-            resumes.to.ended
-            cover_before.all_read resumes.is);
-      };
-    }
+    cover_whole : IsCover (flat_of tables) (last_of tables) x j (IsStackOf new resumes.whole) resumes.ended
+        (below_of new older)
+    cover_whole =
+        resumed_cover (flat_of tables) (last_of tables) x j (IsStackOf new resumes.from.tops.items)
+        (stack_of new suffix) (below_of new older) (λ empty. suffix_in.1 (sym same_suffix ∙ empty)) cover_before
+        (IsStackOf new resumes.whole) resumes.ended
+        (put_back_resumes tables targets new resumes.from.tops.items suffix new resumes.whole resumes.ended
+        cover_before.all_read resumes.is)
+
+    -- nothing is split off
+    pub over_resumed : below ≡ 0 → IsOver tables new more older t x j
+    over_resumed none = by resumes.left
+      where
+        by : AreResumedStacks tables new resumes.whole resumes.ended resumes.to below
+            → IsOver tables new more older t x j
+        by (inl same) = record {
+          suffixes_are = suffixes_kept old new kept older older_are;
+          at = record {
+            state = resumes.to;
+            is = resumes.to_is;
+            cover = subst (λ v. IsCover (flat_of tables) (last_of tables) x j (IsStackOf new v) resumes.to.ended
+                (below_of new older)) (sym same.1)
+                (subst (λ v. IsCover (flat_of tables) (last_of tables) x j (IsStackOf new resumes.whole) v
+                (below_of new older)) (sym same.2) cover_whole);
+          };
+        }
+        by (inr split_again) = absurd (split_again.2.full (stack_none new below none))
+
+    -- .. or something is, and pushed
+    pub over_split : (pushed : List ℕ) → pushed ≡ older ++ below ∷ [] → 0 < below
+        → IsSettled tables new more pushed t x j
+    over_split pushed is some = by resumes.left
+      where
+        by : AreResumedStacks tables new resumes.whole resumes.ended resumes.to below
+            → IsSettled tables new more pushed t x j
+        by (inl same) = absurd (let none = same.0 in omega (arith, none, some))
+        by (inr split_again) = record {
+          over = record {
+            suffixes_are = suffixes_pushed new older pushed below is split_again.2.within split_again.2.full
+                (suffixes_kept old new kept older older_are);
+            at = record {
+              state = resumes.to;
+              is = resumes.to_is;
+              cover = subst (λ v. IsCover (flat_of tables) (last_of tables) x j (IsStackOf new resumes.to.tops.items)
+                  resumes.to.ended (below_of new v)) (sym is)
+                  (subst (λ v. IsCover (flat_of tables) (last_of tables) x j (IsStackOf new resumes.to.tops.items)
+                  resumes.to.ended v) (sym (below_end new older below []))
+                  (subst (λ v. IsCover (flat_of tables) (last_of tables) x j (IsStackOf new resumes.to.tops.items)
+                  v (stack_of new below ++ below_of new older)) (sym split_again.1)
+                  (cover_split (flat_of tables) (last_of tables) x j (IsStackOf new resumes.whole)
+                  (IsStackOf new resumes.to.tops.items) (stack_of new below) (below_of new older)
+                  (subst (λ v. IsCover (flat_of tables) (last_of tables) x j (IsStackOf new resumes.whole) v
+                  (below_of new older)) split_again.0 cover_whole) split_again.2.tops_are
+                  (λ top h. reported_top tables top (subst (λ v. TopReads tables v) (sym h.is)
+                  (split_again.2.all_read h.id h.stands))))));
+            };
+          };
+          plain = λ ended_is. absurd (let runs = split_again.1 in cc (runs, ended_is));
+        }
 
 pub resumes_none : (tables : code_flat.Tables) (conts : List Cont) (states : List State) (resumes : List ResumedState)
     → resumes ≡ [] → AreResumes tables conts states resumes
@@ -156,24 +212,33 @@ resumes_none tables conts states resumes none k u is =
     absurd (let e = subst (λ v. slice_get v k ≡ Some u) none is in cc e)
 
 pub resumes_pushed : (tables : code_flat.Tables) (conts : List Cont) (states : List State) (old new : List ResumedState)
-    (u : ResumedState) → new ≡ old ++ u ∷ [] → IsResumedState tables conts states u.state u.suffix u.to
+    (u : ResumedState) → new ≡ old ++ u ∷ [] → IsResumedState tables conts states u.state u.suffix u.to u.below
     → AreResumes tables conts states old → AreResumes tables conts states new
 resumes_pushed tables conts states old new u is one are k v at_k =
     by (push_cases old u k v (subst (λ w. slice_get w k ≡ Some v) is at_k))
   where
     by : (slice_get old k ≡ Some v) ⊎ ((k ≡ length old) × (u ≡ v))
-        → IsResumedState tables conts states v.state v.suffix v.to
+        → IsResumedState tables conts states v.state v.suffix v.to v.below
     by (inl h) = are k v h
-    by (inr h) = subst (λ w. IsResumedState tables conts states w.state w.suffix w.to) h.1 one
+    by (inr h) = subst (λ w. IsResumedState tables conts states w.state w.suffix w.to w.below) h.1 one
+
+pub resumed_self : (tables : code_flat.Tables) (conts : List Cont) (states : List State) (s suffix : ℕ)
+    (u : ResumedState) → IsResumedBy tables conts states s suffix u
+    → IsResumedState tables conts states u.state u.suffix u.to u.below
+resumed_self tables conts states s suffix u by =
+    subst (λ v. IsResumedState tables conts states v u.suffix u.to u.below) (sym by.0)
+    (subst (λ v. IsResumedState tables conts states s v u.to u.below) (sym by.1) by.2)
 
 pub resume_known : (tables : code_flat.Tables) (conts : List Cont) (states : List State) (resumes : List ResumedState)
-    (s suffix t : ℕ) → AreResumes tables conts states resumes → IsKnown resumes s suffix t
-    → IsResumedState tables conts states s suffix t
-resume_known tables conts states resumes s suffix t are k =
-    subst (λ v. IsResumedState tables conts states v suffix t) k.state_is
-    (subst (λ v. IsResumedState tables conts states k.listed.state v t) k.suffix_is
-    (subst (λ v. IsResumedState tables conts states k.listed.state k.listed.suffix v) k.to_is
-    (are k.position k.listed k.is)))
+    (s suffix : ℕ) (listed : ResumedState) → AreResumes tables conts states resumes → IsKnown resumes s suffix listed
+    → IsResumedBy tables conts states s suffix listed
+resume_known tables conts states resumes s suffix listed are k = (
+  k.state_is,
+  k.suffix_is,
+  subst (λ v. IsResumedState tables conts states v suffix listed.to listed.below) k.state_is
+      (subst (λ v. IsResumedState tables conts states listed.state v listed.to listed.below) k.suffix_is
+      (are k.position listed k.is)),
+)
 
 -- the start
 pub settled_start : (tables : code_flat.Tables) → GiveTargets (flat_of tables) tables.targets.items → (x : List ℕ)
@@ -207,28 +272,43 @@ settled_empty tables conts states suffixes left s x j none none_left over =
     let same : suffixes ≡ left = none ∙ sym none_left in
     subst (λ v. IsSettled tables conts states v s x j) same (record { over = over; plain = λ ended. none })
 
--- a state and a suffix lead to a state that was added
-module _ (tables : code_flat.Tables) (conts mid new : List Cont) (states more : List State) (from : State)
-    (tops next : List ℕ) (ended : Bool) (s suffix t : ℕ)
+-- a state and a suffix lead to a state that was added, over what was split off
+module _ (tables : code_flat.Tables) (conts mid apart new : List Cont) (states more : List State) (from : State)
+    (tops whole : List ℕ) (ended : Bool) (s suffix t below : ℕ)
     (within : (id : ℕ) → Contains from.tops.items id → id ≤ length conts) (suffix_in : suffix ≤ length conts)
-    (kept : AreKept conts mid) (same : new ≡ mid) (interned : IsInterned states more next ended t)
+    (kept : AreKept conts mid) (moved : AreKept mid apart) (same : new ≡ apart)
     (at_s : slice_get states s ≡ Some from) (tops_are : tops ≡ from.tops.items)
-    (is : PutsBack tables conts tops suffix mid next ended) where
-  pub resume_made : IsResumedState tables new more s suffix t
-  resume_made =
-      subst (λ c. IsResumedState tables c more s suffix t) (sym same) (record {
+    (is : PutsBack tables conts tops suffix mid whole ended) where
+  resume_left : (next : List ℕ) (last : Bool) (interned : IsInterned states more next last t)
+      → AreResumedStacks tables apart whole ended interned.is.state below
+      → IsResumedState tables new more s suffix t below
+  resume_left next last interned left =
+      subst (λ c. IsResumedState tables c more s suffix t below) (sym same) (record {
         from = from;
         to = interned.is.state;
+        whole = whole;
+        ended = ended;
         from_is = grown_at states more interned.grown s from at_s;
         to_is = interned.is.is;
-        suffix_within = kept_within conts mid kept suffix suffix_in;
-        is = put_back_kept tables conts mid mid mid from.tops.items suffix interned.is.state.tops.items
-            interned.is.state.ended kept (kept_same mid) within suffix_in
-            (subst (λ w. PutsBack tables conts w suffix mid interned.is.state.tops.items interned.is.state.ended)
-            tops_are
-            (subst (λ w. PutsBack tables conts tops suffix mid w interned.is.state.ended) (sym interned.is.tops_are)
-            (subst (λ w. PutsBack tables conts tops suffix mid next w) (sym interned.is.ended_is) is)));
+        suffix_within = kept_within conts apart (kept_both conts mid apart kept moved) suffix suffix_in;
+        is = put_back_kept tables conts apart mid apart from.tops.items suffix whole ended
+            (kept_both conts mid apart kept moved) moved within suffix_in
+            (subst (λ w. PutsBack tables conts w suffix mid whole ended) tops_are is);
+        left = left;
       })
+
+  pub resume_made : below ≡ 0 → IsInterned states more whole ended t → IsResumedState tables new more s suffix t below
+  resume_made none interned =
+      resume_left whole ended interned (inl (none, interned.is.tops_are, interned.is.ended_is))
+
+  pub resume_split : (base : List ℕ) → ended ≡ false → IsSplitOff tables apart whole base below
+      → IsInterned states more base false t → IsResumedState tables new more s suffix t below
+  resume_split base runs split interned =
+      resume_left base false interned (inr (
+        runs,
+        interned.is.ended_is,
+        subst (λ w. IsSplitOff tables apart whole w below) (sym interned.is.tops_are) split,
+      ))
 
 -- growth keeps where a run stands
 pub over_kept : (tables : code_flat.Tables) (old new : List Cont) (states more : List State) → AreKept old new

@@ -1,5 +1,5 @@
 -- What is kept from line to line beside the cache, and where a run over a line stands.
-use Rattle.std.specs.Prelude.{◌≡◌, ℕ, ◌+◌, ◌*◌, ◌<◌, ◌≤◌, Bool, true, List, [], length, slice_get, Some}
+use Rattle.std.specs.Prelude.{◌≡◌, ◌⊎◌, ℕ, ◌+◌, ◌*◌, ◌<◌, ◌≤◌, Bool, true, false, List, [], length, slice_get, Some}
 use Rattle.flatgrammar.specs.NodeSteps.{flat_of}
 use Rattle.flatgrammar.specs.TableViews.{GiveTargets}
 use Rattle.flatgrammar.specs.declared.tables.Tables as code_flat
@@ -14,31 +14,42 @@ use Rattle.lazydfa.specs.Conts.{last_of}
 use Rattle.lazydfa.specs.Cached.{IsCache, IsAt}
 use Rattle.letterclasses.specs.ClassBounds.{AreClasses}
 use Rattle.lazydfa.specs.Transitions.{AreTransitions}
-use Rattle.lazydfa.specs.StackSuffixes.{PutsBack, AreSuffixes, below_of}
+use Rattle.lazydfa.specs.StackSuffixes.{IsSplitOff, PutsBack, AreSuffixes, below_of}
 use Rattle.lazydfa.specs.RunVerdicts.{IsReached}
 
--- a state and a suffix below it are another state
+-- stacks are those of a state, or those of a state over what is split off them
+abbrev pub AreResumedStacks : code_flat.Tables → List Cont → List ℕ → Bool → State → ℕ → Type 0
+AreResumedStacks tables conts whole ended to below = ((below ≡ 0) × (to.tops.items ≡ whole) × (to.ended ≡ ended))
+    ⊎ ((ended ≡ false) × (to.ended ≡ false) × IsSplitOff tables conts whole to.tops.items below)
+
+-- a state and a suffix below it are another state, over what is split off it
 pub record IsResumedState (tables : code_flat.Tables) (conts : List Cont) (states : List State)
-    (s suffix t : ℕ) : Type 0 where
+    (s suffix t below : ℕ) : Type 0 where
   pub from : State
   pub to : State
+  pub whole : List ℕ
+  pub ended : Bool
   pub from_is : slice_get states s ≡ Some from
   pub to_is : slice_get states t ≡ Some to
   pub suffix_within : suffix ≤ length conts
-  pub is : PutsBack tables conts from.tops.items suffix conts to.tops.items to.ended
+  pub is : PutsBack tables conts from.tops.items suffix conts whole ended
+  pub left : AreResumedStacks tables conts whole ended to below
 
--- a state and a suffix are listed with that state
-pub record IsKnown (resumes : List ResumedState) (s suffix t : ℕ) : Type 0 where
+-- .. as a resumed state says
+abbrev pub IsResumedBy : code_flat.Tables → List Cont → List State → ℕ → ℕ → ResumedState → Type 0
+IsResumedBy tables conts states s suffix known = (known.state ≡ s) × (known.suffix ≡ suffix)
+    × IsResumedState tables conts states s suffix known.to known.below
+
+-- a resumed state of a state and a suffix is listed
+pub record IsKnown (resumes : List ResumedState) (s suffix : ℕ) (listed : ResumedState) : Type 0 where
   pub position : ℕ
-  pub listed : ResumedState
   pub is : slice_get resumes position ≡ Some listed
   pub state_is : listed.state ≡ s
   pub suffix_is : listed.suffix ≡ suffix
-  pub to_is : listed.to ≡ t
 
 abbrev pub AreResumes : code_flat.Tables → List Cont → List State → List ResumedState → Type 0
 AreResumes tables conts states resumes = (k : ℕ) (u : ResumedState) → slice_get resumes k ≡ Some u
-    → IsResumedState tables conts states u.state u.suffix u.to
+    → IsResumedState tables conts states u.state u.suffix u.to u.below
 
 pub record IsMemo (tables : code_flat.Tables) (samples : List ℕ) (memo : Memo) : Type 0 where
   pub cached : IsCache tables samples memo.cache

@@ -1,26 +1,29 @@
 //! The states and transitions known so far, with the shared suffixes of the line that is read.
 ghost use Rattle.std.specs.Prelude.{◌≡◌, ◌≤◌, ◌<◌, ℕ, true, List, [], IfOk, IfSome, length, slice_get, Some};
 ghost use Rattle.lazydfa.specs.Cached.{IsCache, Grows};
-ghost use Rattle.lazydfa.specs.Memos.{IsKnown, IsMemo, IsResumedState};
+ghost use Rattle.lazydfa.specs.Memos.{IsKnown, IsMemo, IsResumedBy};
 ghost use Rattle.lazydfa.specs.declared.cache.State.{State};
 
 use crate::cache::{Cache, forget, state_of};
 use crate::chains::HashChains;
 use crate::fill::may_fill;
-use crate::suffixes::put_back;
+use crate::suffixes::{put_back, split_off};
+use crate::transition::Closure;
 use flatgrammar::Tables;
 use ruletable::Memory;
 use std::alloc::Global;
 
-/// A resumed state: a state that ended is put back on a shared suffix.
+/// A resumed state: a state that ended is put back on a shared suffix. What is shared there is split off again.
 #[derive(Clone, Copy)]
 pub(crate) struct ResumedState {
     /// The number of the state that ended.
     pub(crate) state: usize,
     /// The id of the shared suffix below it.
     pub(crate) suffix: usize,
-    /// The number of the state of both.
+    /// The number of the state of both, without `below`.
     pub(crate) to: usize,
+    /// The id of the shared suffix that is split off; 0 if none is.
+    pub(crate) below: usize,
 }
 
 /// All that an automaton keeps between lines, and the stack of shared suffixes of the line that is read.
@@ -64,9 +67,15 @@ fn hash_of_pair(state: usize, suffix: usize) -> usize {
     state.wrapping_mul(0x9E37_79B9).wrapping_add(suffix)
 }
 
-// Returns the state of a state and a suffix, if it is found in its chain; the entry k + 1 is of resumed state k.
+// Returns the resumed state of a state and a suffix, if it is found in its chain; the entry k + 1 is of resumed state
+// k.
 #[inline(always)]
-fn find(resumes: &[ResumedState], chains: &HashChains, state: usize, suffix: usize) -> Option<usize>
+fn find(
+    resumes: &[ResumedState],
+    chains: &HashChains,
+    state: usize,
+    suffix: usize,
+) -> Option<ResumedState>
     ensures { IfSome result (IsKnown resumes.now state suffix) }
 {
     let mut entry = chains.last(hash_of_pair(state, suffix));
@@ -76,7 +85,7 @@ fn find(resumes: &[ResumedState], chains: &HashChains, state: usize, suffix: usi
         }
         let known = resumes[entry - 1];
         if known.state == state && known.suffix == suffix {
-            return Some(known.to);
+            return Some(known);
         }
         entry = chains.before(entry);
     }
@@ -97,8 +106,8 @@ fn chain_last(resumes: &[ResumedState], chains: &mut HashChains) -> Result<(), M
     }
 }
 
-// Returns the state of a state that has ended and a suffix, which is added if there is none; `None` if that takes more
-// than there may be. `Memory` if an allocation fails.
+// Makes the resumed state of a state that has ended and a suffix; its state is added if there is none. `None` if that
+// takes more than there may be. `Memory` if an allocation fails.
 fn state_over(
     alloc: Global,
     tables: &Tables,
@@ -106,11 +115,11 @@ fn state_over(
     cache: &mut Cache,
     state: usize,
     suffix: usize,
-) -> Result<Option<usize>, Memory>
+) -> Result<Option<ResumedState>, Memory>
     requires cached { IsCache tables.now samples.now cache.old }
     ensures cached { IfOk result (λ reported. IsCache tables.now samples.now cache.new) }
     ensures grows { IfOk result (λ reported. Grows cache.old cache.new) }
-    ensures is { IfOk result (λ reported. IfSome reported (IsResumedState tables.now cache.new.conts.items.items
+    ensures is { IfOk result (λ reported. IfSome reported (IsResumedBy tables.now cache.new.conts.items.items
         cache.new.states.items state suffix)) }
 {
     if !may_fill(cache) || state >= cache.states.len() {
@@ -133,11 +142,32 @@ fn state_over(
     };
     cache.budget.spend(cache.ids.items.len().saturating_add(1));
     cache.budget.note(0);
-    let t = state_of(cache, samples.len() + 1, closure)?;
-    Ok(Some(t))
+    let stride = samples.len() + 1;
+    if let Some(split) = split_off(alloc, tables, &mut cache.conts, &closure)? {
+        let below = split.suffix;
+        let base = Closure {
+            tops: split.tops,
+            ended: false,
+        };
+        let to = state_of(cache, stride, base)?;
+        return Ok(Some(ResumedState {
+            state,
+            suffix,
+            to,
+            below,
+        }));
+    }
+    let to = state_of(cache, stride, closure)?;
+    let below = 0;
+    Ok(Some(ResumedState {
+        state,
+        suffix,
+        to,
+        below,
+    }))
 }
 
-// Makes the state of a state that has ended and the suffix below it, as `resumed` does where that is not known.
+// Makes the resumed state of a state and the suffix below it, as `resumed` does where that is not known.
 #[inline(never)]
 fn resume_anew(
     alloc: Global,
@@ -146,25 +176,25 @@ fn resume_anew(
     memo: &mut Memo,
     state: usize,
     suffix: usize,
-) -> Result<Option<usize>, Memory>
+) -> Result<Option<ResumedState>, Memory>
     requires memo { IsMemo tables.now samples.now memo.old }
     ensures memo { IfOk result (λ reported. IsMemo tables.now samples.now memo.new) }
     ensures grows { IfOk result (λ reported. Grows memo.old.cache memo.new.cache) }
     ensures suffixes { memo.new.suffixes ≡ memo.old.suffixes }
-    ensures is { IfOk result (λ reported. IfSome reported (IsResumedState tables.now memo.new.cache.conts.items.items
+    ensures is { IfOk result (λ reported. IfSome reported (IsResumedBy tables.now memo.new.cache.conts.items.items
         memo.new.cache.states.items state suffix)) }
 {
     let reported = state_over(alloc, tables, samples, &mut memo.cache, state, suffix)?;
-    let Some(to) = reported else {
+    let Some(known) = reported else {
         return Ok(None);
     };
-    memo.resumes.push(ResumedState { state, suffix, to })?;
+    memo.resumes.push(known)?;
     chain_last(&memo.resumes, &mut memo.chains)?;
-    Ok(Some(to))
+    Ok(Some(known))
 }
 
-/// Returns the state of a state that has ended and the suffix below it; `None` if that takes more than there may be.
-/// `Memory` if an allocation fails.
+/// Returns the resumed state of a state that has ended and the suffix below it; `None` if that takes more than there
+/// may be. `Memory` if an allocation fails.
 #[inline(always)]
 pub(crate) fn resumed(
     alloc: Global,
@@ -173,16 +203,16 @@ pub(crate) fn resumed(
     memo: &mut Memo,
     state: usize,
     suffix: usize,
-) -> Result<Option<usize>, Memory>
+) -> Result<Option<ResumedState>, Memory>
     requires memo { IsMemo tables.now samples.now memo.old }
     ensures memo { IfOk result (λ reported. IsMemo tables.now samples.now memo.new) }
     ensures grows { IfOk result (λ reported. Grows memo.old.cache memo.new.cache) }
     ensures suffixes { memo.new.suffixes ≡ memo.old.suffixes }
-    ensures is { IfOk result (λ reported. IfSome reported (IsResumedState tables.now memo.new.cache.conts.items.items
+    ensures is { IfOk result (λ reported. IfSome reported (IsResumedBy tables.now memo.new.cache.conts.items.items
         memo.new.cache.states.items state suffix)) }
 {
-    if let Some(to) = find(&memo.resumes, &memo.chains, state, suffix) {
-        return Ok(Some(to));
+    if let Some(known) = find(&memo.resumes, &memo.chains, state, suffix) {
+        return Ok(Some(known));
     }
     resume_anew(alloc, tables, samples, memo, state, suffix)
 }

@@ -187,10 +187,14 @@ fn settle(
         let Some(suffix) = memo.suffixes.pop() else {
             return Ok(Some(now));
         };
-        let Some(t) = resumed(alloc, tables, samples, memo, now, suffix)? else {
+        let Some(known) = resumed(alloc, tables, samples, memo, now, suffix)? else {
             return Ok(None);
         };
-        now = t;
+        if known.below > 0 {
+            memo.suffixes.push(known.below)?;
+            return Ok(Some(known.to));
+        }
+        now = known.to;
     }
     Ok(Some(now))
 }

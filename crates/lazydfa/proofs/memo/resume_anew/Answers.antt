@@ -1,7 +1,7 @@
 use Rattle.std.proofs.Common.{refl, subst}
 use Rattle.std.specs.Prelude.{IfSome}
-use Rattle.lazydfa.specs.Memos.{IsResumedState}
-use Rattle.lazydfa.proofs.IsOverLemmas.{resumes_kept, resumes_pushed}
+use Rattle.lazydfa.specs.Memos.{IsResumedBy}
+use Rattle.lazydfa.proofs.IsOverLemmas.{resumed_self, resumes_kept, resumes_pushed}
 use Rattle.lazydfa.proofs.AreTransitionsLemmas.{transitions_kept, memo_kept}
 use Rattle.lazydfa.proofs.memo.resume_anew.Goals as goal
 
@@ -16,9 +16,11 @@ returns-clause-memo c = record {
   cached = c.in_ok-reported.ensures.cached;
   resumes = resumes_pushed c.args.tables.now c.state_over.new.cache.conts.items.items
       c.state_over.new.cache.states.items c.args.memo.now.resumes.items c.push.new.self.items
-      (record { state = c.args.state; suffix = c.args.suffix; to = c.in-Some.to }) c.in_ok-push.ensures.items
-      (subst (λ v. IfSome v (IsResumedState c.args.tables.now c.state_over.new.cache.conts.items.items
-      c.state_over.new.cache.states.items c.args.state c.args.suffix)) c.in-Some.is c.in_ok-reported.ensures.is)
+      c.in-Some.known c.in_ok-push.ensures.items
+      (resumed_self c.args.tables.now c.state_over.new.cache.conts.items.items c.state_over.new.cache.states.items
+      c.args.state c.args.suffix c.in-Some.known
+      (subst (λ v. IfSome v (IsResumedBy c.args.tables.now c.state_over.new.cache.conts.items.items
+      c.state_over.new.cache.states.items c.args.state c.args.suffix)) c.in-Some.is c.in_ok-reported.ensures.is))
       (resumes_kept c.args.tables.now c.args.memo.now.cache.conts.items.items
       c.state_over.new.cache.conts.items.items c.args.memo.now.cache.states.items
       c.state_over.new.cache.states.items c.in_ok-reported.ensures.grows.conts c.in_ok-reported.ensures.grows.states

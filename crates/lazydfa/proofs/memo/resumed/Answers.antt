@@ -6,5 +6,5 @@ use Rattle.lazydfa.proofs.memo.resumed.Goals as goal
 pub returns-in-Some-clause-is : goal.returns-in-Some-clause-is
 returns-in-Some-clause-is c =
     resume_known c.args.tables.now c.args.memo.now.cache.conts.items.items c.args.memo.now.cache.states.items
-    c.args.memo.now.resumes.items c.args.state c.args.suffix c.in-Some.to c.requires.memo.resumes
-    (subst (λ v. IsKnown v c.args.state c.args.suffix c.in-Some.to) c.deref.ensures.value c.in-Some.ensures)
+    c.args.memo.now.resumes.items c.args.state c.args.suffix c.in-Some.known c.requires.memo.resumes
+    (subst (λ v. IsKnown v c.args.state c.args.suffix c.in-Some.known) c.deref.ensures.value c.in-Some.ensures)

@@ -1,8 +1,8 @@
-use Rattle.std.proofs.Common.{sym, ◌∙◌, subst, arith}
+use Rattle.std.proofs.Common.{◌≡◌, ◌++◌, ◌∷◌, [], sym, ◌∙◌, subst, arith}
 use Rattle.std.proofs.lemmas.List.{nil_from_length}
 use Rattle.std.specs.Prelude.{IfSome}
-use Rattle.lazydfa.specs.Memos.{IsResumedState, IsOver}
-use Rattle.lazydfa.proofs.IsOverLemmas.{over_resumed, settled_running, settled_empty}
+use Rattle.lazydfa.specs.Memos.{IsResumedBy, IsOver}
+use Rattle.lazydfa.proofs.IsOverLemmas.{over_resumed, over_split, settled_running, settled_empty}
 use Rattle.lazydfa.proofs.run.settle.Goals as goal
 
 pub suffixes-init : goal.suffixes-init
@@ -10,21 +10,38 @@ suffixes-init c = (c.requires.memo, λ x j over. over)
 
 pub suffixes-preserved : goal.suffixes-preserved
 suffixes-preserved c = (
-  c.in_ok-t.ensures.memo,
+  c.in_ok-known.ensures.memo,
   λ x j before.
       let over = c.suffixes.invariant.1 x j before in
       subst (λ v. IsOver c.args.tables.now c.resumed.new.memo.cache.conts.items.items
-      c.resumed.new.memo.cache.states.items v.items c.in-Some-2.t x j) (sym c.in_ok-t.ensures.suffixes)
+      c.resumed.new.memo.cache.states.items v.items c.in-Some-2.known.to x j) (sym c.in_ok-known.ensures.suffixes)
       (over_resumed c.args.tables.now c.suffixes.memo.cache.conts.items.items
       c.resumed.new.memo.cache.conts.items.items c.suffixes.memo.cache.states.items
-      c.resumed.new.memo.cache.states.items c.in_ok-t.ensures.grows.conts c.in_ok-t.ensures.grows.states
-      c.suffixes.invariant.0.cached.within c.requires.targets x j c.suffixes.now c.in-Some.suffix c.in-Some-2.t
+      c.resumed.new.memo.cache.states.items c.in_ok-known.ensures.grows.conts c.in_ok-known.ensures.grows.states
+      c.suffixes.invariant.0.cached.within c.requires.targets x j c.suffixes.now c.in-Some.suffix
+      c.in-Some-2.known.to c.in-Some-2.known.below
       c.suffixes.memo.suffixes.items c.pop.new.self.items c.in-Some.ensures.items over
       (sym (c.has_ended.ensures over.at.state over.at.is) ∙ c.if-not-has_ended.false)
-      (subst (λ v. IfSome v (IsResumedState c.args.tables.now c.resumed.new.memo.cache.conts.items.items
+      (subst (λ v. IfSome v (IsResumedBy c.args.tables.now c.resumed.new.memo.cache.conts.items.items
       c.resumed.new.memo.cache.states.items c.suffixes.now c.in-Some.suffix)) c.in-Some-2.is
-      c.in_ok-t.ensures.is)),
+      c.in_ok-known.ensures.is).2 (let none = c.if-known-gt0.false in omega (arith, none))),
 )
+
+pub returns-then-known-gt0-clause-settled : goal.returns-then-known-gt0-clause-settled
+returns-then-known-gt0-clause-settled c = λ x j before.
+    let over = c.suffixes.invariant.1 x j before in
+    over_split c.args.tables.now c.suffixes.memo.cache.conts.items.items
+    c.resumed.new.memo.cache.conts.items.items c.suffixes.memo.cache.states.items
+    c.resumed.new.memo.cache.states.items c.in_ok-known.ensures.grows.conts c.in_ok-known.ensures.grows.states
+    c.suffixes.invariant.0.cached.within c.requires.targets x j c.suffixes.now c.in-Some.suffix
+    c.in-Some-2.known.to c.in-Some-2.known.below
+    c.suffixes.memo.suffixes.items c.pop.new.self.items c.in-Some.ensures.items over
+    (sym (c.has_ended.ensures over.at.state over.at.is) ∙ c.if-not-has_ended.false)
+    (subst (λ v. IfSome v (IsResumedBy c.args.tables.now c.resumed.new.memo.cache.conts.items.items
+    c.resumed.new.memo.cache.states.items c.suffixes.now c.in-Some.suffix)) c.in-Some-2.is
+    c.in_ok-known.ensures.is).2 c.push.new.self.items
+    (subst (λ v. c.push.new.self.items ≡ v.items ++ c.in-Some-2.known.below ∷ []) c.in_ok-known.ensures.suffixes
+    c.in_ok-push.ensures.items) c.if-known-gt0.true
 
 pub returns-in_default-clause-settled : goal.returns-in_default-clause-settled
 returns-in_default-clause-settled c = λ x j before.
