@@ -6,7 +6,7 @@ function __abnfi_rules
     set -l at 2
     while test $at -le (count $words)
         switch $words[$at]
-            case -m --mode -s --rule -l --limit -u --letters -p --print
+            case -m --mode -s --rule -l --limit -u --letters -b --budget -p --print
                 set at (math $at + 1)
             case '-*'
             case '*'
@@ -27,6 +27,7 @@ complete -c abnfi -s l -l limit -x -d 'Take lines of at most N bytes, or Nk, NM,
 complete -c abnfi -s u -l letters -x -a 'bytes utf8' -d 'Take bytes or code points of UTF-8 as letters'
 complete -c abnfi -s z -l null-data -d 'Cut the input at NUL bytes in place of line feeds'
 complete -c abnfi -s k -l keep-ends -d 'Judge each line with its line feed, or its NUL byte'
+complete -c abnfi -s b -l budget -x -d 'Keep at most N items for a line, from 1 to 4294967295, which is no limit'
 complete -c abnfi -s p -l print -x -a 'answers derived refused count none' -d 'Choose what to print'
 complete -c abnfi -s H -l with-filename -d 'Print the name of the input before each line'
 complete -c abnfi -s n -l line-number -d 'Print the number of each line before it'

@@ -6,7 +6,7 @@ function __pegi_rules
     set -l at 2
     while test $at -le (count $words)
         switch $words[$at]
-            case -m --mode -s --rule -l --limit
+            case -m --mode -s --rule -l --limit -b --budget
                 set at (math $at + 1)
             case '-*'
             case '*'
@@ -24,6 +24,7 @@ end
 complete -c pegi -s m -l mode -x -a 'run check print' -d 'Choose what to do with the grammar'
 complete -c pegi -s s -l rule -x -a '(__pegi_rules)' -d 'Start from this rule [default: the first rule]'
 complete -c pegi -s l -l limit -x -d 'Look at no more than N bytes, or Nk, NM, in a unit, from 1 to 16777216'
+complete -c pegi -s b -l budget -x -d 'Print no more than N bytes in a unit, from 1 to 4294967295 [default: 4294967295, any number]'
 complete -c pegi -s 1 -l whole -d 'Take the input as one unit, up to its end'
 complete -c pegi -s r -l raw -d 'Print actions verbatim'
 complete -c pegi -l escapes -d 'Replace escapes in actions by their bytes'

@@ -1,10 +1,10 @@
 """Proved grammar tools: lines judged by grammars in ABNF, and grammars of peg(1) run on bytes.
 
 `Abnf` and `Peg` hold a grammar. `abnf` and `peg` are one whole run each, as the programs abnfi(1) and pegi(1) make it.
-`compare` and `Abnf.lines` run the programs abnfd(1) and abnfg(1), which a wheel has inside.
+`compare` runs the program abnfd(1), which a wheel has inside.
 """
 from ._grammars import Abnf, Peg, PegRun, compare
-from ._programs import ProgramFailed, ProgramMissing, TooManyStacks
+from ._programs import ProgramFailed, ProgramMissing
 from .comparisons import Alone, Comparison
 from .findings import Finding, Note
 from .refusals import Refusal
@@ -20,6 +20,7 @@ from ._library import (
     Overlong,
     Reply,
     Status,
+    TooManyStacks,
     abnf,
     peg,
     peg_each,

@@ -1,5 +1,7 @@
 """Grammars that are asked more than once."""
+import contextlib
 import functools
+import itertools
 import os
 import threading
 from typing import Any, Callable, Dict, Iterable, Iterator, List, NamedTuple, Optional, Sequence, Tuple, TypeVar, Union
@@ -9,6 +11,7 @@ from ._library import (
     DEFAULT_LIMIT,
     MAX_LIMIT,
     AbnfJudge,
+    DerivedLines,
     GrammarError,
     Letters,
     Mode,
@@ -22,7 +25,7 @@ from ._library import (
     as_bytes,
     peg,
 )
-from ._programs import ProgramFailed, TooManyStacks
+from ._programs import ProgramFailed
 from .comparisons import Comparison, read_comparison
 from .findings import Finding, read_findings
 from .names import first_rule
@@ -254,20 +257,20 @@ class Abnf(_PerThread):
         each once. None is left out but those that hold a NUL byte. They have at most `limit` letters each, and are at
         most `count`.
 
-        The program runs while the iterator is used. `ValueError` if `limit` is not from 1 to 16777216 or `count` not
-        from 1 to 4294967295, `ProgramMissing` if abnfg is not installed. The iterator raises `TooManyStacks` after the
-        last line that is found if more may follow, `OutOfMemory` if an allocation fails, and `ProgramFailed`.
+        The grammar is opened for the first line. `ValueError` if `limit` is not from 1 to 16777216 or `count` not from
+        1 to 4294967295. The iterator raises `GrammarError` if the grammar is rejected, `TooManyStacks` after the last
+        line that is found if more may follow, `OutOfMemory` if an allocation fails, and `RuntimeError` on another
+        thread than that which asked for the first line.
         """
         _in_range("limit", limit, MAX_LIMIT)
         _in_range("count", count, MAX_NUMBER)
-        words: List[Text] = [_programs.program_path("abnfg"), "--null-data", f"--limit={limit}", f"--count={count}"]
-        return self._listed(words + _options(self._letters, [("--rule", self._rule)]))
+        return itertools.islice(self._derived(limit), count)
 
-    def _listed(self, words: Sequence[Text]) -> Iterator[bytes]:
-        reply = yield from _programs.parts(words, [self._text], b"\0")
-        if reply.status == Status.OVERLONG:
-            raise TooManyStacks(_lines(reply.err)[-1])
-        _raise_fault(reply, self._explained)
+    def _derived(self, limit: int) -> Iterator[bytes]:
+        with contextlib.closing(DerivedLines(self._text, limit=limit, rule=self._rule, letters=self._letters)) as lines:
+            _raise_fault(lines.opening, self._explained)
+            while (line := lines.next()) is not None:
+                yield line
 
     def compare(self, new: "Abnf", *, budget: int = DEFAULT_BUDGET) -> Comparison:
         """Returns which lines this rule derives and that of `new` does not, and the reverse, as the function `compare`

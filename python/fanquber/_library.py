@@ -79,6 +79,11 @@ class OutOfMemory(FanquberError, MemoryError):
     """An allocation failed."""
 
 
+class TooManyStacks(FanquberError):
+    """The rule nests, counts how often something is repeated that may be empty, or begins with itself. The lines that
+    came before are right, and more may follow."""
+
+
 class _Settings(ctypes.Structure):
     _fields_ = [
         ("size", ctypes.c_size_t),
@@ -102,13 +107,17 @@ class _Window(ctypes.Structure):
 
 
 class _Place(ctypes.Structure):
-    """A judge or a runner of C."""
+    """A judge, a runner or lines of C."""
 
     _fields_ = [("at", ctypes.c_void_p), ("is_open", ctypes.c_bool)]
 
 
 class _Answer(ctypes.Structure):
     _fields_ = [("reached", ctypes.c_size_t), ("status", ctypes.c_uint8)]
+
+
+class _Line(ctypes.Structure):
+    _fields_ = [("len", ctypes.c_size_t), ("status", ctypes.c_uint8)]
 
 
 def library_path() -> str:
@@ -140,7 +149,10 @@ def _loaded() -> ctypes.CDLL:
     library.fanquber_abnf_open.argtypes = library.fanquber_peg_open.argtypes = settings + text * 2 + place + text
     library.fanquber_abnf_judge.argtypes, library.fanquber_abnf_judge.restype = place + text, _Answer
     library.fanquber_peg_run.argtypes = place + text * 3
-    for call in ("fanquber_abnf_close", "fanquber_peg_close"):
+    which: List[Any] = [ctypes.c_uint8]
+    library.fanquber_lines_open.argtypes = settings + which + text * 2 + place + text
+    library.fanquber_lines_next.argtypes, library.fanquber_lines_next.restype = place + text, _Line
+    for call in ("fanquber_abnf_close", "fanquber_peg_close", "fanquber_lines_close"):
         getattr(library, call).argtypes, getattr(library, call).restype = place, None
     for call in (
         "fanquber_peg",
@@ -149,6 +161,7 @@ def _loaded() -> ctypes.CDLL:
         "fanquber_abnf_open",
         "fanquber_peg_open",
         "fanquber_peg_run",
+        "fanquber_lines_open",
     ):
         getattr(library, call).restype = _Result
     return library
@@ -355,3 +368,31 @@ class PegRunner(_Opened):
                 return Reply(out.raw[: got.out_len], err.raw[: got.err_len], Status(got.status))
             self._out = ctypes.create_string_buffer(max(len(out), got.out_len))
             self._err = ctypes.create_string_buffer(max(len(err), got.err_len))
+
+
+def _open_derived(settings: Any, *others: Any) -> _Result:
+    """Opens the lines that the rule of a grammar derives."""
+    result: _Result = _library.fanquber_lines_open(settings, 0, *others)
+    return result
+
+
+class DerivedLines(_Opened):
+    """The lines that a rule in ABNF derives, one after another. None holds a NUL byte."""
+
+    def __init__(self, grammar: Text, *, limit: int, rule: Optional[str], letters: Letters) -> None:
+        settings = _settings(limit, Mode.RUN, rule, letters=letters, nul=True)
+        super().__init__(_open_derived, _library.fanquber_lines_close, settings, grammar, rule)
+        # A line of so many letters fits
+        self._line = ctypes.create_string_buffer(limit * (4 if letters == Letters.UTF8 else 1))
+
+    def next(self) -> Optional[bytes]:
+        """Returns the next line, or None if there is none. `TooManyStacks` if more may follow, `OutOfMemory` if an
+        allocation fails, `RuntimeError` on another thread than that which opened the lines."""
+        if threading.get_ident() != self._thread:
+            raise RuntimeError("the lines were opened on another thread")
+        got = _library.fanquber_lines_next(ctypes.byref(self._place), self._line, len(self._line))
+        if got.status == Status.OVERLONG:
+            raise TooManyStacks("too many stacks")
+        if got.status > Status.NO_MATCH:
+            raise OutOfMemory("out of memory")
+        return None if got.status == Status.NO_MATCH else ctypes.string_at(self._line, got.len)

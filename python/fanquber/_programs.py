@@ -1,14 +1,13 @@
-"""Runs of the programs abnfd(1) and abnfg(1), which are no calls of the library."""
+"""Runs of the program abnfd(1)."""
 import contextlib
 import os
 import shutil
 import subprocess
 import tempfile
-from typing import IO, Generator, Iterator, Sequence
+from typing import IO, Iterator, Sequence
 
 from ._library import FanquberError, OutOfMemory, Reply, Status, Text, as_bytes, loaded_path
 
-_BLOCK = 65536  # bytes of an output that are read at a time
 _OF_WORDS = b"error: "  # how a message on the words of a command begins
 
 
@@ -26,11 +25,6 @@ class ProgramMissing(FanquberError):
 
 class ProgramFailed(FanquberError):
     """A program ended without an answer: by a signal or a fault of a file, or since it is of another version."""
-
-
-class TooManyStacks(FanquberError):
-    """The rule nests, counts how often something is repeated that may be empty, or begins with itself. The lines that
-    came before are right, and more may follow."""
 
 
 def program_path(name: str) -> str:
@@ -80,22 +74,6 @@ def _status(words: Sequence[Text], code: int, err: bytes) -> Status:
     if code >= Status.FAULT or err.startswith(_OF_WORDS):
         raise ProgramFailed(f"{name}: {err.decode('utf-8', 'backslashreplace').partition(chr(10))[0]}")
     return Status(code)
-
-
-def parts(words: Sequence[Text], grammars: Sequence[bytes], end: bytes) -> Generator[bytes, None, Reply]:
-    """Yields what a program writes, cut at each `end`, while it runs. Returns what stands after the last end, its error
-    output and its status. `OutOfMemory` if an allocation fails, `ProgramFailed` if there is no answer. The program ends
-    when the generator is closed."""
-    rest = b""
-    with tempfile.TemporaryFile() as err:
-        with _started(words, grammars, err) as process:
-            assert process.stdout
-            while block := os.read(process.stdout.fileno(), _BLOCK):
-                *whole, rest = (rest + block).split(end)
-                yield from whole
-        err.seek(0)
-        said = err.read()
-    return Reply(rest, said, _status(words, process.returncode, said))
 
 
 def run(words: Sequence[Text], grammars: Sequence[bytes]) -> Reply:

@@ -1,11 +1,11 @@
-"""`compare` and `Abnf.lines`: over scripts that stand in for abnfd(1) and abnfg(1), and over the programs themselves
-where they are. Wanted texts are those of the manual pages, of the gate's rows and of examples/."""
+"""`compare`: over scripts that stand in for abnfd(1), and over the program itself where it is. And `Abnf.lines`. Wanted
+texts are those of the manual pages, of the gate's rows and of examples/."""
 import itertools
 import os
 import pathlib
 import pickle
 import stat
-import time
+import threading
 
 import pytest
 
@@ -112,7 +112,6 @@ def test_faults_of_abnfd(stand_in):
 
 def test_numbers_out_of_range(stand_in):
     stand_in("abnfd", printed("same\\n"))
-    stand_in("abnfg", printed(""))
     for budget in (0, -1, 1 << 32):
         with pytest.raises(ValueError):
             compare(OLD, NEW, budget=budget)
@@ -127,13 +126,12 @@ def test_missing_programs_are_named(tmp_path, monkeypatch):
     monkeypatch.delenv("FANQUBER_PROGRAMS", raising=False)
     monkeypatch.setenv("PATH", str(tmp_path))
     monkeypatch.setattr(_programs, "loaded_path", lambda: "libfanquber.so.2")
-    for name, call in (("abnfd", lambda: compare(OLD, NEW)), ("abnfg", lambda: Abnf(OLD).lines())):
-        with pytest.raises(ProgramMissing) as missing:
-            call()
-        assert missing.value.program == name
-        assert str(missing.value).startswith(f"{name} is not in FANQUBER_PROGRAMS, beside the shared object or on PATH")
-        copy = pickle.loads(pickle.dumps(missing.value))
-        assert (copy.program, str(copy)) == (name, str(missing.value))
+    with pytest.raises(ProgramMissing) as missing:
+        compare(OLD, NEW)
+    assert missing.value.program == "abnfd"
+    assert str(missing.value).startswith("abnfd is not in FANQUBER_PROGRAMS, beside the shared object or on PATH")
+    copy = pickle.loads(pickle.dumps(missing.value))
+    assert (copy.program, str(copy)) == ("abnfd", str(missing.value))
 
 
 def test_where_programs_are_found(tmp_path, monkeypatch):
@@ -148,61 +146,6 @@ def test_where_programs_are_found(tmp_path, monkeypatch):
     for folder in ("own", "beside", "path"):
         assert _programs.program_path("abnfd") == str(tmp_path / folder / "abnfd")
         (tmp_path / folder / "abnfd").chmod(stat.S_IRUSR)
-
-
-def test_what_abnfg_gets(stand_in):
-    stand_in("abnfg", "printf '%s\\0' \"$@\"")
-    *words, file = Abnf(OLD, "date", letters=Letters.UTF8).lines(limit=3, count=4)
-    assert words == [b"--null-data", b"--limit=3", b"--count=4", b"--letters=utf8", b"--rule=date"]
-    assert file.startswith(b"/proc/self/fd/")
-    stand_in("abnfg", 'for it; do :; done; cat "$it"; printf "\\0"')
-    assert list(Abnf(OLD).lines()) == [OLD.encode()]
-
-
-def test_lines_of_abnfg(stand_in):
-    stand_in("abnfg", printed("\\0a\\nb\\0\\377\\0", "a note\\n" * 9999))
-    assert list(Abnf(OLD).lines()) == [b"", b"a\nb", b"\xff"]
-    stand_in("abnfg", printed("", "", 1))
-    assert list(Abnf(OLD).lines()) == []
-    stand_in("abnfg", printed("x\\0", "a note\\ntoo many stacks\\n", 3))
-    lines = Abnf(OLD).lines()
-    assert next(lines) == b"x"
-    with pytest.raises(TooManyStacks) as raised:
-        next(lines)
-    assert str(raised.value) == "too many stacks"
-    stand_in("abnfg", printed("", "prose in rule a\\n", 2))
-    with pytest.raises(GrammarError) as rejected:
-        next(Abnf(OLD).lines())
-    assert rejected.value.notes == ["prose in rule a"]
-
-
-def test_faults_of_abnfg(stand_in):
-    for script, error, text in (
-        (printed("x\\0y", "write error\\n", 4), ProgramFailed, "abnfg: write error"),
-        (printed("x\\0", "out of memory\\n", 5), OutOfMemory, "out of memory"),
-        (printed("x\\0", "error: invalid value\\n", 2), ProgramFailed, "abnfg: error: invalid value"),
-        ("printf 'x\\0'; kill -15 $$", ProgramFailed, "abnfg was ended by signal 15"),
-    ):
-        stand_in("abnfg", script)
-        lines = Abnf(OLD).lines()
-        assert next(lines) == b"x"
-        with pytest.raises(error) as raised:
-            next(lines)
-        assert str(raised.value) == text
-
-
-def test_the_program_ends_with_its_iterator(stand_in, tmp_path):
-    stand_in("abnfg", f"echo $$ > {tmp_path}/number\nprintf 'x\\0'\nexec sleep 100")
-    lines = Abnf(OLD).lines()
-    assert not (tmp_path / "number").exists(), "it starts when the first line is asked for"
-    assert next(lines) == b"x"
-    number = int((tmp_path / "number").read_text())
-    os.kill(number, 0)
-    began = time.monotonic()
-    lines.close()
-    assert time.monotonic() - began < 20
-    with pytest.raises(ProcessLookupError):
-        os.kill(number, 0)
 
 
 @pytest.mark.usefixtures("programs")
@@ -254,7 +197,6 @@ def test_comparisons_of_rejected_grammars():
     assert [(it.file, it.code) for it in rejected.value.findings][0] == ("old", "syntax")
 
 
-@pytest.mark.usefixtures("programs")
 def test_lines():
     bits = Abnf('bits = 1*2("0" / "1")')
     assert list(bits.lines()) == [b"0", b"1", b"00", b"01", b"10", b"11"]
@@ -267,9 +209,27 @@ def test_lines():
     assert list(Abnf('a = b\nb = "x"\n', "B").lines(count=1)) == [b"X"]
     many = Abnf('a = *"x"').lines(limit=16777216, count=4294967295)
     assert list(itertools.islice(many, 4)) == [b"", b"X", b"x", b"XX"]
+    with pytest.raises(GrammarError) as rejected:
+        next(Abnf("a = <prose>").lines())
+    assert rejected.value.notes == ["prose in rule 'a'"]
 
 
-@pytest.mark.usefixtures("programs")
+def test_lines_stay_on_their_thread():
+    lines, raised = Abnf('a = *"x"').lines(), []
+    assert next(lines) == b""
+
+    def goes_on():
+        try:
+            next(lines)
+        except RuntimeError as fault:
+            raised.append(str(fault))
+
+    other = threading.Thread(target=goes_on)
+    other.start()
+    other.join()
+    assert raised == ["the lines were opened on another thread"]
+
+
 def test_too_many_stacks():
     for text, wanted in (('a = a "b" / "c"', []), ("a = *2[DIGIT]", [])):
         lines = Abnf(text).lines()
@@ -278,7 +238,6 @@ def test_too_many_stacks():
         assert wanted == []
 
 
-@pytest.mark.usefixtures("programs")
 def test_lines_of_examples_are_derived():
     offset = Abnf.from_file(EXAMPLES / "timezones/offset.abnf")
     wanted = (EXAMPLES / "timezones/printed.txt").read_bytes().split(b"\n")[:-1]

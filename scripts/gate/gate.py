@@ -31,7 +31,7 @@ BEFORE = (
 )
 AFTER = (
     ("docs/run_examples.sh",), ("docs/man_examples.py",), ("gate/run_rows.py",),
-    ("oracles/random_cases.py", "-n", "5000", "-u", "-w", "-z", "-k", "-p", "-q", "-b", "-1", "-e", "-x"),
+    ("oracles/random_cases.py", "-n", "5000", "-u", "-w", "-z", "-k", "-p", "-q", "-b", "-1", "-e", "-d", "-x"),
     ("oracles/both_judges.py",),
     ("oracles/dense_lines.py",), ("oracles/slow_abnfx.py",), ("oracles/random_texts.py", "-n", "300"),
     ("oracles/random_pairs.py", "-n", "300"), ("oracles/random_lines.py", "-n", "300"),

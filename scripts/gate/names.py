@@ -65,7 +65,7 @@ NO_CODE = re.compile(r"""b?'(?:\\.|[^'\\\n])'|(?://|--)[^\n]*|["](?:\\.|[^"\\])*
 # of its own, as `abnfd` and `abnfg`. `rfcforms` reads XML, since `abnfblocks` and `abnftexts` are full. In `rfcforms`
 # the functions of `rfcvalues` would be 124 with its own, and `abnfblocks` would wait for `abnfexplain`. In `rulelines`
 # those of `coverlines` would be 174 with its own; each library below `abnfg` with room is proved for `abnfi` too.
-MOST_CRATES = 54
+MOST_CRATES = 53
 LONGEST_CHAIN = 10
 # The programs, each with the parts of crates.txt of which it uses nothing, and the most crates below it.
 PROGRAMS = {
@@ -82,7 +82,7 @@ LARGEST_CRATE = 105
 LARGER = {"lazydfa": 125, "abnftexts": 130}
 # The most entries that a folder has, and the folders that have more.
 LARGEST_FOLDER = 40
-WIDER = {"crates": MOST_CRATES, "docs/crates": MOST_CRATES, "scripts/oracles/rfc_texts": 48}
+WIDER = {"crates": MOST_CRATES, "docs/crates": MOST_CRATES, "must-fail": MOST_CRATES, "scripts/oracles/rfc_texts": 48}
 # Folders that hold no sources.
 BUILT = {".git", "__pycache__", "bin", "out"}
 TEXTS = {".antt", ".edit", ".md", ".py", ".rt", ".sh"}

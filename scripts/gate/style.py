@@ -34,7 +34,7 @@ SOURCES = """
     coverlines diagnostics earley earleyitems fanquber fanquber_c feed fixpoint flatgrammar gramcheck lazydfa
     letterclasses letters lexer linejudge lowering matchfailure memo memoryrun packrat pegexplain pegi pegmatch pegnodes
     pegprint pegread pegrun refusedlines rfcforms rfcvalues rulelines rulenames ruletable testio tests_abnf
-    tests_answers tests_peg tests_runs toolrun uses
+    tests_answers tests_peg toolrun uses
     """.split()
 # The files whose words are clean. A file that is rewritten joins them.
 CHECKED = (

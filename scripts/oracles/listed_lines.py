@@ -33,7 +33,7 @@ def is_explained_alike(grammar):
         return True
     ran = run("abnfg", "-x", "-m", "miss", "-c", "16", grammar)
     why = ran.stderr[len(plain.stderr):]
-    count = sum(it.startswith(b"line ") for it in why.splitlines())
+    count = sum(it.startswith(b"record ") for it in why.splitlines())
     return (ran.stdout, ran.stderr, ran.returncode, count) == (
         plain.stdout, plain.stderr + why, 0, plain.stdout.count(b"\0")) and run(
         "abnfi", "-x", grammar, lines=plain.stdout).stderr.endswith(why)

@@ -1,7 +1,7 @@
 #!/usr/bin/env python3
 """Compares bin/pegi and bin/abnfi with slow answers to random grammars and inputs (slow_peg.py, slow_abnf.py).
 
-usage: random_cases.py [-n COUNT] [-s SEED] [-u] [-w] [-z] [-k] [-p] [-q] [-b] [-1] [-e] [-x] [pegi | abnfi]
+usage: random_cases.py [-n COUNT] [-s SEED] [-u] [-w] [-z] [-k] [-p] [-q] [-b] [-1] [-e] [-d] [-x] [pegi | abnfi]
 
 A case is a unit that pegi tries, a line that abnfi judges, or a grammar that is rejected. COUNT cases are compared,
 half of them by each program; 20000 if it is not given. Cases and their order follow from the seed alone. Prints how
@@ -9,15 +9,17 @@ many cases were compared; at the first disagreement it prints the case and ends 
 built is skipped. With -u half of the runs of abnfi have its option `-u utf8`; so it is with -w, -z and -k, and its
 options of these names. With -p most of them have its option `-p`, `-n` or `-H`, with -q some its option `-q`, with -b
 half of them `--line-buffered`. With -1 a third of the runs of pegi have its option `-1`, with -e half of them
-`--escapes`. With -x half of the runs of both have the option `-x`, half of these with what explains their notes, with
-hints (slow_notes.py, slow_hints.py), how the run of pegi stops (slow_stops.py), and rejected lines (slow_refused.py),
-the others of a text with a fault (slow_faults.py): a grammar's, of which some bytes are changed.
+`--escapes`. With -d half of the runs of both have the option `-b`; those of abnfi may end at a line that needs more
+items. With -x half of the runs of both have the option `-x`, half of these with what explains their notes, with hints
+(slow_notes.py, slow_hints.py), how the run of pegi stops (slow_stops.py), and rejected lines (slow_refused.py), the
+others of a text with a fault (slow_faults.py): a grammar's, of which some bytes are changed.
 """
 import argparse
 import collections
 import functools
 import pathlib
 import random
+import re
 import subprocess
 import sys
 import tempfile
@@ -39,7 +41,8 @@ PIECES = [*(bytes([it]) for it in b"|=_-'\"[](){}/&!*+?<>%#;a9 \t\n\r"), b"::=",
           b"\xC3\xA9", b"\xE2\x86\x90", b"\xEF\xBB\xBF", b"(" * 201, b"x " * 50]
 
 # A run: the words after the grammar's name, the grammar's text, the input, and what is to come of it.
-Case = collections.namedtuple("Case", "words grammar given wanted count")
+# With a budget of items the run may end at a line that needs more.
+Case = collections.namedtuple("Case", "words grammar given wanted count budget", defaults=(None,))
 
 
 def spoiled(r, text):
@@ -78,16 +81,18 @@ def peg_case(r, may):
     is_whole = "1" in may and r.random() < 0.3
     is_escaped = "e" in may and r.random() < 0.5
     words = ["-l", str(limit)] + ["-r"] * raw + (["-s", start] if start else []) + ["-1"] * is_whole
-    words += ["--escapes"] * is_escaped
+    budget = r.choice([1, 2, 3, 5, 10, 20]) if "d" in may and r.random() < 0.5 else None
+    words += ["--escapes"] * is_escaped + (["-b", str(budget)] if budget else [])
     text = random_peg.grammar_text(r, rules)
     try:
-        *wanted, count = slow_peg.answer(rules, given, limit, start, raw, is_whole, is_escaped)
+        *wanted, count = slow_peg.answer(rules, given, limit, start, raw, is_whole, is_escaped, budget)
     except (slow_peg.TooSlow, RecursionError):
         return None
     case = Case(words, text, given, tuple(wanted), count)
     if "x" in may and r.random() < 0.5:
         out, message, status = wanted
-        after = slow_stops.after_stop(rules, given, limit, start, is_whole) if status in (1, 3) else b""
+        is_reported = status in (1, 3) and b" prints more than " not in message
+        after = slow_stops.after_stop(rules, given, limit, start, is_whole) if is_reported else b""
         case = case._replace(wanted=(out, message + after, status))
         return explained(r, case, start, slow_faults.peg, functools.partial(slow_notes.peg, grammar=rules),
                          functools.partial(slow_notes.peg_hints, grammar=rules))
@@ -168,7 +173,19 @@ def abnf_case(r, may):
                                   end=None if is_kept else end[0])
         case = case._replace(wanted=(out, message, status))
         return explained(r, case, judged, slow_faults.abnf, slow_notes.abnf, hints)
+    if "d" in may and r.random() < 0.5:
+        budget = r.choice([1, 3, 10, 30, 100, 4294967294])
+        case = case._replace(words=[*case.words, "-b", str(budget)], budget=budget)
     return case
+
+
+def is_cut(case, found):
+    """Returns whether the run ended at a line that needs more than its budget, and did as it should before."""
+    out, message, status = found
+    end = re.search(rb"line [1-9][0-9]* needs more than ([0-9]+) items\n\Z", message)
+    if case.budget is None or case.budget > 100 or end is None or int(end[1]) != case.budget:
+        return False
+    return status == 3 and case.wanted[0].startswith(out) and case.wanted[1].startswith(message[:end.start()])
 
 
 def answer_of(program, case, file):
@@ -198,7 +215,7 @@ def compare(program, make, count, seed, folder):
         if case is None:
             continue
         found = answer_of(program, case, file)
-        if found != case.wanted:
+        if found != case.wanted and not is_cut(case, found):
             show(program, case, found)
             return None
         done += case.count
@@ -222,12 +239,13 @@ def main():
     words.add_argument("-b", action="store_true", help="half of the runs of abnfi by `--line-buffered`")
     words.add_argument("-1", action="store_true", help="a third of the runs of pegi by `-1`")
     words.add_argument("-e", action="store_true", help="half of the runs of pegi by `--escapes`")
+    words.add_argument("-d", action="store_true", help="half of the runs of both by `-b`")
     words.add_argument("-x", action="store_true", help="half of the runs of both by `-x`")
     words.add_argument("program", nargs="?", choices=["pegi", "abnfi"])
     given = words.parse_args()
     sys.setrecursionlimit(20000)
     count = given.n // 2 if given.program is None else given.n
-    may = [it for it in "uwzkpqb1ex" if getattr(given, it)]
+    may = [it for it in "uwzkpqb1edx" if getattr(given, it)]
     right = True
     with tempfile.TemporaryDirectory(prefix="random_cases-") as folder:
         for name, make in (("pegi", lambda r: peg_case(r, may)),

@@ -147,11 +147,12 @@ def fault_of(old, new, is_utf8, ran, folder):
 
 def fault_of_explained(old, new, is_utf8, ran, options, folder):
     """Returns what is wrong with a run with -x, if something is: it adds what abnfi -x writes for each quoted line by
-    the other grammar, with the name of that one in place of `line 1`."""
+    the other grammar, with the name of that one in place of `line 1`. A line that holds a line feed is not compared,
+    since abnfi explains it as a record."""
     found = [ALONE.fullmatch(it) for it in ran.stdout.split(b"\n")[1:3]]
     quoted = [(side, unquoted(it["line"])) for side, it in zip((new, old), found) if it and it["line"] is not None]
     runs = [(side, judged(side.text, side.key, line, is_utf8, folder, "-x")) for side, line in quoted]
-    if not all(run for _, run in runs):
+    if not all(run and b"\n" not in line for (_, run), (_, line) in zip(runs, quoted)):
         return None
     added = [re.sub(rb"(?ms)(.*?)^line 1(.*)", side.name + rb"\2", run.stderr) for side, run in runs]
     wanted = ran.stdout + b"".join(added), ran.stderr, ran.returncode

@@ -123,7 +123,7 @@ def text_of(events, unit, raw, is_escaped):
     return b"".join(printed)
 
 
-def run_units(rules, start, text, limit, raw, is_whole, is_escaped):
+def run_units(rules, start, text, limit, raw, is_whole, is_escaped, budget):
     """Returns the output, the message, the status, and how many units were tried: one if it is to be the whole text."""
     place, printed, tried = 0, [], 0
     while True:
@@ -134,6 +134,9 @@ def run_units(rules, start, text, limit, raw, is_whole, is_escaped):
             return b"".join(printed), b"unit at byte %d longer than %d bytes\n" % (place, limit), 3, tried
         if found:
             printed.append(text_of(found[1], text[place:], raw, is_escaped))
+            if budget is not None and len(printed[-1]) > budget:
+                message = b"unit at byte %d prints more than %d bytes\n" % (place, budget)
+                return b"".join(printed[:-1]), message, 3, tried
             place += found[0]
         if not found or found[0] == 0 or is_whole:
             break
@@ -239,12 +242,12 @@ def notes_on(grammar, start):
     return "".join(it + "\n" for it in lines).encode(), bool(refusing or after)
 
 
-def answer(grammar, text, limit, start, raw, is_whole=False, is_escaped=False):
+def answer(grammar, text, limit, start, raw, is_whole=False, is_escaped=False, budget=None):
     """Returns the output, the error output, the status, and how many units were tried; a rejected grammar is one."""
     reported, refused = notes_on(grammar, start)
     if refused:
         return b"", reported, 2, 1
     rules, _ = first_bodies(grammar)
     first = start or next(iter(rules))
-    out, message, status, tried = run_units(rules, first, text, limit, raw, is_whole, is_escaped)
+    out, message, status, tried = run_units(rules, first, text, limit, raw, is_whole, is_escaped, budget)
     return out, reported + message, status, tried

@@ -10,6 +10,7 @@ use Rattle.abnfg.specs.ListedLines.{AreEnough, AreWritten, EndsWith, HaltEnds, L
 use Rattle.abnfg.specs.ListedLines.{no_room, record_text, too_many}
 use Rattle.abnfg.specs.ListModes.{AreExplained, AreFirstAsked, AreWholeAsked, WithKept, explained_asked}
 use Rattle.abnfg.specs.ListRefusals.{AreRefusalsFrom}
+use Rattle.abnfrun.specs.AbnfReply.{unit_for}
 use Rattle.abnfg.specs.declared.lines.ListSettings.{ListSettings}
 use Rattle.abnfread.specs.Element.{Rule}
 use Rattle.rulelines.specs.MissLists.{item_lines}
@@ -66,9 +67,9 @@ module _ (s : ListSettings) (rules : List Rule) (id : ℕ) (kept : List (Vec ℕ
   }
 
   explained_as : (ws : List (List ℕ)) (text : List ℕ) → item_lines kept ≡ explained_asked s ws
-      → AreRefusalsFrom s.letters rules id 1 (item_lines kept) text → AreExplained s rules id ws text
+      → AreRefusalsFrom (unit_for s.nul) s.letters rules id 1 (item_lines kept) text → AreExplained s rules id ws text
   explained_as ws text same why =
-      subst (λ (v : List (List ℕ)). AreRefusalsFrom s.letters rules id 1 v text) same why
+      subst (λ (v : List (List ℕ)). AreRefusalsFrom (unit_for s.nul) s.letters rules id 1 v text) same why
 
   enough_within : (ws : List (List ℕ)) → AreEnough Whole s.count ws → length ws ≤ s.count
   enough_within ws (inl all) = omega (arith, all)
@@ -82,7 +83,7 @@ module _ (s : ListSettings) (rules : List Rule) (id : ℕ) (kept : List (Vec ℕ
       text_fulfils (flat_map text_of ws) (message_of NoMemory) WithoutMemory ending (no_room first.0 le) text ends
 
   pub halt_fulfils : (halt : Halt) (ending : Ending) → AreWritten FirstKept Whole text_of s.count s0 s1 (Ok halt)
-      → HaltEnds (AreRefusalsFrom s.letters rules id 1 (item_lines kept)) halt ending → failed ≡ was
+      → HaltEnds (AreRefusalsFrom (unit_for s.nul) s.letters rules id 1 (item_lines kept)) halt ending → failed ≡ was
       → Fulfilled (Ok ending)
   halt_fulfils Finished ending is (inl ends) =
       text_fulfils (flat_map text_of is.0) ends.0 Done ending

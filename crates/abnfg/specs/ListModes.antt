@@ -10,6 +10,7 @@ use Rattle.abnfg.specs.declared.lines.ListSettings.{ListSettings}
 use Rattle.abnfg.specs.declared.source.LineSource.{LineSource}
 use Rattle.abnfg.specs.declared.source.LineSource.TheVariants.{Covered, Derived, Drawn, Missed}
 use Rattle.abnfread.specs.Element.{Rule}
+use Rattle.abnfrun.specs.AbnfReply.{unit_for}
 use Rattle.coverlines.specs.CoverLines.{IsCover, line_items}
 use Rattle.coverlines.specs.declared.bounds.LineBounds.{LineBounds}
 use Rattle.coverlines.specs.declared.cover.CoverLine.{CoverLine}
@@ -82,7 +83,8 @@ explained_asked settings ws = explained_lines (explains_by settings.mode setting
 
 -- a text explains lines of a rule: it says why the rule rejects each that is explained
 abbrev pub AreExplained : ListSettings → List Rule → ℕ → List (List ℕ) → List ℕ → Type 0
-AreExplained settings rules id ws text = AreRefusalsFrom settings.letters rules id 1 (explained_asked settings ws) text
+AreExplained settings rules id ws text =
+    AreRefusalsFrom (unit_for settings.nul) settings.letters rules id 1 (explained_asked settings ws) text
 
 -- the bytes of the lines that are explained were kept
 abbrev pub AreLinesKept : ListSettings → List (Vec ℕ Global) → List (List ℕ) → Type 0

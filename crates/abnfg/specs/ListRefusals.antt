@@ -5,15 +5,15 @@ use Rattle.abnfg.specs.declared.lines.ListMode.TheVariants.{All as InOrder, Cove
 use Rattle.abnfread.specs.Element.{Rule}
 use Rattle.letters.specs.declared.alphabet.Alphabet.{Alphabet}
 use Rattle.refusedlines.specs.Refusals.{IsRefusalReported}
-use Rattle.refusedlines.specs.declared.refusal.LineUnit.TheVariants.{Line}
+use Rattle.refusedlines.specs.declared.refusal.LineUnit.{LineUnit}
 use Rattle.rulelines.specs.LineBytes.{line_bytes}
 
 -- The text explains why the rule of an id rejects each of the lines, in order. The first one has that number.
-module _ (alphabet : Alphabet) (rules : List Rule) (id : ℕ) where
+module _ (unit : LineUnit) (alphabet : Alphabet) (rules : List Rule) (id : ℕ) where
   abbrev pub AreRefusalsFrom : ℕ → List (List ℕ) → List ℕ → Type 0
   AreRefusalsFrom number [] text = text ≡ []
   AreRefusalsFrom number (line ∷ lines) text = (one : List ℕ) × (rest : List ℕ) × (text ≡ one ++ rest)
-      × IsRefusalReported Line alphabet rules id line number one × AreRefusalsFrom (number + 1) lines rest
+      × IsRefusalReported unit alphabet rules id line number one × AreRefusalsFrom (number + 1) lines rest
 
 -- whether lines of a mode are explained: those that miss the rule, if that is asked for
 abbrev pub explains_by : ListMode → Bool → Bool

@@ -39,6 +39,7 @@ fn opening_settings(rule: Option<&str>) -> Opening<'_, AbnfOptions>
             numbered: false,
             quiet: false,
             line_buffered: false,
+            budget: None,
         },
     }
 }

@@ -8,6 +8,7 @@ ghost use Rattle.abnfg.specs.ListRefusals.{AreRefusalsFrom, explains_by};
 ghost use Rattle.abnfg.specs.declared.lines.ListSettings.{ListSettings as the_settings};
 ghost use Rattle.abnfread.specs.AbnfViews.{rules_of};
 ghost use Rattle.abnfread.specs.Element.{Rule};
+ghost use Rattle.abnfrun.specs.AbnfReply.{unit_for};
 ghost use Rattle.rulelines.specs.MissLists.{item_lines};
 ghost use Rattle.ruletable.specs.Writing.{Flags};
 ghost use Rattle.toolrun.specs.Stopped.{Fulfils};
@@ -17,6 +18,7 @@ use crate::refusals::explain_lines;
 use crate::source::LineSource;
 use abnfcheck::SoundAbnf;
 use letters::Alphabet;
+use refusedlines::LineUnit;
 use rulelines::{NextLine, line_bytes};
 use ruletable::{Memory, Sink, WriteFault, write_whole};
 use std::alloc::Global;
@@ -209,23 +211,35 @@ fn write_lines<O: Sink>(
     Ok(Halt::All)
 }
 
+// Returns what explanations call the lines: records, if NUL ends them.
+fn unit_of(settings: &ListSettings<'_>) -> LineUnit
+    ensures { result ≡ unit_for settings.now.nul }
+{
+    if settings.nul {
+        LineUnit::Record
+    } else {
+        LineUnit::Line
+    }
+}
+
 // Returns the end of a run that explains lines, and then writes a message; or that has no memory for that.
 fn explained(
     alloc: Global,
-    letters: Alphabet,
+    settings: &ListSettings<'_>,
     grammar: &SoundAbnf,
     lines: &[Vec<u8>],
     message: &[u8],
     status: Status,
 ) -> Ending
-    ensures { EndsExplained (AreRefusalsFrom letters (rules_of grammar.now.rules) grammar.now.judged 1
-        (item_lines lines.now)) message.now status result }
+    ensures { EndsExplained (AreRefusalsFrom (unit_for settings.now.nul) settings.now.letters
+        (rules_of grammar.now.rules) grammar.now.judged 1 (item_lines lines.now)) message.now status result }
 {
     let mut why = Vec::new(alloc);
     if why.extend_from_slice(message).is_err() {
         return Ending::Plain(Stop::NoMemory);
     }
-    let Ok(text) = explain_lines(alloc, letters, grammar, lines) else {
+    let unit = unit_of(settings);
+    let Ok(text) = explain_lines(alloc, settings.letters, unit, grammar, lines) else {
         return Ending::Plain(Stop::NoMemory);
     };
     Ending::Explained {
@@ -238,20 +252,20 @@ fn explained(
 // Returns the end of a run that writes no more lines, and explains those that were kept.
 fn ending_of(
     alloc: Global,
-    letters: Alphabet,
+    settings: &ListSettings<'_>,
     grammar: &SoundAbnf,
     halt: Halt,
     kept: &[Vec<u8>],
 ) -> Ending
-    ensures { HaltEnds (AreRefusalsFrom letters (rules_of grammar.now.rules) grammar.now.judged 1 (item_lines kept.now))
-        halt result }
+    ensures { HaltEnds (AreRefusalsFrom (unit_for settings.now.nul) settings.now.letters (rules_of grammar.now.rules)
+        grammar.now.judged 1 (item_lines kept.now)) halt result }
 {
     match halt {
-        Halt::All => explained(alloc, letters, grammar, kept, b"", Status::Done),
+        Halt::All => explained(alloc, settings, grammar, kept, b"", Status::Done),
         Halt::Nothing => Ending::Plain(Stop::Quiet(Status::NoMatch)),
         Halt::TooMany => {
             let message = b"too many stacks\n";
-            explained(alloc, letters, grammar, kept, message, Status::Overlong)
+            explained(alloc, settings, grammar, kept, message, Status::Overlong)
         }
         Halt::NoMemory => Ending::Plain(Stop::NoMemory),
     }
@@ -300,7 +314,7 @@ pub(crate) fn list_lines<O: Sink>(
 {
     let mut kept = Vec::new(alloc);
     match write_asked(alloc, settings, grammar, &mut kept, out) {
-        Ok(halt) => Ok(ending_of(alloc, settings.letters, grammar, halt, &kept)),
+        Ok(halt) => Ok(ending_of(alloc, settings, grammar, halt, &kept)),
         Err(fault) => Err(fault),
     }
 }

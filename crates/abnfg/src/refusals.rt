@@ -27,25 +27,27 @@ fn above_lengths(lines: &[Vec<u8>]) -> usize
     above
 }
 
-// Explains lines that a grammar rejects, by the flat grammar of an explainer. They have the numbers from 1 on. `Memory`
-// if an allocation fails.
+// Explains lines or records that a grammar rejects, by the flat grammar of an explainer. They have the numbers from 1
+// on. `Memory` if an allocation fails.
 fn explain_all(
     alloc: Global,
     explainer: &Explainer<'_>,
+    unit: LineUnit,
     lines: &[Vec<u8>],
 ) -> Result<Vec<u8>, Memory>
     requires within { All (λ line. length line.items + 1 ≤ explainer.now.flat.now.limit) lines.now }
     requires prefixes { GivesPrefixes (has explainer.now.letters) (rules_of explainer.now.grammar.now.rules)
         explainer.now.grammar.now.judged explainer.now.flat.now }
-    ensures { IfOk result (λ text. AreRefusalsFrom explainer.now.letters (rules_of explainer.now.grammar.now.rules)
-        explainer.now.grammar.now.judged 1 (item_lines lines.now) text.items) }
+    ensures { IfOk result (λ text. AreRefusalsFrom unit explainer.now.letters
+        (rules_of explainer.now.grammar.now.rules) explainer.now.grammar.now.judged 1 (item_lines lines.now)
+        text.items) }
 {
     let mut automaton = Automaton::new(alloc, explainer.flat)?;
     let mut chart = Chart::new(alloc);
     let mut text = Vec::new(alloc);
     for (index, line) in lines.iter().enumerate() {
         let refused = RefusedLine {
-            unit: LineUnit::Line,
+            unit,
             bytes: line,
             number: index + 1,
         };
@@ -61,15 +63,16 @@ fn explain_all(
     Ok(text)
 }
 
-/// Explains why the judged rule of a grammar rejects each of some lines, which have the numbers from 1 on. `Memory` if
-/// an allocation fails.
+/// Explains why the judged rule of a grammar rejects each of some lines or records, which have the numbers from 1 on.
+/// `Memory` if an allocation fails.
 pub(crate) fn explain_lines(
     alloc: Global,
     letters: Alphabet,
+    unit: LineUnit,
     grammar: &SoundAbnf,
     lines: &[Vec<u8>],
 ) -> Result<Vec<u8>, Memory>
-    ensures { IfOk result (λ text. AreRefusalsFrom letters (rules_of grammar.now.rules) grammar.now.judged 1
+    ensures { IfOk result (λ text. AreRefusalsFrom unit letters (rules_of grammar.now.rules) grammar.now.judged 1
         (item_lines lines.now) text.items) }
 {
     if lines.is_empty() {
@@ -81,5 +84,5 @@ pub(crate) fn explain_lines(
         letters,
         flat: &flat,
     };
-    explain_all(alloc, &explainer, lines)
+    explain_all(alloc, &explainer, unit, lines)
 }

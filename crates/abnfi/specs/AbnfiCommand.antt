@@ -2,11 +2,11 @@
 use Prim.Native.Char.{code}
 use Rattle.std.specs.Prelude.{◌≡◌, ℕ, List, [], ◌∷◌, Option, Some, None, codes, if◌then◌else◌}
 use Rattle.std.specs.Str.{bytes_eq}
-use Rattle.clap.specs.Words.{App, Row, first_of}
+use Rattle.clap.specs.Words.{App, Row, first_of, one_of}
 use Rattle.abnfrun.specs.declared.options.AbnfOptions.{AbnfOptions}
-use Rattle.cli.specs.Asked.{alphabet_named, is_flagged}
-use Rattle.cli.specs.Command.{AreAlphabets, AreModes, AreNames, Names, choice_rule, flag_rule, letters_rule}
-use Rattle.cli.specs.Command.{long_flag_rule, tool_app}
+use Rattle.cli.specs.Asked.{IsBudgetOf, alphabet_named, is_flagged}
+use Rattle.cli.specs.Command.{AreAlphabets, AreModes, AreNames, Names, budget_rule, choice_rule, flag_rule}
+use Rattle.cli.specs.Command.{letters_rule, long_flag_rule, tool_app}
 use Rattle.linejudge.specs.declared.printed.Printed.{Printed}
 use Rattle.linejudge.specs.declared.printed.Printed.TheVariants.{Answers, Count, Derived, Nothing, Refused}
 
@@ -15,7 +15,7 @@ abbrev pub ArePrinted : Names → Type 0
 ArePrinted =
     AreNames (codes "answers" ∷ codes "derived" ∷ codes "refused" ∷ codes "count" ∷ codes "none" ∷ [])
 
--- `abnfi [-m MODE] [-l N] [-s RULE] [-u MODE] [-p WHAT] [-H] [-n] [-w] [-z] [-k] [-q] [--line-buffered] [-x]
+-- `abnfi [-m MODE] [-l N] [-s RULE] [-u MODE] [-p WHAT] [-H] [-n] [-w] [-z] [-k] [-q] [--line-buffered] [-b N] [-x]
 -- GRAMMAR [FILE]..`
 abbrev pub abnfi_app : Names → Names → Names → App
 abnfi_app names alphabets printed = tool_app names (codes "abnfi") (letters_rule alphabets
@@ -26,7 +26,7 @@ abnfi_app names alphabets printed = tool_app names (codes "abnfi") (letters_rule
     ∷ flag_rule (codes "line-number") (code "n")
     ∷ flag_rule (codes "keep-ends") (code "k")
     ∷ flag_rule (codes "quiet") (code "q")
-    ∷ long_flag_rule (codes "line-buffered") ∷ [])
+    ∷ long_flag_rule (codes "line-buffered") ∷ budget_rule ∷ [])
 
 -- this is the command of the program
 abbrev pub IsAbnfiApp : App → Type 0
@@ -51,3 +51,4 @@ pub record AsksAbnfi (rows : List Row) (options : AbnfOptions) : Type 0 where
   pub numbered : options.numbered ≡ is_flagged (first_of (codes "line-number") rows)
   pub quiet : options.quiet ≡ is_flagged (first_of (codes "quiet") rows)
   pub line_buffered : options.line_buffered ≡ is_flagged (first_of (codes "line-buffered") rows)
+  pub budget : IsBudgetOf (one_of (codes "budget") rows) options.budget

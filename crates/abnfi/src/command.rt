@@ -6,7 +6,7 @@ ghost use Rattle.clap.specs.Words.{first_value, found_of};
 
 use abnfrun::{AbnfOptions, AbnfSettings, Printed, run_abnf};
 use clap::{ArgMatches, Command};
-use cli::{BufferedSink, Parameter, Program, is_given, letters_of, tool_command};
+use cli::{BufferedSink, Parameter, Program, budget_of, is_given, letters_of, tool_command};
 use feed::Source;
 use ruletable::Sink;
 use std::alloc::{AllocError, Global};
@@ -31,6 +31,7 @@ Input:
   -u, --letters <MODE>  Take bytes or code points of UTF-8 as letters [default: bytes] [possible values: bytes, utf8]
   -z, --null-data       Cut the input at NUL bytes in place of line feeds
   -k, --keep-ends       Judge each line with its line feed, or its NUL byte
+  -b, --budget <N>      Keep at most N items for a line, from 1 to 4294967295, which is no limit [default: 4294967295]
 
 Output:
   -p, --print <WHAT>   Choose what to print [default: answers] [possible values: answers, derived, refused, count, none]
@@ -49,7 +50,7 @@ Exit status:
   0  all lines are yes, or nothing was refused
   1  some line is no
   2  the grammar or the arguments are refused
-  3  a line is longer than N bytes
+  3  a line is longer than N bytes, or needs more than N items
   4  a read or write error, or a file cannot be read
   5  out of memory
 
@@ -57,7 +58,7 @@ Example:
   abnfi date.abnf dates.txt";
 
 /// The options of the program alone.
-static OWN: [Parameter; 9] = [
+static OWN: [Parameter; 10] = [
     Parameter::Choice("letters", 'u', "MODE", &["bytes", "utf8"], "bytes"),
     Parameter::Flag("viable", 'w'),
     Parameter::Flag("null-data", 'z'),
@@ -73,6 +74,7 @@ static OWN: [Parameter; 9] = [
     Parameter::Flag("keep-ends", 'k'),
     Parameter::Flag("quiet", 'q'),
     Parameter::LongFlag("line-buffered"),
+    Parameter::Number("budget", 'b', 4_294_967_295, "4294967295"),
 ];
 
 fn printed_of(matches: &ArgMatches<'_>) -> Printed
@@ -88,7 +90,7 @@ fn printed_of(matches: &ArgMatches<'_>) -> Printed
 }
 
 /// The program `abnfi [-m MODE] [-l N] [-s RULE] [-u MODE] [-p WHAT] [-H] [-n] [-w] [-z] [-k] [-q] [--line-buffered]
-/// [-x] GRAMMAR [FILE]..`.
+/// [-b N] [-x] GRAMMAR [FILE]..`.
 pub(crate) struct Abnfi;
 
 impl Program for Abnfi {
@@ -115,6 +117,7 @@ impl Program for Abnfi {
             numbered: is_given(matches, "line-number"),
             quiet: is_given(matches, "quiet"),
             line_buffered: is_given(matches, "line-buffered"),
+            budget: budget_of(matches, "budget"),
         }
     }
 

@@ -1,13 +1,13 @@
 -- Explanations change no answer and no status.
 -- Serves: explanations_change_no_answer
-use Rattle.std.proofs.Common.{◌≡◌, ◌≢◌, ℕ, Bool, true, inl, inr, List, [], refl, sym, ◌∙◌}
+use Rattle.std.proofs.Common.{◌≡◌, ◌≢◌, ℕ, Bool, true, inl, inr, List, [], refl, sym, ◌∙◌, None}
 use Rattle.abnfread.specs.AbnfReading.{IsFaultOf, Reads}
 use Rattle.abnfread.proofs.AbnfFaultLemmas.{one-reading, one-fault, no-fault}
 use Rattle.abnfprint.specs.AbnfReadBack.{file_rules}
 use Rattle.abnfrun.specs.AbnfAnswers.{AbnfStates, refused, unexplained, noted, checked, judges, cut_notes}
 use Rattle.abnfrun.specs.AbnfAnswers.{again, cut_again, printed, no_memory}
 use Rattle.abnfrun.specs.AbnfNoted.{AreAgain, AreNotesOn, IsRefusedFor, all_rules, judged_of, rule_given}
-use Rattle.abnfrun.specs.AbnfReply.{AnswersFor, RefusalFor, form_of, printed_rules}
+use Rattle.abnfrun.specs.AbnfReply.{AnswersFor, CostlyFor, RefusalFor, form_of, printed_rules}
 use Rattle.abnfrun.specs.AbnfSettings.{AbnfSettings}
 use Rattle.abnfrun.proofs.AbnfStatesLemmas.{AnswersAreOne, PlainOf, notes_are_one, one_again, one_run}
 use Rattle.abnfrun.proofs.IsAnswerOnLemmas.{FurthestIsOne}
@@ -60,7 +60,7 @@ module _ (settings : AbnfSettings) (input : Input) (text : List ℕ) where
       let rules = all_rules ds in
       let judged = judged_of ds (rule_given settings) in
       let plain = same_but_why (AnswersFor rules judged settings) settings.explain (RefusalFor rules judged settings)
-      (form_of settings) input stated run ample in (
+      (CostlyFor rules judged settings) (form_of settings) input stated run ample in (
         plain.0,
         inr (record {
           definitions = ds;
@@ -82,8 +82,9 @@ module _ (settings : AbnfSettings) (input : Input) (text : List ℕ) where
       is_itself reply (inr (record { definitions = ds; reads = r; states = is_printed are mode }))
   bare_suffixes notes reply (no_memory within) ample = absurd (ample refl)
 
-  one_bare : AnswersAreOne settings → (a b : Reply) → IsBare a → IsBare b → a.status ≢ 5 → b.status ≢ 5 → a ≡ b
-  one_bare one a b g h m n =
+  one_bare : AnswersAreOne settings → settings.options.budget ≡ None → (a b : Reply) → IsBare a → IsBare b →
+      a.status ≢ 5 → b.status ≢ 5 → a ≡ b
+  one_bare one free a b g h m n =
       let both = one_stated (IsFaultOf text) (λ fault why. why ≡ []) (Reads text)
       (λ definitions. AreNotesOn definitions (rule_given settings))
       (λ definitions notes. IsRefusedFor definitions (rule_given settings))
@@ -92,18 +93,19 @@ module _ (settings : AbnfSettings) (input : Input) (text : List ℕ) where
       (λ definitions. printed_rules (file_rules definitions)) settings.mode (one-reading text) (one-fault text)
       (λ fault x y p q. p ∙ sym q) (no-fault text) (notes_are_one settings input) one_again
       (λ notes x y p q. p ∙ sym q) (λ notes x y p q. p ∙ sym q) (λ definitions notes bad fine. fine bad)
-      (one_run settings input one) [] [] a b g h m n in
+      (one_run settings input one free) [] [] a b g h m n in
       both.1
 
 -- one output, one status and as many bytes taken, with and without explanations
 pub no_answer_changes : TextIsOne → FurthestIsOne → (text : List ℕ) (settings : AbnfSettings) (asked : Bool)
-    (input : Input) (notes others : List ℕ) (a b : Reply) → AbnfStates text settings input notes a
+    (input : Input) (notes others : List ℕ) (a b : Reply) → settings.options.budget ≡ None
+    → AbnfStates text settings input notes a
     → AbnfStates text (explained_by asked settings) input others b → a.status ≢ 5 → b.status ≢ 5
     → SameButWhy true a b
-no_answer_changes one furthest text settings asked input notes others a b g h m n =
+no_answer_changes one furthest text settings asked input notes others a b free g h m n =
     let p = bare_suffixes settings input text notes a g m in
     let q = bare_suffixes (explained_by asked settings) input text others b h n in
     let same : p.0 ≡ q.0 = one_bare settings input text
     (λ rules judged line. one_answer one furthest settings.options.letters rules judged line
-    settings.options.viable) p.0 q.0 p.1 q.1 (λ e. m (p.2.status ∙ e)) (λ e. n (q.2.status ∙ e)) in
+    settings.options.viable) free p.0 q.0 p.1 q.1 (λ e. m (p.2.status ∙ e)) (λ e. n (q.2.status ∙ e)) in
     same_twice true a b p.0 q.0 p.2 q.2 same

@@ -1,6 +1,6 @@
 -- What is stated for a text in ABNF, settings and an input is one, unless an allocation fails.
--- Serves: one_statement_of_abnf, explanations_change_no_answer
-use Rattle.std.proofs.Common.{◌≡◌, ◌≢◌, ℕ, inl, inr, List, [], refl, sym, ◌∙◌, ap, map, subst, arith, Option}
+-- Serves: one_reply_of_abnf, one_statement_of_abnf, explanations_change_no_answer
+use Rattle.std.proofs.Common.{◌≡◌, ◌≢◌, ℕ, None, inl, inr, List, [], refl, sym, ◌∙◌, ap, map, subst, arith, Option}
 use Rattle.ruletable.specs.Notes.{Said, said}
 use Rattle.ruletable.specs.declared.fault.ReadFault.{ReadFault}
 use Rattle.ruletable.specs.declared.fault.ReadFault.TheVariants.{TooLong}
@@ -20,7 +20,7 @@ use Rattle.abnfprint.specs.AbnfReadBack.{file_rules}
 use Rattle.abnfrun.specs.AbnfNoted.{all_rules, again_in, judged_of, AreNotesOn, IsRefusedFor, AreAgain}
 use Rattle.abnfrun.specs.AbnfNoted.{rule_given}
 use Rattle.abnfrun.specs.AbnfTextHints.{AreTextHints}
-use Rattle.abnfrun.specs.AbnfReply.{AnswersFor, RefusalFor, form_of, printed_rules}
+use Rattle.abnfrun.specs.AbnfReply.{AnswersFor, CostlyFor, RefusalFor, form_of, printed_rules}
 use Rattle.abnfrun.proofs.IsAnswerOnLemmas.{FurthestIsOne}
 use Rattle.abnfrun.proofs.IsAnswerToLemmas.{TextIsOne, one_answer}
 use Rattle.linejudge.specs.declared.answers.Answer.{Answer}
@@ -42,6 +42,11 @@ use Rattle.toolrun.specs.ReportedNotes.{HintedNotes, ReportedNotes, WhyNoted}
 abbrev pub AnswersAreOne : AbnfSettings → Type 0
 AnswersAreOne settings = (rules : List Rule) (judged : ℕ) (line : List ℕ) (a b : Answer)
     → AnswersFor rules judged settings line a → AnswersFor rules judged settings line b → a ≡ b
+
+-- without a budget no line needs too many items
+pub never_costly : (rules : List Rule) (judged : ℕ) (settings : AbnfSettings) → settings.options.budget ≡ None
+    → (line : List ℕ) (n : ℕ) → CostlyFor rules judged settings line n → ⊥
+never_costly rules judged settings free line n needs = let is = needs.more.is_budget in absurd (cc)
 
 -- the notes on redefinitions are one list
 pub one_again : (definitions : List Definition) (a b : List Said) → AreAgain definitions a → AreAgain definitions b
@@ -70,15 +75,19 @@ module _ (settings : AbnfSettings) (input : Input) where
   abbrev pub PlainOf : List Definition → Reply → Type 0
   PlainOf definitions reply = steps.Replies
       (Lines (AnswersFor (all_rules definitions) (judged_of definitions (rule_given settings)) settings)
-      (form_of settings) input) (LinesEnd (form_of settings) input)
+      (form_of settings) input)
+      (LinesEnd (CostlyFor (all_rules definitions) (judged_of definitions (rule_given settings)) settings)
+      (form_of settings) input)
       (position_taken (form_of settings).limit input) reply
 
-  pub one_run : AnswersAreOne settings → (definitions : List Definition) (a b : Reply) → PlainOf definitions a
+  pub one_run : AnswersAreOne settings → settings.options.budget ≡ None → (definitions : List Definition) (a b : Reply)
+      → PlainOf definitions a
       → PlainOf definitions b → a.status ≢ 5 → b.status ≢ 5 → a ≡ b
-  one_run one definitions a b r q m n =
+  one_run one free definitions a b r q m n =
       let rules = all_rules definitions in
       let judged = judged_of definitions (rule_given settings) in
-      one_plain (AnswersFor rules judged settings) (one rules judged) (form_of settings) input a b r q
+      one_plain (AnswersFor rules judged settings) (one rules judged) (CostlyFor rules judged settings)
+      (never_costly rules judged settings free) (form_of settings) input a b r q
 
   pub notes_are_one : (definitions : List Definition) (a b : List Said) → AreNotesOn definitions (rule_given settings) a
       → AreNotesOn definitions (rule_given settings) b → a ≡ b
@@ -131,7 +140,7 @@ module _ (settings : AbnfSettings) (input : Input) where
         let rules = all_rules ds in
         let judged = judged_of ds (rule_given settings) in
         let plain = same_but_why (AnswersFor rules judged settings) settings.explain (RefusalFor rules judged settings)
-        (form_of settings) input stated run ample in (
+        (CostlyFor rules judged settings) (form_of settings) input stated run ample in (
           plain.0,
           inr (record {
             definitions = ds;
@@ -153,9 +162,10 @@ module _ (settings : AbnfSettings) (input : Input) where
     suffixes_of_states notes reply (no_memory within) ample = absurd (ample refl)
 
     one_of_text : ExplanationsAreOne → NotesAreOne → HintsAreOne → AnswersAreOne settings
-        → (notes others : List ℕ) (a b : Reply) → IsStated notes a → IsStated others b → a.status ≢ 5
+        → settings.options.budget ≡ None → (notes others : List ℕ) (a b : Reply) → IsStated notes a → IsStated others
+        b → a.status ≢ 5
         → b.status ≢ 5 → (notes ≡ others) × (a ≡ b)
-    one_of_text explained reported hints one = one_stated (IsFaultOf text)
+    one_of_text explained reported hints one free = one_stated (IsFaultOf text)
         (λ fault. Explained settings (Explains text fault)) (Reads text)
         (λ definitions. AreNotesOn definitions (rule_given settings))
         (λ definitions notes. IsRefusedFor definitions (rule_given settings))
@@ -167,7 +177,7 @@ module _ (settings : AbnfSettings) (input : Input) where
         one_again
         (hinted-one settings (ExplainsAbnfNote text) (AreTextHints text settings) one_line (hints text settings))
         (λ notes. reported-one one_line)
-        (λ definitions notes bad fine. fine bad) (one_run one)
+        (λ definitions notes bad fine. fine bad) (one_run one free)
       where
         one_line : (note : Said) (a b : List ℕ) → WhyNoted settings (ExplainsAbnfNote text) note a
             → WhyNoted settings (ExplainsAbnfNote text) note b → a ≡ b
@@ -177,14 +187,15 @@ module _ (settings : AbnfSettings) (input : Input) where
 -- one list of notes, and one reply but for what explains it
 pub one_statement : ExplanationsAreOne → NotesAreOne → HintsAreOne → TextIsOne → FurthestIsOne
     → (text : List ℕ) (settings : AbnfSettings) (input : Input) (notes others : List ℕ) (a b : Reply) →
-    AbnfStates text settings input notes a → AbnfStates text settings input others b → a.status ≢ 5 → b.status ≢ 5
+    settings.options.budget ≡ None → AbnfStates text settings input notes a → AbnfStates text settings input others b
+    → a.status ≢ 5 → b.status ≢ 5
     → (notes ≡ others) × SameButWhy settings.explain a b
-one_statement explained reported hints one furthest text settings input notes others a b g h m n =
+one_statement explained reported hints one furthest text settings input notes others a b free g h m n =
     let p = suffixes_of_states settings input text notes a g m in
     let q = suffixes_of_states settings input text others b h n in
     let same = one_of_text settings input text explained reported hints
     (λ rules judged line. one_answer one furthest settings.options.letters rules judged line
-    settings.options.viable) notes others p.0 q.0 p.1 q.1 (λ e. m (p.2.status ∙ e)) (λ e. n (q.2.status ∙ e)) in
+    settings.options.viable) free notes others p.0 q.0 p.1 q.1 (λ e. m (p.2.status ∙ e)) (λ e. n (q.2.status ∙ e)) in
     (same.0, same_twice settings.explain a b p.0 q.0 p.2 q.2 same.1)
 
 -- what spells definitions is not too long

@@ -1,6 +1,7 @@
 -- The answer to a list of symbols: that there is one, and that it is the answer of the flat grammar.
 -- Serves: run_abnf (right)
-use Rattle.std.proofs.Common.{◌≡◌, ◌↔◌, ℕ, ◌≤◌, Bool, true, false, List, length, refl, subst, arith, inl, inr}
+use Rattle.std.proofs.Common.{◌≡◌, ◌↔◌, ℕ, ◌≤◌, Bool, true, false, List, length, refl, subst, arith, inl, inr, Option}
+use Rattle.std.proofs.Common.{Some}
 use Rattle.std.specs.Prelude.{IsTrue}
 use Rattle.std.proofs.lemmas.Bool.{both_ways, cases_lt}
 use mathlib.Core.HLevel.{⊥_prop}
@@ -9,7 +10,11 @@ use Rattle.abnfread.specs.Element.{Rule}
 use Rattle.abnfcheck.specs.Prefixes.{IsFurthest}
 use Rattle.abnfcheck.specs.Decided.{Says}
 use Rattle.abnfcheck.specs.Derivable.{AreLetters, RuleDerives}
+use Rattle.abnfrun.specs.AbnfReply.{AnswersBy, HaveMoreThan}
 use Rattle.abnfrun.specs.LetterAnswers.{IsAnswerOn}
+use Rattle.earleyitems.specs.ChartSets.{HaveMoreItems}
+use Rattle.letters.specs.Letters.{has}
+use Rattle.letters.specs.declared.alphabet.Alphabet.{Alphabet}
 use Rattle.lowering.specs.Verdicts.{IsVerdict}
 use Rattle.flatgrammar.specs.declared.verdict.Verdict.{Verdict}
 use Rattle.flatgrammar.specs.declared.verdict.Verdict.TheVariants as verdict
@@ -19,6 +24,9 @@ use Rattle.lowering.specs.Lowered.{IsLowered}
 use Rattle.lowering.specs.GivenPrefixes.{GivesPrefixes}
 use Rattle.linejudge.specs.declared.answers.Answer.{Answer}
 use Rattle.linejudge.specs.declared.answers.Answer.TheVariants.{Yes, No, NoAfter}
+use Rattle.linejudge.specs.InputLines.{IsNoAnswer}
+use Rattle.linejudge.specs.declared.answers.NoAnswer.{NoAnswer}
+use Rattle.linejudge.specs.declared.answers.NoAnswer.TheVariants.{Memory, Costly}
 
 -- the laws of derivation and of viable prefixes
 abbrev pub DerivationIsDecided : Type 0
@@ -101,3 +109,20 @@ letters_answered law found has viable rules judged x = by viable (law has rules 
     by viable (true, p) = (Yes, p)
     by false (false, none) = (No, (refl, none))
     by true (false, none) = let f = found has rules judged x in (NoAfter f.0, (refl, none, f.1))
+
+-- why the judges of a flat grammar have no answer to the letters
+module _ (budget : Option ℕ) (letters : Alphabet) (viable : Bool) (rules : List Rule) (judged : ℕ) (flat : Flat)
+    (x : List ℕ) where
+  answers_by : (asked : Bool) → (asked ≡ false → ∥ IsLowered rules judged flat ∥₁)
+      → (asked ≡ true → ∥ GivesPrefixes (has letters) rules judged flat ∥₁)
+      → AnswersBy letters asked rules judged flat
+  answers_by false lowered prefixes = lowered refl
+  answers_by true lowered prefixes = prefixes refl
+
+  pub letters_costly : (viable ≡ false → ∥ IsLowered rules judged flat ∥₁)
+      → (viable ≡ true → ∥ GivesPrefixes (has letters) rules judged flat ∥₁) → (none : NoAnswer)
+      → IsNoAnswer (λ n. (budget ≡ Some n) × HaveMoreItems flat x n) none
+      → IsNoAnswer (HaveMoreThan budget letters viable rules judged x) none
+  letters_costly lowered prefixes Memory is = tt
+  letters_costly lowered prefixes (Costly n) is =
+      record { is_budget = is.0; flat = flat; answers = answers_by viable lowered prefixes; more = is.1 }

@@ -1,13 +1,13 @@
 -- The answer to a line: what it is by the answer to its letters, and that there is exactly one.
 -- Serves: run_abnf (right), one_reply_of_abnf, one_statement_of_abnf
 use Rattle.std.proofs.Common.{◌≡◌, ℕ, suc, zero, ◌<◌, ◌≤◌, ◌⊎◌, inl, inr, Bool, true, false, List, [], length, take}
-use Rattle.std.proofs.Common.{refl, sym, ◌∙◌, ap, subst, arith}
+use Rattle.std.proofs.Common.{refl, sym, ◌∙◌, ap, subst, arith, Option}
 use Rattle.std.proofs.lemmas.Bool.{cases_lt, false≢true}
 use Rattle.std.proofs.lemmas.List.{take_all}
 use Rattle.abnfread.specs.Element.{Rule}
 use Rattle.abnfcheck.specs.Prefixes.{IsFurthest}
 use Rattle.abnfcheck.specs.Derivable.{RuleDerives}
-use Rattle.abnfrun.specs.AbnfReply.{AreLettersOf, IsAnswerTo, IsMember, Reaches}
+use Rattle.abnfrun.specs.AbnfReply.{AreLettersOf, HaveMoreThan, IsAnswerTo, IsMember, NeedsMoreItems, Reaches}
 use Rattle.abnfrun.specs.LetterAnswers.{IsAnswerOn, torn}
 use Rattle.abnfrun.proofs.IsAnswerOnLemmas.{DerivationIsDecided, FurthestIsFound, FurthestIsOne, letters_answered}
 use Rattle.letters.specs.Letters.{has}
@@ -17,6 +17,9 @@ use Rattle.refusedlines.proofs.CanFollowLemmas.{derived_is_furthest}
 use Rattle.letters.specs.declared.alphabet.Alphabet.TheVariants.{Bytes, Utf8}
 use Rattle.linejudge.specs.declared.answers.Answer.{Answer}
 use Rattle.linejudge.specs.declared.answers.Answer.TheVariants.{Yes, No, NoAfter}
+use Rattle.linejudge.specs.InputLines.{IsNoAnswer}
+use Rattle.linejudge.specs.declared.answers.NoAnswer.{NoAnswer}
+use Rattle.linejudge.specs.declared.answers.NoAnswer.TheVariants.{Memory, Costly}
 
 -- the laws of UTF-8
 abbrev pub TextIsDecided : Type 0
@@ -70,7 +73,7 @@ whole_front : (line points : List ℕ) → Spells points line → Spells points 
 whole_front line points spelled = subst (λ (l : List ℕ). Spells points l)
     (sym (take_all (length line) line (omega arith))) spelled
 
-text_letters : (line points : List ℕ) → Spells points line → AreLettersOf Utf8 line points
+pub text_letters : (line points : List ℕ) → Spells points line → AreLettersOf Utf8 line points
 text_letters line points spelled = (
   length line,
   record {
@@ -87,6 +90,13 @@ module _ (viable : Bool) (rules : List Rule) (judged : ℕ) (line : List ℕ) wh
 
   abbrev To : Alphabet → Answer → Type 0
   To letters said = IsAnswerTo letters viable rules judged line said
+
+  -- why a line has no answer, by its letters
+  pub line_costly : (budget : Option ℕ) (letters : Alphabet) (x : List ℕ) → AreLettersOf letters line x
+      → (none : NoAnswer) → IsNoAnswer (HaveMoreThan budget letters viable rules judged x) none
+      → IsNoAnswer (NeedsMoreItems budget letters viable rules judged line) none
+  line_costly budget letters x are Memory is = tt
+  line_costly budget letters x are (Costly n) more = record { of_line = x; are = are; more = more }
 
   -- a line of bytes
   pub bytes_answer : (said : Answer) → On Bytes line said → To Bytes said

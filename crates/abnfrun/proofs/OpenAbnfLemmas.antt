@@ -11,7 +11,7 @@ use Rattle.abnfread.specs.declared.elem.Elem.{Elem}
 use Rattle.abnfrun.specs.AbnfAnswers.{AbnfStates, judges}
 use Rattle.abnfrun.specs.AbnfLanguage.{IsChecked}
 use Rattle.abnfrun.specs.AbnfNoted.{all_rules, judged_of, rule_given}
-use Rattle.abnfrun.specs.AbnfReply.{AnswersFor, IsAnswerTo, RefusalFor, form_of, judged_size}
+use Rattle.abnfrun.specs.AbnfReply.{AnswersFor, CostlyFor, IsAnswerTo, RefusalFor, form_of, judged_size}
 use Rattle.abnfrun.specs.OpenAbnf.{IsOpened, ReportsAlone, answer_alone, judged_line, line_alone}
 use Rattle.abnfrun.specs.AbnfTextHints.{AreTextHints}
 use Rattle.abnfrun.specs.OpenJudge.{OpenJudge}
@@ -60,8 +60,8 @@ quiet_ends : (asked : Bool) → ExplainedIf asked (λ text. text ≡ []) []
 quiet_ends true = refl
 quiet_ends false = refl
 
-module _ (Reported : List ℕ → Answer → Type 0) (asked : Bool) (Refusal : List ℕ → ℕ → List ℕ → Type 0) (form : LineForm)
-    (line : List ℕ) (said : Answer) (why : List ℕ) where
+module _ (Reported : List ℕ → Answer → Type 0) (asked : Bool) (Refusal : List ℕ → ℕ → List ℕ → Type 0)
+    (NeedsMore : List ℕ → ℕ → Type 0) (form : LineForm) (line : List ℕ) (said : Answer) (why : List ℕ) where
   abbrev alone : Input
   alone = record { bytes = line ++ form.end ∷ []; fault = false }
 
@@ -101,7 +101,8 @@ module _ (Reported : List ℕ → Answer → Type 0) (asked : Bool) (Refusal : L
   one_line_taken = omega (arith, all_is_taken)
 
   pub one_line_replies : HasNoEnd form.end line → length judged ≤ kept_size form form.limit → Reported judged said
-      → ReportsLine Reported asked Refusal at_front judged said why → LinesReply Reported asked Refusal form alone reply
+      → ReportsLine Reported asked Refusal at_front judged said why
+      → LinesReply Reported asked Refusal NeedsMore form alone reply
   one_line_replies one within reported reports =
       let short = kept_short form line form.limit within in
       let stands : StandsAt form alone 0 judged (length line + 1) =
@@ -115,7 +116,7 @@ module _ (Reported : List ℕ → Answer → Type 0) (asked : Bool) (Refusal : L
           last = last;
           stop = Quiet (status_after after.refused);
           steps = one_more at_front [] judged (length line + 1) said none by reported;
-          ends = ends_quietly form alone after (is_over form after) refl (nothing_is_left, refl);
+          ends = ends_quietly NeedsMore form alone after (is_over form after) refl (nothing_is_left, refl);
           out = refl;
           err = refl;
           status = ap (λ n. code_of (status_after n)) (sym one_counted);
@@ -189,6 +190,7 @@ open_states text line settings notes reported judge said why run is reports one 
     judges is.definitions notes reported (answer_alone settings line said why) is.reads is.are_notes reports is.ready.0
     run
     (whole_states (AnswersFor rules judged settings) settings.explain (RefusalFor rules judged settings)
-    (form_of settings) (line_alone settings line) _ (one_line_replies (AnswersFor rules judged settings)
-    settings.explain (RefusalFor rules judged settings) (form_of settings) line said why one (rw (← j.limit) within)
+    (CostlyFor rules judged settings) (form_of settings) (line_alone settings line) _
+    (one_line_replies (AnswersFor rules judged settings) settings.explain (RefusalFor rules judged settings)
+    (CostlyFor rules judged settings) (form_of settings) line said why one (rw (← j.limit) within)
     (rw (j.letters, j.viable, j.rules, j.judged) at answers) (rw (j.letters, j.rules, j.judged) at explains)))

@@ -1,10 +1,12 @@
 -- What a run of a grammar on an input states.
 use Prim.Native.Char.{code}
-use Rattle.std.specs.Prelude.{◌≡◌, ℕ, Bool, true, false, cond, List, None, Some, take}
+use Rattle.std.specs.Prelude.{◌≡◌, ℕ, Bool, true, false, cond, List, Option, None, Some, take}
 use Rattle.abnfread.specs.Element.{Rule}
 use Rattle.abnfcheck.specs.Prefixes.{IsFurthest}
 use Rattle.abnfcheck.specs.Derivable.{RuleDerives}
 use Rattle.abnfprint.specs.CanonicalAbnf.{grammar_text}
+use Rattle.earleyitems.specs.ChartSets.{HaveMoreItems}
+use Rattle.flatgrammar.specs.Flat.{Flat}
 use Rattle.letters.specs.Letters.{has}
 use Rattle.letters.specs.Utf8Text.{IsLongestText, Spells}
 use Rattle.letters.specs.declared.alphabet.Alphabet.{Alphabet}
@@ -16,6 +18,8 @@ use Rattle.linejudge.specs.declared.line.LineForm.{LineForm}
 use Rattle.linejudge.specs.declared.printed.Printed.{Printed}
 use Rattle.linejudge.specs.declared.printed.Printed.TheVariants.{Nothing}
 use Rattle.linejudge.specs.declared.answers.Answer.TheVariants.{Yes, No, NoAfter}
+use Rattle.lowering.specs.GivenPrefixes.{GivesPrefixes}
+use Rattle.lowering.specs.Lowered.{IsLowered}
 use Rattle.refusedlines.specs.Refusals.{IsRefusalReported}
 use Rattle.refusedlines.specs.declared.refusal.LineUnit.{LineUnit}
 use Rattle.refusedlines.specs.declared.refusal.LineUnit.TheVariants.{Line, Record}
@@ -57,6 +61,31 @@ IsAnswerTo letters viable rules judged line (NoAfter n) = (viable ≡ true) × (
 abbrev pub AnswersFor : List Rule → ℕ → AbnfSettings → List ℕ → Answer → Type 0
 AnswersFor rules judged settings = IsAnswerTo settings.options.letters settings.options.viable rules judged
 
+-- a flat grammar that answers for the judged rule; where the longest viable prefix is asked for, for its prefixes too
+abbrev pub AnswersBy : Alphabet → Bool → List Rule → ℕ → Flat → Type 0
+AnswersBy letters false rules judged flat = ∥ IsLowered rules judged flat ∥₁
+AnswersBy letters true rules judged flat = ∥ GivesPrefixes (has letters) rules judged flat ∥₁
+
+-- The Earley sets of these symbols, by a flat grammar of the rules, have more than n items, and n is the budget.
+pub record HaveMoreThan (budget : Option ℕ) (letters : Alphabet) (viable : Bool) (rules : List Rule) (judged : ℕ)
+    (of_line : List ℕ) (n : ℕ) : Type 0 where
+  pub is_budget : budget ≡ Some n
+  pub flat : Flat
+  pub answers : AnswersBy letters viable rules judged flat
+  pub more : HaveMoreItems flat of_line n
+
+-- a line needs more than n items: the sets of its symbols have more, and n is the budget
+pub record NeedsMoreItems (budget : Option ℕ) (letters : Alphabet) (viable : Bool) (rules : List Rule) (judged : ℕ)
+    (line : List ℕ) (n : ℕ) : Type 0 where
+  pub of_line : List ℕ
+  pub are : AreLettersOf letters line of_line
+  pub more : HaveMoreThan budget letters viable rules judged of_line n
+
+-- the lines that need more items than the budget of settings
+abbrev pub CostlyFor : List Rule → ℕ → AbnfSettings → List ℕ → ℕ → Type 0
+CostlyFor rules judged settings = NeedsMoreItems settings.options.budget settings.options.letters
+    settings.options.viable rules judged
+
 -- nothing is printed by a quiet run
 abbrev pub printed_by : Bool → Printed → Printed
 printed_by quiet printed = cond quiet Nothing printed
@@ -93,9 +122,9 @@ RefusalFor rules judged settings =
 -- allocation fails
 abbrev pub JudgeReplies : List Rule → ℕ → AbnfSettings → Input → Reply → Type 0
 JudgeReplies rules judged settings input reply = LinesReply (AnswersFor rules judged settings) settings.explain
-    (RefusalFor rules judged settings) (form_of settings) input reply
+    (RefusalFor rules judged settings) (CostlyFor rules judged settings) (form_of settings) input reply
 
 -- so it is, or the first lines are if an allocation fails
 abbrev pub JudgeReply : List Rule → ℕ → AbnfSettings → Input → Reply → Type 0
 JudgeReply rules judged settings input reply = LinesStates (AnswersFor rules judged settings) settings.explain
-    (RefusalFor rules judged settings) (form_of settings) input reply
+    (RefusalFor rules judged settings) (CostlyFor rules judged settings) (form_of settings) input reply

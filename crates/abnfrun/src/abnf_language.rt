@@ -190,6 +190,7 @@ impl Language for AbnfLanguage {
             grammar,
             letters: settings.options.letters,
             viable: settings.options.viable,
+            budget: settings.options.budget,
             flat: &flat,
             explains: settings.explain,
             unit: line_unit(settings.options.nul),

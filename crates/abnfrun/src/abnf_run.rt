@@ -47,6 +47,8 @@ use toolrun::{Status, run_tool};
 ///   which the run ends. Of each it says where it is rejected, which symbols can follow there, all of them and no
 ///   other, and whether the line can end there. Then it says how many more there are.
 /// - A line of more than `limit` bytes is not answered: `line K longer than L bytes`, `Overlong`; K counts from 1.
+/// - If the settings have a budget, a line that the automaton does not answer, and whose Earley sets have more items,
+///   is not answered: `line K needs more than N items`, `Overlong`. Explanations take more.
 /// - After a fault of the reader a line is judged only if its end was read: else `read error`, `Fault`. So is an input
 ///   of 9,223,372,036,854,775,807 bytes taken to end.
 /// - Where a writer fails, nothing more is written to it, and the status is at least `Fault`. A fault of `out` is

@@ -1,15 +1,18 @@
 //! The lines of an input, judged by a grammar.
-ghost use Rattle.std.specs.Prelude.{◌≡◌, ◌≤◌, ◌+◌, ℕ, Bool, List, None, false, true, length, map, IfOk, IfSome};
+ghost use Rattle.std.specs.Prelude.{◌≡◌, ◌≤◌, ◌+◌, ℕ, Bool, List, None, false, true, length, map, IfErr, IfOk};
+ghost use Rattle.std.specs.Prelude.{IfSome};
 ghost use Rattle.abnfread.specs.Element.{Rule};
 ghost use Rattle.abnfread.specs.AbnfViews.{rules_of};
 ghost use Rattle.abnfcheck.specs.Derivable.{AreLetters};
-ghost use Rattle.abnfrun.specs.AbnfReply.{IsAnswerTo, form_of, judged_size, unit_for};
+ghost use Rattle.abnfrun.specs.AbnfReply.{HaveMoreThan, IsAnswerTo, NeedsMoreItems, form_of, judged_size};
+ghost use Rattle.abnfrun.specs.AbnfReply.{unit_for};
 ghost use Rattle.abnfrun.specs.OpenJudge.{ExplainsLines};
 ghost use Rattle.abnfrun.specs.LetterAnswers.{IsAnswerOn, torn};
 ghost use Rattle.lowering.specs.Lowered.{IsLowered};
 ghost use Rattle.lowering.specs.GivenPrefixes.{GivesPrefixes};
 ghost use Rattle.letters.specs.Letters.{has};
 ghost use Rattle.letters.specs.Utf8Text.{IsText};
+ghost use Rattle.linejudge.specs.InputLines.{IsNoAnswer};
 ghost use Rattle.linejudge.specs.declared.answers.Answer.{Answer};
 ghost use Rattle.refusedlines.specs.Refusals.{IsRefusalReported};
 
@@ -20,7 +23,7 @@ use earley::Chart;
 use flatgrammar::{Flat, Verdict};
 use lazydfa::Automaton;
 use letters::{Alphabet, CodePoint, Letter, decode, utf8_is_decided, utf8_len};
-use linejudge::{Answer, Judge, LineForm, Printed};
+use linejudge::{Answer, Judge, LineForm, NoAnswer, Printed};
 use lowering::{items_decide, lower, lower_viable, values_are_letters};
 use refusedlines::{Explainer, LineUnit, RefusedLine, explain_refused};
 use ruletable::Memory;
@@ -36,6 +39,8 @@ pub struct LineJudge<'a> {
     pub(crate) letters: Alphabet,
     /// Whether a rejection reports the length of the longest viable prefix.
     pub(crate) viable: bool,
+    /// How many items the sets of a line may have; any number if it is `None`.
+    pub(crate) budget: Option<usize>,
     /// The lowered grammar: with `viable`, its productive parts alone.
     pub(crate) flat: &'a Flat,
     /// Whether rejected lines are explained.
@@ -91,30 +96,33 @@ pub fn lines_have_answers()
     utf8_is_decided();
 }
 
-/// Returns the answer to the symbols of a line, no more than the flat grammar serves. `Memory` if an allocation fails.
+/// Returns the answer to the symbols of a line, no more than the flat grammar serves. `Memory` if an allocation fails,
+/// `Costly` if they need more items than the budget.
 #[inline(always)]
 fn judge_letters<L: Letter>(
     judges: &LineJudge<'_>,
     engines: &mut Engines,
     line: &[L],
-) -> Result<Answer, Memory>
+) -> Result<Answer, NoAnswer>
     requires letters { AreLetters (has judges.now.letters) (map L.number line.now) }
     requires within { length line.now ≤ judges.now.flat.now.limit }
     requires flat { IfSome engines.old.automaton (λ a. a ≡ judges.now.flat.now) }
     ensures flat { IfSome engines.new.automaton (λ a. a ≡ judges.now.flat.now) }
     ensures answer { IfOk result (IsAnswerOn (has judges.now.letters) judges.now.viable
         (rules_of judges.now.grammar.now.rules) judges.now.grammar.now.judged (map L.number line.now)) }
+    ensures costly { IfErr result (IsNoAnswer (HaveMoreThan judges.now.budget judges.now.letters judges.now.viable
+        (rules_of judges.now.grammar.now.rules) judges.now.grammar.now.judged (map L.number line.now))) }
 {
     derivation_is_decided();
     furthest_is_found();
     items_decide();
     if judges.viable {
-        return match engines.viable(judges.flat, line)? {
+        return match engines.viable(judges.flat, judges.budget, line)? {
             Verdict::Yes => Ok(Answer::Yes),
             Verdict::No(n) => Ok(Answer::NoAfter(n)),
         };
     }
-    let yes = engines.judge(judges.flat, line)?;
+    let yes = engines.judge(judges.flat, judges.budget, line)?;
     if yes { Ok(Answer::Yes) } else { Ok(Answer::No) }
 }
 
@@ -130,8 +138,9 @@ fn torn_by(said: Answer, count: usize) -> Answer
     }
 }
 
-/// Returns the answer to a line that is not UTF-8. `Memory` if an allocation fails.
-fn judge_torn(judges: &LineJudge<'_>, work: &mut Work, line: &[u8]) -> Result<Answer, Memory>
+/// Returns the answer to a line that is not UTF-8. `Memory` if an allocation fails, `Costly` if the line needs more
+/// items than the budget.
+fn judge_torn(judges: &LineJudge<'_>, work: &mut Work, line: &[u8]) -> Result<Answer, NoAnswer>
     requires letters { judges.now.letters ≡ Alphabet.Utf8 }
     requires viable { judges.now.viable ≡ true }
     requires torn { IsText line.now → ⊥ }
@@ -141,6 +150,8 @@ fn judge_torn(judges: &LineJudge<'_>, work: &mut Work, line: &[u8]) -> Result<An
     ensures explainer { work.new.explainer ≡ work.old.explainer }
     ensures answer { IfOk result (IsAnswerTo Alphabet.Utf8 judges.now.viable (rules_of judges.now.grammar.now.rules)
         judges.now.grammar.now.judged line.now) }
+    ensures costly { IfErr result (IsNoAnswer (NeedsMoreItems judges.now.budget Alphabet.Utf8 judges.now.viable
+        (rules_of judges.now.grammar.now.rules) judges.now.grammar.now.judged line.now)) }
 {
     let len = utf8_len(line);
     let _is_text = decode(&line[..len], &mut work.points)?;
@@ -151,8 +162,8 @@ fn judge_torn(judges: &LineJudge<'_>, work: &mut Work, line: &[u8]) -> Result<An
 }
 
 /// Returns the answer to a line of code points, which are the bytes where the line is ASCII. `Memory` if an allocation
-/// fails.
-fn judge_points(judges: &LineJudge<'_>, work: &mut Work, line: &[u8]) -> Result<Answer, Memory>
+/// fails, `Costly` if the line needs more items than the budget.
+fn judge_points(judges: &LineJudge<'_>, work: &mut Work, line: &[u8]) -> Result<Answer, NoAnswer>
     requires letters { judges.now.letters ≡ Alphabet.Utf8 }
     requires within { length line.now ≤ judges.now.flat.now.limit }
     requires flat { IfSome work.old.engines.automaton (λ a. a ≡ judges.now.flat.now) }
@@ -160,6 +171,8 @@ fn judge_points(judges: &LineJudge<'_>, work: &mut Work, line: &[u8]) -> Result<
     ensures explainer { work.new.explainer ≡ work.old.explainer }
     ensures answer { IfOk result (IsAnswerTo Alphabet.Utf8 judges.now.viable (rules_of judges.now.grammar.now.rules)
         judges.now.grammar.now.judged line.now) }
+    ensures costly { IfErr result (IsNoAnswer (NeedsMoreItems judges.now.budget Alphabet.Utf8 judges.now.viable
+        (rules_of judges.now.grammar.now.rules) judges.now.grammar.now.judged line.now)) }
 {
     utf8_is_decided();
     if line.is_ascii() {
@@ -225,6 +238,9 @@ fn explain_line(
 impl Judge<Work> for LineJudge<'_> {
     ghost reported = { λ j. IsAnswerTo j.letters j.viable (rules_of j.grammar.now.rules) j.grammar.now.judged };
 
+    ghost costly = { λ j. NeedsMoreItems j.budget j.letters j.viable (rules_of j.grammar.now.rules)
+        j.grammar.now.judged };
+
     ghost explains = { λ j. j.explains };
 
     ghost refusal = { λ j. IsRefusalReported j.unit j.letters (rules_of j.grammar.now.rules) j.grammar.now.judged };
@@ -235,7 +251,7 @@ impl Judge<Work> for LineJudge<'_> {
         × IfSome j.explainer (λ more. ExplainsLines (rules_of j.grammar.now.rules) j.grammar.now.judged j.letters
         j.flat.now.limit more.now × IfSome work.explainer (λ a. a ≡ more.now)) };
 
-    fn judge(&self, work: &mut Work, line: &[u8]) -> Result<Answer, Memory> {
+    fn judge(&self, work: &mut Work, line: &[u8]) -> Result<Answer, NoAnswer> {
         match self.letters {
             Alphabet::Bytes => {
                 values_are_letters(line);

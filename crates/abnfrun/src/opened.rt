@@ -74,12 +74,16 @@ impl AbnfJudge {
             grammar: &self.grammar,
             letters: self.letters,
             viable: self.viable,
+            budget: None,
             flat: &self.flat,
             explains: false,
             unit: LineUnit::Line,
             explainer: None,
         };
-        judge.judge(&mut self.work, line)
+        match judge.judge(&mut self.work, line) {
+            Ok(said) => Ok(said),
+            Err(_) => Err(Memory),
+        }
     }
 }
 

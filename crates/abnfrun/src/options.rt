@@ -25,6 +25,8 @@ pub struct AbnfOptions {
     pub quiet: bool,
     /// Whether nothing is read while the end of a line is held.
     pub line_buffered: bool,
+    /// How many items the sets of a line may have; any number if it is `None`.
+    pub budget: Option<usize>,
 }
 
 /// The settings of a run of the ABNF tool.

@@ -1,4 +1,4 @@
--- What a run of a grammar states depends on the limit, style, whole and explain of the settings alone.
+-- What a run of a grammar states depends on the limit, options and explain of the settings alone.
 -- Serves: peg_run
 use Rattle.std.proofs.Common.{◌≡◌, ◌≤◌, ℕ, Bool, true, false, List, sym, ◌∙◌, subst, Option, ap, ap₂}
 use Rattle.std.proofs.Math.Bridge.{le_prop}
@@ -16,7 +16,7 @@ use Rattle.toolrun.specs.RunSteps.{cut_short, replied_reported, unexplained}
 use Rattle.pegrun.specs.PegSettings.{PegSettings}
 use Rattle.toolrun.specs.declared.stop.Stop.{Stop}
 use Rattle.toolrun.specs.declared.stop.Stop.TheVariants.{Quiet, NoMatch, LongUnit, LongLine, Broken, NoMemory, Refused}
-use Rattle.toolrun.specs.declared.stop.Stop.TheVariants.{Unreadable}
+use Rattle.toolrun.specs.declared.stop.Stop.TheVariants.{CostlyUnit, CostlyLine, Unreadable}
 
 explained_so : (asked : Bool) (Why Other : List ℕ → Type 0) → ((why : List ℕ) → Why why → Other why)
     → (why : List ℕ) → ExplainedIf asked Why why → ExplainedIf asked Other why
@@ -25,20 +25,22 @@ explained_so false Why Other f why is = is
 
 module _ (rules : List Rule) (start : ℕ) (a b : PegSettings) (input : Input) (limit : b.limit ≡ a.limit)
     (style : b.options.style ≡ a.options.style) (whole : b.options.whole ≡ a.options.whole)
-    (explain : b.explain ≡ a.explain) where
+    (budget : b.options.budget ≡ a.options.budget) (explain : b.explain ≡ a.explain) where
   before_by : (s : ℕ) (before : Option ℕ) → UnitBefore rules start a input s before
       → UnitBefore rules start b input s before
   before_by s before none_before = none_before
   before_by s before (one_before at k text last us u lt) =
-      one_before at k text last (units_by rules start a b input limit style whole at text us)
-      (unit_by rules start a b input limit style whole at k last u) lt
+      one_before at k text last (units_by rules start a b input limit style whole budget at text us)
+      (unit_by rules start a b input limit style whole budget at k last u) lt
 
   lines_by : (s : ℕ) (stop : Stop) (why : List ℕ) → StopLines rules start a input s stop why
       → StopLines rules start b input s stop why
   lines_by s (Quiet status) why is = is
   lines_by s (NoMatch at) why is = (is.0, before_by s is.0 is.1, rw limit is.2)
   lines_by s (LongUnit at l) why is = is
+  lines_by s (CostlyUnit at budget) why is = is
   lines_by s (LongLine line l) why is = is
+  lines_by s (CostlyLine line budget) why is = is
   lines_by s Broken why is = is
   lines_by s NoMemory why is = is
   lines_by s (Refused fault) why is = is
@@ -57,7 +59,7 @@ module _ (rules : List Rule) (start : ℕ) (a b : PegSettings) (input : Input) (
   unfolding plain_by
   reported_by reply r = record {
     plain = r.plain;
-    replies = plain_by rules start a b input limit style whole r.plain r.replies;
+    replies = plain_by rules start a b input limit style whole budget r.plain r.replies;
     before = r.before;
     reports = r.reports;
     why = r.why;
@@ -65,28 +67,30 @@ module _ (rules : List Rule) (start : ℕ) (a b : PegSettings) (input : Input) (
     reported = r.reported;
   }
 
-  states_by_four : (reply : Reply) → RunStates rules start a input reply → RunStates rules start b input reply
+  states_by_same : (reply : Reply) → RunStates rules start a input reply → RunStates rules start b input reply
   unfolding plain_by
-  states_by_four reply (replied_reported same r) = replied_reported same (reported_by same r)
-  states_by_four reply (unexplained plain r reported reports may) =
-      unexplained plain (plain_by rules start a b input limit style whole plain r) reported reports
+  states_by_same reply (replied_reported same r) = replied_reported same (reported_by same r)
+  states_by_same reply (unexplained plain r reported reports may) =
+      unexplained plain (plain_by rules start a b input limit style whole budget plain r) reported reports
       (lack_by r.point r.stop may)
-  states_by_four reply (cut_short point out reported all before reports r begins) =
-      cut_short point out reported all (units_by rules start a b input limit style whole point out before) reports
-      (plain_by rules start a b input limit style whole all r) begins
+  states_by_same reply (cut_short point out reported all before reports r begins) =
+      cut_short point out reported all (units_by rules start a b input limit style whole budget point out before)
+      reports
+      (plain_by rules start a b input limit style whole budget all r) begins
 
 -- so does what a run over memory gives
-pub planned_by_four : (rules : List Rule) (start : ℕ) (a b : PegSettings) → b.limit ≡ a.limit
-    → b.options.style ≡ a.options.style → b.options.whole ≡ a.options.whole → b.explain ≡ a.explain
+pub planned_by_same : (rules : List Rule) (start : ℕ) (a b : PegSettings) → b.limit ≡ a.limit
+    → b.options.style ≡ a.options.style → b.options.whole ≡ a.options.whole
+    → b.options.budget ≡ a.options.budget → b.explain ≡ a.explain
     → {input out err : List ℕ} {code : ℕ}
     → IsPlannedRun (RunStates rules start a) input out err code
     → IsPlannedRun (RunStates rules start b) input out err code
-planned_by_four rules start a b limit style whole explain {input} p = record {
+planned_by_same rules start a b limit style whole budget explain {input} p = record {
   notes = p.notes;
   stated = p.stated;
   states = (
     p.states.0,
-    states_by_four rules start a b (bounded input) limit style whole explain p.stated p.states.1,
+    states_by_same rules start a b (bounded input) limit style whole budget explain p.stated p.states.1,
   );
   out_failed = p.out_failed;
   err_failed = p.err_failed;
@@ -100,6 +104,7 @@ pub runner_stays : (old : Runner) (peg : Grammar) (within : (1 ≤ old.limit) ×
       limit = old.limit;
       style = old.style;
       whole = old.whole;
+      budget = old.budget;
       explain = old.explain;
       in_range = within;
     }) old

@@ -34,6 +34,7 @@ pub record PegMeant (asked : CSettings) (options : PegOptions) : Type 0 where
   pub raw : options.style.raw ≡ asked.raw
   pub escapes : options.style.escapes ≡ false
   pub whole : options.whole ≡ false
+  pub budget : options.budget ≡ None
 
 -- C asks for these options of the ABNF tool
 pub record AbnfMeant (asked : CSettings) (options : AbnfOptions) : Type 0 where
@@ -46,6 +47,7 @@ pub record AbnfMeant (asked : CSettings) (options : AbnfOptions) : Type 0 where
   pub numbered : options.numbered ≡ false
   pub quiet : options.quiet ≡ false
   pub line_buffered : options.line_buffered ≡ false
+  pub budget : options.budget ≡ None
 
 -- C asks for these settings, by a struct of the size that this version knows. AreMeant says which options it asks for.
 pub record IsMeant {O : Type 0} (AreMeant : CSettings → O → Type 0) (asked : CSettings) (name : List ℕ)

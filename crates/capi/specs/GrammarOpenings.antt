@@ -22,11 +22,12 @@ abbrev pub IsAbnfOpening : List ℕ → AbnfSettings → List ℕ → Option Ope
 IsAbnfOpening text settings = IsOpening (IsAbnfFault text) (ExplainsAbnf text) (ExplainsAbnfNote text)
     (AreTextHints text settings) (IsOpened text settings) settings
 
--- a runner runs as these settings ask: by their limit, in their style, on one unit or more, and explained or not
+-- a runner runs as these settings ask: by their limit and options, and explained or not
 pub record RunsBy (runner : Runner) (settings : PegSettings) : Type 0 where
   pub limit : settings.limit ≡ runner.limit
   pub style : settings.options.style ≡ runner.style
   pub whole : settings.options.whole ≡ runner.whole
+  pub budget : settings.options.budget ≡ runner.budget
   pub explain : settings.explain ≡ runner.explain
 
 -- the text has these notes, and this runs its grammar as settings ask, unless one of them rejects it

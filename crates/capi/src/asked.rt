@@ -84,6 +84,7 @@ impl COptions for PegOptions {
                 escapes: false,
             },
             whole: false,
+            budget: None,
         }
     }
 }
@@ -102,6 +103,7 @@ impl COptions for AbnfOptions {
             numbered: false,
             quiet: false,
             line_buffered: false,
+            budget: None,
         }
     }
 }

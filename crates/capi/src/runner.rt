@@ -14,6 +14,8 @@ pub struct Runner {
     pub style: PrintStyle,
     /// Whether an input is one unit.
     pub whole: bool,
+    /// How many bytes a unit may print; any number if it is `None`.
+    pub budget: Option<usize>,
     /// Whether it is explained where a run stops.
     pub explain: bool,
     ghost in_range: { (1 ≤ limit) × (limit ≤ 16777216) },

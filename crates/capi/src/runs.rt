@@ -20,6 +20,7 @@ pub(crate) fn runner_by(peg: PegRunner, settings: &PegSettings<'_>) -> Runner
         limit: settings.limit,
         style: settings.options.style,
         whole: settings.options.whole,
+        budget: settings.options.budget,
         explain: settings.explain,
     }
 }
@@ -38,6 +39,7 @@ pub(crate) fn run_input(alloc: Global, runner: &mut Runner, input: &[u8]) -> Out
         options: PegOptions {
             style: runner.style,
             whole: runner.whole,
+            budget: runner.budget,
         },
     };
     run_opened(alloc, &mut runner.peg, &settings, input)

@@ -1,5 +1,5 @@
 -- What the words of a command line ask for.
-use Rattle.std.specs.Prelude.{◌≡◌, ◌≤◌, ℕ, option_map, Bool, true, false, List, Option, Some, None, codes}
+use Rattle.std.specs.Prelude.{◌≡◌, ◌==◌, ◌≤◌, ℕ, option_map, Bool, true, false, List, Option, Some, None, codes}
 use Rattle.std.specs.Prelude.{[], if◌then◌else◌, is_some, unwrap_or}
 use Rattle.std.specs.Str.{bytes_eq}
 use Rattle.std.specs.Str.Parse.{IsNumeral, digits_value, without_leading_plus}
@@ -28,6 +28,14 @@ abbrev pub IsNumberOf : ℕ → Option Text → ℕ → Type 0
 IsNumberOf default None n = n ≡ default
 IsNumberOf default (Some text) n = IsNumeral 10 (without_leading_plus text) →
     digits_value 10 (without_leading_plus text) ≤ 4294967295 → n ≡ digits_value 10 (without_leading_plus text)
+
+-- the budget of a number: the greatest of 32 bits is none
+abbrev pub budget_by : ℕ → Option ℕ
+budget_by n = if n == 4294967295 then None else Some n
+
+-- a text gives this budget; none where no text is given
+abbrev pub IsBudgetOf : Option Text → Option ℕ → Type 0
+IsBudgetOf text budget = (n : ℕ) × IsNumberOf 4294967295 text n × (budget ≡ budget_by n)
 
 -- the alphabet of a name; bytes where none is given
 abbrev pub alphabet_named : Option Text → Alphabet

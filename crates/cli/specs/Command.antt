@@ -97,6 +97,10 @@ AreModes = AreNames (codes "run" ∷ codes "check" ∷ codes "print" ∷ [])
 abbrev pub limit_rule : Rule
 limit_rule = number_rule (codes "limit") (code "l") 16777216 (codes "65536")
 
+-- `-b N`, a number of 32 bits from 1; the greatest where it is not given
+abbrev pub budget_rule : Rule
+budget_rule = number_rule (codes "budget") (code "b") 4294967295 (codes "4294967295")
+
 -- `-s RULE`, any text
 abbrev pub rule_rule : Rule
 rule_rule = value_rule (codes "rule") (code "s")

@@ -88,8 +88,10 @@ fn error_of(
 ) -> Result<Error, AllocError>
     ensures kind { IfOk result (λ e. kind_of e ≡ kind) }
 {
-    let mut command = command?;
-    command.error(kind, message)
+    match command {
+        Ok(mut command) => command.error(kind, message),
+        Err(fault) => Err(fault),
+    }
 }
 
 /// Ends a program whose words have this error, or for which an allocation failed.

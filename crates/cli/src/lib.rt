@@ -27,4 +27,4 @@ pub use several::{greater_status, run_several};
 pub use sizes::plain_words;
 pub use start::{end_without_memory, start_program, words_of};
 pub use tool::tool_main;
-pub use values::{is_given, letters_of, number_of};
+pub use values::{budget_of, is_given, letters_of, number_of};

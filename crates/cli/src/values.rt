@@ -1,7 +1,7 @@
 //! The values that the words give to the options of the programs.
 ghost use Rattle.std.specs.Prelude.{◌≡◌, codes};
 ghost use Rattle.clap.specs.Words.{first_of, found_of, one_of, rows_of};
-ghost use Rattle.cli.specs.Asked.{IsNumberOf, alphabet_named, is_flagged};
+ghost use Rattle.cli.specs.Asked.{IsBudgetOf, IsNumberOf, alphabet_named, is_flagged};
 
 use clap::ArgMatches;
 use letters::Alphabet;
@@ -21,6 +21,17 @@ pub fn number_of(matches: &ArgMatches<'_>, id: &str, default: u32) -> u32
     ensures { IsNumberOf default (one_of id.now (rows_of (found_of matches.now))) result }
 {
     matches.get_one::<u32>(id).unwrap_or(default)
+}
+
+/// Returns the budget that the words give to an option; `None` for the greatest number of 32 bits, its default.
+pub fn budget_of(matches: &ArgMatches<'_>, id: &str) -> Option<usize>
+    ensures { IsBudgetOf (one_of id.now (rows_of (found_of matches.now))) result }
+{
+    let budget = number_of(matches, id, u32::MAX);
+    if budget == u32::MAX {
+        return None;
+    }
+    Some(budget as usize)
 }
 
 /// Returns the alphabet of lines that the words ask for by `-u`.

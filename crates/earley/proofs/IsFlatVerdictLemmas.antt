@@ -1,5 +1,5 @@
 -- The verdict on a line by the sets of a chart.
--- Serves: viable
+-- Serves: viable, viable_few
 use Rattle.std.proofs.Common.{◌≡◌, ℕ, ◌<◌, ◌≤◌, List, [], ◌∷◌, length, refl, arith}
 use Rattle.flatgrammar.specs.Flat.{Flat, Dot}
 use Rattle.flatgrammar.specs.FlatVerdicts.{DerivesLine, IsFlatVerdict}

@@ -1,6 +1,7 @@
 //! Charts of item sets, and the line judge.
-ghost use Rattle.std.specs.Prelude.{◌≡◌, ◌↔◌, ◌*◌, ◌+◌, ◌≤◌, ℕ, List, [], IsTrue, IfOk, OnErr, length, map};
-ghost use Rattle.earleyitems.specs.ChartSets.{set_at, AreDotsOf, IsSet};
+ghost use Rattle.std.specs.Prelude.{◌≡◌, ◌↔◌, ◌*◌, ◌+◌, ◌≤◌, ℕ, List, [], IsTrue, IfOk, IfSome, IfNone, OnErr};
+ghost use Rattle.std.specs.Prelude.{length, map};
+ghost use Rattle.earleyitems.specs.ChartSets.{set_at, AreDotsOf, HaveMoreItems, IsSet};
 ghost use Rattle.flatgrammar.specs.FlatVerdicts.{DerivesLine};
 ghost use Rattle.flatgrammar.specs.Positions.{positions};
 
@@ -130,4 +131,27 @@ pub fn judge<L: Letter>(chart: &mut Chart, flat: &Flat, line: &[L]) -> Result<bo
         Some(yes) => Ok(yes),
         None => judge_many(chart, flat, line),
     }
+}
+
+/// Fills the chart with the item sets of a line, item by item, and returns whether the flat grammar derives the line,
+/// as `judge`. It gives up once more than `most` items are kept, as `judge_within` of `earleyitems`: it returns `None`
+/// then, and the sets of the line have more than `most` items.
+///
+/// `Memory` if an allocation fails; the chart is empty then.
+pub fn judge_few<L: Letter>(
+    chart: &mut Chart,
+    flat: &Flat,
+    line: &[L],
+    most: usize,
+) -> Result<Option<bool>, Memory>
+    requires { length line.now ≤ flat.now.limit }
+    ensures sets { IfOk result (λ found. IfSome found (λ _. (j : ℕ) → IsSet flat.now (map L.number line.now) j
+        (set_at chart.new j))) }
+    ensures answer { IfOk result (λ found. IfSome found (λ yes. IsTrue yes
+        ↔ DerivesLine flat.now (map L.number line.now))) }
+    ensures more { IfOk result (λ found. IfNone found (HaveMoreItems flat.now (map L.number line.now) most)) }
+    ensures empty { OnErr result (chart.new ≡ []) }
+{
+    chart.rows = None;
+    judge_within(&mut chart.items, flat, line, most)
 }

@@ -14,7 +14,7 @@ mod row_step;
 mod verdict;
 mod words;
 
-pub use chart::{Chart, judge};
+pub use chart::{Chart, judge, judge_few};
 pub use row::BitRow;
 pub use row_set::{RowSet, empty_rows};
-pub use verdict::viable;
+pub use verdict::{viable, viable_few};

@@ -55,14 +55,16 @@ use Rattle.linejudge.specs.declared.reached.LinePosition.{LinePosition}
 use Rattle.linejudge.specs.declared.reached.Explanations.{Explanations}
 use Rattle.linejudge.proofs.LinesLemmas.{lines_go_on, goes_further}
 
-module _ (Reported : List ℕ → Answer → Type 0) (asked : Bool) (Refusal : List ℕ → ℕ → List ℕ → Type 0) (form : LineForm)
-    (input : Input) where
+module _ (Reported : List ℕ → Answer → Type 0) (asked : Bool) (Refusal : List ℕ → ℕ → List ℕ → Type 0)
+    (NeedsMore : List ℕ → ℕ → Type 0) (form : LineForm) (input : Input) where
   abbrev Runs : ℕ → Option (List ℕ) → Option (List ℕ) → Result Ending WriteFault → Type 0
-  Runs taken a b r = HasReportedRun (LinesTo Reported form input) (EndsAt form input) (taken_by form.limit input)
+  Runs taken a b r = HasReportedRun (LinesTo Reported form input) (EndsAt NeedsMore form input)
+      (taken_by form.limit input)
       (ReportsTo Reported asked Refusal form input) (WhyTo asked input) (NeverLacks input) taken a b r
 
   abbrev EndsSo : RunPoint → List ℕ → Ending → Type 0
-  EndsSo point last ending = EndsReported (LinesTo Reported form input) (EndsAt form input) (taken_by form.limit input)
+  EndsSo point last ending = EndsReported (LinesTo Reported form input) (EndsAt NeedsMore form input)
+      (taken_by form.limit input)
       (ReportsTo Reported asked Refusal form input) (WhyTo asked input) (NeverLacks input) point last ending
 
   -- where it is not asked, no line is explained
@@ -128,8 +130,8 @@ module _ (Reported : List ℕ → Answer → Type 0) (asked : Bool) (Refusal : L
 
   -- a reply, at a point
   on_point : (b : Bool) (reply : Reply)
-      → Replies (Lines Reported form input) (LinesEnd form input) (position_taken form.limit input) reply
-      → Replies (LinesTo Reported form input) (EndsAt form input) (taken_by form.limit input) reply
+      → Replies (Lines Reported form input) (LinesEnd NeedsMore form input) (position_taken form.limit input) reply
+      → Replies (LinesTo Reported form input) (EndsAt NeedsMore form input) (taken_by form.limit input) reply
   on_point b reply r = record {
     point = record { at = r.point; lacks = b };
     before = r.before;
@@ -144,9 +146,9 @@ module _ (Reported : List ℕ → Answer → Type 0) (asked : Bool) (Refusal : L
   }
 
   -- .. and without its point
-  off_point : (reply : Reply) → Replies (LinesTo Reported form input) (EndsAt form input)
+  off_point : (reply : Reply) → Replies (LinesTo Reported form input) (EndsAt NeedsMore form input)
       (taken_by form.limit input) reply
-      → Replies (Lines Reported form input) (LinesEnd form input) (position_taken form.limit input) reply
+      → Replies (Lines Reported form input) (LinesEnd NeedsMore form input) (position_taken form.limit input) reply
   off_point reply r = record {
     point = r.point.at;
     before = r.before;
@@ -165,8 +167,8 @@ module _ (Reported : List ℕ → Answer → Type 0) (asked : Bool) (Refusal : L
   and_true false = refl
 
   -- a run states its reply where no allocation fails
-  pub whole_states : (reply : Reply) → LinesReply Reported asked Refusal form input reply
-      → LinesStates Reported asked Refusal form input reply
+  pub whole_states : (reply : Reply) → LinesReply Reported asked Refusal NeedsMore form input reply
+      → LinesStates Reported asked Refusal NeedsMore form input reply
   unfolding on_point
   whole_states reply r = replied_reported reply (record {
     plain = r.plain;
@@ -185,8 +187,9 @@ module _ (Reported : List ℕ → Answer → Type 0) (asked : Bool) (Refusal : L
   })
 
   -- where no allocation fails but in an explanation, a run states its reply without explanations, but for these
-  pub same_but_why : (reply : Reply) → LinesStates Reported asked Refusal form input reply → reply.status ≢ 5 →
-      (plain : Reply) × Replies (Lines Reported form input) (LinesEnd form input)
+  pub same_but_why : (reply : Reply) → LinesStates Reported asked Refusal NeedsMore form input reply →
+      reply.status ≢ 5 →
+      (plain : Reply) × Replies (Lines Reported form input) (LinesEnd NeedsMore form input)
       (position_taken form.limit input) plain
       × SameButWhy asked reply plain
   same_but_why reply (replied_reported r g) ample = (
@@ -215,7 +218,7 @@ module _ (Reported : List ℕ → Answer → Type 0) (asked : Bool) (Refusal : L
       here = record { at = at; lacks = reported.lacks }
 
       pub one_more_line : (new : Option (List ℕ)) (more : Explanations) (said : Answer) (n : ℕ)
-          → IsStep Reported asked Refusal form input at mid new reported more (Ok (Answers said n)) →
+          → IsStep Reported asked Refusal NeedsMore form input at mid new reported more (Ok (Answers said n)) →
           (longer : List ℕ) × Lines Reported form input (next_position at n said) longer
           × ReportedUpTo Reported asked Refusal form input more.lacks (next_position at n said) more.text.items
           × Appends old new longer
@@ -262,7 +265,7 @@ module _ (Reported : List ℕ → Answer → Type 0) (asked : Bool) (Refusal : L
 
       -- how the run ends there
       module _ (stop : Stop) (last : List ℕ)
-          (either : ((stop ≡ NoMemory) × (last ≡ [])) ⊎ LinesEnd form input at last stop) where
+          (either : ((stop ≡ NoMemory) × (last ≡ [])) ⊎ LinesEnd NeedsMore form input at last stop) where
         ends_plainly : asked ≡ false → EndsSo here last (Plain stop)
         ends_plainly not_asked = (
           nothing_reported not_asked,
@@ -301,7 +304,7 @@ module _ (Reported : List ℕ → Answer → Type 0) (asked : Bool) (Refusal : L
         ends_by false is ending plain reported_so = rw (plain is) (ends_plainly is)
 
       pub stops_there : (new : Option (List ℕ)) (more : Explanations) (taken : ℕ) (stop : Stop) (ending : Ending)
-          → IsStep Reported asked Refusal form input at mid new reported more (Ok (Stops stop))
+          → IsStep Reported asked Refusal NeedsMore form input at mid new reported more (Ok (Stops stop))
           → (asked ≡ false → ending ≡ Plain stop)
           → (asked ≡ true → IsReportedEnding more.lacks
           (more.text.items ++ more_refused (count_unreported (not more.lacks) at.refused)) stop ending)
@@ -341,7 +344,7 @@ module _ (Reported : List ℕ → Answer → Type 0) (asked : Bool) (Refusal : L
             → ReportedUpTo Reported asked Refusal form input b next more → AppendsPart mid new added
             → Runs taken old new (Err fault)
         fails_at next b added more le further reported_there part =
-            let goes = goes_further Reported form input decided at.position next (text ++ added) le further in
+            let goes = goes_further Reported NeedsMore form input decided at.position next (text ++ added) le further in
             let all : List ℕ = more ++ more_refused (count_unreported (asked && not b) next.refused) in (
               text ++ added,
               record {
@@ -356,7 +359,8 @@ module _ (Reported : List ℕ → Answer → Type 0) (asked : Bool) (Refusal : L
             )
 
         -- the output fails in what is printed last
-        fails_last : (last : List ℕ) (stop : Stop) → LinesEnd form input at last stop → AppendsPart mid new last
+        fails_last : (last : List ℕ) (stop : Stop) → LinesEnd NeedsMore form input at last stop → AppendsPart mid new
+            last
             → Runs taken old new (Err fault)
         fails_last last stop ends part =
             let all : List ℕ = reported.text.items ++ more_refused (count_unreported
@@ -397,7 +401,8 @@ module _ (Reported : List ℕ → Answer → Type 0) (asked : Bool) (Refusal : L
               AppendsPart-join old mid new text last wrote part,
             )
 
-        fails_in : (added : List ℕ) (more : Explanations) → StepText Reported asked Refusal form input at reported more
+        fails_in : (added : List ℕ) (more : Explanations) → StepText Reported asked Refusal NeedsMore form input at
+            reported more
             added
             → AppendsPart mid new added → Runs taken old new (Err fault)
         fails_in added more (of_line line n said stands says adds) part =
@@ -408,7 +413,8 @@ module _ (Reported : List ℕ → Answer → Type 0) (asked : Bool) (Refusal : L
             part
         fails_in added more (of_end last why ends same) part = fails_last last why ends part
 
-        pub fails_there : (more : Explanations) → IsStep Reported asked Refusal form input at mid new reported more
+        pub fails_there : (more : Explanations) → IsStep Reported asked Refusal NeedsMore form input at mid new
+            reported more
             (Err fault)
             → Runs taken old new (Err fault)
         fails_there more (added, texts, part) = fails_in added more texts part
@@ -420,16 +426,17 @@ module _ (Reported : List ℕ → Answer → Type 0) (asked : Bool) (Refusal : L
             fails_at next reported.lacks added reported.text.items le (goes.lines text lines)
             (goes.refusals reported.lacks reported.text.items refusals) part
 
-module _ (Reported : List ℕ → Answer → Type 0) (asked : Bool) (Refusal : List ℕ → ℕ → List ℕ → Type 0) (form : LineForm)
+module _ (Reported : List ℕ → Answer → Type 0) (asked : Bool) (Refusal : List ℕ → ℕ → List ℕ → Type 0)
+    (NeedsMore : List ℕ → ℕ → Type 0) (form : LineForm)
     (decided : (line : List ℕ) → (said : Answer) × Reported line said) where
   goes_on : (input : Input) (point : RunPoint) (text : List ℕ) → LinesTo Reported form input point text →
-      Begins (LinesTo Reported form input) (EndsAt form input) (taken_by form.limit input)
+      Begins (LinesTo Reported form input) (EndsAt NeedsMore form input) (taken_by form.limit input)
       (taken_by form.limit input point) text
   goes_on input point text lines =
-      let goes = lines_go_on Reported form input decided point.at text lines in
+      let goes = lines_go_on Reported NeedsMore form input decided point.at text lines in
       record {
         reply = goes.reply;
-        replies = on_point Reported asked Refusal form input point.lacks goes.reply goes.replies;
+        replies = on_point Reported asked Refusal NeedsMore form input point.lacks goes.reply goes.replies;
         front = goes.front;
         taken = goes.taken;
       }
@@ -444,7 +451,7 @@ module _ (Reported : List ℕ → Answer → Type 0) (asked : Bool) (Refusal : L
   nothing_yet false is input = record { first = []; refusals = none_reported; is = rw is refl }
 
   -- something is stated for each input
-  pub some_states : (input : Input) → (reply : Reply) × LinesStates Reported asked Refusal form input reply
+  pub some_states : (input : Input) → (reply : Reply) × LinesStates Reported asked Refusal NeedsMore form input reply
   some_states input =
       let goes = goes_on input first_point [] none in (
         _,
@@ -457,21 +464,27 @@ module _ (Reported : List ℕ → Answer → Type 0) (asked : Bool) (Refusal : L
       (out : Stream) (left : ℕ) (flow : Flow)
       (r : Result Ending WriteFault) → final ≡ now → IsReportedBy (remaining now) (failed now) (ended now) left flow →
       ((seen : List ℕ) × Consumes (remaining old) (remaining now) seen × (left + length seen ≡ input_limit) ×
-      ((input : Input) → Agrees seen flow input → Runs Reported asked Refusal form input
+      ((input : Input) → Agrees seen flow input → Runs Reported asked Refusal NeedsMore form input
       (length seen) out.old out.new r))
       → Flags out.was out.failed r →
-      Fulfils (LinesStates Reported asked Refusal form) (passed remaining failed old final) out r
+      Fulfils (LinesStates Reported asked Refusal NeedsMore form) (passed remaining failed old final) out r
   lines_were_run remaining failed ended old now final out left flow r is reported run flag =
-      run_reported (LinesTo Reported form) (EndsAt form) (taken_by form.limit) goes_on
+      run_reported (LinesTo Reported form) (EndsAt NeedsMore form) (taken_by form.limit) goes_on
       (ReportsTo Reported asked Refusal form)
       (WhyTo asked) NeverLacks remaining failed ended old now final out left flow r is reported run flag
 
   -- an allocation failed before the first line
   pub no_line_was_run : (r0 s0 : Option (List ℕ)) (r_was r_failed o_was : Bool) →
       let r : Result Ending WriteFault = Ok (Plain NoMemory) in
-      Fulfils (LinesStates Reported asked Refusal form) (record { old = r0; new = r0; was = r_was; failed = r_failed })
+      Fulfils (LinesStates Reported asked Refusal NeedsMore form) (record {
+        old = r0;
+        new = r0;
+        was = r_was;
+        failed =
+            r_failed;
+      })
       (record { old = s0; new = s0; was = o_was; failed = o_was }) r
   no_line_was_run r0 s0 r_was r_failed o_was =
-      did_not_report (LinesTo Reported form) (EndsAt form) (taken_by form.limit) goes_on
+      did_not_report (LinesTo Reported form) (EndsAt NeedsMore form) (taken_by form.limit) goes_on
       (ReportsTo Reported asked Refusal form)
       (WhyTo asked) NeverLacks first_point (λ input. none) (nothing_yet asked refl) r0 s0 r_was r_failed o_was

@@ -47,18 +47,19 @@ refused_by-one No = omega arith
 refused_by-one (NoAfter n) = omega arith
 
 -- at the end of the input a run ends so, whether it was over before or not
-pub ends_quietly : (form : LineForm) (input : Input) (at : LinePosition) (b : Bool) → is_over form at ≡ b
-    → IsEndAt form input at.position → LinesEnd form input at (printed_last form.name form.printed at)
-    (Quiet (status_after at.refused))
-ends_quietly form input at true over is = rejected over
-ends_quietly form input at false goes is = finished goes is
+pub ends_quietly : (NeedsMore : List ℕ → ℕ → Type 0) (form : LineForm) (input : Input) (at : LinePosition) (b : Bool)
+    → is_over form at ≡ b → IsEndAt form input at.position
+    → LinesEnd NeedsMore form input at (printed_last form.name form.printed at) (Quiet (status_after at.refused))
+ends_quietly NeedsMore form input at true over is = rejected over
+ends_quietly NeedsMore form input at false goes is = finished goes is
 
-module _ (Reported : List ℕ → Answer → Type 0) (form : LineForm) (input : Input) where
+module _ (Reported : List ℕ → Answer → Type 0) (NeedsMore : List ℕ → ℕ → Type 0) (form : LineForm)
+    (input : Input) where
   abbrev rest : ℕ → List ℕ
   rest s = drop s input.bytes
 
   abbrev pub Goes : ℕ → List ℕ → Type 0
-  Goes s text = Begins (Lines Reported form input) (LinesEnd form input) (position_taken form.limit input)
+  Goes s text = Begins (Lines Reported form input) (LinesEnd NeedsMore form input) (position_taken form.limit input)
       (taken_at form.limit input s) text
 
   takes_more : (s t n : ℕ) → s ≤ t → taken_at form.limit input t ≤ n → taken_at form.limit input s ≤ n
@@ -69,7 +70,7 @@ module _ (Reported : List ℕ → Answer → Type 0) (form : LineForm) (input : 
       omega (arith, m, h)
 
   pub goes_to_stop : (at : LinePosition) (text last : List ℕ) (stop : Stop) → Lines Reported form input at text
-      → LinesEnd form input at last stop → Goes at.position (text ++ last)
+      → LinesEnd NeedsMore form input at last stop → Goes at.position (text ++ last)
   goes_to_stop at text last stop lines ends = record {
     reply = record {
       out = text ++ last;
@@ -110,7 +111,7 @@ module _ (Reported : List ℕ → Answer → Type 0) (form : LineForm) (input : 
         let last = printed_last form.name form.printed at in
         goes_from at.position at.position text last (omega arith)
         (goes_to_stop at text last (Quiet (status_after at.refused)) lines
-        (ends_quietly form input at (is_over form at) refl (empty, fine)))
+        (ends_quietly NeedsMore form input at (is_over form at) refl (empty, fine)))
 
     -- after the last line it does
     goes_after_last : (at : LinePosition) (text : List ℕ) → Lines Reported form input at text → is_over form at ≡ false

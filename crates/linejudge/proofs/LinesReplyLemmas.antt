@@ -19,7 +19,7 @@ use Rattle.toolrun.specs.declared.stop.Stop.{Stop}
 use Rattle.linejudge.specs.InputLines.{HasNoEnd, printed_line, next_position, position_taken, IsLine, IsLastAt}
 use Rattle.linejudge.specs.InputLines.{StandsAt}
 use Rattle.linejudge.specs.InputLines.{with_end, without_end, Lines, none, one_more, LinesEnd, broken, overlong}
-use Rattle.linejudge.specs.InputLines.{GoesBy, finished, is_over, kept_line, rejected}
+use Rattle.linejudge.specs.InputLines.{GoesBy, costly, finished, is_over, kept_line, rejected}
 use Rattle.linejudge.specs.LineRefusals.{
   LinesReply,
   Refusals,
@@ -87,9 +87,11 @@ module _ (form : LineForm) (input : Input) where
   one_stands s a b n m (without_end last) (with_end line is) = absurd (not_both s line is last)
   one_stands s a b n m (without_end last) (without_end other) = record { lines = refl; sizes = refl }
 
+module _ (NeedsMore : List ℕ → ℕ → Type 0) (never : (line : List ℕ) (budget : ℕ) → NeedsMore line budget → ⊥)
+    (form : LineForm) (input : Input) where
   -- no run ends where it goes on by a line
   no_end : (at : LinePosition) (line last : List ℕ) (n : ℕ) (why : Stop) → is_over form at ≡ false
-      → StandsAt form input at.position line n → LinesEnd form input at last why → ⊥
+      → StandsAt form input at.position line n → LinesEnd NeedsMore form input at last why → ⊥
   no_end at line last n why on (with_end it is) (rejected over) = absurd (cc)
   no_end at line last n why on (with_end it is) (broken goes (free, short, fault)) =
       has_end form.end (drop at.position input.bytes) it is.after is.cut free
@@ -99,6 +101,7 @@ module _ (form : LineForm) (input : Input) where
       let l = ap length is.cut in
       let m = ap length empty in
       omega (arith, l, m, length-append it (form.end ∷ is.after))
+  no_end at line last n why on stands (costly other m budget goes more) = absurd (never other budget more)
   no_end at line last n why on (without_end last_is) (rejected over) = absurd (cc)
   no_end at line last n why on (without_end (free, some, short, fine)) (broken goes (free', short', fault)) =
       absurd (cc)
@@ -112,8 +115,8 @@ module _ (form : LineForm) (input : Input) where
     lasts : last ≡ other
     stops : why ≡ end
 
-  one_end : (at : LinePosition) (last other : List ℕ) (why end : Stop) → LinesEnd form input at last why
-      → LinesEnd form input at other end → OneEnd last other why end
+  one_end : (at : LinePosition) (last other : List ℕ) (why end : Stop) → LinesEnd NeedsMore form input at last why
+      → LinesEnd NeedsMore form input at other end → OneEnd last other why end
   one_end at last other why end (broken g (free, short, fault)) (broken h (free', short', fault')) =
       record { lasts = refl; stops = refl }
   one_end at last other why end (broken g (free, short, fault)) (overlong h (free', long)) =
@@ -130,6 +133,8 @@ module _ (form : LineForm) (input : Input) where
       absurd (let l = ap length empty in omega (arith, l, long))
   one_end at last other why end (finished g (empty, fine)) (finished h (empty', fine')) =
       record { lasts = refl; stops = refl }
+  one_end at last other why end (costly line n budget goes more) e = absurd (never line budget more)
+  one_end at last other why end e (costly line n budget goes more) = absurd (never line budget more)
   one_end at last other why end (broken g is) (rejected over) = absurd (cc)
   one_end at last other why end (rejected over) (broken g is) = absurd (cc)
   one_end at last other why end (overlong g is) (rejected over) = absurd (cc)
@@ -140,7 +145,8 @@ module _ (form : LineForm) (input : Input) where
 
 module _ (Reported : List ℕ → Answer → Type 0) (one_answer : (line : List ℕ) (a b : Answer) → Reported line a
     → Reported line b
-    → a ≡ b) (form : LineForm) (input : Input) where
+    → a ≡ b) (NeedsMore : List ℕ → ℕ → Type 0) (never : (line : List ℕ) (budget : ℕ) → NeedsMore line budget → ⊥)
+    (form : LineForm) (input : Input) where
   abbrev LinesTo : LinePosition → List ℕ → Type 0
   LinesTo at text = Lines Reported form input at text
 
@@ -211,28 +217,29 @@ module _ (Reported : List ℕ → Answer → Type 0) (one_answer : (line : List 
 
   -- no run ends after fewer lines than another run answers
   no_earlier_end : (at other : LinePosition) (text more last : List ℕ) (why : Stop) → LinesTo at text
-      → LinesEnd form input at last why → LinesTo other more → at.count < other.count → ⊥
+      → LinesEnd NeedsMore form input at last why → LinesTo other more → at.count < other.count → ⊥
   no_earlier_end at other text more last why lines ends further lt =
       let g = goes_on at.count other more further lt in
       let same = same_position at text lines g.at g.text g.lines (sym g.here) in
       let by : GoesBy form input at g.line g.size =
       subst (λ (v : LinePosition). GoesBy form input v g.line g.size) (sym same.positions) g.is in
-      no_end form input at g.line last g.size why by.goes by.stands ends
+      no_end NeedsMore never form input at g.line last g.size why by.goes by.stands ends
 
   abbrev HasReply : Reply → Type 0
-  HasReply reply = Replies (Lines Reported form input) (LinesEnd form input) (position_taken form.limit input) reply
+  HasReply reply = Replies (Lines Reported form input) (LinesEnd NeedsMore form input)
+      (position_taken form.limit input) reply
 
   -- two replies end at one position, in one way
   record OneReply (a b : Reply) (r : HasReply a) (q : HasReply b) : Type 0 where
     same : Same r.point q.point r.before q.before
-    ends : OneEnd form input r.last q.last r.stop q.stop
+    ends : OneEnd NeedsMore never form input r.last q.last r.stop q.stop
 
   ends_there : (a b : Reply) (r : HasReply a) (q : HasReply b) → Same r.point q.point r.before q.before
       → OneReply a b r q
   ends_there a b r q same = record {
     same = same;
-    ends = one_end form input r.point r.last q.last r.stop q.stop r.ends
-        (subst (λ (v : LinePosition). LinesEnd form input v q.last q.stop) (sym same.positions) q.ends);
+    ends = one_end NeedsMore never form input r.point r.last q.last r.stop q.stop r.ends
+        (subst (λ (v : LinePosition). LinesEnd NeedsMore form input v q.last q.stop) (sym same.positions) q.ends);
   }
 
   -- one reply, but for what is explained
@@ -311,8 +318,8 @@ module _ (Reported : List ℕ → Answer → Type 0) (one_answer : (line : List 
         explains
 
     -- one reply
-    pub one_lines_reply : (a b : Reply) → LinesReply Reported asked Refusal form input a
-        → LinesReply Reported asked Refusal form input b → a ≡ b
+    pub one_lines_reply : (a b : Reply) → LinesReply Reported asked Refusal NeedsMore form input a
+        → LinesReply Reported asked Refusal NeedsMore form input b → a ≡ b
     one_lines_reply a b r q =
         let one = one_plain_reply r.plain q.plain r.replies q.replies in
         let plain : r.plain ≡ q.plain = same_reply r.plain q.plain r.replies q.replies one in

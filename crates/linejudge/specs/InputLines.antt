@@ -13,6 +13,8 @@ use Rattle.toolrun.specs.declared.stop.Stop.{Stop}
 use Rattle.toolrun.specs.declared.stop.Stop.TheVariants as stop
 use Rattle.linejudge.specs.declared.answers.Answer.{Answer}
 use Rattle.linejudge.specs.declared.answers.Answer.TheVariants.{Yes, No, NoAfter}
+use Rattle.linejudge.specs.declared.answers.NoAnswer.{NoAnswer}
+use Rattle.linejudge.specs.declared.answers.NoAnswer.TheVariants.{Memory, Costly}
 use Rattle.linejudge.specs.declared.line.Line.{Line}
 use Rattle.linejudge.specs.declared.line.LineForm.{LineForm}
 use Rattle.linejudge.specs.declared.line.Line.TheVariants.{Whole, Last, Overlong, End, Broken}
@@ -23,6 +25,11 @@ use Rattle.linejudge.specs.declared.reached.LinePosition.{LinePosition}
 -- none of these bytes is the one that ends a line
 abbrev pub HasNoEnd : ℕ → List ℕ → Type 0
 HasNoEnd end bytes = All (λ b. b ≢ end) bytes
+
+-- why a line has no answer: an allocation failed, or the line needs more items than this budget
+abbrev pub IsNoAnswer : (ℕ → Type 0) → NoAnswer → Type 0
+IsNoAnswer NeedsMore Memory = ⊤
+IsNoAnswer NeedsMore (Costly budget) = NeedsMore budget
 
 -- what is written for an answer
 abbrev pub answer_text : Answer → List ℕ
@@ -207,12 +214,16 @@ module _ (Reported : List ℕ → Answer → Type 0) (form : LineForm) (input : 
         → GoesBy form input at line n → Reported line said
         → Lines (next_position at n said) (before ++ printed_line form (at.count + 1) line said)
 
--- how a run ends there, and what is printed then
-pub data LinesEnd (form : LineForm) (input : Input) (at : LinePosition) : List ℕ → Stop → Type 0 where
-  broken : is_over form at ≡ false → IsBrokenAt form input at.position → LinesEnd form input at [] stop.Broken
+-- how a run ends there, and what is printed then, where NeedsMore says which lines need more than so many items
+pub data LinesEnd (NeedsMore : List ℕ → ℕ → Type 0) (form : LineForm) (input : Input) (at : LinePosition)
+    : List ℕ → Stop → Type 0 where
+  broken : is_over form at ≡ false → IsBrokenAt form input at.position
+      → LinesEnd NeedsMore form input at [] stop.Broken
   overlong : is_over form at ≡ false → IsOverlongAt form input at.position
-      → LinesEnd form input at [] (stop.LongLine (at.count + 1) form.limit)
+      → LinesEnd NeedsMore form input at [] (stop.LongLine (at.count + 1) form.limit)
+  costly : (line : List ℕ) (n budget : ℕ) → GoesBy form input at line n → NeedsMore line budget
+      → LinesEnd NeedsMore form input at [] (stop.CostlyLine (at.count + 1) budget)
   finished : is_over form at ≡ false → IsEndAt form input at.position
-      → LinesEnd form input at (printed_last form.name form.printed at) (stop.Quiet (status_after at.refused))
+      → LinesEnd NeedsMore form input at (printed_last form.name form.printed at) (stop.Quiet (status_after at.refused))
   rejected : is_over form at ≡ true
-      → LinesEnd form input at (printed_last form.name form.printed at) (stop.Quiet (status_after at.refused))
+      → LinesEnd NeedsMore form input at (printed_last form.name form.printed at) (stop.Quiet (status_after at.refused))

@@ -9,7 +9,7 @@ use Rattle.toolrun.specs.RunSteps as steps
 use Rattle.toolrun.specs.Stop.{not_explained}
 use Rattle.toolrun.specs.declared.stop.Stop.{Stop}
 use Rattle.toolrun.specs.declared.stop.Stop.TheVariants.{Quiet, NoMatch, LongUnit, LongLine, Broken, NoMemory, Refused}
-use Rattle.toolrun.specs.declared.stop.Stop.TheVariants.{Unreadable}
+use Rattle.toolrun.specs.declared.stop.Stop.TheVariants.{CostlyUnit, CostlyLine, Unreadable}
 use Rattle.linejudge.specs.InputLines.{GoesBy, LinesEnd, Lines, at_front, next_position, position_taken, says_yes}
 use Rattle.linejudge.specs.declared.answers.Answer.{Answer}
 use Rattle.linejudge.specs.declared.line.LineForm.{LineForm}
@@ -33,7 +33,9 @@ abbrev pub stop_lines : Stop → List ℕ
 stop_lines (Quiet status) = []
 stop_lines (NoMatch at) = []
 stop_lines (LongUnit at limit) = []
+stop_lines (CostlyUnit at budget) = []
 stop_lines (LongLine line limit) = limit_line
+stop_lines (CostlyLine line budget) = []
 stop_lines Broken = []
 stop_lines NoMemory = []
 stop_lines (Refused fault) = []
@@ -52,9 +54,9 @@ pub record RunPoint : Type 0 where
 abbrev pub LinesTo : (List ℕ → Answer → Type 0) → LineForm → Input → RunPoint → List ℕ → Type 0
 LinesTo Reported form input point text = Lines Reported form input point.at text
 
--- how a run ends at a point, and what is printed then
-abbrev pub EndsAt : LineForm → Input → RunPoint → List ℕ → Stop → Type 0
-EndsAt form input point last stop = LinesEnd form input point.at last stop
+-- how a run ends at a point, and what is printed then, where NeedsMore says which lines need more than so many items
+abbrev pub EndsAt : (List ℕ → ℕ → Type 0) → LineForm → Input → RunPoint → List ℕ → Stop → Type 0
+EndsAt NeedsMore form input point last stop = LinesEnd NeedsMore form input point.at last stop
 
 -- how many bytes are taken where the last line is looked for there
 abbrev pub taken_by : ℕ → Input → RunPoint → ℕ
@@ -115,17 +117,18 @@ module _ (Reported : List ℕ → Answer → Type 0) (asked : Bool) (Refusal : L
     abbrev pub WhyStopped : LinePosition → Stop → List ℕ → Type 0
     WhyStopped at stop why = ExplainedIf asked (λ text. text ≡ stop_lines stop) why
 
+  module _ (NeedsMore : List ℕ → ℕ → Type 0) (form : LineForm) (input : Input) where
     -- the lines of the input in turn, the explanations of those that are rejected, and how the run ends; no allocation
     -- fails
     abbrev pub LinesReply : Reply → Type 0
-    LinesReply reply = steps.RepliesReported (Lines Reported form input) (LinesEnd form input)
+    LinesReply reply = steps.RepliesReported (Lines Reported form input) (LinesEnd NeedsMore form input)
         (position_taken form.limit input)
-        Reports WhyStopped (λ at stop. ⊥) reply
+        (Reports form input) (WhyStopped form input) (λ at stop. ⊥) reply
 
     -- So a run states its reply. Where an allocation fails in an explanation, that one is missing and none follows, but
     -- all that the run writes otherwise, and its status, are as ever. Where any other allocation fails, it states the
     -- text of the first lines, and what is reported of them.
     abbrev pub LinesStates : Reply → Type 0
-    LinesStates reply = steps.ReportedStates (LinesTo Reported form input) (EndsAt form input)
+    LinesStates reply = steps.ReportedStates (LinesTo Reported form input) (EndsAt NeedsMore form input)
         (taken_by form.limit input)
-        ReportsTo (WhyTo asked input) (NeverLacks input) reply
+        (ReportsTo form input) (WhyTo asked input) (NeverLacks input) reply

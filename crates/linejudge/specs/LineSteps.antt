@@ -3,17 +3,18 @@ use Rattle.std.specs.Prelude.{◌≡◌, ℕ, ◌+◌, ◌<◌, ◌≤◌, ◌�
 use Rattle.std.specs.Prelude.{Option, Result, Ok, Err, IfOk, vec_capacity, vec_len}
 use Rattle.std.specs.Io.KnownBytes.{Appends, Keeps}
 use Rattle.ruletable.specs.Writing.{AppendsPart, Writes}
-use Rattle.ruletable.specs.declared.memory.Memory.{Memory}
 use Rattle.ruletable.specs.declared.sink.WriteFault.{WriteFault}
 use Rattle.toolrun.specs.Input.{Input}
 use Rattle.toolrun.specs.RunEnd.{refusals_text}
 use Rattle.toolrun.specs.declared.ending.Ending.{Ending}
 use Rattle.toolrun.specs.declared.ending.Ending.TheVariants.{Plain, Explained, Unexplained}
 use Rattle.toolrun.specs.declared.stop.Stop.{Stop}
-use Rattle.toolrun.specs.declared.stop.Stop.TheVariants.{NoMemory}
+use Rattle.toolrun.specs.declared.stop.Stop.TheVariants.{CostlyLine, NoMemory}
 use Rattle.linejudge.specs.InputLines.{GoesBy, Lines, LinesEnd, printed_line}
 use Rattle.linejudge.specs.LineRefusals.{ReportsLine, ReportedUpTo, is_reported, stop_lines, unexplained_line}
 use Rattle.linejudge.specs.declared.answers.Answer.{Answer}
+use Rattle.linejudge.specs.declared.answers.NoAnswer.{NoAnswer}
+use Rattle.linejudge.specs.declared.answers.NoAnswer.TheVariants as no_answer
 use Rattle.linejudge.specs.declared.line.LineForm.{LineForm}
 use Rattle.linejudge.specs.declared.line_loop.LineStep.{LineStep}
 use Rattle.linejudge.specs.declared.line_loop.LineStep.TheVariants.{Answers, Stops}
@@ -26,12 +27,14 @@ pub record Adds (P : List ℕ → Type 0) (old new : List ℕ) : Type 0 where
   pub is : P text
   pub added : new ≡ old ++ text
 
--- What follows a line that takes n bytes: its text was written; or a proper prefix of it, where the output
--- failed; or nothing, where an allocation failed before.
-abbrev pub StepsAfter : ℕ → Option (List ℕ) → Option (List ℕ) → List ℕ → Result Answer Memory
+-- What follows a line of that number that takes n bytes: its text was written; or a proper prefix of it, where the
+-- output failed; or nothing, where it has no answer.
+abbrev pub StepsAfter : ℕ → ℕ → Option (List ℕ) → Option (List ℕ) → List ℕ → Result Answer NoAnswer
     → Result LineStep WriteFault → Type 0
-StepsAfter n old new text (Ok said) step = Writes old new text step × IfOk step (λ s. s ≡ Answers said n)
-StepsAfter n old new text (Err _) step = Keeps old new × (step ≡ Ok (Stops NoMemory))
+StepsAfter number n old new text (Ok said) step = Writes old new text step × IfOk step (λ s. s ≡ Answers said n)
+StepsAfter number n old new text (Err no_answer.Memory) step = Keeps old new × (step ≡ Ok (Stops NoMemory))
+StepsAfter number n old new text (Err (no_answer.Costly budget)) step = Keeps old new
+    × (step ≡ Ok (Stops (CostlyLine number budget)))
 
 -- a line that is answered takes some bytes, and lies within so many
 abbrev pub FitsIn : ℕ → Result LineStep WriteFault → Type 0
@@ -83,13 +86,13 @@ module _ (Reported : List ℕ → Answer → Type 0) (asked : Bool) (Refusal : L
         reported
         → ReportedUpTo Reported asked Refusal form input lacks new reported
 
-  module _ (form : LineForm) (input : Input) where
+  module _ (NeedsMore : List ℕ → ℕ → Type 0) (form : LineForm) (input : Input) where
     -- what is printed for a line, or at the end of the input, and the explanations after it
     pub data StepText (at : LinePosition) (reported more : Explanations) : List ℕ → Type 0 where
       of_line : (line : List ℕ) (n : ℕ) (said : Answer) → GoesBy form input at line n → Reported line said
           → AddsReported at line said reported more
           → StepText at reported more (printed_line form (at.count + 1) line said)
-      of_end : (text : List ℕ) (why : Stop) → LinesEnd form input at text why → more ≡ reported
+      of_end : (text : List ℕ) (why : Stop) → LinesEnd NeedsMore form input at text why → more ≡ reported
           → StepText at reported more text
 
     -- a line was answered, or the run ends here, or an allocation failed and nothing was written
@@ -100,6 +103,6 @@ module _ (Reported : List ℕ → Answer → Type 0) (asked : Bool) (Refusal : L
         × Appends old new (printed_line form (at.count + 1) line said)
     IsStep at old new reported more (Ok (Stops why)) = (more ≡ reported)
         × (((why ≡ NoMemory) × Keeps old new)
-        ⊎ ((last : List ℕ) × LinesEnd form input at last why × Appends old new last))
+        ⊎ ((last : List ℕ) × LinesEnd NeedsMore form input at last why × Appends old new last))
     IsStep at old new reported more (Err fault) = (text : List ℕ) × StepText at reported more text
         × AppendsPart old new text

@@ -1,8 +1,8 @@
 //! The answer to one line.
 ghost use Rattle.std.specs.Prelude.{◌≡◌, ◌≤◌, ◌<◌, ◌+◌, ◌^◌, ℕ, Bool, List, length, take, true, false};
-ghost use Rattle.std.specs.Prelude.{IfOk, OnOk, OnErr, IsTrue};
+ghost use Rattle.std.specs.Prelude.{IfOk, IfErr, OnOk, OnErr, IsTrue};
 ghost use Rattle.feed.specs.Feed.{SameFeed, bytes_of};
-ghost use Rattle.linejudge.specs.InputLines.{says_yes};
+ghost use Rattle.linejudge.specs.InputLines.{IsNoAnswer, says_yes};
 ghost use Rattle.linejudge.specs.LineRefusals.{is_reported as may_report};
 ghost use Rattle.linejudge.specs.LineSteps.{Adds, AddsReported, Answered, HasRoom};
 ghost use Rattle.linejudge.specs.declared.answers.Answer.{Answer};
@@ -27,10 +27,31 @@ pub enum Answer {
     NoAfter(usize),
 }
 
+/// Why a line has no answer.
+#[derive(Clone, Copy)]
+pub enum NoAnswer {
+    /// An allocation failed.
+    Memory,
+    /// The line needs more items than this budget.
+    Costly(usize),
+}
+
+impl From<Memory> for NoAnswer {
+    ghost use Rattle.linejudge.specs.declared.answers.NoAnswer.TheVariants.{Memory};
+
+    ghost from_gives = { λ _ e. e ≡ Memory };
+
+    fn from(_: Memory) -> Self {
+        NoAnswer::Memory
+    }
+}
+
 /// A judge of lines. `W` is the memory that it works in.
 pub trait Judge<W> {
     /// Which answer is that of a line.
     ghost reported: { Self → List ℕ → Answer → Type 0 };
+    /// Which lines need more than so many items.
+    ghost costly: { Self → List ℕ → ℕ → Type 0 };
     /// Whether rejected lines are explained.
     ghost explains: { Self → Bool };
     /// Which lines explain a rejected line that has a number.
@@ -40,12 +61,13 @@ pub trait Judge<W> {
     /// Which memory it can work in.
     ghost works_in: { Self → W → Type 0 };
 
-    /// Returns the line's answer. `Memory` if an allocation fails.
-    fn judge(&self, work: &mut W, line: &[u8]) -> Result<Answer, Memory>
+    /// Returns the line's answer. `Memory` if an allocation fails, `Costly` if the line needs more items than a budget.
+    fn judge(&self, work: &mut W, line: &[u8]) -> Result<Answer, NoAnswer>
         requires served { length line.now ≤ served self.now }
         requires work { works_in self.now work.old }
         ensures work { works_in self.now work.new }
-        ensures reported { IfOk result (reported self.now line.now) };
+        ensures reported { IfOk result (reported self.now line.now) }
+        ensures costly { IfErr result (IsNoAnswer (costly self.now line.now)) };
 
     /// Returns whether rejected lines are explained.
     fn is_explained(&self) -> bool
@@ -146,14 +168,15 @@ struct FoundLine<'a> {
 }
 
 /// Judges a line, puts what is printed for it into `text`, in place of what that holds, and adds its explanation, if it
-/// has one. `Memory` if an allocation fails in that but the explanation; then no explanation is added.
+/// has one. `Memory` if an allocation fails in that but the explanation; then no explanation is added. Nor is one of a
+/// line that needs more items than a budget.
 fn answer_line<W, J: Judge<W>>(
     judge: &J,
     work: &mut W,
     line: FoundLine<'_>,
     reported: &mut Explanations,
     text: &mut Vec<u8>,
-) -> Result<Answer, Memory>
+) -> Result<Answer, NoAnswer>
     requires served { length line.bytes.now ≤ J.served judge.now }
     requires work { J.works_in judge.now work.old }
     requires counted { line.at.count + 1 < 2 ^ 64 }
@@ -162,6 +185,7 @@ fn answer_line<W, J: Judge<W>>(
     ensures room { J.explains judge.now ≡ true → HasRoom reported.new }
     ensures answered { IfOk result (Answered (J.reported judge.now) (J.explains judge.now) (J.refusal judge.now)
         line.entry.form line.entry.at line.entry.bytes.now reported.old reported.new text.new.items) }
+    ensures costly { IfErr result (IsNoAnswer (J.costly judge.now line.entry.bytes.now)) }
     ensures err { OnErr result (reported.new ≡ reported.old) }
 {
     let said = judge.judge(work, line.bytes)?;
@@ -181,8 +205,8 @@ fn is_copied<R: Source>(feed: &Feed<'_, R>, n: usize, line: &mut Vec<u8>) -> boo
 
 /// Judges the first `n` bytes that are held as a line, puts what is printed for it into `reached.text`, and adds its
 /// explanation, if it has one. `Memory` if an allocation fails in that but the explanation; then no explanation is
-/// added. Bytes in two pieces are copied. If they are too many for that, or the copy cannot be allocated, all that is
-/// held is put in one piece.
+/// added. Nor is one of a line that needs more items than a budget: `Costly`. Bytes in two pieces are copied. If they
+/// are too many for that, or the copy cannot be allocated, all that is held is put in one piece.
 pub fn answer_held<W, J: Judge<W>, R: Source>(
     judge: &J,
     work: &mut W,
@@ -190,7 +214,7 @@ pub fn answer_held<W, J: Judge<W>, R: Source>(
     feed: &mut Feed<'_, R>,
     n: usize,
     reached: &mut Reached,
-) -> Result<Answer, Memory>
+) -> Result<Answer, NoAnswer>
     requires held { n ≤ length (bytes_of feed.old) }
     requires served { n ≤ J.served judge.now }
     requires work { J.works_in judge.now work.old }
@@ -203,6 +227,7 @@ pub fn answer_held<W, J: Judge<W>, R: Source>(
     ensures answered { IfOk result (Answered (J.reported judge.now) (J.explains judge.now) (J.refusal judge.now)
         form.entry reached.old.at (take n (bytes_of feed.old)) reached.old.reported reached.new.reported
         reached.new.text.items) }
+    ensures costly { IfErr result (IsNoAnswer (J.costly judge.now (take n (bytes_of feed.old)))) }
     ensures err { OnErr result (reached.new.reported ≡ reached.old.reported) }
 {
     let at = reached.at;

@@ -24,9 +24,9 @@ fn goes_on(is_plain: bool, form: LineForm<'_>, at: LinePosition) -> bool
 }
 
 /// Judges the whole lines at the front of some bytes in turn, from a position on, and returns the position after them.
-/// `text` is replaced by what is printed for them. It stops before a line that is too long or has no end there, where
-/// an allocation fails, where the run is over, and where the text has some `BATCH` bytes. No line is judged if rejected
-/// lines are explained.
+/// `text` is replaced by what is printed for them. It stops before a line that is too long, or has no end or no answer
+/// there, where an allocation fails, where the run is over, and where the text has some `BATCH` bytes. No line is
+/// judged if rejected lines are explained.
 pub(crate) fn judge_front<W, J: Judge<W>>(
     judge: &J,
     work: &mut W,

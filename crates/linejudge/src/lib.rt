@@ -8,7 +8,7 @@ mod line_loop;
 mod printed;
 mod reached;
 
-pub use answers::{Answer, Judge};
+pub use answers::{Answer, Judge, NoAnswer};
 pub use line::{Line, LineForm, next_line};
 pub use line_loop::run_lines;
 pub use printed::Printed;

@@ -24,13 +24,13 @@ ghost use Rattle.linejudge.specs.LineRefusals.{
 ghost use Rattle.linejudge.specs.LineRefusals.{stop_lines, taken_by};
 ghost use Rattle.linejudge.specs.LineSteps.{FitsIn, HasRoom, IsStep, IsReportedEnding, StepsAfter};
 
-use crate::answers::{Answer, Judge, answer_held};
+use crate::answers::{Answer, Judge, NoAnswer, answer_held};
 use crate::batch::judge_front;
 use crate::line::{Line, LineForm, next_line};
 use crate::printed::write_end;
 use crate::reached::{Explanations, LinePosition, MAX_REPORTED, Reached};
 use feed::{Feed, Source};
-use ruletable::{Memory, Sink, WriteFault, write_whole};
+use ruletable::{Sink, WriteFault, write_whole};
 use std::alloc::Global;
 use toolrun::{Ending, ReportedRefusals, Stop};
 
@@ -41,20 +41,25 @@ pub enum LineStep {
     Stops(Stop),
 }
 
-/// Writes what is printed for a line that takes so many bytes, and returns what follows it. Nothing is written if an
-/// allocation failed in answering it.
+/// Writes what is printed for a line of that number that takes so many bytes, and returns what follows it. Nothing is
+/// written if it has no answer.
 fn step_of<O: Sink>(
-    answered: Result<Answer, Memory>,
+    answered: Result<Answer, NoAnswer>,
     text: &[u8],
+    line: usize,
     len: usize,
     out: &mut O,
 ) -> Result<LineStep, WriteFault>
     requires { O.failed out.old ≡ false }
-    ensures step { StepsAfter len (O.contents out.old) (O.contents out.new) text.now answered result }
+    ensures step { StepsAfter line len (O.contents out.old) (O.contents out.new) text.now answered result }
     ensures flag { Flags (O.failed out.old) (O.failed out.new) result }
 {
-    let Ok(said) = answered else {
-        return Ok(LineStep::Stops(Stop::NoMemory));
+    let said = match answered {
+        Ok(said) => said,
+        Err(NoAnswer::Memory) => return Ok(LineStep::Stops(Stop::NoMemory)),
+        Err(NoAnswer::Costly(budget)) => {
+            return Ok(LineStep::Stops(Stop::CostlyLine { line, budget }));
+        }
     };
     match write_whole(out, text) {
         Ok(()) => Ok(LineStep::Answers { said, len }),
@@ -106,8 +111,8 @@ fn next_step<W, J: Judge<W>, R: Source, O: Sink>(
     ensures grows { Grows R.remaining feed.old feed.new }
     ensures follows { (before : List ℕ) (input : Input) → length before ≡ reached.old.at.position → Agrees (before
         ++ bytes_of feed.new) (flow_of feed.new) input →
-        IsStep (J.reported judge.now) (J.explains judge.now) (J.refusal judge.now) form.entry input reached.old.at
-        (O.contents out.old) (O.contents out.new) reached.old.reported reached.new.reported result ×
+        IsStep (J.reported judge.now) (J.explains judge.now) (J.refusal judge.now) (J.costly judge.now) form.entry input
+        reached.old.at (O.contents out.old) (O.contents out.new) reached.old.reported reached.new.reported result ×
         (length (before ++ bytes_of feed.new) ≤ taken_at form.entry.limit input reached.old.at.position) }
     ensures fits { FitsIn (length (bytes_of feed.new)) result }
     ensures flag { Flags (O.failed out.old) (O.failed out.new) result }
@@ -117,17 +122,17 @@ fn next_step<W, J: Judge<W>, R: Source, O: Sink>(
         feed.fill();
         return end_step(form, reached.at, out);
     }
+    let line = reached.at.count + 1;
     match next_line(feed, form) {
         Line::Whole(n) => {
             let answered = answer_held(judge, work, form, feed, form.kept_size(n), reached);
-            step_of(answered, reached.text.as_slice(), n + 1, out)
+            step_of(answered, reached.text.as_slice(), line, n + 1, out)
         }
         Line::Last(n) => {
             let answered = answer_held(judge, work, form, feed, n, reached);
-            step_of(answered, reached.text.as_slice(), n, out)
+            step_of(answered, reached.text.as_slice(), line, n, out)
         }
         Line::Overlong => {
-            let line = reached.at.count + 1;
             let limit = form.limit;
             Ok(LineStep::Stops(Stop::LongLine { line, limit }))
         }
@@ -218,7 +223,7 @@ fn answer_lines<W, J: Judge<W>, R: Source, O: Sink>(
         (reader_of feed.new)) seen ×
         (allowance_of feed.new + length seen ≡ input_limit) ×
         ((input : Input) → Agrees seen (flow_of feed.new) input →
-        HasReportedRun (LinesTo (J.reported judge.now) form.entry input) (EndsAt form.entry input)
+        HasReportedRun (LinesTo (J.reported judge.now) form.entry input) (EndsAt (J.costly judge.now) form.entry input)
         (taken_by form.entry.limit input)
         (ReportsTo (J.reported judge.now) (J.explains judge.now) (J.refusal judge.now) form.entry input)
         (WhyTo (J.explains judge.now) input) (NeverLacks input) (length seen) (O.contents out.old)
@@ -266,6 +271,7 @@ fn answer_lines<W, J: Judge<W>, R: Source, O: Sink>(
 ///   judged as it stands. Then lines are printed as they were judged.
 /// - The first line of more than `form.limit` bytes ends the run: `LongLine` with its number from 1 and the limit. So
 ///   it is with more than `form.limit` bytes of which none is `form.end`.
+/// - A line that needs more items than the judge's budget ends the run: `CostlyLine` with its number and the budget.
 /// - After a fault of the reader a line is judged only if its end was given; then `Broken`.
 /// - After the last line the run ends with `Done` if all answers are yes, else with `NoMatch`. With `form.stops` it
 ///   ends after the first rejected line, as if that were the last one.
@@ -290,7 +296,8 @@ pub fn run_lines<W, J: Judge<W>, R: Source, O: Sink>(
     requires reader_is_fresh { R.failed reader.old ≡ false }
     requires reader_is_open { R.ended reader.old ≡ false }
     requires out_is_fresh { O.failed out.old ≡ false }
-    ensures { Fulfils (LinesStates (J.reported judge.now) (J.explains judge.now) (J.refusal judge.now) form.entry)
+    ensures { Fulfils (LinesStates (J.reported judge.now) (J.explains judge.now) (J.refusal judge.now)
+        (J.costly judge.now) form.entry)
         (passed R.remaining R.failed reader.old reader.new) (passed O.contents O.failed out.old out.new) result }
 {
     judge.decided();

@@ -1,14 +1,14 @@
 -- The command of the program, as a parse reads it, and what its words ask for.
 use Prim.Native.Char.{code}
 use Rattle.std.specs.Prelude.{◌≡◌, List, [], ◌∷◌, codes}
-use Rattle.clap.specs.Words.{App, Row, first_of}
-use Rattle.cli.specs.Asked.{is_flagged}
-use Rattle.cli.specs.Command.{AreModes, Names, flag_rule, long_flag_rule, tool_app}
+use Rattle.clap.specs.Words.{App, Row, first_of, one_of}
+use Rattle.cli.specs.Asked.{IsBudgetOf, is_flagged}
+use Rattle.cli.specs.Command.{AreModes, Names, budget_rule, flag_rule, long_flag_rule, tool_app}
 use Rattle.pegrun.specs.declared.options.PegOptions.{PegOptions}
 
--- `pegi [-m MODE] [-l N] [-s RULE] [-r] [-1] [--escapes] [-x] GRAMMAR [FILE]..`
+-- `pegi [-m MODE] [-l N] [-s RULE] [-b N] [-r] [-1] [--escapes] [-x] GRAMMAR [FILE]..`
 abbrev pub pegi_app : Names → App
-pegi_app modes = tool_app modes (codes "pegi") (flag_rule (codes "raw") (code "r")
+pegi_app modes = tool_app modes (codes "pegi") (budget_rule ∷ flag_rule (codes "raw") (code "r")
     ∷ flag_rule (codes "whole") (code "1")
     ∷ long_flag_rule (codes "escapes") ∷ [])
 
@@ -21,3 +21,4 @@ pub record AsksPegi (rows : List Row) (options : PegOptions) : Type 0 where
   pub raw : options.style.raw ≡ is_flagged (first_of (codes "raw") rows)
   pub escapes : options.style.escapes ≡ is_flagged (first_of (codes "escapes") rows)
   pub whole : options.whole ≡ is_flagged (first_of (codes "whole") rows)
+  pub budget : IsBudgetOf (one_of (codes "budget") rows) options.budget

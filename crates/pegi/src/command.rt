@@ -3,7 +3,7 @@ ghost use Rattle.pegi.specs.PegiCommand.{AsksPegi, IsPegiApp};
 ghost use Rattle.pegrun.specs.Answers.{States};
 
 use clap::{ArgMatches, Command};
-use cli::{BufferedSink, Parameter, Program, is_given, tool_command};
+use cli::{BufferedSink, Parameter, Program, budget_of, is_given, tool_command};
 use feed::Source;
 use pegrun::{PegOptions, PegSettings, PrintStyle, run_peg};
 use ruletable::Sink;
@@ -25,11 +25,12 @@ Grammar:
   -s, --rule <RULE>  Start from this rule [default: the first rule]
 
 Input and output:
-  -l, --limit <N>  Look at no more than N bytes, or Nk, NM, in a unit, from 1 to 16777216 [default: 65536]
-  -1, --whole      Take the input as one unit, up to its end
-  -r, --raw        Print actions verbatim
-      --escapes    Replace escapes in actions by their bytes
-  -x, --explain    Explain messages in more lines
+  -l, --limit <N>   Look at no more than N bytes, or Nk, NM, in a unit, from 1 to 16777216 [default: 65536]
+  -b, --budget <N>  Print no more than N bytes in a unit, from 1 to 4294967295 [default: 4294967295, any number]
+  -1, --whole       Take the input as one unit, up to its end
+  -r, --raw         Print actions verbatim
+      --escapes     Replace escapes in actions by their bytes
+  -x, --explain     Explain messages in more lines
 
 Other options:
   -h, --help     Print this help
@@ -39,7 +40,7 @@ Exit status:
   0  all input was taken, or nothing was refused
   1  no match at some byte
   2  the grammar or the arguments are refused
-  3  a unit is longer than N bytes
+  3  a unit is longer than N bytes, or prints more
   4  a read or write error, or a file cannot be read
   5  out of memory
 
@@ -47,13 +48,14 @@ Example:
   pegi username.peg letter.txt";
 
 /// The options of the program alone.
-static OWN: [Parameter; 3] = [
+static OWN: [Parameter; 4] = [
+    Parameter::Number("budget", 'b', 4_294_967_295, "4294967295"),
     Parameter::Flag("raw", 'r'),
     Parameter::Flag("whole", '1'),
     Parameter::LongFlag("escapes"),
 ];
 
-/// The program `pegi [-m MODE] [-l N] [-s RULE] [-r] [-1] [--escapes] [-x] GRAMMAR [FILE]..`.
+/// The program `pegi [-m MODE] [-l N] [-s RULE] [-b N] [-r] [-1] [--escapes] [-x] GRAMMAR [FILE]..`.
 pub(crate) struct Pegi;
 
 impl Program for Pegi {
@@ -76,6 +78,7 @@ impl Program for Pegi {
                 escapes: is_given(matches, "escapes"),
             },
             whole: is_given(matches, "whole"),
+            budget: budget_of(matches, "budget"),
         }
     }
 

@@ -16,7 +16,7 @@ use Rattle.pegmatch.specs.Text.{text_of}
 use Rattle.pegmatch.specs.declared.style.PrintStyle.{PrintStyle}
 use Rattle.pegrun.specs.Attempts.{IsAttempt}
 use Rattle.pegrun.specs.declared.attempt.Attempt.{Attempt}
-use Rattle.pegrun.specs.declared.attempt.Attempt.TheVariants.{Printed, Failed, TooLong, NoMemory}
+use Rattle.pegrun.specs.declared.attempt.Attempt.TheVariants.{Printed, Failed, TooLong, Costly, NoMemory}
 use Rattle.pegrun.proofs.TextOfLemmas.{text_same}
 
 module _ (g : Grammar) (front back : List ℕ) (style : PrintStyle) where
@@ -45,6 +45,7 @@ module _ (g : Grammar) (front back : List ℕ) (style : PrintStyle) where
   attempt_longer old new (Ok Failed) (looked, d, enough, kept) other more =
       (looked, gives_longer Fails looked (enough refl) d, λ is. within_longer looked (enough refl), kept)
   attempt_longer old new (Ok TooLong) a other more = absurd (other refl)
+  attempt_longer old new (Ok (Costly budget)) a other more = absurd a
   attempt_longer old new (Ok NoMemory) kept other more = kept
   attempt_longer old new (Err fault) (k, events, looked, d, enough, wrote) other more = (
     k,

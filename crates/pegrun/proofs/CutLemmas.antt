@@ -28,7 +28,7 @@ use Rattle.toolrun.specs.declared.stop.Stop.{Stop}
 use Rattle.toolrun.specs.declared.ending.Ending.{Ending}
 use Rattle.toolrun.specs.declared.ending.Ending.TheVariants.{Plain, Explained, Unexplained}
 use Rattle.toolrun.specs.declared.stop.Stop.TheVariants.{Quiet, NoMatch, LongUnit, LongLine, Broken, NoMemory, Refused}
-use Rattle.toolrun.specs.declared.stop.Stop.TheVariants.{Unreadable}
+use Rattle.toolrun.specs.declared.stop.Stop.TheVariants.{CostlyUnit, CostlyLine, Unreadable}
 use Rattle.toolrun.proofs.StopsAsLemmas.{run_reported, did_not_report}
 use Rattle.matchfailure.specs.NoMatchLines.{long_unit_lines}
 use Rattle.matchfailure.specs.NoMatches.{IsNoMatchReported, unit_before}
@@ -117,7 +117,9 @@ module _ (rules : List Rule) (start : ℕ) (settings : PegSettings) (input : Inp
     )
     lines_are (LongUnit at limit) why lines =
         lines ∙ ap (λ (t : List ℕ). long_unit_lines (position_after t)) (sym front_is)
+    lines_are (CostlyUnit at budget) why lines = absurd lines
     lines_are (LongLine line limit) why lines = absurd lines
+    lines_are (CostlyLine line budget) why lines = absurd lines
     lines_are Broken why lines = absurd lines
     lines_are NoMemory why lines = absurd lines
     lines_are (Refused fault) why lines = absurd lines

@@ -64,8 +64,8 @@ module _ (settings : PegSettings) (input : Input) (text : List ℕ) where
           states = is_run said [] plain.0 are refl fine mode (record {
             start = start;
             is_start = is;
-            replies = plain_by (firsts [] ds) start (explained_by asked settings) settings input refl refl refl plain.0
-                plain.1;
+            replies = plain_by (firsts [] ds) start (explained_by asked settings) settings input refl refl refl refl
+                plain.0 plain.1;
           });
         }),
         record {

@@ -18,7 +18,7 @@ use Rattle.pegread.specs.PegViews.{rules_of}
 use Rattle.gramcheck.specs.Grammar.{Grammar, IsSoundGrammar}
 use Rattle.gramcheck.proofs.StartRuleLemmas.{rises_of_start}
 use Rattle.toolrun.specs.Agrees.{Agrees}
-use Rattle.pegrun.specs.Attempts.{IsAttempt, IsStep, IsStepOn, StaysWithin, failed_at, step_after, step_held, stop_at}
+use Rattle.pegrun.specs.Attempts.{IsLimited, IsStep, IsStepOn, StaysWithin, failed_at, step_after, step_held, stop_at}
 use Rattle.toolrun.specs.Input.{Input}
 use Rattle.pegrun.specs.Units.{Ends, MayRun, is_after_whole, over_at_end, over_before_end, taken_at}
 use Rattle.pegrun.specs.PegSettings.{PegSettings}
@@ -26,12 +26,12 @@ use Rattle.toolrun.specs.declared.status.Status.TheVariants.{Done}
 use Rattle.toolrun.specs.declared.stop.Stop.{Stop}
 use Rattle.toolrun.specs.declared.stop.Stop.TheVariants as stop
 use Rattle.pegrun.specs.declared.attempt.Attempt.{Attempt}
-use Rattle.pegrun.specs.declared.attempt.Attempt.TheVariants.{Printed, Failed, TooLong, NoMemory}
+use Rattle.pegrun.specs.declared.attempt.Attempt.TheVariants.{Printed, Failed, TooLong, Costly, NoMemory}
 use Rattle.pegrun.specs.declared.unit.UnitStep.{UnitStep}
 use Rattle.pegrun.specs.declared.unit.UnitStep.TheVariants.{Stops}
 use Rattle.toolrun.proofs.AgreesLemmas.{bytes_len, rest_held, rest_is, taken_end, taken_full, window_is}
 use Rattle.pegrun.proofs.StepLemmas.{step_broken, step_is}
-use Rattle.pegmatch.specs.declared.style.PrintStyle.{PrintStyle}
+use Rattle.pegrun.specs.declared.options.PegOptions.{PegOptions}
 
 -- whether a position is the end depends on the lengths
 same_stop : (s m n : ℕ) → (s == m) ≡ (s == n) → stop_at s m ≡ stop_at s n
@@ -48,6 +48,7 @@ same_step settings s m n (Ok (Printed zero)) e = rw (same_stop s m n e) refl
 same_step settings s m n (Ok (Printed (suc k))) e = refl
 same_step settings s m n (Ok Failed) e = rw (same_failed settings s m n e) refl
 same_step settings s m n (Ok TooLong) e = refl
+same_step settings s m n (Ok (Costly budget)) e = refl
 same_step settings s m n (Ok NoMemory) e = refl
 same_step settings s m n (Err fault) e = refl
 
@@ -55,23 +56,24 @@ not-equal : (s m : ℕ) → s < m → (s == m) ≡ false
 not-equal s m h = grind (arith, common_steps)
 
 -- a unit lies in what is held
-fits_of : (g : Grammar) (items : List ℕ) (more : Bool) (style : PrintStyle) (settings : PegSettings) (s : ℕ)
-    (old new : Option (List ℕ)) (r : Result Attempt WriteFault) → IsAttempt g items more style old new r →
+fits_of : (g : Grammar) (items : List ℕ) (more : Bool) (options : PegOptions) (settings : PegSettings) (s : ℕ)
+    (old new : Option (List ℕ)) (r : Result Attempt WriteFault) → IsLimited g items more options old new r →
     StaysWithin (s + length items) s (step_after settings s (s + length items) r)
-fits_of g items more style settings s old new (Ok (Printed zero)) a = tt
-fits_of g items more style settings s old new (Ok (Printed (suc n))) (events, looked, d, enough, wrote) =
+fits_of g items more options settings s old new (Ok (Printed zero)) a = tt
+fits_of g items more options settings s old new (Ok (Printed (suc n))) (events, looked, d, enough, within, wrote) =
     let r = rises_of_start (rules_of g.rules) g.start items (suc n) looked events d in (omega arith, omega (arith, r.1))
-fits_of g items more style settings s old new (Ok Failed) a = tt
-fits_of g items more style settings s old new (Ok TooLong) a = tt
-fits_of g items more style settings s old new (Ok NoMemory) a = tt
-fits_of g items more style settings s old new (Err fault) a = tt
+fits_of g items more options settings s old new (Ok Failed) a = tt
+fits_of g items more options settings s old new (Ok TooLong) a = tt
+fits_of g items more options settings s old new (Ok (Costly budget)) a = tt
+fits_of g items more options settings s old new (Ok NoMemory) a = tt
+fits_of g items more options settings s old new (Err fault) a = tt
 
 pub step_on_fits : (g : Grammar) (held items : List ℕ) (more : Bool) (settings : PegSettings) (s : ℕ)
     (old new : Option (List ℕ)) (r : Result UnitStep WriteFault) → items ≡ held →
     IsStepOn g held more settings s old new r → StaysWithin (s + length items) s r
 step_on_fits g held items more settings s old new r is (attempted, a, e) =
     rw is (subst (λ v. StaysWithin (s + length held) s v) (sym e)
-    (fits_of g held more settings.options.style settings s old new attempted a))
+    (fits_of g held more settings.options settings s old new attempted a))
 
 module _ (settings : PegSettings) (start : ℕ) (before items : List ℕ) (flow : Flow) (input : Input)
     (here : length before ≡ start)
@@ -95,12 +97,11 @@ module _ (settings : PegSettings) (start : ℕ) (before items : List ℕ) (flow 
         × (length (before ++ items) ≡ taken_at settings input start)
     full_step g sound goes old new r (attempted, a, e) =
         let more : true ≡ nat_lt settings.limit (length rest) = let l = rest_long in grind (arith, common_steps, l) in
-        let there : IsAttempt g (take (suc settings.limit) rest)
-        (nat_lt settings.limit (length rest)) settings.options.style old
-        new attempted =
-        subst (λ (b : Bool). IsAttempt g (take (suc settings.limit) rest) b settings.options.style old new attempted)
+        let there : IsLimited g (take (suc settings.limit) rest)
+        (nat_lt settings.limit (length rest)) settings.options old new attempted =
+        subst (λ (b : Bool). IsLimited g (take (suc settings.limit) rest) b settings.options old new attempted)
         more
-        (subst (λ (w : List ℕ). IsAttempt g w true settings.options.style old new attempted)
+        (subst (λ (w : List ℕ). IsLimited g w true settings.options old new attempted)
         (sym (window_is before items here agrees (suc settings.limit) full)) a) in
         let same = same_step settings start (start + length items) (length input.bytes) attempted
         (not-equal start (start + length items) (omega (arith, full))
@@ -133,11 +134,10 @@ module _ (settings : PegSettings) (start : ℕ) (before items : List ℕ) (flow 
       let more : false ≡ nat_lt settings.limit (length rest) = grind (arith, common_steps, l) in
       let window : items ≡ take (suc settings.limit) rest = sym (rest_held before items here agrees last.0)
       ∙ sym (take_all (suc settings.limit) rest (omega (arith, l))) in
-      let there : IsAttempt g (take (suc settings.limit) rest)
-      (nat_lt settings.limit (length rest)) settings.options.style old
-      new attempted =
-      subst (λ (b : Bool). IsAttempt g (take (suc settings.limit) rest) b settings.options.style old new attempted) more
-      (subst (λ (w : List ℕ). IsAttempt g w false settings.options.style old new attempted) window a) in
+      let there : IsLimited g (take (suc settings.limit) rest)
+      (nat_lt settings.limit (length rest)) settings.options old new attempted =
+      subst (λ (b : Bool). IsLimited g (take (suc settings.limit) rest) b settings.options old new attempted) more
+      (subst (λ (w : List ℕ). IsLimited g w false settings.options old new attempted) window a) in
       let same = same_step settings start (start + length items) (length input.bytes) attempted
       (ap (λ n. start == n) (sym (end_len last.0 short))) in (
         subst (λ v. IsStep (rules_of g.rules) g.start settings input start old new v) (sym (e ∙ same))

@@ -3,8 +3,9 @@
 use Rattle.std.proofs.Common.{◌≡◌, ℕ, ◌+◌, ◌<◌, ◌≤◌, true, false, List, [], ◌++◌, length, refl, sym, ◌∙◌, ap, subst}
 use Rattle.std.proofs.Common.{Option, Some, take, arith}
 use Rattle.pegread.specs.Pattern.{Rule}
-use Rattle.gramcheck.specs.Outcome.{Outcome, Fails, Takes, RuleGives}
+use Rattle.gramcheck.specs.Outcome.{Event, Outcome, Fails, Takes, RuleGives}
 use Rattle.gramcheck.proofs.StartRuleLemmas.{same_of_start}
+use Rattle.pegmatch.specs.Text.{text_of}
 use Rattle.toolrun.specs.Input.{Input}
 use Rattle.matchfailure.specs.NoMatches.{IsNoMatchReported}
 use Rattle.pegrun.specs.PegReply.{PlainReplies, Replies}
@@ -14,11 +15,11 @@ use Rattle.toolrun.specs.Status.{code_of}
 use Rattle.toolrun.specs.Stop.{message_of, status_of}
 use Rattle.pegrun.specs.Units.{taken_at, rest_from, MayRun, GivesAt, IsUnit, Units, none, one_more, Ends, broken}
 use Rattle.pegrun.specs.Units.{overlong, no_match, finished, no_unit, empty_before_end, empty_at_end, is_after_whole}
-use Rattle.pegrun.specs.Units.{over_before_end, over_at_end}
+use Rattle.pegrun.specs.Units.{IsWithin, costly, over_before_end, over_at_end}
 use Rattle.pegrun.specs.PegSettings.{PegSettings}
 use Rattle.toolrun.specs.declared.stop.Stop.{Stop}
 use Rattle.toolrun.specs.declared.stop.Stop.TheVariants.{Quiet, NoMatch, LongUnit, LongLine, Broken, NoMemory, Refused}
-use Rattle.toolrun.specs.declared.stop.Stop.TheVariants.{Unreadable}
+use Rattle.toolrun.specs.declared.stop.Stop.TheVariants.{CostlyUnit, CostlyLine, Unreadable}
 use Rattle.toolrun.proofs.OneStatementLemmas.{one-explained}
 
 -- what explains that no unit goes on is one text
@@ -195,6 +196,21 @@ module _ (rules : List Rule) (start : ℕ) (settings : PegSettings) (input : Inp
   not_both : (s k : ℕ) (text : List ℕ) → Gives s Fails → UnitAt s k text → ⊥
   not_both s k text d u = let h = one_gift s Fails (Takes k u.events) d u.gives in absurd cc
 
+  -- no failure where something is taken
+  not_failed : (s k : ℕ) (events : List Event) → Gives s Fails → Gives s (Takes k events) → ⊥
+  not_failed s k events d g = let h = one_gift s Fails (Takes k events) d g in absurd cc
+
+  -- the text of a unit is within the budget
+  not_costly : (s j : ℕ) (text : List ℕ) (k budget : ℕ) (events : List Event) → UnitAt s j text
+      → Gives s (Takes k events) → settings.options.budget ≡ Some budget
+      → budget < length (text_of settings.options.style (rest_from input s) events) → ⊥
+  not_costly s j text k budget events u d is over =
+      let h = one_gift s (Takes j u.events) (Takes k events) u.gives d in
+      let same : u.events ≡ events = cc in
+      let within : length text ≤ budget = subst (λ v. IsWithin v text) is u.within in
+      let l = ap length (u.prints ∙ ap (text_of settings.options.style (rest_from input s)) same) in
+      omega (arith, within, l, over)
+
   -- after a fault no unit is run on too few bytes
   few_bytes : (s : ℕ) → input.fault ≡ true → length input.bytes < s + settings.limit + 1 → MayRun settings input s → ⊥
   few_bytes s fault few may = let m = may fault in omega (arith, m, few)
@@ -208,6 +224,8 @@ module _ (rules : List Rule) (start : ℕ) (settings : PegSettings) (input : Inp
   no_end s s' last stop r (broken fault few) = few_bytes s fault few r.unit.gives.may_run
   no_end s s' last stop r (overlong o looked goes may d over) = not_long s looked o (Takes r.bytes r.unit.events) d over
       r.unit.gives
+  no_end s s' last stop r (costly k budget events d is over) =
+      not_costly s r.bytes r.text k budget events r.unit d is over
   no_end s s' last stop r (no_match d inside) = not_both s r.bytes r.text d r.unit
   no_end s s' last stop r (finished w d all) = not_both s r.bytes r.text d r.unit
   no_end s s' last stop r (no_unit w d all) = not_both s r.bytes r.text d r.unit
@@ -228,6 +246,8 @@ module _ (rules : List Rule) (start : ℕ) (settings : PegSettings) (input : Inp
       → OneEnd last other stop end
   one_end s last other stop end (broken f few) (broken f' few') = record { lasts = refl; stops = refl }
   one_end s last other stop end (broken f few) (overlong o' n' goes' may' d' over') = absurd (few_bytes s f few may')
+  one_end s last other stop end (broken f few) (costly k' n' es' d' is' over') =
+      absurd (few_bytes s f few d'.may_run)
   one_end s last other stop end (broken f few) (no_match d' lt') = absurd (few_bytes s f few d'.may_run)
   one_end s last other stop end (broken f few) (finished w' d' all') = absurd (few_bytes s f few d'.may_run)
   one_end s last other stop end (broken f few) (no_unit w' d' all') = absurd (few_bytes s f few d'.may_run)
@@ -240,6 +260,8 @@ module _ (rules : List Rule) (start : ℕ) (settings : PegSettings) (input : Inp
   one_end s last other stop end (overlong o n goes may d over) (broken f' few') = absurd (few_bytes s f' few' may)
   one_end s last other stop end (overlong o n goes may d over) (overlong o' n' goes' may' d' over') =
       record { lasts = refl; stops = refl }
+  one_end s last other stop end (overlong o n goes may d over) (costly k' n' es' d' is' over') =
+      absurd (not_long s n o (Takes k' es') d over d')
   one_end s last other stop end (overlong o n goes may d over) (no_match d' lt') =
       absurd (not_long s n o Fails d over d')
   one_end s last other stop end (overlong o n goes may d over) (finished w' d' all') =
@@ -254,9 +276,26 @@ module _ (rules : List Rule) (start : ℕ) (settings : PegSettings) (input : Inp
       absurd (not_over s goes is')
   one_end s last other stop end (overlong o n goes may d over) (over_at_end is' may' all') =
       absurd (not_over s goes is')
+  one_end s last other stop end (costly k n es d is over) (broken f' few') = absurd (few_bytes s f' few' d.may_run)
+  one_end s last other stop end (costly k n es d is over) (overlong o' n' goes' may' d' over') =
+      absurd (not_long s n' o' (Takes k es) d' over' d)
+  one_end s last other stop end (costly k n es d is over) (costly k' n' es' d' is' over') =
+      record { lasts = refl; stops = let same : n ≡ n' = cc (is, is') in ap (λ (m : ℕ). CostlyUnit s m) same }
+  one_end s last other stop end (costly k n es d is over) (no_match d' lt') = absurd (not_failed s k es d' d)
+  one_end s last other stop end (costly k n es d is over) (finished w' d' all') = absurd (not_failed s k es d' d)
+  one_end s last other stop end (costly k n es d is over) (no_unit w' d' all') = absurd (not_failed s k es d' d)
+  one_end s last other stop end (costly k n es d is over) (empty_before_end text' u' lt') =
+      absurd (not_costly s 0 text' k n es u' d is over)
+  one_end s last other stop end (costly k n es d is over) (empty_at_end text' u' all') =
+      absurd (not_costly s 0 text' k n es u' d is over)
+  one_end s last other stop end (costly k n es d is over) (over_before_end is' may' lt') =
+      absurd (not_over s d.goes is')
+  one_end s last other stop end (costly k n es d is over) (over_at_end is' may' all') = absurd (not_over s d.goes is')
   one_end s last other stop end (no_match d lt) (broken f' few') = absurd (few_bytes s f' few' d.may_run)
   one_end s last other stop end (no_match d lt) (overlong o' n' goes' may' d' over') =
       absurd (not_long s n' o' Fails d' over' d)
+  one_end s last other stop end (no_match d lt) (costly k' n' es' d' is' over') =
+      absurd (not_failed s k' es' d d')
   one_end s last other stop end (no_match d lt) (no_match d' lt') = record { lasts = refl; stops = refl }
   one_end s last other stop end (no_match d lt) (finished w' d' all') = absurd (omega (arith, lt, all'))
   one_end s last other stop end (no_match d lt) (no_unit w' d' all') = absurd (omega (arith, lt, all'))
@@ -267,6 +306,8 @@ module _ (rules : List Rule) (start : ℕ) (settings : PegSettings) (input : Inp
   one_end s last other stop end (finished w d all) (broken f' few') = absurd (few_bytes s f' few' d.may_run)
   one_end s last other stop end (finished w d all) (overlong o' n' goes' may' d' over') =
       absurd (not_long s n' o' Fails d' over' d)
+  one_end s last other stop end (finished w d all) (costly k' n' es' d' is' over') =
+      absurd (not_failed s k' es' d d')
   one_end s last other stop end (finished w d all) (no_match d' lt') = absurd (omega (arith, all, lt'))
   one_end s last other stop end (finished w d all) (finished w' d' all') = record { lasts = refl; stops = refl }
   one_end s last other stop end (finished w d all) (no_unit w' d' all') = absurd (cc)
@@ -277,6 +318,8 @@ module _ (rules : List Rule) (start : ℕ) (settings : PegSettings) (input : Inp
   one_end s last other stop end (no_unit w d all) (broken f' few') = absurd (few_bytes s f' few' d.may_run)
   one_end s last other stop end (no_unit w d all) (overlong o' n' goes' may' d' over') =
       absurd (not_long s n' o' Fails d' over' d)
+  one_end s last other stop end (no_unit w d all) (costly k' n' es' d' is' over') =
+      absurd (not_failed s k' es' d d')
   one_end s last other stop end (no_unit w d all) (no_match d' lt') = absurd (omega (arith, all, lt'))
   one_end s last other stop end (no_unit w d all) (finished w' d' all') = absurd (cc)
   one_end s last other stop end (no_unit w d all) (no_unit w' d' all') = record { lasts = refl; stops = refl }
@@ -288,6 +331,8 @@ module _ (rules : List Rule) (start : ℕ) (settings : PegSettings) (input : Inp
       absurd (few_bytes s f' few' u.gives.may_run)
   one_end s last other stop end (empty_before_end text u lt) (overlong o' n' goes' may' d' over') =
       absurd (not_long s n' o' (Takes 0 u.events) d' over' u.gives)
+  one_end s last other stop end (empty_before_end text u lt) (costly k' n' es' d' is' over') =
+      absurd (not_costly s 0 text k' n' es' u d' is' over')
   one_end s last other stop end (empty_before_end text u lt) (no_match d' lt') = absurd (not_both s 0 text d' u)
   one_end s last other stop end (empty_before_end text u lt) (finished w' d' all') = absurd (not_both s 0 text d' u)
   one_end s last other stop end (empty_before_end text u lt) (no_unit w' d' all') = absurd (not_both s 0 text d' u)
@@ -303,6 +348,8 @@ module _ (rules : List Rule) (start : ℕ) (settings : PegSettings) (input : Inp
       absurd (few_bytes s f' few' u.gives.may_run)
   one_end s last other stop end (empty_at_end text u all) (overlong o' n' goes' may' d' over') =
       absurd (not_long s n' o' (Takes 0 u.events) d' over' u.gives)
+  one_end s last other stop end (empty_at_end text u all) (costly k' n' es' d' is' over') =
+      absurd (not_costly s 0 text k' n' es' u d' is' over')
   one_end s last other stop end (empty_at_end text u all) (no_match d' lt') = absurd (not_both s 0 text d' u)
   one_end s last other stop end (empty_at_end text u all) (finished w' d' all') = absurd (not_both s 0 text d' u)
   one_end s last other stop end (empty_at_end text u all) (no_unit w' d' all') = absurd (not_both s 0 text d' u)
@@ -317,6 +364,8 @@ module _ (rules : List Rule) (start : ℕ) (settings : PegSettings) (input : Inp
   one_end s last other stop end (over_before_end is may lt) (broken f' few') = absurd (few_bytes s f' few' may)
   one_end s last other stop end (over_before_end is may lt) (overlong o' n' goes' may' d' over') =
       absurd (not_over s goes' is)
+  one_end s last other stop end (over_before_end is may lt) (costly k' n' es' d' is' over') =
+      absurd (not_over s d'.goes is)
   one_end s last other stop end (over_before_end is may lt) (no_match d' lt') = absurd (not_over s d'.goes is)
   one_end s last other stop end (over_before_end is may lt) (finished w' d' all') = absurd (not_over s d'.goes is)
   one_end s last other stop end (over_before_end is may lt) (no_unit w' d' all') = absurd (not_over s d'.goes is)
@@ -331,6 +380,8 @@ module _ (rules : List Rule) (start : ℕ) (settings : PegSettings) (input : Inp
   one_end s last other stop end (over_at_end is may all) (broken f' few') = absurd (few_bytes s f' few' may)
   one_end s last other stop end (over_at_end is may all) (overlong o' n' goes' may' d' over') =
       absurd (not_over s goes' is)
+  one_end s last other stop end (over_at_end is may all) (costly k' n' es' d' is' over') =
+      absurd (not_over s d'.goes is)
   one_end s last other stop end (over_at_end is may all) (no_match d' lt') = absurd (not_over s d'.goes is)
   one_end s last other stop end (over_at_end is may all) (finished w' d' all') = absurd (not_over s d'.goes is)
   one_end s last other stop end (over_at_end is may all) (no_unit w' d' all') = absurd (not_over s d'.goes is)
@@ -407,7 +458,9 @@ module _ (rules : List Rule) (start : ℕ) (settings : PegSettings) (input : Inp
         one_reported rules start seen other s a b
         (subst (λ (v : Option ℕ). IsNoMatchReported rules start seen v s a) same reported) reports
     one_lines s (LongUnit at limit) a b g h = g ∙ sym h
+    one_lines s (CostlyUnit at budget) a b g h = g ∙ sym h
     one_lines s (LongLine line limit) a b g h = g ∙ sym h
+    one_lines s (CostlyLine line budget) a b g h = g ∙ sym h
     one_lines s Broken a b g h = g ∙ sym h
     one_lines s NoMemory a b g h = g ∙ sym h
     one_lines s (Refused fault) a b g h = g ∙ sym h

@@ -91,9 +91,9 @@ drop_more s xs (f ∷ fs) ys h =
     let same : (s + 1) + length fs ≡ s + length (f ∷ fs) = omega arith in
     subst (λ (n : ℕ). drop n xs ≡ ys) same (drop_more (s + 1) xs fs ys (drop_one s xs f (fs ++ ys) h))
 
--- units may be passed: they may look at a byte, and each may be followed by another one
+-- units may be passed: they may look at a byte, print any text, and each may be followed by another one
 abbrev MayPass : PegSettings → Type 0
-MayPass settings = (0 < settings.limit) × (settings.options.whole ≡ false)
+MayPass settings = (0 < settings.limit) × (settings.options.whole ≡ false) × (settings.options.budget ≡ None)
 
 module _ (g : Grammar) (settings : PegSettings) (input : Input) (units : ByteUnits)
     (are : AreByteUnits g settings.options.style units) (room : MayPass settings) where
@@ -118,6 +118,7 @@ module _ (g : Grammar) (settings : PegSettings) (input : Input) (units : ByteUni
           within = omega (arith, unit.3, room.0);
         };
         prints = unit.4 ∙ ap (λ x. text_of settings.options.style x unit.0) (sym here);
+        within = rw room.2 tt;
       }
 
   record More (s n : ℕ) (before text : List ℕ) (units0 : UnitsTo s before) : Type 0 where

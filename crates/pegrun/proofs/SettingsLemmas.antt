@@ -1,10 +1,10 @@
--- What a run of a grammar states without explanations depends on the limit, style and whole of the settings alone.
+-- What a run of a grammar states without explanations depends on the limit and options of the settings alone.
 -- Serves: explanations_change_no_answer, peg_run
 use Rattle.std.proofs.Common.{◌≡◌, ℕ, List, refl, sym, ◌∙◌}
 use Rattle.pegread.specs.Pattern.{Rule}
 use Rattle.gramcheck.specs.Outcome.{Outcome}
 use Rattle.pegrun.specs.PegReply.{PlainReplies}
-use Rattle.pegrun.specs.Units.{Ends, GivesAt, IsUnit, Units, broken, empty_at_end, empty_before_end, finished}
+use Rattle.pegrun.specs.Units.{Ends, GivesAt, IsUnit, Units, broken, costly, empty_at_end, empty_before_end, finished}
 use Rattle.pegrun.specs.Units.{no_match, no_unit, none, one_more, over_at_end, over_before_end, overlong, taken_at}
 use Rattle.pegrun.specs.PegSettings.{PegSettings}
 use Rattle.toolrun.specs.Input.{Input}
@@ -12,7 +12,8 @@ use Rattle.toolrun.specs.Reply.{Reply}
 use Rattle.toolrun.specs.declared.stop.Stop.{Stop}
 
 module _ (rules : List Rule) (start : ℕ) (a b : PegSettings) (input : Input) (limit : b.limit ≡ a.limit)
-    (style : b.options.style ≡ a.options.style) (whole : b.options.whole ≡ a.options.whole) where
+    (style : b.options.style ≡ a.options.style) (whole : b.options.whole ≡ a.options.whole)
+    (budget : b.options.budget ≡ a.options.budget) where
   pub taken_by : (s : ℕ) → taken_at a input s ≡ taken_at b input s
   taken_by s = rw limit refl
 
@@ -26,7 +27,12 @@ module _ (rules : List Rule) (start : ℕ) (a b : PegSettings) (input : Input) (
   }
 
   pub unit_by : (s k : ℕ) (text : List ℕ) → IsUnit rules start a input s k text → IsUnit rules start b input s k text
-  unit_by s k text u = record { events = u.events; gives = gives_by s _ u.gives; prints = rw style u.prints }
+  unit_by s k text u = record {
+    events = u.events;
+    gives = gives_by s _ u.gives;
+    prints = rw style u.prints;
+    within = rw budget u.within;
+  }
 
   pub units_by : (s : ℕ) (text : List ℕ) → Units rules start a input s text → Units rules start b input s text
   units_by s text none = none
@@ -38,6 +44,8 @@ module _ (rules : List Rule) (start : ℕ) (a b : PegSettings) (input : Input) (
   ends_by s last stop (broken fault lt) = broken fault (rw limit lt)
   ends_by s last stop (overlong o looked goes may gives lt) =
       rw (sym limit) (overlong o looked (rw whole goes) (λ fault. rw limit (may fault)) gives (rw limit lt))
+  ends_by s last stop (costly k most events gives is lt) =
+      costly k most events (gives_by s _ gives) (budget ∙ is) (rw style lt)
   ends_by s last stop (no_match gives lt) = no_match (gives_by s _ gives) lt
   ends_by s last stop (finished w gives is) = finished (rw whole w) (gives_by s _ gives) is
   ends_by s last stop (no_unit w gives is) = no_unit (rw whole w) (gives_by s _ gives) is

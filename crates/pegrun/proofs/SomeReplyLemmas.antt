@@ -1,14 +1,14 @@
 -- Each input has a reply, and the text of the first units is a prefix of it.
 -- Serves: run_peg (right)
 use Rattle.std.proofs.Common.{◌≡◌, ℕ, suc, zero, ◌+◌, ◌<◌, ◌≤◌, Bool, true, false, List, [], ◌++◌, length, drop, refl}
-use Rattle.std.proofs.Common.{sym, arith, inl, inr, ◌⊎◌, length-drop}
+use Rattle.std.proofs.Common.{sym, arith, inl, inr, ◌⊎◌, length-drop, Option, Some, None}
 use Rattle.std.proofs.Math.Nat.{min-le_left, min-le_right, le-min}
 use Rattle.std.proofs.lemmas.Bool.{cases_lt, cases_eq}
 use Rattle.ruletable.proofs.AppendsLemmas.{IsPrefixOf-same, IsPrefixOf-trans}
 use Rattle.pegread.specs.PegViews.{rules_of}
 use Rattle.gramcheck.specs.Grammar.{Grammar, IsSoundGrammar}
 use Rattle.pegnodes.specs.Nodes.{shapes_of}
-use Rattle.gramcheck.specs.Outcome.{Outcome, Fails, Takes}
+use Rattle.gramcheck.specs.Outcome.{Event, Outcome, Fails, Takes}
 use Rattle.gramcheck.proofs.SomeOutcomeLemmas.{has_of_start}
 use Rattle.gramcheck.proofs.StartRuleLemmas.{rises_of_start}
 use Rattle.pegmatch.specs.Text.{text_of}
@@ -20,17 +20,24 @@ use Rattle.toolrun.specs.Status.{code_of}
 use Rattle.toolrun.specs.Stop.{message_of, status_of}
 use Rattle.pegrun.specs.Units.{taken_at, MayRun, GivesAt, IsUnit, Units, none, one_more, Ends, broken, overlong}
 use Rattle.pegrun.specs.Units.{no_match, finished, no_unit, empty_before_end, empty_at_end, is_after_whole}
-use Rattle.pegrun.specs.Units.{over_at_end, over_before_end}
+use Rattle.pegrun.specs.Units.{IsWithin, costly, over_at_end, over_before_end}
 use Rattle.pegrun.specs.PegSettings.{PegSettings}
 use Rattle.toolrun.specs.declared.status.Status.TheVariants.{Done}
 use Rattle.toolrun.specs.declared.stop.Stop.{Stop}
-use Rattle.toolrun.specs.declared.stop.Stop.TheVariants.{Quiet, NoMatch, LongUnit, Broken}
+use Rattle.toolrun.specs.declared.stop.Stop.TheVariants.{Quiet, NoMatch, LongUnit, CostlyUnit, Broken}
 
 -- a reply that begins with the text and takes no less than a unit at s
 abbrev pub Goes : Grammar → PegSettings → Input → ℕ → List ℕ → Type 0
 Goes g settings input s text = Begins (Units (rules_of g.rules) g.start settings input)
     (Ends (rules_of g.rules) g.start settings input)
     (taken_at settings input) (taken_at settings input s) text
+
+-- a text is within a budget, or longer
+within_or_over : (budget : Option ℕ) (text : List ℕ) → (IsWithin budget text)
+    ⊎ ((most : ℕ) × (budget ≡ Some most) × (most < length text))
+within_or_over None text = inl tt
+within_or_over (Some most) text = elim (cases_lt most (length text))
+    [ inl over ↦ inr (most, refl, over) | inr le ↦ inl le ]
 
 module _ (g : Grammar) (settings : PegSettings) (input : Input) where
   abbrev rest : ℕ → List ℕ
@@ -149,20 +156,34 @@ module _ (g : Grammar) (settings : PegSettings) (input : Input) where
   GoesFrom fuel = (s : ℕ) (text : List ℕ) → UnitsTo s text → s ≤ length input.bytes → length input.bytes < s + fuel
       → Goes g settings input s text
 
+  abbrev text_at : ℕ → List Event → List ℕ
+  text_at s events = text_of settings.options.style (rest s) events
+
+  goes_taken : (fuel s : ℕ) (text : List ℕ) → GoesFrom fuel → UnitsTo s text → s ≤ length input.bytes
+      → length input.bytes < s + suc fuel → (k : ℕ) (events : List Event)
+      → GivesAt (rules_of g.rules) g.start settings input s (Takes k events)
+      → IsWithin settings.options.budget (text_at s events) → Goes g settings input s text
+  goes_taken fuel s text later units inside room zero events d within =
+      let last : List ℕ = text_at s events in
+      goes_before s s text last (omega arith) (goes_at_empty s text last units inside
+      (record { events = events; gives = d; prints = refl; within = within }))
+  goes_taken fuel s text later units inside room (suc k) events d within =
+      let more : List ℕ = text_at s events in
+      let unit : UnitAt s (suc k) more = record { events = events; gives = d; prints = refl; within = within } in
+      goes_before s (s + suc k) text more (omega arith) (later (s + suc k) (text ++ more)
+      (one_more s (suc k) text more units unit (omega arith)) (unit_inside s (suc k) more inside unit)
+      (omega arith))
+
   goes_within : (fuel s : ℕ) (text : List ℕ) → GoesFrom fuel → UnitsTo s text → s ≤ length input.bytes
       → length input.bytes < s + suc fuel →
       (o : Outcome) → GivesAt (rules_of g.rules) g.start settings input s o → Goes g settings input s text
   goes_within fuel s text later units inside room Fails d = goes_at_failure s text units inside d
-  goes_within fuel s text later units inside room (Takes zero events) d =
-      let last : List ℕ = text_of settings.options.style (rest s) events in
-      goes_before s s text last (omega arith) (goes_at_empty s text last units inside
-      (record { events = events; gives = d; prints = refl }))
-  goes_within fuel s text later units inside room (Takes (suc k) events) d =
-      let more : List ℕ = text_of settings.options.style (rest s) events in
-      let unit : UnitAt s (suc k) more = record { events = events; gives = d; prints = refl } in
-      goes_before s (s + suc k) text more (omega arith) (later (s + suc k) (text ++ more)
-      (one_more s (suc k) text more units unit (omega arith)) (unit_inside s (suc k) more inside unit)
-      (omega arith))
+  goes_within fuel s text later units inside room (Takes k events) d =
+      elim (within_or_over settings.options.budget (text_at s events)) [
+        | inl within ↦ goes_taken fuel s text later units inside room k events d within
+        | inr over ↦ goes_before s s text [] (omega arith)
+            (goes_to_stop s text [] (CostlyUnit s over.0) units (costly k over.0 events d over.1 over.2))
+      ]
 
   module _ (sound : IsSoundGrammar g) where
     goes_on : (fuel s : ℕ) (text : List ℕ) → GoesFrom fuel → UnitsTo s text → s ≤ length input.bytes

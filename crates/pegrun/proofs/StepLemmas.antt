@@ -1,7 +1,7 @@
 -- What came of the start rule at the front of a window is a step of the run.
 -- Serves: run_peg (right)
 use Rattle.std.proofs.Common.{◌≡◌, ℕ, zero, suc, ◌<◌, ◌≤◌, Bool, true, false, Option, List, [], length, drop, take}
-use Rattle.std.proofs.Common.{refl, arith, nat_lt, inl, inr, length-drop, length-take, if◌then◌else◌, ◌==◌}
+use Rattle.std.proofs.Common.{refl, arith, subst, nat_lt, inl, inr, length-drop, length-take, if◌then◌else◌, ◌==◌}
 use Rattle.std.specs.Prelude.{Result, Ok, Err}
 use Rattle.std.proofs.lemmas.Grind.{common_steps}
 use Rattle.std.specs.Io.KnownBytes.{Appends}
@@ -13,15 +13,15 @@ use Rattle.gramcheck.specs.Outcome.{Outcome, Fails, Takes, Event}
 use Rattle.gramcheck.proofs.StartRuleLemmas.{rises_of_start}
 use Rattle.pegmatch.specs.Answers.{StartGives, WasEnough}
 use Rattle.pegmatch.specs.Text.{text_of}
-use Rattle.pegrun.specs.Attempts.{IsAttempt, IsStep, StaysWithin, step_after}
+use Rattle.pegrun.specs.Attempts.{IsLimited, IsStep, StaysWithin, step_after}
 use Rattle.toolrun.specs.Input.{Input}
 use Rattle.pegrun.specs.Units.{MayRun, GivesAt, IsUnit, Ends, broken, overlong, no_match, finished, empty_before_end}
-use Rattle.pegrun.specs.Units.{empty_at_end, is_after_whole, no_unit}
+use Rattle.pegrun.specs.Units.{IsWithin, costly, empty_at_end, is_after_whole, no_unit}
 use Rattle.pegrun.specs.PegSettings.{PegSettings}
 use Rattle.toolrun.specs.declared.status.Status.TheVariants.{Done}
 use Rattle.toolrun.specs.declared.stop.Stop.TheVariants.{Quiet, NoMatch, Broken}
 use Rattle.pegrun.specs.declared.attempt.Attempt.{Attempt}
-use Rattle.pegrun.specs.declared.attempt.Attempt.TheVariants.{Printed, Failed, TooLong, NoMemory}
+use Rattle.pegrun.specs.declared.attempt.Attempt.TheVariants.{Printed, Failed, TooLong, Costly, NoMemory}
 use Rattle.pegrun.proofs.WindowLemmas.{window_seen, seen_text, seen_long}
 
 module _ (g : Grammar) (settings : PegSettings) (input : Input) (s : ℕ) (inside : s ≤ length input.bytes) where
@@ -57,12 +57,13 @@ module _ (g : Grammar) (settings : PegSettings) (input : Input) (s : ℕ) (insid
         }
 
     is_unit : (k : ℕ) (events : List Event) (looked : ℕ) → StartGives g window (Takes k events) looked
-        → WasEnough window more looked →
-        IsUnit (rules_of g.rules) g.start settings input s k (text_of settings.options.style window events)
-    is_unit k events looked d enough = record {
+        → WasEnough window more looked → IsWithin settings.options.budget (text_of settings.options.style window events)
+        → IsUnit (rules_of g.rules) g.start settings input s k (text_of settings.options.style window events)
+    is_unit k events looked d enough within = record {
       events = events;
       gives = gives_at (Takes k events) looked d enough;
       prints = seen_text g rest settings.limit settings.options.style k events looked d;
+      within = within;
     }
 
     fails_here : (w b : Bool) → settings.options.whole ≡ w → (s == length input.bytes) ≡ b
@@ -82,13 +83,12 @@ module _ (g : Grammar) (settings : PegSettings) (input : Input) (s : ℕ) (insid
         empty_before_end text d h
 
     pub step_is : (old new : Option (List ℕ)) (r : Result Attempt WriteFault)
-        → IsAttempt g window more settings.options.style old
-        new r →
+        → IsLimited g window more settings.options old new r →
         IsStep (rules_of g.rules) g.start settings input s old new (step_after settings s (length input.bytes) r)
-    step_is old new (Ok (Printed zero)) (events, looked, d, enough, wrote) =
-        inr (_, empty_here (s == length input.bytes) _ refl (is_unit zero events looked d enough), wrote)
-    step_is old new (Ok (Printed (suc n))) (events, looked, d, enough, wrote) =
-        (_, is_unit (suc n) events looked d enough, wrote, omega arith)
+    step_is old new (Ok (Printed zero)) (events, looked, d, enough, within, wrote) =
+        inr (_, empty_here (s == length input.bytes) _ refl (is_unit zero events looked d enough within), wrote)
+    step_is old new (Ok (Printed (suc n))) (events, looked, d, enough, within, wrote) =
+        (_, is_unit (suc n) events looked d enough within, wrote, omega arith)
     step_is old new (Ok Failed) (looked, d, enough, kept) =
         inr (
           [],
@@ -99,20 +99,14 @@ module _ (g : Grammar) (settings : PegSettings) (input : Input) (s : ℕ) (insid
         let full : settings.limit < length rest = grind (arith, common_steps, is) in
         let long = seen_long g rest settings.limit sound d.0 full d.1 in
         inr ([], overlong long.0 long.1 goes may_run long.2 long.3, Appends-none old new kept)
+    step_is old new (Ok (Costly budget)) (k, events, looked, d, enough, is, over, kept) =
+        inr (
+          [],
+          costly k budget events (gives_at (Takes k events) looked d enough) is
+              (subst (λ (t : List ℕ). budget < length t)
+              (seen_text g rest settings.limit settings.options.style k events looked d) over),
+          Appends-none old new kept,
+        )
     step_is old new (Ok NoMemory) kept = inl (refl, kept)
-    step_is old new (Err fault) (k, events, looked, d, enough, wrote) = (k, _, is_unit k events looked d enough, wrote)
-
-  pub step_fits : (old new : Option (List ℕ)) (r : Result Attempt WriteFault)
-      → IsAttempt g window more settings.options.style old
-      new r →
-      StaysWithin (length input.bytes) s (step_after settings s (length input.bytes) r)
-  step_fits old new (Ok (Printed zero)) a = tt
-  step_fits old new (Ok (Printed (suc n))) (events, looked, d, enough, wrote) =
-      let r = rises_of_start (rules_of g.rules) g.start window (suc n) looked events d in
-      let l = length-drop s input.bytes in
-      let w = length-take (suc settings.limit) rest in
-      (omega arith, omega (arith, r.1))
-  step_fits old new (Ok Failed) a = tt
-  step_fits old new (Ok TooLong) a = tt
-  step_fits old new (Ok NoMemory) a = tt
-  step_fits old new (Err fault) a = tt
+    step_is old new (Err fault) (k, events, looked, d, enough, within, wrote) =
+        (k, _, is_unit k events looked d enough within, wrote)

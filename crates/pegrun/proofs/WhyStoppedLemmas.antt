@@ -13,13 +13,15 @@ use Rattle.toolrun.specs.Stop.{not_explained}
 use Rattle.pegrun.specs.PegSettings.{PegSettings}
 use Rattle.toolrun.specs.declared.stop.Stop.{Stop}
 use Rattle.toolrun.specs.declared.stop.Stop.TheVariants.{Quiet, NoMatch, LongUnit, LongLine, Broken, NoMemory, Refused}
-use Rattle.toolrun.specs.declared.stop.Stop.TheVariants.{Unreadable}
+use Rattle.toolrun.specs.declared.stop.Stop.TheVariants.{CostlyUnit, CostlyLine, Unreadable}
 
 lines_or_none : (stop : Stop) → HasLines stop ⊎ (HasLines stop → ⊥)
 lines_or_none (Quiet status) = inr (λ has. has)
 lines_or_none (NoMatch at) = inl tt
 lines_or_none (LongUnit at limit) = inl tt
+lines_or_none (CostlyUnit at budget) = inr (λ has. has)
 lines_or_none (LongLine line limit) = inr (λ has. has)
+lines_or_none (CostlyLine line budget) = inr (λ has. has)
 lines_or_none Broken = inr (λ has. has)
 lines_or_none NoMemory = inr (λ has. has)
 lines_or_none (Refused fault) = inr (λ has. has)
@@ -31,7 +33,9 @@ module _ (rules : List Rule) (start : ℕ) (settings : PegSettings) (input : Inp
   no_lines s (Quiet status) without = refl
   no_lines s (NoMatch at) without = absurd (without tt)
   no_lines s (LongUnit at limit) without = absurd (without tt)
+  no_lines s (CostlyUnit at budget) without = refl
   no_lines s (LongLine line limit) without = refl
+  no_lines s (CostlyLine line budget) without = refl
   no_lines s Broken without = refl
   no_lines s NoMemory without = refl
   no_lines s (Refused fault) without = refl

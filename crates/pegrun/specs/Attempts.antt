@@ -1,6 +1,6 @@
 -- What one attempt at a unit comes to, and what it writes.
 use Rattle.std.specs.Prelude.{◌≡◌, ℕ, zero, suc, ◌+◌, ◌<◌, ◌≤◌, ◌⊎◌, ◌==◌, ⊤, Bool, true, List, length, Option, Result}
-use Rattle.std.specs.Prelude.{Ok, Err, Some, None, if◌then◌else◌}
+use Rattle.std.specs.Prelude.{Ok, Err, Some, None, if◌then◌else◌, []}
 use Rattle.std.specs.Io.KnownBytes.{Appends, Keeps}
 use Rattle.ruletable.specs.Writing.{AppendsPart, Flags}
 use Rattle.ruletable.specs.declared.sink.WriteFault.{WriteFault}
@@ -13,17 +13,19 @@ use Rattle.pegmatch.specs.Answers.{StartGives, WasEnough}
 use Rattle.pegmatch.specs.Text.{text_of}
 use Rattle.pegmatch.specs.declared.style.PrintStyle.{PrintStyle}
 use Rattle.toolrun.specs.Input.{Input}
-use Rattle.pegrun.specs.Units.{IsUnit, Ends}
+use Rattle.pegrun.specs.Units.{IsUnit, IsWithin, Ends}
 use Rattle.pegrun.specs.PegSettings.{PegSettings}
+use Rattle.pegrun.specs.declared.options.PegOptions.{PegOptions}
 use Rattle.toolrun.specs.declared.stop.Stop.{Stop}
 use Rattle.toolrun.specs.declared.status.Status.TheVariants.{Done}
 use Rattle.toolrun.specs.declared.stop.Stop.TheVariants as stop
 use Rattle.pegrun.specs.declared.attempt.Attempt.{Attempt}
-use Rattle.pegrun.specs.declared.attempt.Attempt.TheVariants.{Printed, Failed, TooLong, NoMemory}
+use Rattle.pegrun.specs.declared.attempt.Attempt.TheVariants.{Printed, Failed, TooLong, Costly, NoMemory}
 use Rattle.pegrun.specs.declared.unit.UnitStep.{UnitStep}
 use Rattle.pegrun.specs.declared.unit.UnitStep.TheVariants.{Takes as Goes, Stops}
 
--- At the front of a window a success prints its text, and all else prints nothing, unless the writer fails.
+-- At the front of a window a success prints its text, of any length, and all else prints nothing, unless the writer
+-- fails.
 abbrev pub IsAttempt : Grammar → List ℕ → Bool → PrintStyle → Option (List ℕ) → Option (List ℕ)
     → Result Attempt WriteFault → Type 0
 IsAttempt g window more style old new (Ok (Printed k)) = (events : List Event) × (looked : ℕ) ×
@@ -33,10 +35,31 @@ IsAttempt g window more style old new (Ok Failed) =
     (looked : ℕ) × StartGives g window Fails looked × WasEnough window more looked × Keeps old new
 IsAttempt g window more style old new (Ok TooLong) =
     (more ≡ true) × ((o : Outcome) × StartGives g window o (length window)) × Keeps old new
+IsAttempt g window more style old new (Ok (Costly budget)) = ⊥
 IsAttempt g window more style old new (Ok NoMemory) = Keeps old new
 IsAttempt g window more style old new (Err fault) = (k : ℕ) × (events : List Event) × (looked : ℕ) ×
     StartGives g window (Takes k events) looked × WasEnough window more looked
     × AppendsPart old new (text_of style window events)
+
+-- likewise with the options' budget: a longer text is not printed
+abbrev pub IsLimited : Grammar → List ℕ → Bool → PegOptions → Option (List ℕ) → Option (List ℕ)
+    → Result Attempt WriteFault → Type 0
+IsLimited g window more options old new (Ok (Printed k)) = (events : List Event) × (looked : ℕ) ×
+    StartGives g window (Takes k events) looked × WasEnough window more looked
+    × IsWithin options.budget (text_of options.style window events)
+    × Appends old new (text_of options.style window events)
+IsLimited g window more options old new (Ok Failed) =
+    (looked : ℕ) × StartGives g window Fails looked × WasEnough window more looked × Keeps old new
+IsLimited g window more options old new (Ok TooLong) =
+    (more ≡ true) × ((o : Outcome) × StartGives g window o (length window)) × Keeps old new
+IsLimited g window more options old new (Ok (Costly budget)) = (k : ℕ) × (events : List Event) × (looked : ℕ) ×
+    StartGives g window (Takes k events) looked × WasEnough window more looked
+    × (options.budget ≡ Some budget) × (budget < length (text_of options.style window events)) × Keeps old new
+IsLimited g window more options old new (Ok NoMemory) = Keeps old new
+IsLimited g window more options old new (Err fault) = (k : ℕ) × (events : List Event) × (looked : ℕ) ×
+    StartGives g window (Takes k events) looked × WasEnough window more looked
+    × IsWithin options.budget (text_of options.style window events)
+    × AppendsPart old new (text_of options.style window events)
 
 -- The result on the first piece of a window is that of the window. Without a result nothing is printed.
 abbrev pub IsFrontAttempt : Grammar → List ℕ → Bool → PrintStyle → Option (List ℕ) → Option (List ℕ)
@@ -63,6 +86,7 @@ step_after settings position len (Ok (Printed zero)) = Ok (Stops (stop_at positi
 step_after settings position len (Ok (Printed (suc n))) = Ok (Goes (suc n))
 step_after settings position len (Ok Failed) = Ok (Stops (failed_at settings position len))
 step_after settings position len (Ok TooLong) = Ok (Stops (stop.LongUnit position settings.limit))
+step_after settings position len (Ok (Costly budget)) = Ok (Stops (stop.CostlyUnit position budget))
 step_after settings position len (Ok NoMemory) = Ok (Stops stop.NoMemory)
 step_after settings position len (Err fault) = Err fault
 
@@ -75,7 +99,7 @@ step_held _ position len = Stops (stop_at position len)
 abbrev pub IsStepOn : Grammar → List ℕ → Bool → PegSettings → ℕ → Option (List ℕ) → Option (List ℕ)
     → Result UnitStep WriteFault → Type 0
 IsStepOn g items more settings s old new result = (attempted : Result Attempt WriteFault)
-    × IsAttempt g items more settings.options.style old new attempted ×
+    × IsLimited g items more settings.options old new attempted ×
     (result ≡ step_after settings s (s + length items) attempted)
 
 -- A unit of some bytes was printed, or the run ends here and the text of its last unit was printed, or an allocation

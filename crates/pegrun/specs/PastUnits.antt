@@ -13,7 +13,7 @@ use Rattle.toolrun.specs.declared.ending.Ending.{Ending}
 use Rattle.toolrun.specs.declared.ending.Ending.TheVariants.{Plain, Explained, Unexplained}
 use Rattle.toolrun.specs.declared.stop.Stop.{Stop}
 use Rattle.toolrun.specs.declared.stop.Stop.TheVariants.{Quiet, NoMatch, LongUnit, LongLine, Broken, NoMemory, Refused}
-use Rattle.toolrun.specs.declared.stop.Stop.TheVariants.{Unreadable}
+use Rattle.toolrun.specs.declared.stop.Stop.TheVariants.{CostlyUnit, CostlyLine, Unreadable}
 
 -- the next unit begins after these bytes, and the last of them are kept, unless an allocation failed
 pub record Follows (past : Past) (before : List ℕ) : Type 0 where
@@ -31,7 +31,9 @@ LinesAfter rules start past before held (NoMatch at) why = (past.lost ≡ false)
     (length before)
     why
 LinesAfter rules start past before held (LongUnit at limit) why = why ≡ long_unit_lines (position_after before)
+LinesAfter rules start past before held (CostlyUnit at budget) why = ⊥
 LinesAfter rules start past before held (LongLine line limit) why = ⊥
+LinesAfter rules start past before held (CostlyLine line budget) why = ⊥
 LinesAfter rules start past before held Broken why = ⊥
 LinesAfter rules start past before held NoMemory why = ⊥
 LinesAfter rules start past before held (Refused fault) why = ⊥

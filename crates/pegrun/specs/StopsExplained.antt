@@ -10,14 +10,16 @@ use Rattle.toolrun.specs.Input.{Input}
 use Rattle.pegrun.specs.PegSettings.{PegSettings}
 use Rattle.toolrun.specs.declared.stop.Stop.{Stop}
 use Rattle.toolrun.specs.declared.stop.Stop.TheVariants.{Quiet, NoMatch, LongUnit, LongLine, Broken, NoMemory, Refused}
-use Rattle.toolrun.specs.declared.stop.Stop.TheVariants.{Unreadable}
+use Rattle.toolrun.specs.declared.stop.Stop.TheVariants.{CostlyUnit, CostlyLine, Unreadable}
 
 -- lines explain such a stop
 abbrev pub HasLines : Stop → Type 0
 HasLines (Quiet status) = ⊥
 HasLines (NoMatch at) = ⊤
 HasLines (LongUnit at limit) = ⊤
+HasLines (CostlyUnit at budget) = ⊥
 HasLines (LongLine line limit) = ⊥
+HasLines (CostlyLine line budget) = ⊥
 HasLines Broken = ⊥
 HasLines NoMemory = ⊥
 HasLines (Refused fault) = ⊥
@@ -41,7 +43,9 @@ module _ (rules : List Rule) (start : ℕ) (settings : PegSettings) (input : Inp
   StopLines s (NoMatch at) why = (before : Option ℕ) × UnitBefore s before
       × IsNoMatchReported rules start (take (taken_at settings input s) input.bytes) before s why
   StopLines s (LongUnit at limit) why = why ≡ long_unit_lines (position_after (take s input.bytes))
+  StopLines s (CostlyUnit at budget) why = why ≡ []
   StopLines s (LongLine line limit) why = why ≡ []
+  StopLines s (CostlyLine line budget) why = why ≡ []
   StopLines s Broken why = why ≡ []
   StopLines s NoMemory why = why ≡ []
   StopLines s (Refused fault) why = why ≡ []

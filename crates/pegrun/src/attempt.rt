@@ -21,6 +21,8 @@ pub enum Attempt {
     Failed,
     /// It compares the last byte of a window after which more bytes may come.
     TooLong,
+    /// It prints more bytes than this budget.
+    Costly(usize),
     /// An allocation failed; nothing is printed.
     NoMemory,
 }

@@ -3,6 +3,7 @@
 
 mod attempt;
 mod byte_units;
+mod draft;
 mod engine;
 mod laws;
 mod open_law;

@@ -46,8 +46,8 @@ impl Model for PegRunner {
 }
 
 impl PegRunner {
-    /// Runs the grammar on what a reader gives, as settings ask: by their limit, verbatim or not, and explained or not.
-    /// It ignores the other settings. `WriteFault` if the output fails; then a prefix is written.
+    /// Runs the grammar on what a reader gives, as settings ask: by their limit and options, and explained or not. It
+    /// ignores the other settings. `WriteFault` if the output fails; then a prefix is written.
     pub fn run<R: Source, O: Sink>(
         &mut self,
         alloc: Global,

@@ -10,6 +10,8 @@ pub struct PegOptions {
     pub style: PrintStyle,
     /// Whether the input is one unit, which must take all of it.
     pub whole: bool,
+    /// How many bytes a unit may print; any number if it is `None`.
+    pub budget: Option<usize>,
 }
 
 /// The settings of a run of the peg tool.

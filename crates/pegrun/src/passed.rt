@@ -55,8 +55,8 @@ fn known_front<R: Source>(units: &ByteUnits, feed: &Feed<'_, R>) -> Option<Vec<u
     }
 }
 
-/// Prints the units at the front of a feed from the table. It reads as many bytes as it drops. If explanations or one
-/// unit are asked for, it prints none.
+/// Prints the units at the front of a feed from the table. It reads as many bytes as it drops. If explanations, one
+/// unit or a budget are asked for, it prints none.
 pub(crate) fn pass_known<R: Source, O: Sink>(
     units: &ByteUnits,
     settings: &PegSettings<'_>,
@@ -73,7 +73,8 @@ pub(crate) fn pass_known<R: Source, O: Sink>(
     ensures flag { Flags (O.failed out.old) (O.failed out.new) result }
     ensures unasked { settings.now.explain ≡ true → result ≡ Ok (Passed.Units 0) }
 {
-    if settings.explain || settings.limit == 0 || settings.options.whole {
+    let is_limited = settings.options.budget.is_some();
+    if settings.explain || settings.limit == 0 || settings.options.whole || is_limited {
         return Ok(Passed::Units(0));
     }
     let Some(bytes) = known_front(units, feed) else {

@@ -32,7 +32,8 @@ use toolrun::{Status, run_tool};
 ///   `no match at byte S`, status `NoMatch`, but `Done` at the end of the input.
 /// - If the settings ask for the whole input as one unit, the run ends after the first unit of some bytes: `Done` at
 ///   the end of the input, else `no match at byte S`. So it ends where the rule fails on an input without bytes.
-/// - A unit that looks at more than `limit` bytes is not printed: `unit at byte S longer than L bytes`, `Overlong`.
+/// - A unit that looks at more than `limit` bytes is not printed: `unit at byte S longer than L bytes`, `Overlong`. Nor
+///   is one whose text has more than `budget` bytes: `unit at byte S prints more than N bytes`, `Overlong`.
 /// - If the settings ask for explanations, further lines follow `no match at byte S`: the farthest position at which a
 ///   comparison of that unit or of the one before it failed outside of `!`, and what was expected there. Those of a
 ///   unit that is too long report where it begins.

@@ -1,24 +1,26 @@
 //! One unit at the front of what a feed holds.
-ghost use Rattle.std.specs.Prelude.{◌≡◌, ℕ, List, ◌≤◌, ◌<◌, ◌+◌, ◌++◌, length, true, false};
+ghost use Rattle.std.specs.Prelude.{◌≡◌, ℕ, List, ◌≤◌, ◌<◌, ◌+◌, ◌++◌, length, true, false, [], Some, Bool};
 ghost use Rattle.ruletable.specs.Writing.{Flags};
 ghost use Rattle.feed.specs.Feed.{Grows, IsTrueOfReader, SameFeed, SameLoan, allowance_of, bytes_of, capacity_of};
 ghost use Rattle.feed.specs.Feed.{IsHeld, flow_of, input_limit};
-ghost use Rattle.gramcheck.specs.Grammar.{IsSoundGrammar};
+ghost use Rattle.gramcheck.specs.Grammar.{Grammar, IsSoundGrammar};
 ghost use Rattle.pegread.specs.PegViews.{rules_of};
 ghost use Rattle.toolrun.specs.Agrees.{Agrees};
-ghost use Rattle.pegrun.specs.Attempts.{FrontFlags, IsAttempt, IsFrontAttempt, IsStep, IsStepOn, StaysWithin};
-ghost use Rattle.pegrun.specs.Attempts.{failed_at, step_after, step_held, stop_at};
+ghost use Rattle.pegrun.specs.Attempts.{FrontFlags, IsAttempt, IsFrontAttempt, IsLimited, IsStep, IsStepOn};
+ghost use Rattle.pegrun.specs.Attempts.{StaysWithin, failed_at, step_after, step_held, stop_at};
 ghost use Rattle.pegrun.specs.ByteUnits.{AreByteUnits};
 ghost use Rattle.pegrun.specs.MatchCalls.{calls_of};
 ghost use Rattle.toolrun.specs.Input.{Input};
 ghost use Rattle.pegrun.specs.Units.{is_after_whole as over_at, taken_at};
+ghost use Rattle.pegrun.specs.declared.options.PegOptions.{PegOptions as Options};
 
 use crate::attempt::{Attempt, CountedMatcher};
-use crate::options::PegSettings;
+use crate::draft::Draft;
+use crate::options::{PegOptions, PegSettings};
 use feed::{Feed, Held, Source};
 use gramcheck::SoundPeg;
 use pegmatch::{Matcher, PrintStyle};
-use ruletable::{Sink, WriteFault};
+use ruletable::{Sink, WriteFault, write_whole};
 use toolrun::{Status, Stop};
 
 /// The next step of a run: a unit of so many bytes, or a stop.
@@ -65,6 +67,9 @@ fn step_of(
         Ok(Attempt::TooLong) => {
             let limit = settings.limit;
             Ok(UnitStep::Stops(Stop::LongUnit { position, limit }))
+        }
+        Ok(Attempt::Costly(budget)) => {
+            Ok(UnitStep::Stops(Stop::CostlyUnit { position, budget }))
         }
         Ok(Attempt::NoMemory) => Ok(UnitStep::Stops(Stop::NoMemory)),
         Err(fault) => Err(fault),
@@ -157,6 +162,73 @@ fn attempt_unit<M: Matcher, R: Source, O: Sink>(
     }
 }
 
+/// Prints the text of an attempt that was kept, unless it has more bytes than the budget. The attempt failed in keeping
+/// it where the budget was reached, or else where an allocation failed.
+fn print_draft<O: Sink>(
+    attempted: Result<Attempt, WriteFault>,
+    text: &[u8],
+    budget: usize,
+    out: &mut O,
+) -> Result<Attempt, WriteFault>
+    requires { O.failed out.old ≡ false }
+    ensures answer { (g : Grammar) (window : List ℕ) (more : Bool) (options : Options) →
+        IsAttempt g window more options.style (Some []) (Some text.now) attempted → options.budget ≡ Some budget →
+        IsLimited g window more options (O.contents out.old) (O.contents out.new) result }
+    ensures flag { Flags (O.failed out.old) (O.failed out.new) result }
+{
+    match attempted {
+        Ok(Attempt::Printed(end)) => {
+            if text.len() > budget {
+                return Ok(Attempt::Costly(budget));
+            }
+            match write_whole(out, text) {
+                Ok(()) => Ok(Attempt::Printed(end)),
+                Err(fault) => Err(fault),
+            }
+        }
+        Ok(Attempt::Failed) => Ok(Attempt::Failed),
+        Ok(Attempt::TooLong) => Ok(Attempt::TooLong),
+        Ok(_) => Ok(Attempt::NoMemory),
+        Err(_) => {
+            if text.len() < budget {
+                return Ok(Attempt::NoMemory);
+            }
+            Ok(Attempt::Costly(budget))
+        }
+    }
+}
+
+/// Runs the start rule at the front of what a feed holds, and prints the text of a success that is within the budget of
+/// the options. A text is kept until that is known.
+#[inline(always)]
+fn attempt_within<M: Matcher, R: Source, O: Sink>(
+    matcher: &mut CountedMatcher<M>,
+    peg: &SoundPeg,
+    feed: &mut Feed<'_, R>,
+    more: bool,
+    options: PegOptions,
+    out: &mut O,
+) -> Result<Attempt, WriteFault>
+    requires some { more ≡ true → 0 < length (bytes_of feed.old) }
+    requires out_is_fresh { O.failed out.old ≡ false }
+    ensures same { SameFeed feed.old feed.new }
+    ensures answer { IsLimited peg.now (bytes_of feed.old) more options (O.contents out.old) (O.contents out.new)
+        result }
+    ensures flag { Flags (O.failed out.old) (O.failed out.new) result }
+    ensures twice { calls_of M.matches matcher.new ≤ calls_of M.matches matcher.old + 2 }
+    ensures units { AreByteUnits peg.now options.style matcher.old.units
+        → AreByteUnits peg.now options.style matcher.new.units }
+{
+    match options.budget {
+        None => attempt_unit(matcher, peg, feed, more, options.style, out),
+        Some(budget) => {
+            let mut draft = Draft::new(matcher.units.alloc, budget);
+            let attempted = attempt_unit(matcher, peg, feed, more, options.style, &mut draft);
+            print_draft(attempted, draft.text.as_slice(), budget, out)
+        }
+    }
+}
+
 /// Runs one unit at the front of what a feed holds.
 #[inline(always)]
 fn unit_at<M: Matcher, R: Source, O: Sink>(
@@ -180,7 +252,7 @@ fn unit_at<M: Matcher, R: Source, O: Sink>(
         → AreByteUnits peg.now settings.now.options.style matcher.new.units }
 {
     let end = start + feed.len();
-    let attempted = attempt_unit(matcher, peg, feed, more, settings.options.style, out);
+    let attempted = attempt_within(matcher, peg, feed, more, settings.options, out);
     step_of(attempted, settings, start, end)
 }
 

@@ -24,25 +24,13 @@ impl Fields {
     }
 
     /// Returns a field as text in UTF-8; the empty text if it is none.
-    pub fn string(&self, at: usize) -> &str {
+    fn string(&self, at: usize) -> &str {
         str::from_utf8(self.text(at)).unwrap_or("")
     }
 
     /// Returns the number that a field spells; 0 if it spells none.
     pub fn number(&self, at: usize) -> usize {
         self.string(at).parse::<usize>().unwrap_or(0)
-    }
-
-    /// Returns the numbers that a field spells, with spaces between them; `None` if it spells something else, or if an
-    /// allocation fails.
-    pub fn numbers(&self, alloc: Global, at: usize) -> Option<Vec<usize>> {
-        let mut numbers = Vec::new(alloc);
-        for word in self.string(at).split(' ') {
-            if !word.is_empty() {
-                numbers.push(word.parse::<usize>().ok()?).ok()?;
-            }
-        }
-        Some(numbers)
     }
 
     /// Returns whether a field is this text.

@@ -210,7 +210,7 @@ fn check_row<C: Calls>(alloc: Global, calls: &C, line: &RowLines, out: &mut Text
 /// A row is `CALL FIELD | FIELD => WANTED`. A line that begins with four spaces goes on with the row before it. A line
 /// that is empty, or begins with `#`, is no row. `\n`, `\r`, `\t`, `\\` and `\xHH` are bytes, `\e` is nothing, and
 /// `\{N:TEXT}` is a text N times over.
-pub fn run_rows<C: Calls>(alloc: Global, calls: &C, text: &[u8]) -> Option<Text> {
+pub(crate) fn run_rows<C: Calls>(alloc: Global, calls: &C, text: &[u8]) -> Option<Text> {
     let lines = lines_of(alloc, text)?;
     let mut out = Text::new(alloc);
     let mut right = 0usize;

@@ -1,9 +1,11 @@
 //! Calls that read a grammar's text.
 
-use abnfprint::{is_abnf_read_back, print_abnf};
-use abnfread::{AbnfKind, Elem, abnf_tokens, core_rules, one_reading, one_tree, read_abnf};
+use abnfcheck::{derivation_is_decided, furthest_is_found, one_list_of_abnf_notes};
+use abnfread::{AbnfKind, abnf_tokens, one_reading, one_tree, read_abnf};
+use flatgrammar::items_at_most;
 use lexer::tokens_make_up;
-use ruletable::{ReadFault, SinkOf};
+use lowering::items_decide;
+use ruletable::ReadFault;
 use std::alloc::Global;
 use testio::{Fields, Text};
 
@@ -68,46 +70,14 @@ pub(crate) fn single_bytes_read(alloc: Global, out: &mut Text) {
     }
 }
 
-/// `sizes GRAMMAR`: how many rules, rules that are defined again and rules that are extended early there are; and how
-/// many alternatives each rule has.
-pub(crate) fn sizes_of(alloc: Global, fields: &Fields, out: &mut Text) -> Option<()> {
-    let abnf = read_abnf(alloc, fields.text(0)).ok()?;
-    for size in [abnf.rules.len(), abnf.redefined.len(), abnf.extended.len()] {
-        out.add_number(size as u128);
-        out.add(b";");
-    }
-    for id in 0..abnf.rules.len() {
-        out.add(b" ");
-        match abnf.rules.body(id) {
-            Elem::Alt(all) => out.add_number(all.len() as u128),
-            _ => out.add(b"1"),
-        }
-    }
-    Some(())
-}
-
-/// `print GRAMMAR`: its canonical text.
-pub(crate) fn canonical_text_of(alloc: Global, fields: &Fields, out: &mut Text) -> Option<()> {
-    let abnf = read_abnf(alloc, fields.text(0)).ok()?;
-    let mut sink = SinkOf::new(Vec::new(alloc));
-    print_abnf(&abnf, &mut sink).ok()?;
-    out.add(&sink.into_inner());
-    Some(())
-}
-
-/// `core_rule NAME`: the id of a core rule, and how many core rules there are.
-pub(crate) fn core_rule_of(alloc: Global, fields: &Fields, out: &mut Text) -> Option<()> {
-    let core = core_rules(alloc).ok()?;
-    out.add_number(core.find(fields.text(0)).ok()?? as u128);
-    out.add(b" of ");
-    out.add_number(core.len() as u128);
-    Some(())
-}
-
-/// `grammar_laws`: they return.
+/// `laws`: they return.
 pub(crate) fn laws() {
     one_tree();
     one_reading();
-    is_abnf_read_back();
     tokens_make_up::<AbnfKind>();
+    derivation_is_decided();
+    furthest_is_found();
+    one_list_of_abnf_notes();
+    items_decide();
+    items_at_most();
 }

@@ -1,5 +1,4 @@
-//! The public calls of the libraries on which both tools stand, on rows whose answers a standard, a manual or a hand
-//! gives.
+//! Calls of the libraries on which both tools stand, with answers found by hand.
 #![tactic(auto)]
 
 #[cfg(test)]
@@ -7,10 +6,8 @@ mod feed_fill;
 #[cfg(test)]
 mod leastset_calls;
 #[cfg(test)]
-mod letters_utf8;
-#[cfg(test)]
-mod lines_answers;
-#[cfg(test)]
 mod ruletable_calls;
+#[cfg(test)]
+mod run_ends;
 #[cfg(test)]
 mod stepchains_calls;

@@ -1,12 +1,8 @@
 //! Calls that read a grammar's text.
 
-use lexer::{have_tokens, one_list, tokens, tokens_make_up};
-use pegprint::is_read_back;
-use pegread::{
-    Expr, Kind, are_marked, next_char, one_reading, one_tree, read_peg, spells_one_char,
-    spells_one_class, spells_one_literal, spells_some_char, spells_some_class, spells_some_literal,
-};
-use ruletable::ReadFault;
+use lexer::tokens;
+use pegread::{Kind, next_char, read_peg};
+use ruletable::{LineRule, ReadFault, line_of};
 use std::alloc::Global;
 use testio::{Fields, Text};
 
@@ -91,40 +87,10 @@ pub(crate) fn single_bytes_read(alloc: Global, out: &mut Text) {
     }
 }
 
-/// `definitions GRAMMAR`: the ids of the rules that are defined again; then for each rule its span and, if its body is
-/// a literal, `literal`.
-pub(crate) fn definitions_of(alloc: Global, fields: &Fields, out: &mut Text) -> Option<()> {
-    let peg = read_peg(alloc, fields.text(0)).ok()?;
-    for id in &peg.redefined {
-        out.add_number(*id as u128);
-        out.add(b" ");
-    }
-    for id in 0..peg.rules.len() {
-        let span = peg.rules.span(id);
-        out.add(b";");
-        out.add_number(span.start as u128);
-        out.add(b"-");
-        out.add_number(span.end as u128);
-        if matches!(peg.rules.body(id), Expr::Bytes(_)) {
-            out.add(b" literal");
-        }
-    }
-    Some(())
-}
-
-/// `grammar_laws`: they return.
-pub(crate) fn laws() {
-    one_tree();
-    one_reading();
-    is_read_back();
-    one_list::<Kind>();
-    are_marked();
-    tokens_make_up::<Kind>();
-    have_tokens::<Kind>(b"a <- 'b' # c");
-    spells_one_char();
-    spells_some_char();
-    spells_one_literal();
-    spells_some_literal();
-    spells_one_class();
-    spells_some_class();
+/// `line TEXT | OFFSET`: the line of an offset where LF alone ends one, and where CR LF and CR do too.
+pub(crate) fn line_at(fields: &Fields, out: &mut Text) {
+    let (text, at) = (fields.text(0), fields.number(1));
+    out.add_number(line_of(text, at, LineRule::Lf) as u128);
+    out.add(b" ");
+    out.add_number(line_of(text, at, LineRule::Any) as u128);
 }

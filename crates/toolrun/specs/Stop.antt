@@ -7,13 +7,15 @@ use Rattle.toolrun.specs.declared.status.Status.{Status}
 use Rattle.toolrun.specs.declared.status.Status.TheVariants as status
 use Rattle.toolrun.specs.declared.stop.Stop.{Stop}
 use Rattle.toolrun.specs.declared.stop.Stop.TheVariants.{Quiet, NoMatch, LongUnit, LongLine, Broken, NoMemory, Refused}
-use Rattle.toolrun.specs.declared.stop.Stop.TheVariants.{Unreadable}
+use Rattle.toolrun.specs.declared.stop.Stop.TheVariants.{CostlyUnit, CostlyLine, Unreadable}
 
 abbrev pub status_of : Stop → Status
 status_of (Quiet status) = status
 status_of (NoMatch s) = status.NoMatch
 status_of (LongUnit s limit) = status.Overlong
+status_of (CostlyUnit s budget) = status.Overlong
 status_of (LongLine n limit) = status.Overlong
+status_of (CostlyLine n budget) = status.Overlong
 status_of Broken = status.Fault
 status_of NoMemory = status.NoMemory
 status_of (Refused why) = status.Refused
@@ -34,7 +36,11 @@ message_of (Quiet status) = []
 message_of (NoMatch s) = codes "no match at byte " ++ decimal s ++ codes "\n"
 message_of (LongUnit s limit) = codes "unit at byte " ++ decimal s ++ codes " longer than " ++ decimal limit
     ++ codes " bytes\n"
+message_of (CostlyUnit s budget) = codes "unit at byte " ++ decimal s ++ codes " prints more than " ++ decimal budget
+    ++ codes " bytes\n"
 message_of (LongLine n limit) = codes "line " ++ decimal n ++ codes " longer than " ++ decimal limit ++ codes " bytes\n"
+message_of (CostlyLine n budget) = codes "line " ++ decimal n ++ codes " needs more than " ++ decimal budget
+    ++ codes " items\n"
 message_of Broken = codes "read error\n"
 message_of NoMemory = codes "out of memory\n"
 message_of (Refused why) = fault_text why

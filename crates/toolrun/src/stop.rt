@@ -19,8 +19,12 @@ pub enum Stop {
     NoMatch(usize),
     /// The unit at this position looks at more bytes than the limit.
     LongUnit { position: usize, limit: usize },
+    /// The unit at this position prints more bytes than its budget.
+    CostlyUnit { position: usize, budget: usize },
     /// The line of this number has more bytes than the limit.
     LongLine { line: usize, limit: usize },
+    /// The line of this number needs more items than its budget.
+    CostlyLine { line: usize, budget: usize },
     /// The reader failed before all that was to be looked at was held.
     Broken,
     /// An allocation failed.
@@ -39,7 +43,9 @@ pub fn status(stop: Stop) -> Status
         Stop::Quiet(status) => status,
         Stop::NoMatch(_) => Status::NoMatch,
         Stop::LongUnit { .. } => Status::Overlong,
+        Stop::CostlyUnit { .. } => Status::Overlong,
         Stop::LongLine { .. } => Status::Overlong,
+        Stop::CostlyLine { .. } => Status::Overlong,
         Stop::Broken => Status::Fault,
         Stop::NoMemory => Status::NoMemory,
         Stop::Refused(_) => Status::Refused,
@@ -66,8 +72,21 @@ pub fn write_stop<W: Sink>(stop: Stop, w: &mut W) -> Result<(), WriteFault>
     match stop {
         Stop::Quiet(_) => Ok(()),
         Stop::NoMatch(at) => write_numbers(b"no match at byte ", at, b"\n", w),
-        Stop::LongUnit { position, limit } => write_long(b"unit at byte ", position, limit, w),
-        Stop::LongLine { line, limit } => write_long(b"line ", line, limit, w),
+        Stop::LongUnit { position, limit } => {
+            let over: &[u8] = b" longer than ";
+            write_excess(b"unit at byte ", position, over, limit, b" bytes\n", w)
+        }
+        Stop::CostlyUnit { position, budget } => {
+            let over: &[u8] = b" prints more than ";
+            write_excess(b"unit at byte ", position, over, budget, b" bytes\n", w)
+        }
+        Stop::LongLine { line, limit } => {
+            write_excess(b"line ", line, b" longer than ", limit, b" bytes\n", w)
+        }
+        Stop::CostlyLine { line, budget } => {
+            let over: &[u8] = b" needs more than ";
+            write_excess(b"line ", line, over, budget, b" items\n", w)
+        }
         Stop::Broken => write_whole(w, b"read error\n"),
         Stop::NoMemory => write_whole(w, b"out of memory\n"),
         Stop::Refused(fault) => write_fault(&fault, w),
@@ -91,16 +110,23 @@ fn write_numbers<W: Sink>(
     write_pieces(w, &pieces)
 }
 
-fn write_long<W: Sink>(what: &[u8], at: usize, limit: usize, w: &mut W) -> Result<(), WriteFault>
+fn write_excess<'a, W: Sink>(
+    what: &'a [u8],
+    at: usize,
+    over: &'a [u8],
+    limit: usize,
+    unit: &'a [u8],
+    w: &mut W,
+) -> Result<(), WriteFault>
     requires { W.failed w.old ≡ false }
     ensures bytes { Writes (W.contents w.old) (W.contents w.new)
-        (what.now ++ decimal at ++ codes " longer than " ++ decimal limit ++ codes " bytes\n") result }
+        (what.now ++ decimal at ++ over.now ++ decimal limit ++ unit.now) result }
     ensures flag { Flags (W.failed w.old) (W.failed w.new) result }
 {
     let mut position_digits = Buffer::new();
     let mut limit_digits = Buffer::new();
     let position = position_digits.format(at).as_bytes();
     let most = limit_digits.format(limit).as_bytes();
-    let pieces: [&[u8]; 5] = [what, position, b" longer than ", most, b" bytes\n"];
+    let pieces: [&[u8]; 5] = [what, position, over, most, unit];
     write_pieces(w, &pieces)
 }

@@ -6,7 +6,7 @@ ghost use Rattle.toolrun.specs.Stopped.{Fulfils};
 ghost use Rattle.toolrun.specs.Stream.{passed};
 
 use feed::Source;
-use linejudge::{Answer, Judge, LineForm, Printed, run_lines};
+use linejudge::{Answer, Judge, LineForm, NoAnswer, Printed, run_lines};
 use ruletable::{Memory, Sink, WriteFault};
 use std::alloc::Global;
 use toolrun::Ending;
@@ -21,6 +21,8 @@ pub struct Comments {
 impl Judge<()> for Comments {
     ghost reported = { λ _ line said. IsCommentAnswer line said };
 
+    ghost costly = { λ _ _ _. ⊥ };
+
     ghost explains = { λ _. true };
 
     ghost refusal = { λ _. LacksSign };
@@ -29,7 +31,7 @@ impl Judge<()> for Comments {
 
     ghost works_in = { λ _ _. Unit {0} };
 
-    fn judge(&self, _work: &mut (), line: &[u8]) -> Result<Answer, Memory> {
+    fn judge(&self, _work: &mut (), line: &[u8]) -> Result<Answer, NoAnswer> {
         if line.first() == Some(&b'#') {
             return Ok(Answer::Yes);
         }
@@ -59,7 +61,7 @@ pub fn answer_comments<R: Source, O: Sink>(
     requires reader_is_fresh { R.failed reader.old ≡ false }
     requires reader_is_open { R.ended reader.old ≡ false }
     requires out_is_fresh { O.failed out.old ≡ false }
-    ensures { Fulfils (LinesStates IsCommentAnswer true LacksSign comment_form)
+    ensures { Fulfils (LinesStates IsCommentAnswer true LacksSign (λ _ _. ⊥) comment_form)
         (passed R.remaining R.failed reader.old reader.new) (passed O.contents O.failed out.old out.new) result }
 {
     let form = LineForm {

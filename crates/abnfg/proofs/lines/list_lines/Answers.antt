@@ -4,6 +4,7 @@ use Rattle.abnfread.specs.AbnfViews.{rules_of}
 use Rattle.abnfg.proofs.ListedReplyLemmas.{cut_fulfils, halt_fulfils}
 use Rattle.abnfg.specs.ListedLines.{HaltEnds}
 use Rattle.abnfg.specs.ListRefusals.{AreRefusalsFrom}
+use Rattle.abnfrun.specs.AbnfReply.{unit_for}
 use Rattle.rulelines.specs.MissLists.{item_lines}
 use Rattle.abnfg.proofs.lines.list_lines.Goals as goal
 
@@ -14,8 +15,8 @@ returns-in-Ok g c =
     let id = c.args.grammar.now.judged in
     halt_fulfils s rules id c.write_asked.new.kept.items _ _ _ _ c.in-Ok.halt c.ending_of.result
     c.in-Ok.ensures.lines
-    (subst (λ (v : List (Vec ℕ Global)). HaltEnds (AreRefusalsFrom s.letters rules id 1 (item_lines v)) c.in-Ok.halt
-    c.ending_of.result) c.deref.ensures.value c.ending_of.ensures) c.in-Ok.ensures.flag
+    (subst (λ (v : List (Vec ℕ Global)). HaltEnds (AreRefusalsFrom (unit_for s.nul) s.letters rules id 1 (item_lines v))
+    c.in-Ok.halt c.ending_of.result) c.deref.ensures.value c.ending_of.ensures) c.in-Ok.ensures.flag
 
 pub returns : goal.returns
 returns g c =

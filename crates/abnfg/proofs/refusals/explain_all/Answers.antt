@@ -2,7 +2,6 @@
 use Rattle.std.proofs.Common.{◌+◌, List, Vec, Global, subst, ℕ}
 use Rattle.abnfread.specs.AbnfViews.{rules_of}
 use Rattle.refusedlines.specs.Refusals.{IsExplained}
-use Rattle.refusedlines.specs.declared.refusal.LineUnit.TheVariants.{Line}
 use Rattle.abnfg.proofs.RefusalsFromLemmas.{refusals_more}
 use Rattle.abnfg.proofs.refusals.explain_all.Goals as goal
 
@@ -16,11 +15,11 @@ loop-index-preserved c =
     let text = c.loop-index.text.items in
     let new = c.explain_refused.new.out.items in
     record {
-      reported = refusals_more e.letters rules id c.args.lines.now i item text new c.loop-index-test.true
+      reported = refusals_more c.args.unit e.letters rules id c.args.lines.now i item text new c.loop-index-test.true
           c.loop-index.invariant.reported
-          (subst (λ (v : Vec ℕ Global). IsExplained Line e.letters rules id v.items (i + 1) text new)
+          (subst (λ (v : Vec ℕ Global). IsExplained c.args.unit e.letters rules id v.items (i + 1) text new)
           c.index-lines-index.is
-          (subst (λ (v : List ℕ). IsExplained Line e.letters rules id v (i + 1) text new) c.deref.ensures.value
+          (subst (λ (v : List ℕ). IsExplained c.args.unit e.letters rules id v (i + 1) text new) c.deref.ensures.value
           c.in_ok-explain_refused.ensures.reported));
       flat = c.in_ok-explain_refused.ensures.flat;
     }

@@ -1,8 +1,9 @@
 -- The flat grammar answers whether the judged rule derives the symbols, and what their longest viable prefix is.
 use Rattle.std.proofs.Common.{map, arith}
 use Rattle.std.proofs.lemmas.List.{length-map}
+use Rattle.std.proofs.lemmas.Result.{err_from_is_err_and}
 use Rattle.abnfread.specs.AbnfViews.{rules_of}
-use Rattle.abnfrun.proofs.IsAnswerOnLemmas.{judge_says, verdict_says}
+use Rattle.abnfrun.proofs.IsAnswerOnLemmas.{judge_says, letters_costly, verdict_says}
 use Rattle.abnfrun.proofs.line_judge.judge_letters.Goals as goal
 use Rattle.letters.specs.Letters.{has}
 
@@ -51,3 +52,19 @@ returns-else-yes-clause-answer g c =
     c.derivation_is_decided.ensures c.items_decide.ensures.derives c.in_ok-yes.yes (j.lowered c.if-judges.false)
     c.in_ok-yes.ensures.answer) in
     (c.if-judges.false, said)
+
+pub returns-in_err-viable-clause-costly : goal.returns-in_err-viable-clause-costly
+returns-in_err-viable-clause-costly g c =
+    let j = c.args.judges.now in
+    let none = err_from_is_err_and c.from_residual.result c.from_residual.ensures.1 in
+    rw (none.1, none.2) (letters_costly j.budget j.letters j.viable (rules_of j.grammar.now.rules)
+    j.grammar.now.judged j.flat.now (map g.L.Letter.number c.args.line.now) j.lowered j.prefixes _
+    c.in_err-viable.ensures.costly)
+
+pub returns-in_err-yes-clause-costly : goal.returns-in_err-yes-clause-costly
+returns-in_err-yes-clause-costly g c =
+    let j = c.args.judges.now in
+    let none = err_from_is_err_and c.from_residual-in_err-yes.result c.from_residual-in_err-yes.ensures.1 in
+    rw (none.1, none.2) (letters_costly j.budget j.letters j.viable (rules_of j.grammar.now.rules)
+    j.grammar.now.judged j.flat.now (map g.L.Letter.number c.args.line.now) j.lowered j.prefixes _
+    c.in_err-yes.ensures.costly)

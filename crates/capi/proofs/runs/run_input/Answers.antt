@@ -1,6 +1,6 @@
 -- The runner stays, and the run is one with any settings that ask for it.
 use Rattle.pegread.specs.PegViews.{rules_of}
-use Rattle.capi.proofs.RunSettingsLemmas.{planned_by_four, runner_stays}
+use Rattle.capi.proofs.RunSettingsLemmas.{planned_by_same, runner_stays}
 use Rattle.capi.proofs.runs.run_input.Goals as goal
 
 pub returns-clause-same : goal.returns-clause-same
@@ -9,5 +9,5 @@ returns-clause-same c = runner_stays c.args.runner.now _ _ c.run_opened.ensures.
 pub returns-clause-runs : goal.returns-clause-runs
 returns-clause-runs c = λ settings by.
     let runner = c.args.runner.now in
-    planned_by_four (rules_of runner.peg.rules) runner.peg.start _ settings by.limit by.style by.whole by.explain
-    c.run_opened.ensures.runs
+    planned_by_same (rules_of runner.peg.rules) runner.peg.start _ settings by.limit by.style by.whole by.budget
+    by.explain c.run_opened.ensures.runs

@@ -9,7 +9,6 @@ loop-parameter-init c = rules_none (app_of c.args.command)
 
 pub loop-parameter-preserved : goal.loop-parameter-preserved
 loop-parameter-preserved c =
-    let made = c.in_ok-arg_of.ensures in
     rules_more parameter_rule (app_of c.args.command) c.args.parameters.now c.loop-parameter.parameter-index _
-    c.loop-parameter.command c.in_ok-command.command c.in_ok-arg_of.field-0 c.loop-parameter-test.true made.0 made.1
-    c.in_ok-command.ensures c.loop-parameter.invariant
+    c.loop-parameter.command c.in_ok-command.command c.loop-parameter-test.true c.in_ok-command.ensures
+    c.loop-parameter.invariant

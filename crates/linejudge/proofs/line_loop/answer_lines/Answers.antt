@@ -114,7 +114,8 @@ loop-feed-preserved-then-at-next g c =
             let a = rw (c.skip.ensures.bytes, slides-bytes so_far.0 items n, c.skip.ensures.flow) at b in
             let front = so_far.3 input a in
             more_lines (g.J.Judge.reported c.args.judge.now) (g.J.Judge.explains c.args.judge.now)
-            (g.J.Judge.refusal c.args.judge.now) c.args.form input at _ _ front.0 c.loop-feed.reached.reported front.1
+            (g.J.Judge.refusal c.args.judge.now) (g.J.Judge.costly c.args.judge.now) c.args.form input at _ _ front.0
+            c.loop-feed.reached.reported front.1
             front.2 front.3 next _ c.judge_front-next.new.text.items
             (batch_goes (g.J.Judge.reported c.args.judge.now) (g.J.Judge.explains c.args.judge.now)
             (g.J.Judge.refusal c.args.judge.now) c.args.form input so_far.0 items c.front.result.now
@@ -140,7 +141,8 @@ returns-in-Err g c =
         λ input a.
             let front = so_far.3 input a in
             fails_further (g.J.Judge.reported c.args.judge.now) (g.J.Judge.explains c.args.judge.now)
-            (g.J.Judge.refusal c.args.judge.now) c.args.form input at _ _ front.0 c.loop-feed.reached.reported front.1
+            (g.J.Judge.refusal c.args.judge.now) (g.J.Judge.costly c.args.judge.now) c.args.form input at _ _ front.0
+            c.loop-feed.reached.reported front.1
             front.2 front.3 c.decided.ensures _ (length (so_far.0 ++ items)) c.in-Err.fault
             (rw so_far.1 at (held_within c.loop-feed.feed c.args.form so_far.0 input
             c.loop-feed.invariant.capacity (let len = c.len.ensures in omega (arith, len.len, len.within)) a))
@@ -199,7 +201,8 @@ loop-feed-preserved g c =
             let step = c.in-Ok-Answers.ensures.follows so_far.0 input so_far.1 a in
             rw (c.next_position-reached.ensures, c.in-Ok-Answers.ensures.at)
             (one_more_line (g.J.Judge.reported c.args.judge.now)
-            (g.J.Judge.explains c.args.judge.now) (g.J.Judge.refusal c.args.judge.now) c.args.form input
+            (g.J.Judge.explains c.args.judge.now) (g.J.Judge.refusal c.args.judge.now)
+            (g.J.Judge.costly c.args.judge.now) c.args.form input
             c.loop-feed.reached.at _ _ front.0 c.loop-feed.reached.reported front.1 front.2 front.3 _
             c.next_step.new.reached.reported c.in-Ok-Answers.said c.in-Ok-Answers.len
             (rw c.in-Ok-Answers.field-0-is at step.0)),
@@ -237,7 +240,8 @@ returns-in-Ok-Stops g c = record {
             let front = so_far.3 input (agrees_earlier _ _ _ grew so_far.0 input then_) in
             let step = c.in-Ok-Stops.ensures.follows so_far.0 input so_far.1 then_ in
             stops_there (g.J.Judge.reported c.args.judge.now) (g.J.Judge.explains c.args.judge.now)
-            (g.J.Judge.refusal c.args.judge.now) c.args.form input c.loop-feed.reached.at _ _ front.0
+            (g.J.Judge.refusal c.args.judge.now) (g.J.Judge.costly c.args.judge.now) c.args.form input
+            c.loop-feed.reached.at _ _ front.0
             c.loop-feed.reached.reported front.1 front.2 front.3 _ c.next_step.new.reached.reported
             (length (so_far.0 ++ bytes_of feed)) c.in-Ok-Stops.stop c.ending_at.result
             (rw c.in-Ok-Stops.field-0-is at step.0) (rw c.is_explained.ensures at c.ending_at.ensures.plain)
@@ -274,7 +278,8 @@ returns-in-Err-next_step g c = record {
             let front = so_far.3 input (agrees_earlier _ _ _ grew so_far.0 input a) in
             let step = c.in-Err-next_step.ensures.follows so_far.0 input so_far.1 a in
             fails_there (g.J.Judge.reported c.args.judge.now) (g.J.Judge.explains c.args.judge.now)
-            (g.J.Judge.refusal c.args.judge.now) c.args.form input c.loop-feed.reached.at _ _ front.0
+            (g.J.Judge.refusal c.args.judge.now) (g.J.Judge.costly c.args.judge.now) c.args.form input
+            c.loop-feed.reached.at _ _ front.0
             c.loop-feed.reached.reported front.1 front.2 front.3 c.decided.ensures _ (length (so_far.0 ++ items))
             c.in-Err-next_step.fault step.1 c.next_step.new.reached.reported step.0,
       );

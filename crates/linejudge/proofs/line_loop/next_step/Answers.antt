@@ -1,13 +1,14 @@
 -- What stands at the front is answered, or ends the run.
 use Rattle.std.proofs.Common.{◌≡◌, ◌∙◌, ℕ, ◌<◌, ◌≤◌, Option, List, arith, refl, sym}
 use Rattle.std.specs.Prelude.{Result, Ok, Err, IfOk}
-use Rattle.ruletable.specs.declared.memory.Memory.{Memory}
 use Rattle.ruletable.specs.declared.sink.WriteFault.{WriteFault}
 use Rattle.feed.specs.Feed.{Grows, SameFeed, bytes_of}
 use Rattle.feed.specs.declared.feed.Feed.{Feed}
 use Rattle.linejudge.specs.InputLines.{finished, kept_size, rejected}
 use Rattle.linejudge.specs.LineSteps.{FitsIn, StepsAfter}
 use Rattle.linejudge.specs.declared.answers.Answer.{Answer}
+use Rattle.linejudge.specs.declared.answers.NoAnswer.{NoAnswer}
+use Rattle.linejudge.specs.declared.answers.NoAnswer.TheVariants as no_answer
 use Rattle.linejudge.specs.declared.line_loop.LineStep.{LineStep}
 use Rattle.linejudge.specs.declared.line_loop.LineStep.TheVariants.{Stops}
 use Rattle.toolrun.specs.declared.stop.Stop.{Stop}
@@ -29,11 +30,13 @@ grows-same g s = record {
 }
 
 -- the step after an answer takes the bytes of the line
-fits-after : (n len : ℕ) (old new : Option (List ℕ)) (text : List ℕ) (answered : Result Answer Memory)
-    (r : Result LineStep WriteFault) → 0 < n → n ≤ len → StepsAfter n old new text answered r → FitsIn len r
-fits-after n len old new text (Ok said) (Ok step) some most steps = let same = steps.1 in rw same (some, most)
-fits-after n len old new text (Ok said) (Err fault) some most steps = tt
-fits-after n len old new text (Err lack) r some most steps = let same = steps.1 in rw same tt
+fits-after : (number n len : ℕ) (old new : Option (List ℕ)) (text : List ℕ) (answered : Result Answer NoAnswer)
+    (r : Result LineStep WriteFault) → 0 < n → n ≤ len → StepsAfter number n old new text answered r → FitsIn len r
+fits-after number n len old new text (Ok said) (Ok step) some most steps = let same = steps.1 in rw same (some, most)
+fits-after number n len old new text (Ok said) (Err fault) some most steps = tt
+fits-after number n len old new text (Err no_answer.Memory) r some most steps = let same = steps.1 in rw same tt
+fits-after number n len old new text (Err (no_answer.Costly budget)) r some most steps =
+    let same = steps.1 in rw same tt
 
 -- at the end no bytes are taken
 fits-end : (len : ℕ) (why : Stop) (r : Result LineStep WriteFault) → IfOk r (λ s. s ≡ Stops why) → FitsIn len r
@@ -51,7 +54,8 @@ returns-then-is_over g c = record {
   follows = λ before input here a.
       let feed = c.fill.new.self in (
         end_is (g.J.Judge.reported c.args.judge.now) (g.J.Judge.explains c.args.judge.now)
-            (g.J.Judge.refusal c.args.judge.now) c.args.form input c.args.reached.now.at
+            (g.J.Judge.refusal c.args.judge.now) (g.J.Judge.costly c.args.judge.now) c.args.form input
+            c.args.reached.now.at
             (g.O.Sink.contents c.args.out.now) (g.O.Sink.contents c.end_step.new.out) c.args.reached.now.reported
             c.end_step.result (rejected (sym c.is_over.ensures ∙ c.if-is_over.true)) c.end_step.ensures.bytes
             c.end_step.ensures.step,
@@ -83,16 +87,18 @@ returns-in-Whole g c =
           c.args.reached.now.at.position b.bytes here
           (let fits = c.in-Whole.ensures.fits in omega (arith, fits, kept_most c.args.form c.in-Whole.n)) in (
             whole_is (g.J.Judge.reported c.args.judge.now) (g.J.Judge.explains c.args.judge.now)
-                (g.J.Judge.refusal c.args.judge.now) c.args.form input c.args.reached.now.at
+                (g.J.Judge.refusal c.args.judge.now) (g.J.Judge.costly c.args.judge.now) c.args.form input
+                c.args.reached.now.at
                 (g.O.Sink.contents c.args.out.now) (g.O.Sink.contents c.step_of.new.out)
                 c.args.reached.now.reported on.new.reached.reported c.in-Whole.n _ on.new.reached.text.items
                 on.result c.step_of.result (sym c.is_over.ensures ∙ c.if-is_over.false) front next.0
-                (rw c.kept_size.ensures.size at on.ensures.answered) on.ensures.err
+                (rw c.kept_size.ensures.size at on.ensures.answered)
+                (rw c.kept_size.ensures.size at on.ensures.costly) on.ensures.err
                 (rw c.as_slice.ensures.value at step),
             rw same.bytes next.1,
           );
       fits = rw same.bytes
-          (fits-after _ _ _ _ _ on.result c.step_of.result (omega arith)
+          (fits-after _ _ _ _ _ _ on.result c.step_of.result (omega arith)
           (let fits = c.in-Whole.ensures.fits in omega (arith, fits)) step);
       flag = c.step_of.ensures.flag;
     }
@@ -116,16 +122,17 @@ returns-in-Last g c =
           let front = held_front before (bytes_of c.next_line.new.feed) b.more input.bytes c.in-Last.n
           c.args.reached.now.at.position b.bytes here (let fits = c.in-Last.ensures.fits in omega (arith, fits.1)) in (
             last_is (g.J.Judge.reported c.args.judge.now) (g.J.Judge.explains c.args.judge.now)
-                (g.J.Judge.refusal c.args.judge.now) c.args.form input c.args.reached.now.at
+                (g.J.Judge.refusal c.args.judge.now) (g.J.Judge.costly c.args.judge.now) c.args.form input
+                c.args.reached.now.at
                 (g.O.Sink.contents c.args.out.now) (g.O.Sink.contents c.step_of-in-Last.new.out)
                 c.args.reached.now.reported on.new.reached.reported c.in-Last.n _ on.new.reached.text.items
                 on.result c.step_of-in-Last.result (sym c.is_over.ensures ∙ c.if-is_over.false) front next.0
-                on.ensures.answered on.ensures.err
+                on.ensures.answered on.ensures.costly on.ensures.err
                 (rw c.as_slice-in-Last.ensures.value at step),
             rw same.bytes next.1,
           );
       fits = rw same.bytes
-          (fits-after _ _ _ _ _ on.result c.step_of-in-Last.result c.in-Last.ensures.fits.0 c.in-Last.ensures.fits.1
+          (fits-after _ _ _ _ _ _ on.result c.step_of-in-Last.result c.in-Last.ensures.fits.0 c.in-Last.ensures.fits.1
           step);
       flag = c.step_of-in-Last.ensures.flag;
     }
@@ -142,7 +149,8 @@ returns-in-Overlong g c = record {
       let next = rw here at (c.in-Overlong.ensures.follows before input
       (c.next_line.ensures.grows.capacity ∙ c.requires.capacity) a) in (
         long_is (g.J.Judge.reported c.args.judge.now) (g.J.Judge.explains c.args.judge.now)
-            (g.J.Judge.refusal c.args.judge.now) c.args.form input c.args.reached.now.at
+            (g.J.Judge.refusal c.args.judge.now) (g.J.Judge.costly c.args.judge.now) c.args.form input
+            c.args.reached.now.at
             (g.O.Sink.contents c.args.out.now) (g.O.Sink.contents c.args.out.now) c.args.reached.now.reported
             (sym c.is_over.ensures ∙ c.if-is_over.false) next.0,
         next.1,
@@ -163,7 +171,8 @@ returns-in-End g c = record {
       let next = rw here at (c.in-End.ensures.follows before input
       (c.next_line.ensures.grows.capacity ∙ c.requires.capacity) a) in (
         end_is (g.J.Judge.reported c.args.judge.now) (g.J.Judge.explains c.args.judge.now)
-            (g.J.Judge.refusal c.args.judge.now) c.args.form input c.args.reached.now.at
+            (g.J.Judge.refusal c.args.judge.now) (g.J.Judge.costly c.args.judge.now) c.args.form input
+            c.args.reached.now.at
             (g.O.Sink.contents c.args.out.now) (g.O.Sink.contents c.end_step-in-End.new.out)
             c.args.reached.now.reported
             c.end_step-in-End.result (finished (sym c.is_over.ensures ∙ c.if-is_over.false) next.0)
@@ -186,7 +195,8 @@ returns-in-Broken g c = record {
       let next = rw here at (c.in-Broken.ensures.follows before input
       (c.next_line.ensures.grows.capacity ∙ c.requires.capacity) a) in (
         broken_is (g.J.Judge.reported c.args.judge.now) (g.J.Judge.explains c.args.judge.now)
-            (g.J.Judge.refusal c.args.judge.now) c.args.form input c.args.reached.now.at
+            (g.J.Judge.refusal c.args.judge.now) (g.J.Judge.costly c.args.judge.now) c.args.form input
+            c.args.reached.now.at
             (g.O.Sink.contents c.args.out.now) (g.O.Sink.contents c.args.out.now) c.args.reached.now.reported
             (sym c.is_over.ensures ∙ c.if-is_over.false) next.0,
         next.1,

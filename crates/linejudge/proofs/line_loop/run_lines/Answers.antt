@@ -6,16 +6,17 @@ use Rattle.linejudge.proofs.line_loop.run_lines.Goals as goal
 
 pub returns-in-Err : goal.returns-in-Err
 returns-in-Err g c = no_line_was_run (g.J.Judge.reported c.args.judge.now) (g.J.Judge.explains c.args.judge.now)
-    (g.J.Judge.refusal c.args.judge.now) c.args.form c.decided.ensures _ _ _ _ _
+    (g.J.Judge.refusal c.args.judge.now) (g.J.Judge.costly c.args.judge.now) c.args.form c.decided.ensures _ _ _ _ _
 
 pub returns-in_default : goal.returns-in_default
 returns-in_default g c = no_line_was_run (g.J.Judge.reported c.args.judge.now) (g.J.Judge.explains c.args.judge.now)
-    (g.J.Judge.refusal c.args.judge.now) c.args.form c.decided.ensures _ _ _ _ _
+    (g.J.Judge.refusal c.args.judge.now) (g.J.Judge.costly c.args.judge.now) c.args.form c.decided.ensures _ _ _ _ _
 
 pub returns : goal.returns
 returns g c =
     lines_were_run (g.J.Judge.reported c.args.judge.now) (g.J.Judge.explains c.args.judge.now)
-    (g.J.Judge.refusal c.args.judge.now) c.args.form c.decided.ensures g.R.Source.remaining
+    (g.J.Judge.refusal c.args.judge.now) (g.J.Judge.costly c.args.judge.now) c.args.form c.decided.ensures
+    g.R.Source.remaining
     g.R.Source.failed g.R.Source.ended c.args.reader.now c.answer_lines-ending.new.feed.reader.now _
     (passed g.O.Sink.contents g.O.Sink.failed c.args.out.now c.answer_lines-ending.new.out)
     c.answer_lines-ending.new.feed.left c.answer_lines-ending.new.feed.flow c.answer_lines-ending.result (search rules)

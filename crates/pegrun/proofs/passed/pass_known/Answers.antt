@@ -22,7 +22,7 @@ returns-in_err-write-clause-passed g c =
     c.skip.new.self
     c.fill-why.new.self c.in-Some.bytes.items c.in-Some.ensures.some c.in-Some.ensures.first c.in-Some.ensures.known
     c.len-count.result (search rules)
-    (let l = c.if-settings-eq0.false in omega (arith, l), c.if-settings-2.false) c.requires.capacity
+    (let l = c.if-settings-eq0.false in omega (arith, l), c.if-settings-2.false, search rules) c.requires.capacity
     c.skip.ensures.bytes
     c.skip.ensures.reader c.skip.ensures.flow c.skip.ensures.allowance c.skip.ensures.capacity
     c.fill-why.ensures.grows c.fill-why.result c.fill-why.ensures.held
@@ -36,7 +36,7 @@ returns-then-run-count-clause-passed g c =
     passed_to_fault g.R.Source.remaining c.args.units.now c.args.settings.now c.args.feed.now c.skip.new.self
     c.fill-why.new.self c.in-Some.bytes.items c.in-Some.ensures.some c.in-Some.ensures.first c.in-Some.ensures.known
     c.len-count.result (search rules)
-    (let l = c.if-settings-eq0.false in omega (arith, l), c.if-settings-2.false) c.requires.capacity
+    (let l = c.if-settings-eq0.false in omega (arith, l), c.if-settings-2.false, search rules) c.requires.capacity
     c.skip.ensures.bytes
     c.skip.ensures.reader c.skip.ensures.flow c.skip.ensures.allowance c.skip.ensures.capacity
     c.fill-why.ensures.grows c.fill-why.result c.fill-why.ensures.held
@@ -50,7 +50,7 @@ returns-clause-passed g c =
     passed_all g.R.Source.remaining c.args.units.now c.args.settings.now c.args.feed.now c.skip.new.self
     c.fill-why.new.self c.in-Some.bytes.items c.in-Some.ensures.some c.in-Some.ensures.first c.in-Some.ensures.known
     c.len-count.result (search rules)
-    (let l = c.if-settings-eq0.false in omega (arith, l), c.if-settings-2.false) c.requires.capacity
+    (let l = c.if-settings-eq0.false in omega (arith, l), c.if-settings-2.false, search rules) c.requires.capacity
     c.skip.ensures.bytes
     c.skip.ensures.reader c.skip.ensures.flow c.skip.ensures.allowance c.skip.ensures.capacity
     c.fill-why.ensures.grows c.fill-why.result c.fill-why.ensures.held

@@ -1,4 +1,4 @@
--- The command of both tools has nine more options.
+-- The command of both tools has ten more options.
 use Rattle.std.proofs.Common.{refl}
 use Rattle.abnfi.proofs.AbnfiWordsLemmas.{app_made}
 use Rattle.abnfi.proofs.command.AbnfiProgram.command.Goals as goal

@@ -17,4 +17,5 @@ returns c = record {
   numbered = c.is_given-5.ensures;
   quiet = c.is_given-6.ensures;
   line_buffered = c.is_given-7.ensures;
+  budget = c.budget_of.ensures;
 }

@@ -2,7 +2,7 @@
 use Rattle.abnfread.specs.AbnfViews.{rules_of}
 use Rattle.abnfrun.specs.AbnfAnswers.{refused, unexplained, noted, checked, judges, cut_notes, again}
 use Rattle.abnfrun.specs.AbnfAnswers.{cut_again, printed, no_memory}
-use Rattle.abnfrun.specs.AbnfReply.{AnswersFor, RefusalFor, form_of}
+use Rattle.abnfrun.specs.AbnfReply.{AnswersFor, CostlyFor, RefusalFor, form_of}
 use Rattle.linejudge.proofs.LineRunLemmas.{some_states}
 use Rattle.abnfrun.proofs.abnf_language.AbnfLanguageLanguage.follows.Goals as goal
 
@@ -22,7 +22,8 @@ returns c = record {
       judges is.definitions notes reported reply is.reads is.are_notes reports is.ready.0 run (rw (kept, at) at states);
   replies = λ text settings input notes sound is.
       some_states (AnswersFor (rules_of sound.rules) sound.judged settings) settings.explain
-      (RefusalFor (rules_of sound.rules) sound.judged settings) (form_of settings)
+      (RefusalFor (rules_of sound.rules) sound.judged settings)
+      (CostlyFor (rules_of sound.rules) sound.judged settings) (form_of settings)
       (c.lines_have_answers.ensures settings.options.letters settings.options.viable (rules_of sound.rules)
       sound.judged) input;
   cut_notes = λ text settings input notes reported rules judged is cut other.
