@@ -26,11 +26,15 @@ class Places:
 
     def __init__(self, text, tokens, signs, line_end, key):
         self.key, self.named, self.bodies, self.repeats, self.literals, within = key, {}, {}, {}, {}, None
+        self.used = []
         for token, after in zip(tokens, tokens[1:]):
             line = len(re.findall(line_end, text[:token.start])) + 1
             if token.kind in ("Ident", "Name") and after.kind in signs:
                 within = self.begin(token.text, line, after.kind == "Adds")
-            elif token.kind in ("Ident", "Name", "Prose") and within is not None:
+                continue
+            if token.kind == "Ident":
+                self.used.append(token.text)
+            if token.kind in ("Ident", "Name", "Prose") and within is not None:
                 self.bodies[within].append((token.kind == "Prose", token.text, line))
             elif token.kind in ("Star", "Plus") and within is not None:
                 self.repeats.setdefault(within, []).append(line)
@@ -247,10 +251,18 @@ class PegPositions(Places):
                          for before, mark, reason in self.hidden(e, [])]
         return "".join(reported[:HINTS]) + (f"  and {len(reported) - HINTS} more\n" if len(reported) > HINTS else "")
 
+    def meant(self, name, start):
+        """Returns which rule is perhaps meant by a name: the one given for the start rule, or one of the first ones."""
+        unknown = list(dict.fromkeys(it for it in self.used if it not in self.named))
+        near = next((it for it in self.named if is_near(it.lower(), name.lower())), None)
+        early = name == start or name in unknown[:MEANT]
+        return f"  perhaps '{cut(near)}' is meant\n" if near and early else ""
+
     def lines_on(self, kind, name, start):
         if kind == "left":
             return self.left(name)
-        return self.loop(name) if kind == "loop" else super().lines_on(kind, name, start)
+        meant = self.meant(name, start) if kind == "undefined" else ""
+        return self.loop(name) if kind == "loop" else super().lines_on(kind, name, start) + meant
 
 
 def without_one(name):

@@ -4,7 +4,6 @@ mod AreReversedLemmas
 mod BarrenNamesLemmas
 mod DerivesOnlyWithLemmas
 mod DigitsValueLemmas
-pub mod NearNamesLemmas
 mod IsReversedLemmas
 mod RulesWithoutLemmas
 mod ReportedFirstLemmas

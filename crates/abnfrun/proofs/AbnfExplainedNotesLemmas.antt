@@ -25,12 +25,11 @@ use Rattle.abnfcheck.specs.WithCore.{with_core}
 use Rattle.abnfcheck.specs.declared.reached_names.NameChains.{NameChains}
 use Rattle.abnfexplain.specs.AbnfNoteLines.{ExplainsNote}
 use Rattle.abnfexplain.specs.ChainLines.{chain_reported}
-use Rattle.abnfhints.proofs.NearNamesLemmas.{meant-one}
-use Rattle.abnfhints.specs.NearNames.{IsMeant}
+use Rattle.diagnostics.proofs.NearNamesLemmas.{meant-line-one}
+use Rattle.diagnostics.specs.NearNames.{IsMeant, IsMeantIf, is_before_limit, meant_reported}
 use Rattle.abnfrun.specs.AbnfNoted.{all_rules}
-use Rattle.abnfrun.specs.AbnfExplainedNotes.{AreAllRules, AreUndefinedLines, ExplainsAbnfNote, IsMeantIf, IsMeantLine}
-use Rattle.abnfrun.specs.AbnfExplainedNotes.{IsReachAfter, IsReachLine, is_before_limit, is_early_name}
-use Rattle.abnfrun.specs.AbnfExplainedNotes.{meant_reported}
+use Rattle.abnfrun.specs.AbnfExplainedNotes.{AreAllRules, AreUndefinedLines, ExplainsAbnfNote, IsMeantLine}
+use Rattle.abnfrun.specs.AbnfExplainedNotes.{IsReachAfter, IsReachLine, is_early_name}
 use Rattle.abnfrun.proofs.AllRulesLemmas.{all_same}
 
 -- the lines of positions are one text
@@ -47,12 +46,6 @@ abbrev ChainsAreOne : Type 0
 ChainsAreOne = (rules : List Rule) (given : Option (List ℕ)) (name : List ℕ) (a b : Option (List (List ℕ)))
     → IsNameChain rules given name a → IsNameChain rules given name b → a ≡ b
 
-meant_is_one : (rules : List Rule) (name : List ℕ) (early : Bool) (a b : List ℕ) → IsMeantIf early rules name a
-    → IsMeantIf early rules name b → a ≡ b
-meant_is_one rules name false a b g h = g ∙ sym h
-meant_is_one rules name true a b g h =
-    g.2 ∙ ap meant_reported (meant-one name (rule_names rules) g.0 h.0 g.1 h.1) ∙ sym h.2
-
 module _ (reading : ReadingsAreOne) (one : ChainsAreOne) (text : List ℕ) (start : Option (List ℕ)) where
   reach_is_one : (name a b : List ℕ) → IsReachLine text start name a → IsReachLine text start name b → a ≡ b
   reach_is_one name a b g h =
@@ -66,8 +59,9 @@ module _ (reading : ReadingsAreOne) (one : ChainsAreOne) (text : List ℕ) (star
       let same = reading text h.definitions g.definitions h.reads g.reads in
       let moved = subst (λ z. IsMeantLine (all_rules z) start name h.meant) same h.is_meant in
       g.is
-      ∙ ap (λ (z : List ℕ). z ++ g.reach) (meant_is_one (all_rules g.definitions) name
-      (is_early_name (all_rules g.definitions) start name) g.meant h.meant g.is_meant moved)
+      ∙ ap (λ (z : List ℕ). z ++ g.reach) (meant-line-one
+      (is_early_name (all_rules g.definitions) start name) (rule_names (all_rules g.definitions)) name g.meant h.meant
+      g.is_meant moved)
       ∙ ap (λ (z : List ℕ). h.meant ++ z) (reach_is_one name g.reach h.reach g.is_reach h.is_reach) ∙ sym h.is
 
   after_is_one : (kind : NoteKind) (name a b : List ℕ) → IsReachAfter text start kind name a
@@ -136,12 +130,13 @@ module _ (rules : List Rule) (given : Option (List ℕ)) (found : NameChains) (n
 
   -- nothing follows where the name is not early
   pub meant_none : early ≡ false → IsMeantLine rules given name []
-  meant_none late = subst (λ (b : Bool). IsMeantIf b rules name []) (sym (early_same ∙ late)) refl
+  meant_none late = subst (λ (b : Bool). IsMeantIf b (rule_names rules) name []) (sym (early_same ∙ late)) refl
 
   -- and else the rule that is meant
   pub meant_some : (o : Option (List ℕ)) → early ≡ true → IsMeant name (take count (names_of found.names)) o
       → IsMeantLine rules given name (meant_reported o)
-  meant_some o soon meant = subst (λ (b : Bool). IsMeantIf b rules name (meant_reported o)) (sym (early_same ∙ soon)) (
+  meant_some o soon meant = subst (λ (b : Bool). IsMeantIf b (rule_names rules) name (meant_reported o))
+      (sym (early_same ∙ soon)) (
     o,
     subst (λ (ns : List (List ℕ)). IsMeant name ns o)
         (rules_first rules given (names_of found.names) count are.graph.all many) meant,

@@ -1,8 +1,7 @@
 -- What explains a note on the grammar of a text: its lines, which rule is perhaps meant, and by which rules the judged
 -- one reaches its name.
-use Rattle.std.specs.Prelude.{◌≡◌, ℕ, ◌-◌, nat_lt, Bool, true, false, List, [], ◌++◌, length, position, Option, Some}
-use Rattle.std.specs.Prelude.{None, codes}
-use Rattle.diagnostics.specs.ShownBytes.{cut}
+use Rattle.std.specs.Prelude.{◌≡◌, ℕ, Bool, List, [], ◌++◌, length, position, Option}
+use Rattle.diagnostics.specs.NearNames.{IsMeantIf, is_before_limit}
 use Rattle.ruletable.specs.Rules.{same_name}
 use Rattle.ruletable.specs.Notes.{Said}
 use Rattle.ruletable.specs.Rules as table
@@ -18,7 +17,6 @@ use Rattle.abnfcheck.specs.NameChains.{AreNameChains, IsNameChain}
 use Rattle.abnfcheck.specs.NameIds.{all_names}
 use Rattle.abnfexplain.specs.AbnfNoteLines.{AreAbnfPositions, ExplainsNote}
 use Rattle.abnfexplain.specs.ChainLines.{chain_reported}
-use Rattle.abnfhints.specs.NearNames.{IsMeant}
 use Rattle.abnfprint.specs.AbnfReadBack.{file_rules}
 use Rattle.abnfrun.specs.AbnfNoted.{all_rules}
 use Rattle.abnfrun.specs.declared.abnf_positions.AbnfPositions.{AbnfPositions}
@@ -31,31 +29,13 @@ pub record IsReachLine (text : List ℕ) (start : Option (List ℕ)) (name line 
   pub is_chain : IsNameChain (all_rules definitions) start name chain
   pub is : line ≡ chain_reported chain
 
--- whether an id is among the first 16 after so many
-abbrev pub is_before_limit : ℕ → Option ℕ → Bool
-is_before_limit count None = false
-is_before_limit count (Some id) = nat_lt (id - count) 16
-
 -- whether a name is among the first 16 that no rule has, by first use
 abbrev pub is_early_name : List Rule → Option (List ℕ) → List ℕ → Bool
 is_early_name rules start name = is_before_limit (length rules) (position (same_name Fold name) (all_names rules start))
 
--- the line of the rule that is meant
-abbrev pub meant_line : List ℕ → List ℕ
-meant_line rule = codes "  perhaps '" ++ (cut rule ++ codes "' is meant\n")
-
-abbrev pub meant_reported : Option (List ℕ) → List ℕ
-meant_reported None = []
-meant_reported (Some rule) = meant_line rule
-
 -- the line of the first rule whose name is one slip away from a name, if that is early and there is one
-abbrev pub IsMeantIf : Bool → List Rule → List ℕ → List ℕ → Type 0
-IsMeantIf false rules name line = line ≡ []
-IsMeantIf true rules name line = (found : Option (List ℕ)) × IsMeant name (rule_names rules) found
-    × (line ≡ meant_reported found)
-
 abbrev pub IsMeantLine : List Rule → Option (List ℕ) → List ℕ → List ℕ → Type 0
-IsMeantLine rules start name line = IsMeantIf (is_early_name rules start name) rules name line
+IsMeantLine rules start name line = IsMeantIf (is_early_name rules start name) (rule_names rules) name line
 
 -- the lines after those of a note on a name that no rule has
 pub record AreUndefinedLines (text : List ℕ) (start : Option (List ℕ)) (name lines : List ℕ) : Type 0 where

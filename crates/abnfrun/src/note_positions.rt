@@ -1,7 +1,6 @@
 //! Explanations of notes on a grammar in ABNF.
-ghost use Rattle.std.specs.Prelude.{◌≡◌, ◌++◌, ℕ, List, Option, length, option_copied, option_map, IfOk, OnOk};
+ghost use Rattle.std.specs.Prelude.{◌≡◌, ◌++◌, ℕ, List, Option, length, option_copied, IfOk, OnOk};
 ghost use Rattle.ruletable.specs.Notes.{said_of};
-ghost use Rattle.ruletable.specs.Rules.{find_in};
 ghost use Rattle.abnfread.specs.AbnfReading.{Reads};
 ghost use Rattle.abnfread.specs.Element.{Definition, Rule};
 ghost use Rattle.abnfcheck.specs.NameChains.{AreNameChains, IsNameChain};
@@ -14,22 +13,15 @@ ghost use Rattle.abnfrun.specs.AbnfExplainedNotes.{
   ExplainsAbnfNote,
   IsMeantLine,
   IsReachAfter,
-  is_before_limit,
-  meant_line,
-  meant_reported,
 };
 ghost use Rattle.abnfrun.specs.AbnfNoted.{all_rules};
 
 use crate::abnf_positions::AbnfPositions;
 use abnfcheck::{AllRules, NameChains, name_chains};
 use abnfexplain::push_chain;
-use abnfhints::meant_rule;
-use diagnostics::{Positions, explain_note, push_cut};
+use diagnostics::{Positions, explain_note, is_early, push_meant};
 use ruletable::{Memory, Note, NoteKind};
 use std::alloc::Global;
-
-/// Of how many names that no rule has the rule is reported that is perhaps meant.
-const MAX_MEANT: usize = 16;
 
 /// Returns where a text says what explains notes on its grammar, by where it defines rules and mentions them. It takes
 /// the text's rules, with the core rules that it leaves alone, and holds them.
@@ -71,39 +63,9 @@ fn push_reached(
     Ok(())
 }
 
-// Returns whether a name is among the first ones after those of so many rules. `Memory` if an allocation fails.
-fn is_early(chains: &NameChains, count: usize, name: &[u8]) -> Result<bool, Memory>
-    ensures { IfOk result (λ early. early ≡ is_before_limit count (find_in chains.now.names name.now)) }
-{
-    match chains.names.find(name)? {
-        Some(id) => Ok(id.saturating_sub(count) < MAX_MEANT),
-        None => Ok(false),
-    }
-}
-
-// Adds the line of a rule that is meant.
-fn push_meant_name(out: &mut Vec<u8>, rule: &[u8]) -> Result<(), Memory>
-    ensures { OnOk result (out.new.items ≡ out.old.items ++ meant_line rule.now) }
-{
-    out.extend_from_slice(b"  perhaps '")?;
-    push_cut(out, rule)?;
-    out.extend_from_slice(b"' is meant\n")?;
-    Ok(())
-}
-
-// Adds the line of the rule that is meant, if there is one.
-fn push_meant_rule(out: &mut Vec<u8>, rule: Option<&[u8]>) -> Result<(), Memory>
-    ensures { OnOk result (out.new.items ≡ out.old.items ++ meant_reported (option_map (λ b. b.now) rule.entry)) }
-{
-    match rule {
-        Some(rule) => push_meant_name(out, rule),
-        None => Ok(()),
-    }
-}
-
 // Adds the line of the rule that is perhaps meant by a name that no rule has, if the name is among the first ones, of
 // so many rules.
-fn push_meant(
+fn push_near(
     alloc: Global,
     out: &mut Vec<u8>,
     chains: &NameChains,
@@ -114,11 +76,10 @@ fn push_meant(
         → count ≡ length rules → (line : List ℕ) × IsMeantLine rules given name.now line
         × (out.new.items ≡ out.old.items ++ line)) }
 {
-    if !is_early(chains, count, name)? {
+    if !is_early(&chains.names, count, name)? {
         return Ok(());
     }
-    let rule = meant_rule(alloc, &chains.names, count, name)?;
-    push_meant_rule(out, rule)?;
+    push_meant(alloc, out, &chains.names, count, name)?;
     Ok(())
 }
 
@@ -135,7 +96,7 @@ fn push_undefined(
         → count ≡ length (all_rules definitions) → (line : List ℕ) × AreUndefinedLines text start name.now line
         × (out.new.items ≡ out.old.items ++ line)) }
 {
-    push_meant(alloc, out, chains, count, name)?;
+    push_near(alloc, out, chains, count, name)?;
     push_reached(alloc, out, chains, name)?;
     Ok(())
 }

@@ -14,3 +14,4 @@ mod FirstMentionLemmas
 pub mod NumberListsLemmas
 mod RisingStartsLemmas
 mod MentionsUnderLemmas
+pub mod NearNamesLemmas

@@ -18,3 +18,5 @@ pub mod MentionLines
 pub mod UseLines
 pub mod NameIndexes
 pub mod NumberLists
+pub mod EditTests
+pub mod NearNames

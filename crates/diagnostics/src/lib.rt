@@ -1,9 +1,11 @@
-//! Parts of diagnostics: lines of text with a caret below them, and the positions that notes name.
+//! Parts of diagnostics: lines of text with a caret below them, the positions that notes name, and near names.
 #![tactic(auto)]
 
+mod near;
 mod noteplaces;
 mod picture;
 
+pub use near::{is_early, push_meant};
 pub use noteplaces::{
     Head, Mention, MentionKind, Positions, Sign, Signs, add_number, explain_note, first_mention,
     mention_lines, numbers_of, positions_by, positions_of, push_more,

@@ -7,7 +7,10 @@ use Rattle.std.proofs.lemmas.Bool.{cases_order}
 use Rattle.diagnostics.specs.ExplainedNotes.{IsNoteExplained}
 use Rattle.diagnostics.specs.MentionLines.{mention_lines_by}
 use Rattle.diagnostics.specs.declared.noteplaces.mentions.MentionKind.TheVariants as kinds
+use Rattle.diagnostics.specs.NearNames.{IsMeantIf}
 use Rattle.diagnostics.proofs.ExplainedNoteLemmas.{positions-mention}
+use Rattle.diagnostics.proofs.NearNamesLemmas.{meant-line-one}
+use Rattle.gramcheck.specs.Uses.{rule_names}
 use Rattle.pegread.specs.Definitions.{firsts}
 use Rattle.pegread.specs.Kinds.{is_end}
 use Rattle.pegread.specs.Pattern.{Pattern, Rule, body_of}
@@ -23,6 +26,7 @@ use Rattle.ruletable.specs.declared.note.NoteKind.{NoteKind}
 use Rattle.ruletable.specs.declared.note.NoteKind.TheVariants.{Redefined, ExtendedEarly, Undefined, Prose, Unused}
 use Rattle.ruletable.specs.declared.note.NoteKind.TheVariants.{LeftRecursion, Loop}
 use Rattle.ruletable.specs.declared.table.NameCase.TheVariants.{Exact}
+use Rattle.pegexplain.specs.MeantRules.{is_early_name}
 use Rattle.pegexplain.specs.NullTests.{IsLoopBy, null_mark_of}
 use Rattle.pegexplain.specs.PegLoops.{IsFirstLoop, IsLoopLineIf, IsLoopOf, RepeatAt, repeat_reported, repeats_in}
 use Rattle.pegexplain.specs.PegNotes.{
@@ -30,7 +34,9 @@ use Rattle.pegexplain.specs.PegNotes.{
   ExplainsNote,
   IsFollowingLine,
   IsLoopReported,
+  IsMeantReported,
   marked_lines,
+  names_mentioned,
   sign_of,
 }
 use Rattle.pegexplain.specs.declared.positions.PegPositions.{PegPositions}
@@ -79,23 +85,33 @@ module _ (listing : (text : List ℕ) (a b : List Tok) → AreTokens (length tex
       (subst (λ ts. IsLoopLineIf (firsts [] h.definitions) (marked_lines text ts name)
       (body_of (firsts [] h.definitions) name) b) tokens h.is))
 
-  after-one : (kind : NoteKind) (name a b : List ℕ) → IsFollowingLine text kind name a
-      → IsFollowingLine text kind name b
-      → a ≡ b
-  after-one Redefined name a b g h = g ∙ sym h
-  after-one ExtendedEarly name a b g h = g ∙ sym h
-  after-one Undefined name a b g h = g ∙ sym h
-  after-one Prose name a b g h = g ∙ sym h
-  after-one Unused name a b g h = g ∙ sym h
-  after-one LeftRecursion name a b g h = left-reported-one listing reading rounds text name a b g h
-  after-one Loop name a b g h = reported-one name a b g h
+  meant-reported-one : (start : Option (List ℕ)) (name a b : List ℕ) → IsMeantReported text start name a
+      → IsMeantReported text start name b → a ≡ b
+  meant-reported-one start name a b g h =
+      let tokens = listing text h.tokens g.tokens h.are_tokens g.are_tokens in
+      let rules = reading text h.definitions g.definitions h.reads g.reads in
+      meant-line-one _ (rule_names (firsts [] g.definitions)) name a b g.is
+      (subst (λ ds. IsMeantIf (is_early_name start (rule_names (firsts [] ds)) (names_mentioned text g.tokens) name)
+      (rule_names (firsts [] ds)) name b) rules
+      (subst (λ ts. IsMeantIf (is_early_name start (rule_names (firsts [] h.definitions)) (names_mentioned text ts)
+      name) (rule_names (firsts [] h.definitions)) name b) tokens h.is))
+
+  after-one : (start : Option (List ℕ)) (kind : NoteKind) (name a b : List ℕ) → IsFollowingLine text start kind name a
+      → IsFollowingLine text start kind name b → a ≡ b
+  after-one start Redefined name a b g h = g ∙ sym h
+  after-one start ExtendedEarly name a b g h = g ∙ sym h
+  after-one start Undefined name a b g h = meant-reported-one start name a b g h
+  after-one start Prose name a b g h = g ∙ sym h
+  after-one start Unused name a b g h = g ∙ sym h
+  after-one start LeftRecursion name a b g h = left-reported-one listing reading rounds text name a b g h
+  after-one start Loop name a b g h = reported-one name a b g h
 
   pub peg-explained-one : LinesAreOne → (start : Option (List ℕ)) (note : Said) (a b : List ℕ)
       → ExplainsNote text start note a → ExplainsNote text start note b → a ≡ b
   peg-explained-one lines start note a b g h =
       g.is
       ∙ (ap (λ z. z ++ g.line) (lines text start note g.lines h.lines g.explains h.explains)
-      ∙ (ap (λ z. h.lines ++ z) (after-one note.kind note.name g.line h.line g.after h.after) ∙ sym h.is))
+      ∙ (ap (λ z. h.lines ++ z) (after-one start note.kind note.name g.line h.line g.after h.after) ∙ sym h.is))
 
 -- the line for a rule that the code finds, or not
 module _ (text : List ℕ) (found : PegPositions) (name : List ℕ) (are : ArePegPositions text found) where
@@ -137,6 +153,6 @@ module _ (text : List ℕ) (found : PegPositions) (name : List ℕ) (are : ArePe
   }
 
 -- the line follows notes of one kind
-pub line-after : (text : List ℕ) (kind : NoteKind) (name line : List ℕ) → kind ≡ Loop → IsLoopReported text name line
-    → IsFollowingLine text kind name line
-line-after text kind name line is reported = rw is reported
+pub line-after : (text : List ℕ) (start : Option (List ℕ)) (kind : NoteKind) (name line : List ℕ) → kind ≡ Loop
+    → IsLoopReported text name line → IsFollowingLine text start kind name line
+line-after text start kind name line is reported = rw is reported

@@ -221,6 +221,6 @@ module _ (text : List ℕ) (found : PegPositions) (are : ArePegPositions text fo
         }))
 
 -- it follows notes on such rules
-pub left-after : (text : List ℕ) (kind : NoteKind) (name line : List ℕ) → kind ≡ LeftRecursion
-    → IsLeftReported text name line → IsFollowingLine text kind name line
-left-after text kind name line is reported = rw is reported
+pub left-after : (text : List ℕ) (start : Option (List ℕ)) (kind : NoteKind) (name line : List ℕ)
+    → kind ≡ LeftRecursion → IsLeftReported text name line → IsFollowingLine text start kind name line
+left-after text start kind name line is reported = rw is reported

@@ -13,3 +13,4 @@ mod LeadBackLemmas
 mod BodyHintsLemmas
 mod NeverTakenLemmas
 mod PegHintsLemmas
+mod MeantRulesLemmas

@@ -12,3 +12,4 @@ pub mod HiddenAlternatives
 pub mod SureNodes
 pub mod NeverTaken
 pub mod PegHints
+pub mod MeantRules

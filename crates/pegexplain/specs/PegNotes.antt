@@ -1,10 +1,13 @@
 -- What explains a note on the grammar of a text.
-use Rattle.std.specs.Prelude.{◌≡◌, ℕ, Bool, false, List, [], ◌++◌, Option, length, map}
+use Rattle.std.specs.Prelude.{◌≡◌, ◌||◌, ℕ, Bool, false, List, [], ◌++◌, Option, None, length, map}
+use Rattle.diagnostics.specs.BodyMentions.{mentioned_at, mentions_in}
 use Rattle.diagnostics.specs.DefinitionHeads.{definitions_in, sign_at}
 use Rattle.diagnostics.specs.ExplainedNotes.{ArePositions, IsNoteExplained}
 use Rattle.diagnostics.specs.MentionLines.{lines_mentioned}
+use Rattle.diagnostics.specs.NearNames.{IsMeantIf, is_before_limit}
 use Rattle.diagnostics.specs.NoteLines.{defined_line}
 use Rattle.diagnostics.specs.ReportedTrees.{TreeRule}
+use Rattle.diagnostics.specs.UseLines.{is_given}
 use Rattle.diagnostics.specs.declared.noteplaces.mentions.MentionKind.TheVariants.{Repeat, Use}
 use Rattle.diagnostics.specs.declared.noteplaces.positions.Positions.{Positions}
 use Rattle.diagnostics.specs.declared.noteplaces.sign.Sign.{Sign}
@@ -25,13 +28,14 @@ use Rattle.ruletable.specs.Notes.{Said}
 use Rattle.ruletable.specs.Rules as table
 use Rattle.ruletable.specs.declared.lines.LineRule.TheVariants.{Any}
 use Rattle.ruletable.specs.declared.note.NoteKind.{NoteKind}
-use Rattle.ruletable.specs.declared.note.NoteKind.TheVariants.{LeftRecursion, Loop}
+use Rattle.ruletable.specs.declared.note.NoteKind.TheVariants.{Undefined, LeftRecursion, Loop}
 use Rattle.ruletable.specs.declared.table.NameCase.TheVariants.{Exact}
 use Rattle.gramcheck.specs.GrammarNotes.{AreMarks}
 use Rattle.gramcheck.specs.Left.{IsLeftRecursive, Nullable}
-use Rattle.gramcheck.specs.Uses.{names_in}
+use Rattle.gramcheck.specs.Uses.{names_in, rule_names}
 use Rattle.pegexplain.specs.FailsNowhere.{FailsNowhere}
 use Rattle.pegexplain.specs.LeftNotes.{AreLeftLines, EndsEarly, SettlesNullable}
+use Rattle.pegexplain.specs.MeantRules.{all_names, is_early_name, used_names}
 use Rattle.pegexplain.specs.PegLoops.{IsLoopLineIf}
 use Rattle.pegexplain.specs.declared.positions.PegPositions.{PegPositions}
 
@@ -90,18 +94,32 @@ pub record IsLeftReported (text : List ℕ) (name line : List ℕ) : Type 0 wher
   pub is : AreLeftLines (firsts [] definitions) null (named_lines text tokens) (defined_lines text tokens name)
       recursive (id_in (firsts [] definitions) name) line
 
--- they follow notes on left-recursive rules, and on rules that repeat what may take nothing
-abbrev pub IsFollowingLine : List ℕ → NoteKind → List ℕ → List ℕ → Type 0
-IsFollowingLine text LeftRecursion name line = IsLeftReported text name line
-IsFollowingLine text Loop name line = IsLoopReported text name line
-IsFollowingLine text _ name line = line ≡ []
+-- the names that the definitions of a text use, in its order
+abbrev pub names_mentioned : List ℕ → List Tok → List (List ℕ)
+names_mentioned text tokens = used_names (mentions_in Any text None (map (sign_at sign_of) tokens))
+
+-- the line of the first rule whose name is one slip away from that name, if that is early and there is one
+pub record IsMeantReported (text : List ℕ) (start : Option (List ℕ)) (name line : List ℕ) : Type 0 where
+  pub tokens : List Tok
+  pub are_tokens : AreTokens (length text) text tokens
+  pub definitions : List Rule
+  pub reads : Reads text definitions
+  pub is : IsMeantIf (is_early_name start (rule_names (firsts [] definitions)) (names_mentioned text tokens) name)
+      (rule_names (firsts [] definitions)) name line
+
+-- they follow notes on names that no rule has, on left-recursive rules, and on rules that repeat what may take nothing
+abbrev pub IsFollowingLine : List ℕ → Option (List ℕ) → NoteKind → List ℕ → List ℕ → Type 0
+IsFollowingLine text start Undefined name line = IsMeantReported text start name line
+IsFollowingLine text start LeftRecursion name line = IsLeftReported text name line
+IsFollowingLine text start Loop name line = IsLoopReported text name line
+IsFollowingLine text start _ name line = line ≡ []
 
 -- the lines after a note, where that name is given for the start rule
 pub record ExplainsNote (text : List ℕ) (start : Option (List ℕ)) (note : Said) (why : List ℕ) : Type 0 where
   pub lines : List ℕ
   pub line : List ℕ
   pub explains : IsNoteExplained White First is_end sign_of Any Exact text start note lines
-  pub after : IsFollowingLine text note.kind note.name line
+  pub after : IsFollowingLine text start note.kind note.name line
   pub is : why ≡ lines ++ line
 
 -- where a text defines rules and mentions them
@@ -115,12 +133,21 @@ pub record IsPegRead (text : List ℕ) (rules : table.Rules Expr) : Type 0 where
   pub exact : rules.names ≡ Exact
   pub rules_are : rules_of rules ≡ firsts [] definitions
 
--- The code's positions are those of a text, with its rules, marks of those that may take nothing, of those that fail
--- nowhere and of those that are left-recursive, and where the first eight of these end.
+-- The code's positions are those of a text, with its rules, their names and those that no rule has, marks of the rules
+-- that may take nothing, of those that fail nowhere and of those that are left-recursive, and where the first eight of
+-- these end.
 pub record ArePegPositions (text : List ℕ) (found : PegPositions) : Type 0 where
   pub positions : AreTextPositions text found.positions
   pub rules : IsPegRead text found.rules
+  pub compares : found.names.names ≡ Exact
+  pub named : table.names_of found.names ≡ all_names (table.names_of found.rules)
+      (used_names (map mentioned_at found.positions.mentions.items))
   pub marks : AreMarks (λ rule. Nullable (rules_of found.rules) rule.body) (rules_of found.rules) found.nulls.items
   pub sure : AreMarks (λ rule. FailsNowhere (rules_of found.rules) rule.body) (rules_of found.rules) found.sure.items
   pub recursive : AreMarks (IsLeftRecursive (rules_of found.rules)) (rules_of found.rules) found.recursive.items
   pub ways : EndsEarly found.recursive.items found.ways
+
+-- whether the code's positions report that a name is early. It serves private helpers alone.
+abbrev pub is_early_by : Option (List ℕ) → PegPositions → List ℕ → Bool
+is_early_by start found name = is_given Exact start name
+    || is_before_limit (length found.rules.rules) (table.find_in found.names name)

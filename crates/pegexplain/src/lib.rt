@@ -7,6 +7,7 @@ mod left_lines;
 mod left_notes;
 mod left_uses;
 mod loops;
+mod meant;
 mod notes;
 mod nulls;
 mod positions;

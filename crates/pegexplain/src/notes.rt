@@ -5,6 +5,7 @@ ghost use Rattle.pegexplain.specs.PegNotes.{ArePegPositions, ExplainsNote, IsFol
 
 use crate::left_notes::push_left;
 use crate::loops::push_first_loop;
+use crate::meant::push_near;
 use crate::positions::PegPositions;
 use diagnostics::{MentionKind, explain_note, mention_lines};
 use fixpoint::one_way_back;
@@ -43,12 +44,18 @@ fn push_after(
     alloc: Global,
     out: &mut Vec<u8>,
     positions: &PegPositions,
+    start: Option<&str>,
     note: &Note,
 ) -> Result<(), Memory>
     ensures { OnOk result ((text : List ℕ) → ArePegPositions text positions.now → (line : List ℕ)
-        × IsFollowingLine text note.now.kind note.now.name.items line × (out.new.items ≡ out.old.items ++ line)) }
+        × IsFollowingLine text (option_copied start.entry) note.now.kind note.now.name.items line
+        × (out.new.items ≡ out.old.items ++ line)) }
 {
     match note.kind {
+        NoteKind::Undefined => {
+            push_near(alloc, out, positions, start, note.name.as_slice())?;
+            Ok(())
+        }
         NoteKind::LeftRecursion => {
             push_left(alloc, out, positions, note.name.as_slice())?;
             Ok(())
@@ -64,7 +71,7 @@ fn push_after(
 /// Returns the lines that explain a note on a grammar. A name may be given for the start rule.
 ///
 /// - On a rule that is defined again: where it is first defined, and where it is defined again.
-/// - On a name that no rule has: its first use.
+/// - On a name that no rule has: its first use, and the rule that is perhaps meant if the name is among the first ones.
 /// - On a left-recursive rule: the left steps that lead from it back to it. If `MAX_WAYS` such rules stand before it:
 ///   where it is defined.
 /// - On a rule that repeats what may take nothing: that repetition.
@@ -82,7 +89,7 @@ pub fn explain_peg_note(
         → ExplainsNote text (option_copied start.entry) (said_of note.now) why.items) }
 {
     let mut why = explain_note(alloc, &positions.positions, start, note)?;
-    push_after(alloc, &mut why, positions, note)?;
+    push_after(alloc, &mut why, positions, start, note)?;
     Ok(why)
 }
 

@@ -6,6 +6,7 @@ ghost use Rattle.pegread.specs.Pattern.{Rule};
 ghost use Rattle.pegread.specs.Reading.{IsFaultOf, Reads};
 
 use crate::left_notes::ways_end;
+use crate::meant::all_names;
 use crate::sure::sure_rules;
 use diagnostics::{Positions, Sign, Signs, positions_by};
 use gramcheck::{left_recursive_rules, nullable_rules};
@@ -65,6 +66,8 @@ pub struct PegPositions {
     pub positions: Positions,
     /// The rules.
     pub rules: RuleTable<Expr>,
+    /// The names of the rules, and after them those that the text mentions and no rule has.
+    pub names: RuleTable<()>,
     /// Of each rule whether its body may take nothing.
     pub nulls: Vec<bool>,
     /// Of each rule whether its body fails nowhere.
@@ -90,6 +93,7 @@ pub fn peg_positions(
         → ArePegPositions text found) }
     ensures rules { IfOk result (λ found. found.rules ≡ rules) }
 {
+    let names = all_names(alloc, &rules, &positions.mentions)?;
     let nulls = nullable_rules(alloc, &rules)?;
     let sure = sure_rules(alloc, &rules)?;
     let recursive = left_recursive_rules(alloc, &rules)?;
@@ -97,6 +101,7 @@ pub fn peg_positions(
     Ok(PegPositions {
         positions,
         rules,
+        names,
         nulls,
         sure,
         recursive,

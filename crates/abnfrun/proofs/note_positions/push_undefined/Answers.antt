@@ -5,7 +5,7 @@ use Rattle.abnfrun.proofs.note_positions.push_undefined.Goals as goal
 
 pub returns : goal.returns
 returns c = λ text start definitions reads are many.
-    let m = c.in_ok-push_meant.ensures (all_rules definitions) start are many in
+    let m = c.in_ok-push_near.ensures (all_rules definitions) start are many in
     let w = c.in_ok-push_reached.ensures (all_rules definitions) start are in (
       m.0 ++ chain_reported w.0,
       record {

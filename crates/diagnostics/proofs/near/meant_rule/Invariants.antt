@@ -1,8 +1,8 @@
 -- None of the names so far is near.
 use Rattle.std.proofs.Common.{take}
 use Rattle.ruletable.specs.Rules.{names_of}
-use Rattle.abnfhints.proofs.NearNamesLemmas.{NoneNear}
-use Rattle.abnfhints.proofs.near.meant_rule.Given as goal
+use Rattle.diagnostics.proofs.NearNamesLemmas.{NoneNear}
+use Rattle.diagnostics.proofs.near.meant_rule.Given as goal
 
 abbrev pub invariant-loop-id : goal.invariant-loop-id
 invariant-loop-id g l = NoneNear l.name (take l.count (names_of l.rules)) l.id

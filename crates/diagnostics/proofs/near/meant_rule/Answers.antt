@@ -1,8 +1,8 @@
 use Rattle.std.proofs.Common.{◌∙◌, arith}
 use Rattle.std.proofs.lemmas.List.{length-map}
 use Rattle.ruletable.specs.Rules.{names_of}
-use Rattle.abnfhints.proofs.NearNamesLemmas.{near-by, none-more, none-near, not-near-by, some-near}
-use Rattle.abnfhints.proofs.near.meant_rule.Goals as goal
+use Rattle.diagnostics.proofs.NearNamesLemmas.{near-by, none-more, none-near, not-near-by, some-near}
+use Rattle.diagnostics.proofs.near.meant_rule.Goals as goal
 
 pub returns-then-branch : goal.returns-then-branch
 returns-then-branch g c =

@@ -1,6 +1,6 @@
 use Rattle.std.proofs.Common.{List, ℕ, ◌++◌, append_assoc, ap, codes, ◌∙◌}
 use Rattle.diagnostics.specs.ShownBytes.{cut}
-use Rattle.abnfrun.proofs.note_positions.push_meant_name.Goals as goal
+use Rattle.diagnostics.proofs.near.push_meant_name.Goals as goal
 
 pub returns : goal.returns
 returns c =

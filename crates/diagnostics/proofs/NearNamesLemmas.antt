@@ -1,5 +1,5 @@
 -- The test says which names are one slip apart.
--- Serves: meant_rule
+-- Serves: push_meant; explain_peg_note, one_note_explanation of pegexplain; one_statement_of_abnf of abnfrun
 use Rattle.std.proofs.Common.{◌≡◌, ℕ, zero, suc, ◌+◌, ◌<◌, ◌≤◌, ◌==◌, ◌&&◌, ◌||◌, Bool, true, false, List, [], ◌∷◌}
 use Rattle.std.proofs.Common.{◌++◌, length, take, min, Option, Some, None, refl, sym, ap, subst, ◌∙◌}
 use Rattle.std.proofs.Common.{arith, ⊎_elim, if◌then◌else◌, eq-eqb, le-leb}
@@ -11,9 +11,9 @@ use Rattle.std.specs.Char.{to_ascii_lowercase}
 use Rattle.std.specs.Prelude.{bytes_eq, nat_le, slice_get}
 use Rattle.std.specs.Cmp.Lexicographic.{same_text}
 use Rattle.std.specs.Str.{str_to_ascii_lowercase}
-use Rattle.abnfhints.specs.EditTests.{is_edit_at, has_one_at_most, is_swapped, is_within_one}
-use Rattle.abnfhints.specs.NearNames.{AreNear, IsFirstNear, IsMeant, WithinOneEdit, deleted, inserted, no_edit}
-use Rattle.abnfhints.specs.NearNames.{replaced, swapped}
+use Rattle.diagnostics.specs.EditTests.{is_edit_at, has_one_at_most, is_swapped, is_within_one}
+use Rattle.diagnostics.specs.NearNames.{AreNear, IsFirstNear, IsMeant, IsMeantIf, WithinOneEdit, deleted, inserted}
+use Rattle.diagnostics.specs.NearNames.{meant_reported, no_edit, replaced, swapped}
 
 -- one item more in front of both
 in-front : (x : ℕ) {a b : List ℕ} → WithinOneEdit a b → WithinOneEdit (x ∷ a) (x ∷ b)
@@ -153,6 +153,12 @@ meant-one name names None None g h = refl
 meant-one name names None (Some b) g h = absurd (g h.position b h.there h.near)
 meant-one name names (Some a) None g h = absurd (h g.position a g.there g.near)
 meant-one name names (Some a) (Some b) g h = ap Some (first-one name names a b g h)
+
+pub meant-line-one : (early : Bool) (names : List (List ℕ)) (name a b : List ℕ) → IsMeantIf early names name a
+    → IsMeantIf early names name b → a ≡ b
+meant-line-one false names name a b g h = g ∙ sym h
+meant-line-one true names name a b g h =
+    g.2 ∙ ap meant_reported (meant-one name names g.0 h.0 g.1 h.1) ∙ sym h.2
 
 -- the test says which names are near
 lower-length : (a : List ℕ) → length (str_to_ascii_lowercase a) ≡ length a

@@ -1,10 +1,9 @@
 use Rattle.std.proofs.Common.{◌≡◌, [], true, false, arith, sym}
 use Rattle.std.proofs.lemmas.Grind.{common_steps}
 use Rattle.std.proofs.lemmas.List.{append-nil}
-use Rattle.std.specs.Prelude.{option_map}
-use Rattle.abnfrun.specs.AbnfExplainedNotes.{meant_reported}
+use Rattle.diagnostics.specs.NearNames.{meant_reported}
 use Rattle.abnfrun.proofs.AbnfExplainedNotesLemmas.{meant_none, meant_some}
-use Rattle.abnfrun.proofs.note_positions.push_meant.Goals as goal
+use Rattle.abnfrun.proofs.note_positions.push_near.Goals as goal
 
 pub returns-then-not-branch : goal.returns-then-not-branch
 returns-then-not-branch c = λ rules given are many.
@@ -18,9 +17,9 @@ returns-then-not-branch c = λ rules given are many.
 pub returns : goal.returns
 returns c = λ rules given are many.
     let soon : c.in_ok-is_early.field-0 ≡ true = grind (arith, common_steps) in
-    let o = option_map (λ b. b.now) c.in_ok-rule.rule in (
-      meant_reported o,
+    let w = c.in_ok-push_meant.ensures in (
+      meant_reported w.0,
       meant_some rules given c.args.chains.now c.args.name.now c.args.count c.in_ok-is_early.field-0 are many
-          c.in_ok-is_early.ensures o soon c.in_ok-rule.ensures,
-      c.in_ok-push_meant_rule.ensures,
+          c.in_ok-is_early.ensures w.0 soon w.1,
+      w.2,
     )

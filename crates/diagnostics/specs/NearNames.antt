@@ -1,6 +1,8 @@
 -- Names that are one slip away from another one.
-use Rattle.std.specs.Prelude.{◌≡◌, ℕ, ◌<◌, ◌≤◌, List, ◌∷◌, ◌++◌, length, slice_get, Option, Some, MatchOption}
+use Rattle.std.specs.Prelude.{◌≡◌, ℕ, ◌<◌, ◌≤◌, ◌-◌, nat_lt, Bool, true, false, List, [], ◌∷◌, ◌++◌, length, codes}
+use Rattle.std.specs.Prelude.{slice_get, Option, Some, None, MatchOption}
 use Rattle.std.specs.Str.{str_to_ascii_lowercase}
+use Rattle.diagnostics.specs.ShownBytes.{cut}
 
 -- the second list is the first, perhaps after one insertion, one deletion, one replacement, or one swap of neighbours
 pub data WithinOneEdit : List ℕ → List ℕ → Type 0 where
@@ -28,3 +30,22 @@ module _ (name : List ℕ) (names : List (List ℕ)) where
   abbrev pub IsMeant : Option (List ℕ) → Type 0
   IsMeant found = MatchOption found ((k : ℕ) (other : List ℕ) → slice_get names k ≡ Some other → AreNear name other
       → ⊥) IsFirstNear
+
+-- whether an id is among the first 16 after so many
+abbrev pub is_before_limit : ℕ → Option ℕ → Bool
+is_before_limit count None = false
+is_before_limit count (Some id) = nat_lt (id - count) 16
+
+-- the line of the rule that is meant
+abbrev pub meant_line : List ℕ → List ℕ
+meant_line rule = codes "  perhaps '" ++ (cut rule ++ codes "' is meant\n")
+
+abbrev pub meant_reported : Option (List ℕ) → List ℕ
+meant_reported None = []
+meant_reported (Some rule) = meant_line rule
+
+-- the line of the first of the rules with these names whose name is one slip away from a name, if that is early and
+-- there is one
+abbrev pub IsMeantIf : Bool → List (List ℕ) → List ℕ → List ℕ → Type 0
+IsMeantIf false rules name line = line ≡ []
+IsMeantIf true rules name line = (found : Option (List ℕ)) × IsMeant name rules found × (line ≡ meant_reported found)

@@ -1,13 +1,17 @@
 //! Names that are one slip away from another one.
-ghost use Rattle.std.specs.Prelude.{◌≡◌, ◌&&◌, nat_le, length, take, option_map, IfOk};
+ghost use Rattle.std.specs.Prelude.{◌≡◌, ◌&&◌, ◌++◌, ℕ, List, Option, nat_le, length, take, option_map, IfOk, OnOk};
 ghost use Rattle.std.specs.Str.{str_to_ascii_lowercase};
-ghost use Rattle.ruletable.specs.Rules.{names_of};
-ghost use Rattle.abnfhints.specs.EditTests.{is_edit_at, has_one_at_most, is_swapped as are_swapped};
-ghost use Rattle.abnfhints.specs.EditTests.{is_within_one as are_within_one};
-ghost use Rattle.abnfhints.specs.NearNames.{IsMeant};
+ghost use Rattle.ruletable.specs.Rules.{find_in, names_of};
+ghost use Rattle.diagnostics.specs.EditTests.{is_edit_at, has_one_at_most, is_swapped as are_swapped};
+ghost use Rattle.diagnostics.specs.EditTests.{is_within_one as are_within_one};
+ghost use Rattle.diagnostics.specs.NearNames.{IsMeant, is_before_limit, meant_line, meant_reported};
 
+use crate::picture::push_cut;
 use ruletable::{Memory, RuleTable};
 use std::alloc::Global;
+
+/// Of how many names that no rule has the rule is reported that is perhaps meant.
+const MAX_MEANT: usize = 16;
 
 /// How many bytes a name has at least that is near another one.
 const LEAST_NEAR: usize = 3;
@@ -82,13 +86,21 @@ fn is_near(alloc: Global, lower: &[u8], name: &[u8]) -> Result<bool, Memory>
     Ok(is_within_one(lower, &other))
 }
 
-/// Returns the first of the names of so many rules that is perhaps meant by a name: one insertion, deletion or
-/// replacement of a byte, or one swap of neighbours, makes it that name, and both have three bytes or more. ASCII
-/// letters compare without case.
+/// Returns whether a name is among the first `MAX_MEANT` of a table that follow so many.
 ///
 /// # Errors
 /// `Memory` if an allocation fails.
-pub fn meant_rule<'a, E>(
+pub fn is_early(names: &RuleTable<()>, count: usize, name: &[u8]) -> Result<bool, Memory>
+    ensures { IfOk result (λ early. early ≡ is_before_limit count (find_in names.now name.now)) }
+{
+    match names.find(name)? {
+        Some(id) => Ok(id.saturating_sub(count) < MAX_MEANT),
+        None => Ok(false),
+    }
+}
+
+// Returns the first of the names of so many rules that is perhaps meant by a name.
+fn meant_rule<'a, E>(
     alloc: Global,
     rules: &'a RuleTable<E>,
     count: usize,
@@ -105,4 +117,36 @@ pub fn meant_rule<'a, E>(
         }
     }
     Ok(None)
+}
+
+// Adds the line of a rule that is meant.
+fn push_meant_name(out: &mut Vec<u8>, rule: &[u8]) -> Result<(), Memory>
+    ensures { OnOk result (out.new.items ≡ out.old.items ++ meant_line rule.now) }
+{
+    out.extend_from_slice(b"  perhaps '")?;
+    push_cut(out, rule)?;
+    out.extend_from_slice(b"' is meant\n")?;
+    Ok(())
+}
+
+/// Adds the line of the first of so many rules that is perhaps meant by a name, if there is one: one insertion,
+/// deletion or replacement of a byte, or one swap of neighbours, makes the name that of the rule, and both have three
+/// bytes or more. ASCII letters compare without case.
+///
+/// # Errors
+/// `Memory` if an allocation fails; a part of the line may be added then.
+pub fn push_meant<E>(
+    alloc: Global,
+    out: &mut Vec<u8>,
+    rules: &RuleTable<E>,
+    count: usize,
+    name: &[u8],
+) -> Result<(), Memory>
+    ensures { OnOk result ((found : Option (List ℕ)) × IsMeant name.now (take count (names_of rules.now)) found
+        × (out.new.items ≡ out.old.items ++ meant_reported found)) }
+{
+    match meant_rule(alloc, rules, count, name)? {
+        Some(rule) => push_meant_name(out, rule),
+        None => Ok(()),
+    }
 }
