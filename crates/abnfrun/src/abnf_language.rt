@@ -184,7 +184,7 @@ impl Language for AbnfLanguage {
             return Ok(Ending::Plain(Stop::NoMemory));
         };
         let explainer = explainer_of(alloc, grammar, settings);
-        let mut work = Work::new(alloc, &flat);
+        let mut work = Work::new(alloc, &flat, settings.options.budget);
         let explainer = explainer.as_ref();
         let judge = LineJudge {
             grammar,

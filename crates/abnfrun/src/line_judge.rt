@@ -29,6 +29,9 @@ use refusedlines::{Explainer, LineUnit, RefusedLine, explain_refused};
 use ruletable::Memory;
 use std::alloc::Global;
 
+/// With a smaller budget an automaton keeps so many entries, which take some 2 MB: common grammars need no more.
+const LEAST_ROOM: usize = 65_536;
+
 /// A judge of lines by a grammar: it answers whether the judged rule derives a line. It borrows all that it needs, and
 /// changes nothing; the memory of the judges is in `Work`.
 #[derive(Drop)]
@@ -69,8 +72,8 @@ pub struct Work {
 }
 
 impl Work {
-    /// Returns the memory that lines are judged in by a flat grammar.
-    pub(crate) fn new(alloc: Global, flat: &Flat) -> Work
+    /// Returns the memory that lines are judged in by a flat grammar. A budget bounds its automaton too.
+    pub(crate) fn new(alloc: Global, flat: &Flat, budget: Option<usize>) -> Work
         ensures flat { IfSome result.engines.automaton (λ a. a ≡ flat.now) }
         ensures none { result.explainer ≡ None }
     {
@@ -79,7 +82,7 @@ impl Work {
             explainer: None,
             engines: Engines {
                 chart: Chart::new(alloc),
-                automaton: automaton_of(alloc, flat),
+                automaton: automaton_of(alloc, flat, budget),
             },
             points: Vec::new(alloc),
         }
@@ -215,7 +218,7 @@ fn explain_line(
         flat: more,
     };
     if work.explainer.is_none() {
-        work.explainer = automaton_of(work.alloc, more);
+        work.explainer = automaton_of(work.alloc, more, judges.budget);
     }
     let mut chart = Chart::new(work.alloc);
     let mut why = Vec::new(work.alloc);
@@ -337,11 +340,16 @@ pub(crate) fn explainer_of(
     lower_viable(alloc, grammar, settings.options.letters, limit).ok()
 }
 
-/// Returns an automaton of a flat grammar; `None` if it has none, or an allocation fails.
-fn automaton_of(alloc: Global, flat: &Flat) -> Option<Automaton>
+/// Returns an automaton of a flat grammar; `None` if it has none, or an allocation fails. With a budget it keeps at most
+/// so many entries, or `LEAST_ROOM`.
+fn automaton_of(alloc: Global, flat: &Flat, budget: Option<usize>) -> Option<Automaton>
     ensures { IfSome result (λ a. a ≡ flat.now) }
 {
-    match Automaton::new(alloc, flat) {
+    let room = match budget {
+        Some(n) => n.max(LEAST_ROOM),
+        None => usize::MAX,
+    };
+    match Automaton::with_room(alloc, flat, room) {
         Ok(made) => made,
         Err(Memory) => None,
     }

@@ -112,7 +112,7 @@ fn judge_by(
     }) }
 {
     let flat = lowered(alloc, &grammar, settings)?;
-    let work = Work::new(alloc, &flat);
+    let work = Work::new(alloc, &flat, None);
     Ok(AbnfJudge {
         grammar,
         letters: settings.options.letters,

@@ -159,11 +159,12 @@ impl Automaton {
     pub fn new(alloc: Global, flat: &Flat) -> Result<Option<Automaton>, Memory>
         ensures { IfOk result (λ made. IfSome made (λ automaton. automaton ≡ flat.now)) }
     {
-        Automaton::with_room(alloc, flat, ROOM)
+        Automaton::with_room(alloc, flat, usize::MAX)
     }
 
-    /// Returns an automaton as `new` does, which fills no cell once it keeps `room` tops of states, continuations,
-    /// cells and resumed states. With no room it answers nothing, and with little it answers for some lines.
+    /// Returns an automaton as `new` does, which fills no cell once it keeps `room`, or 2,000,000, tops of states,
+    /// continuations, cells and resumed states. With no room it answers nothing, and with little it answers for some
+    /// lines.
     pub fn with_room(alloc: Global, flat: &Flat, room: usize) -> Result<Option<Automaton>, Memory>
         ensures { IfOk result (λ made. IfSome made (λ automaton. automaton ≡ flat.now)) }
     {
@@ -175,7 +176,7 @@ impl Automaton {
             return Ok(None);
         }
         let classes = find_classes(alloc, &tables)?;
-        let memo = empty_memo(alloc, &tables, room);
+        let memo = empty_memo(alloc, &tables, room.min(ROOM));
         Ok(Some(Automaton {
             alloc,
             tables,
