@@ -137,8 +137,8 @@ module _ (rules : List Rule) (given : Option (List ℕ)) (found : NameChains) (n
       → IsMeantLine rules given name (meant_reported o)
   meant_some o soon meant = subst (λ (b : Bool). IsMeantIf b (rule_names rules) name (meant_reported o))
       (sym (early_same ∙ soon)) (
-    o,
-    subst (λ (ns : List (List ℕ)). IsMeant name ns o)
-        (rules_first rules given (names_of found.names) count are.graph.all many) meant,
-    refl,
-  )
+        o,
+        subst (λ (ns : List (List ℕ)). IsMeant name ns o)
+            (rules_first rules given (names_of found.names) count are.graph.all many) meant,
+        refl,
+      )
