@@ -23,7 +23,7 @@ from crates import in_order
 
 PAGES = TOP / "docs" / "crates"
 # Crates that show how to call the others, or test them.
-NO_LIBRARY = re.compile(r"testio|tests_\w+|uses")
+NO_LIBRARY = re.compile(r"tests_\w+|uses")
 BLOCK = re.compile(r"<!-- (contracts:[^>]*|callers|laws|definitions) -->\n.*?<!-- end -->", re.S)
 EXPORT = re.compile(r"^pub use (\w+)::(?:(\w+(?: as \w+)?);|\{(.*?)\};)", re.M | re.S)
 FUNCTION = re.compile(r'^pub (?:extern "C" )?fn (\w+)', re.M)

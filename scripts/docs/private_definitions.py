@@ -18,7 +18,7 @@ from pages import exports, methods
 from crates import in_order
 
 DOCUMENT = TOP / "docs/crates/PRIVATE.md"
-TESTS = re.compile(r"testio|tests_\w+|uses")
+TESTS = re.compile(r"tests_\w+|uses")
 USE = re.compile(r"^use Rattle\.(\w+)\.specs\.([\w.]+?)(?:\.\{([^}]*)\}| as (\w+))$", re.M)
 DEFINED = re.compile(r" *(?:abbrev |unfoldable )*pub (?:record |data )?([^\s:]+)| *(?:abbrev )?([^\s:(]+) : ")
 OPENS = re.compile(r"( *)(?:abbrev )?(?:module|mutual)\b")

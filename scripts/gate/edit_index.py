@@ -26,7 +26,7 @@ OTHERS = r"ensures|invariant|loop|safe|ends|requires of [\w.]+"
 # says, where that function has its edit. A method of a `Node` equates what it makes with a term.
 PLAIN_TRAITS = ("From", "Model", "Display", "Drop", "Language", "Node")
 # Crates that show how to call the others, or that tests alone call: they need no edits.
-EXAMPLES = ("uses", "testio")
+EXAMPLES = ("uses",)
 # Words that equate what they speak of.
 # Writes: the bytes that a writer took; at an error, a prefix of them. Keeps: a stream's bytes are those of before.
 # Flags: a stream's flag is the one of before; at an error, it is set. Defines: the new table and the id of a rule.

@@ -6,6 +6,8 @@ mod feed_fill;
 #[cfg(test)]
 mod leastset_calls;
 #[cfg(test)]
+mod paper;
+#[cfg(test)]
 mod ruletable_calls;
 #[cfg(test)]
 mod run_ends;

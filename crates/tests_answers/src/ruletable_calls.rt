@@ -1,10 +1,10 @@
 //! A writer that fails, and a table of rules of a type of one's own.
 
+use crate::paper::{Paper, Takes};
 use ruletable::{Defined, Memory, NameCase, RuleTable, Sink, SinkOf, Span, write_whole};
 use std::alloc::Global;
 use std::cell::Cell;
 use std::test::Fail;
-use testio::{Paper, Takes};
 
 // How a writer of three bytes ends: it fails, or it takes nothing more. It cannot be flushed.
 static WRITERS: [Takes; 2] = [

@@ -1,8 +1,8 @@
 //! The ends of runs: each output that has not failed is flushed once, the output first.
 
+use crate::paper::{ALL, Paper, Takes};
 use ruletable::{SinkOf, write_whole};
 use std::cell::Cell;
-use testio::{ALL, Paper, Takes};
 use toolrun::{Status, Stop, end_run};
 
 // The limits of an output to which a byte is written; how the run ends, what is reported, and when both outputs are

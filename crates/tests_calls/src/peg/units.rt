@@ -1,11 +1,11 @@
 //! Units by the packrat matcher, and how many evaluations they begin.
 
+use crate::fields::{Fields, Text};
 use gramcheck::{SoundPeg, check_peg};
 use packrat::Packrat;
 use pegmatch::{Matcher, Unit};
 use pegread::read_peg;
 use std::alloc::Global;
-use testio::{Fields, Text};
 
 // Returns the grammar of a text, ready to run from its first rule.
 fn sound(alloc: Global, text: &[u8]) -> Option<SoundPeg> {

@@ -1,5 +1,6 @@
 //! Calls that read a grammar's text.
 
+use crate::fields::{Fields, Text};
 use abnfcheck::{derivation_is_decided, furthest_is_found, one_list_of_abnf_notes};
 use abnfread::{AbnfKind, abnf_tokens, one_reading, one_tree, read_abnf};
 use flatgrammar::items_at_most;
@@ -7,7 +8,6 @@ use lexer::tokens_make_up;
 use lowering::items_decide;
 use ruletable::ReadFault;
 use std::alloc::Global;
-use testio::{Fields, Text};
 
 // The name of a kind of token.
 fn name_of(kind: AbnfKind) -> &'static [u8] {
@@ -29,7 +29,7 @@ fn name_of(kind: AbnfKind) -> &'static [u8] {
     }
 }
 
-/// `tokens TEXT`: a line for each token: its kind and its bytes, after `gap` if a gap stands before it, and after
+/// `abnf_tokens TEXT`: a line for each token: its kind and its bytes, after `gap` if a gap stands before it, and after
 /// `first` if it is the first of its line.
 pub(crate) fn tokens_of(fields: &Fields, out: &mut Text) {
     for marked in abnf_tokens(fields.text(0)) {
@@ -55,7 +55,7 @@ fn add_mark(alloc: Global, text: &[u8], out: &mut Text) {
     }
 }
 
-/// `prefixes TEXT`: for each prefix, the empty one first, `R` if it is read, or the line on which it is rejected.
+/// `abnf_prefixes TEXT`: for each prefix, the empty one first, `R` if it is read, or the line on which it is rejected.
 pub(crate) fn prefixes_read(alloc: Global, fields: &Fields, out: &mut Text) {
     let text = fields.text(0);
     for size in 0..=text.len() {
@@ -63,14 +63,14 @@ pub(crate) fn prefixes_read(alloc: Global, fields: &Fields, out: &mut Text) {
     }
 }
 
-/// `single_bytes`: the same for each text of one byte.
+/// `abnf_bytes`: the same for each text of one byte.
 pub(crate) fn single_bytes_read(alloc: Global, out: &mut Text) {
     for byte in 0..=255u8 {
         add_mark(alloc, &[byte], out);
     }
 }
 
-/// `laws`: they return.
+/// `abnf_laws`: they return.
 pub(crate) fn laws() {
     one_tree();
     one_reading();

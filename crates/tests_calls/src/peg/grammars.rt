@@ -1,10 +1,10 @@
 //! Calls that read a grammar's text.
 
+use crate::fields::{Fields, Text};
 use lexer::tokens;
 use pegread::{Kind, next_char, read_peg};
 use ruletable::{LineRule, ReadFault, line_of};
 use std::alloc::Global;
-use testio::{Fields, Text};
 
 /// `next_char TEXT`: the number of the byte that the first character spells, a colon, and what follows it.
 pub(crate) fn next_char_of(fields: &Fields, out: &mut Text) {
@@ -42,7 +42,7 @@ fn name_of(kind: Kind) -> &'static [u8] {
     }
 }
 
-/// `tokens TEXT`: a line for each token, of its kind and its bytes.
+/// `peg_tokens TEXT`: a line for each token, of its kind and its bytes.
 pub(crate) fn tokens_of(fields: &Fields, out: &mut Text) {
     for token in tokens::<Kind>(fields.text(0)) {
         out.add(name_of(token.kind));
@@ -72,7 +72,7 @@ fn mark_of(alloc: Global, text: &[u8]) -> &'static [u8] {
     }
 }
 
-/// `prefixes TEXT`: for each prefix, the empty one first, `R` if it is read, or the line on which it is rejected.
+/// `peg_prefixes TEXT`: for each prefix, the empty one first, `R` if it is read, or the line on which it is rejected.
 pub(crate) fn prefixes_read(alloc: Global, fields: &Fields, out: &mut Text) {
     let text = fields.text(0);
     for size in 0..=text.len() {
@@ -80,7 +80,7 @@ pub(crate) fn prefixes_read(alloc: Global, fields: &Fields, out: &mut Text) {
     }
 }
 
-/// `single_bytes`: the same for each text of one byte.
+/// `peg_bytes`: the same for each text of one byte.
 pub(crate) fn single_bytes_read(alloc: Global, out: &mut Text) {
     for byte in 0..=255u8 {
         out.add(mark_of(alloc, &[byte]));

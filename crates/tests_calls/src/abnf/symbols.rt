@@ -1,8 +1,8 @@
 //! Texts as code points, on the boundaries of UTF-8 (RFC 3629, sections 3 and 4).
 
+use crate::fields::{Fields, Text};
 use letters::{Letter, decode, utf8_len};
 use std::alloc::Global;
-use testio::{Fields, Text};
 
 /// `utf8 TEXT`: how many bytes the longest prefix has that is UTF-8; and the code points of the text, or `of more`.
 pub(crate) fn points_of(alloc: Global, fields: &Fields, out: &mut Text) -> Option<()> {

@@ -1,5 +1,6 @@
 //! Item sets and automata, by the first rule of a grammar.
 
+use crate::fields::{Fields, Text};
 use abnfcheck::{SoundAbnf, check_abnf};
 use abnfread::read_abnf;
 use earley::{Chart, judge};
@@ -7,7 +8,6 @@ use flatgrammar::Flat;
 use lazydfa::Automaton;
 use lowering::lower;
 use std::alloc::Global;
-use testio::{Fields, Text};
 
 // The most symbols of a line.
 const LIMIT: usize = 100_001;
