@@ -340,8 +340,8 @@ pub(crate) fn explainer_of(
     lower_viable(alloc, grammar, settings.options.letters, limit).ok()
 }
 
-/// Returns an automaton of a flat grammar; `None` if it has none, or an allocation fails. With a budget it keeps at most
-/// so many entries, or `LEAST_ROOM`.
+/// Returns an automaton of a flat grammar; `None` if it has none, or an allocation fails. With a budget it keeps at
+/// most so many entries, or `LEAST_ROOM`.
 fn automaton_of(alloc: Global, flat: &Flat, budget: Option<usize>) -> Option<Automaton>
     ensures { IfSome result (λ a. a ≡ flat.now) }
 {
