@@ -54,7 +54,7 @@ OLD_WORDS = set(
 # Words of the old dialect that no name of these crates has, and that others have for something else.
 OLD_IN = {
     "earley earleyitems flatgrammar": "head heads block blocks inner root roots",
-    "lazydfa letterclasses rulelines": "part parts front fronts",
+    "flatgrammar lazydfa rulelines": "part parts front fronts",
     "matchfailure memo packrat pegnodes": "pair pairs",
 }
 OLD_NAMES = {"eqb_tells", "handle_tells", "told", "appended_in_turn", "in_turn"}

@@ -10,3 +10,8 @@ pub mod TargetLemmas
 pub mod SliceGetLemmas
 pub mod DotListLemmas
 pub mod WalkLemmas
+pub mod AreClassesLemmas
+pub mod StacksLemmas
+pub mod LeadOnLemmas
+pub mod LiftLemmas
+pub mod StackClosureLemmas

@@ -12,3 +12,5 @@ pub mod Positions
 pub mod Targets
 pub mod TableViews
 pub mod Ways
+pub mod ClassBounds
+pub mod Stacks

@@ -1,7 +1,9 @@
 //! Grammars as numbered nodes, with the tables that judging looks up by node.
 #![tactic(auto)]
 
+mod bounds;
 mod callers;
+mod classes;
 mod closure;
 mod dot_list;
 mod flat;
@@ -10,10 +12,12 @@ mod flat_node;
 mod inlined;
 mod item_laws;
 mod prediction_closure;
+mod stacks;
 mod tables;
 mod targets;
 mod verdict;
 
+pub use classes::{Classes, class_of, find_classes};
 pub use closure::{DottedRule, ItemClosure};
 pub use dot_list::{Ask, DotList};
 pub use flat::Flat;
@@ -21,6 +25,7 @@ pub use flat_item::Item;
 pub use flat_node::{Ends, Node, Set};
 pub use inlined::{Inlined, begin_steps};
 pub use item_laws::items_at_most;
+pub use stacks::{a_letter_leads_on, stacks_decide, suffixes_are_moved};
 pub use tables::{
     Operation, Tables, asks, call, calls, dots, null, operation_of, passes, readers, reads,
     sole_caller, start_target, takes_letter,

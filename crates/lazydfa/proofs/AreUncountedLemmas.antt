@@ -10,7 +10,7 @@ use Rattle.flatgrammar.specs.FlatViews.{node_of, nodes_of}
 use Rattle.flatgrammar.specs.NodeSteps.{flat_of}
 use Rattle.flatgrammar.specs.declared.flat_node.Node as code_node
 use Rattle.flatgrammar.specs.declared.tables.Tables as code_flat
-use Rattle.letterclasses.specs.Stacks.{AreUncounted}
+use Rattle.flatgrammar.specs.Stacks.{AreUncounted}
 
 abbrev pub CountsIterations : code_node.Node → Type 0
 CountsIterations node = (b : ℕ) × (m : ℕ) × (node_of node ≡ Iterations (Some b) m)

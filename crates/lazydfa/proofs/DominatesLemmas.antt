@@ -8,10 +8,10 @@ use Rattle.std.specs.Prelude.{slice_get, Option, Some, None}
 use Rattle.flatgrammar.specs.Flat as fl
 use Rattle.flatgrammar.specs.Flat.{Flat, Dot, at, Node, Letters, Rep, top, Set, IsDone, Calling, Calls, Starts, Reads}
 use Rattle.flatgrammar.specs.Flat.{calls, reads}
-use Rattle.letterclasses.specs.Stacks as st
-use Rattle.letterclasses.specs.Stacks.{IsDoneAt, is_done, MarksLast, Moves, call, tail_call, Led, led, moves, LedToEnd}
-use Rattle.letterclasses.specs.Stacks.{IsReading, reading}
-use Rattle.letterclasses.proofs.LiftLemmas.{led_by}
+use Rattle.flatgrammar.specs.Stacks as st
+use Rattle.flatgrammar.specs.Stacks.{IsDoneAt, is_done, MarksLast, Moves, call, tail_call, Led, led, moves, LedToEnd}
+use Rattle.flatgrammar.specs.Stacks.{IsReading, reading}
+use Rattle.flatgrammar.proofs.LiftLemmas.{led_by}
 use Rattle.lazydfa.specs.Domination.{IsFewer, IsAhead, Dominates}
 
 module _ (flat : Flat) where

@@ -11,9 +11,9 @@ use Rattle.flatgrammar.specs.Positions.{In}
 use Rattle.flatgrammar.specs.TableViews.{GiveTargets}
 use Rattle.flatgrammar.specs.declared.closure.DottedRule.{DottedRule}
 use Rattle.flatgrammar.specs.declared.tables.Tables as code_flat
-use Rattle.letterclasses.specs.Stacks.{AreUncounted, IsReading, reading, Lifted}
-use Rattle.letterclasses.proofs.StacksLemmas.{accepted_holds, holds_accepted, reached_item, item_reached, top_held}
-use Rattle.letterclasses.proofs.StacksLemmas.{reader_reached}
+use Rattle.flatgrammar.specs.Stacks.{AreUncounted, IsReading, reading, Lifted}
+use Rattle.flatgrammar.proofs.StacksLemmas.{accepted_holds, holds_accepted, reached_item, item_reached, top_held}
+use Rattle.flatgrammar.proofs.StacksLemmas.{reader_reached}
 use Rattle.lazydfa.specs.declared.cache.State.{State}
 use Rattle.lazydfa.specs.declared.glide.Track.{Track}
 use Rattle.lazydfa.specs.declared.memo.Memo.{Memo}

@@ -14,10 +14,10 @@ use Rattle.flatgrammar.specs.declared.tables.Tables as code_flat
 use Rattle.flatgrammar.proofs.CallOfLemmas.{begun_starts}
 use Rattle.lazydfa.specs.declared.conts.Cont.{Cont}
 use Rattle.lazydfa.specs.declared.cache.State.{State}
-use Rattle.letterclasses.specs.Stacks as st
-use Rattle.letterclasses.specs.Stacks.{IsDoneAt, Moves, Led, led, moves, Reach, Accepts, ReadBy, IsReading, reading}
-use Rattle.letterclasses.specs.Stacks.{Lifted}
-use Rattle.letterclasses.specs.Stacks.{AreAlike, Empties, IsStackClosure}
+use Rattle.flatgrammar.specs.Stacks as st
+use Rattle.flatgrammar.specs.Stacks.{IsDoneAt, Moves, Led, led, moves, Reach, Accepts, ReadBy, IsReading, reading}
+use Rattle.flatgrammar.specs.Stacks.{Lifted}
+use Rattle.flatgrammar.specs.Stacks.{AreAlike, Empties, IsStackClosure}
 use Rattle.lazydfa.specs.Domination.{Dominates, IsCover, IsPlainCover, LeadsTo}
 use Rattle.lazydfa.specs.Conts.{stack_of, last_of, AreKept, Adds, Begun}
 use Rattle.lazydfa.specs.Conts.{IsStackOf, TopReads, GoesOn, here, on, EndsAlone}
@@ -27,12 +27,12 @@ use Rattle.lazydfa.specs.declared.cache.Cell.TheVariants.{Dead, To, Push}
 use Rattle.lazydfa.specs.Cached.{IsBegun, IsStart, IsStartAt, IsAt, AreGrown, IsStep, IsPush, IsDead, IsCell}
 use Rattle.lazydfa.specs.Cached.{AreCached}
 use Rattle.lazydfa.specs.Cached.{IsInterned, AreAddedUnknown}
-use Rattle.letterclasses.specs.ClassBounds.{IsClassOf}
+use Rattle.flatgrammar.specs.ClassBounds.{IsClassOf}
 use Rattle.lazydfa.specs.RunVerdicts.{IsReached}
 use Rattle.std.specs.Option.{option_flatten}
 use Rattle.lazydfa.proofs.AreCachedLemmas.{cached_state, cached_conts}
 use Rattle.lazydfa.proofs.MoveLemmas.{whole_begun, from_goes, to_goes, done_reported, reported_done, marks_last}
-use Rattle.letterclasses.proofs.LiftLemmas.{rests_empty}
+use Rattle.flatgrammar.proofs.LiftLemmas.{rests_empty}
 use Rattle.lazydfa.proofs.ReportLemmas.{transition_next, reported_top, top_reported, to_read, from_read}
 use Rattle.lazydfa.proofs.IsCoverLemmas.{covered_as, exact_cover, taken_by_cover, next_cover, pruned_cover}
 use Rattle.lazydfa.proofs.IsCoverLemmas.{cover_alone, cover_running, split_cover}

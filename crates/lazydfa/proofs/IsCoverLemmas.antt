@@ -4,11 +4,11 @@ use Rattle.std.proofs.Common.{◌≡◌, ℕ, ◌+◌, List, [], ◌∷◌, ◌+
 use Rattle.std.proofs.Common.{append_assoc}
 use Rattle.std.specs.Prelude.{Bool, true, false, slice_get, Some}
 use Rattle.flatgrammar.specs.Flat.{Flat, Dot, Reads, Set, Has}
-use Rattle.letterclasses.specs.Stacks.{IsDoneAt, MarksLast, Moves, Led, led, moves, LedToEnd, ReadBy, reads, Reach}
-use Rattle.letterclasses.specs.Stacks.{AreAlike, Accepts, IsReading, reading, Lifted, Empties, IsNext, IsResumed}
-use Rattle.letterclasses.specs.Stacks.{IsStackClosure}
-use Rattle.letterclasses.proofs.LeadOnLemmas.{leads_on}
-use Rattle.letterclasses.proofs.LiftLemmas.{over, from_over, ends_over, rests_empty, led_by, led_some, IsOver}
+use Rattle.flatgrammar.specs.Stacks.{IsDoneAt, MarksLast, Moves, Led, led, moves, LedToEnd, ReadBy, reads, Reach}
+use Rattle.flatgrammar.specs.Stacks.{AreAlike, Accepts, IsReading, reading, Lifted, Empties, IsNext, IsResumed}
+use Rattle.flatgrammar.specs.Stacks.{IsStackClosure}
+use Rattle.flatgrammar.proofs.LeadOnLemmas.{leads_on}
+use Rattle.flatgrammar.proofs.LiftLemmas.{over, from_over, ends_over, rests_empty, led_by, led_some, IsOver}
 use Rattle.lazydfa.specs.Domination.{Dominates, IsCovered, IsAmong, IsPlainCover, IsCover}
 use Rattle.lazydfa.proofs.DominatesLemmas.{dominates_self, dominates_on, dominates_both, dominates_lifted, moves_over}
 use Rattle.lazydfa.proofs.DominatesLemmas.{ends_over_end, reads_over, same_reader}

@@ -14,8 +14,8 @@ use Rattle.flatgrammar.specs.TableViews.{GiveTargets}
 use Rattle.flatgrammar.specs.declared.tables.Tables as code_flat
 use Rattle.flatgrammar.specs.declared.verdict.Verdict.{Verdict}
 use Rattle.flatgrammar.specs.declared.verdict.Verdict.TheVariants.{Yes, No}
-use Rattle.letterclasses.specs.Stacks.{Accepts, AreUncounted}
-use Rattle.letterclasses.proofs.StacksLemmas.{accepted_holds, holds_accepted, reached_item, item_reached}
+use Rattle.flatgrammar.specs.Stacks.{Accepts, AreUncounted}
+use Rattle.flatgrammar.proofs.StacksLemmas.{accepted_holds, holds_accepted, reached_item, item_reached}
 use Rattle.lazydfa.specs.declared.conts.Cont.{Cont}
 use Rattle.lazydfa.specs.declared.cache.State.{State}
 use Rattle.lazydfa.specs.Conts.{last_of}

@@ -7,7 +7,7 @@ use Rattle.std.proofs.lemmas.List.{append-nil}
 use Rattle.std.specs.Prelude.{slice_get, Some, Contains}
 use Rattle.flatgrammar.specs.Flat.{Dot}
 use Rattle.flatgrammar.specs.declared.tables.Tables as code_flat
-use Rattle.letterclasses.specs.Stacks.{Lifted}
+use Rattle.flatgrammar.specs.Stacks.{Lifted}
 use Rattle.lazydfa.specs.declared.conts.Cont.{Cont}
 use Rattle.lazydfa.specs.Conts.{stack_of, AreKept, AreOlder, IsStackOf, TopReads}
 use Rattle.lazydfa.specs.Spines.{IsMoveOn, AreMoved}

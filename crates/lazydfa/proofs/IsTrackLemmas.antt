@@ -15,7 +15,7 @@ use Rattle.lazydfa.specs.declared.cache.Cell.{Cell}
 use Rattle.lazydfa.specs.declared.cache.Cell.TheVariants.{To}
 use Rattle.lazydfa.specs.Conts.{last_of}
 use Rattle.lazydfa.specs.Cached.{AreCached, IsCell}
-use Rattle.letterclasses.specs.ClassBounds.{AreClasses, IsClassOf}
+use Rattle.flatgrammar.specs.ClassBounds.{AreClasses, IsClassOf}
 use Rattle.lazydfa.specs.declared.glide.Track.{Track}
 use Rattle.lazydfa.specs.declared.memo.Memo.{Memo}
 use Rattle.lazydfa.specs.Transitions.{IsEndAt, IsTransitionTo, IsTaken, StaysBy, StaysOver, last_word}

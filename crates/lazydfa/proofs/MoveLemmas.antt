@@ -19,8 +19,8 @@ use Rattle.flatgrammar.specs.Targets.{Target, own, named}
 use Rattle.flatgrammar.proofs.CallOfLemmas.{done_tests, calling_callee, begin_below, get_unmap, get_map, called_of}
 use Rattle.flatgrammar.proofs.CallOfLemmas.{begun_starts}
 use Rattle.flatgrammar.proofs.NodeStepsLemmas.{done_is}
-use Rattle.letterclasses.specs.Stacks as st
-use Rattle.letterclasses.specs.Stacks.{
+use Rattle.flatgrammar.specs.Stacks as st
+use Rattle.flatgrammar.specs.Stacks.{
   IsDoneAt,
   is_done,
   MarksLast,

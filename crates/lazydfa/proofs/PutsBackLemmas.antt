@@ -9,7 +9,7 @@ use Rattle.flatgrammar.specs.Flat.{Dot, at}
 use Rattle.flatgrammar.specs.NodeSteps.{flat_of}
 use Rattle.flatgrammar.specs.TableViews.{GiveTargets}
 use Rattle.flatgrammar.specs.declared.tables.Tables as code_flat
-use Rattle.letterclasses.specs.Stacks.{IsDoneAt, Led, led, moves, LedToEnd, IsReading, reading, Lifted, IsResumed}
+use Rattle.flatgrammar.specs.Stacks.{IsDoneAt, Led, led, moves, LedToEnd, IsReading, reading, Lifted, IsResumed}
 use Rattle.lazydfa.specs.declared.conts.Cont.{Cont}
 use Rattle.lazydfa.specs.Conts.{last_of, stack_of, AreKept, IsStackOf, TopReads, GoesOn, here, on, EndsAlone, IsAdded}
 use Rattle.lazydfa.specs.Conts.{IsClosure, AreReaders}

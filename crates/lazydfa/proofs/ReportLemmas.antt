@@ -12,7 +12,7 @@ use Rattle.flatgrammar.specs.NodeSteps.{flat_of, read_at, IfSomeSet}
 use Rattle.flatgrammar.specs.TableViews.{read_in, read_of, GiveTargets}
 use Rattle.flatgrammar.proofs.CallOfLemmas.{get_unmap, get_map}
 use Rattle.lazydfa.specs.declared.conts.Cont.{Cont}
-use Rattle.letterclasses.specs.Stacks.{IsDoneAt, Led, led, moves, LedToEnd, ReadBy, IsReading, reading, IsNext}
+use Rattle.flatgrammar.specs.Stacks.{IsDoneAt, Led, led, moves, LedToEnd, ReadBy, IsReading, reading, IsNext}
 use Rattle.lazydfa.specs.Conts.{last_of, stack_of, EndsAlone, GoesOn, here, on, IsStackOf, ReadsOn, ReadsFrom}
 use Rattle.lazydfa.specs.Conts.{TopReads, IsTransition}
 use Rattle.lazydfa.proofs.MoveLemmas.{from_goes, to_goes, done_reported, reported_done}

@@ -13,7 +13,7 @@ use Rattle.flatgrammar.specs.NodeSteps.{flat_of}
 use Rattle.flatgrammar.specs.TableViews.{GiveTargets}
 use Rattle.flatgrammar.specs.declared.tables.Tables as code_flat
 use Rattle.flatgrammar.proofs.CallOfLemmas.{get_map, get_unmap}
-use Rattle.letterclasses.specs.Stacks.{IsStackClosure, IsNext, IsReading, Led, led, moves, LedToEnd, Lifted, ReadBy}
+use Rattle.flatgrammar.specs.Stacks.{IsStackClosure, IsNext, IsReading, Led, led, moves, LedToEnd, Lifted, ReadBy}
 use Rattle.lazydfa.specs.declared.conts.Cont.{Cont}
 use Rattle.lazydfa.specs.declared.cache.State.{State}
 use Rattle.lazydfa.specs.Conts.{stack_of, last_of, AreKept, IsStackOf, IsTransition}

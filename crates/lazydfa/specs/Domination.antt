@@ -3,7 +3,7 @@ use Rattle.std.specs.Prelude.{◌≡◌, ◌↔◌, ◌⊎◌, ℕ, ◌≤◌, B
 use Rattle.flatgrammar.specs.Flat.{Flat, Dot, at, Rep, top}
 use Rattle.flatgrammar.specs.NodeSteps.{flat_of}
 use Rattle.flatgrammar.specs.declared.tables.Tables as code_flat
-use Rattle.letterclasses.specs.Stacks.{IsDoneAt, IsReading, Led, Lifted, Reach, Accepts, Empties}
+use Rattle.flatgrammar.specs.Stacks.{IsDoneAt, IsReading, Led, Lifted, Reach, Accepts, Empties}
 use Rattle.lazydfa.specs.declared.conts.Cont.{Cont}
 use Rattle.lazydfa.specs.Conts.{stack_of, IsTransition}
 

@@ -12,7 +12,7 @@ use Rattle.lazydfa.specs.declared.run.RunStep.{RunStep}
 use Rattle.lazydfa.specs.declared.run.RunStep.TheVariants.{To, Dead, Over}
 use Rattle.lazydfa.specs.Conts.{last_of}
 use Rattle.lazydfa.specs.Cached.{IsCache, IsAt}
-use Rattle.letterclasses.specs.ClassBounds.{AreClasses}
+use Rattle.flatgrammar.specs.ClassBounds.{AreClasses}
 use Rattle.lazydfa.specs.Transitions.{AreTransitions}
 use Rattle.lazydfa.specs.StackSuffixes.{IsSplitOff, PutsBack, AreSuffixes, below_of}
 use Rattle.lazydfa.specs.RunVerdicts.{IsReached}

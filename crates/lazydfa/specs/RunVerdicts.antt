@@ -3,7 +3,7 @@ use Rattle.std.specs.Prelude.{◌≡◌, ℕ, ◌<◌, ◌≤◌, Bool, List, []
 use Rattle.flatgrammar.specs.Flat.{Flat, Dot, Concat}
 use Rattle.flatgrammar.specs.declared.verdict.Verdict.{Verdict}
 use Rattle.flatgrammar.specs.declared.verdict.Verdict.TheVariants.{Yes, No}
-use Rattle.letterclasses.specs.Stacks.{Reach, Accepts}
+use Rattle.flatgrammar.specs.Stacks.{Reach, Accepts}
 
 -- the augmented start is a concatenation of one
 abbrev pub IsOne : Flat → Type 0

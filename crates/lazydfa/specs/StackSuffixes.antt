@@ -2,7 +2,7 @@
 use Rattle.std.specs.Prelude.{◌≡◌, ◌↔◌, ◌⊎◌, ℕ, ◌≤◌, Bool, true, List, [], ◌∷◌, ◌++◌, length, Contains}
 use Rattle.flatgrammar.specs.Flat.{Dot}
 use Rattle.flatgrammar.specs.declared.tables.Tables as code_flat
-use Rattle.letterclasses.specs.Stacks.{Lifted}
+use Rattle.flatgrammar.specs.Stacks.{Lifted}
 use Rattle.lazydfa.specs.declared.conts.Cont.{Cont}
 use Rattle.lazydfa.specs.Conts.{stack_of, IsStackOf, TopReads, GoesOn, EndsAlone}
 

@@ -3,7 +3,7 @@ use Rattle.std.specs.Prelude.{◌≡◌, ◌⊎◌, ℕ, ◌+◌, ◌*◌, ◌/�
 use Rattle.std.specs.Prelude.{slice_get, Some}
 use Rattle.flatgrammar.specs.Flat.{Flat}
 use Rattle.flatgrammar.specs.declared.tables.Tables as code_flat
-use Rattle.letterclasses.specs.ClassBounds.{AreClasses, IsClassOf}
+use Rattle.flatgrammar.specs.ClassBounds.{AreClasses, IsClassOf}
 use Rattle.lazydfa.specs.declared.conts.Cont.{Cont}
 use Rattle.lazydfa.specs.declared.cache.State.{State}
 use Rattle.lazydfa.specs.Cached.{IsStep}

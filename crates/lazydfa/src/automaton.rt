@@ -5,7 +5,7 @@ ghost use Rattle.flatgrammar.specs.Flat.{Concat, Iterations};
 ghost use Rattle.flatgrammar.specs.FlatVerdicts.{DerivesLine, IsFlatVerdict};
 ghost use Rattle.flatgrammar.specs.FlatViews.{node_of};
 ghost use Rattle.flatgrammar.specs.NodeSteps.{flat_of};
-ghost use Rattle.letterclasses.specs.Stacks.{AreUncounted};
+ghost use Rattle.flatgrammar.specs.Stacks.{AreUncounted};
 ghost use Rattle.lazydfa.specs.ExpectedSets.{IsExpected};
 ghost use Rattle.lazydfa.specs.RunVerdicts.{IsOne};
 
@@ -17,8 +17,7 @@ use crate::conts::Conts;
 use crate::expected::{Expected, dots_of};
 use crate::memo::Memo;
 use crate::run::{ClassTable, run, verdict_at};
-use flatgrammar::{Flat, Node, Tables, Verdict};
-use letterclasses::{Classes, find_classes};
+use flatgrammar::{Classes, Flat, Node, Tables, Verdict, find_classes};
 use letters::Letter;
 use ruletable::Memory;
 use std::alloc::Global;
@@ -47,8 +46,8 @@ impl Model for Automaton {
     ghost use Rattle.flatgrammar.specs.Flat as spec;
     ghost use Rattle.flatgrammar.specs.NodeSteps.{flat_of};
     ghost use Rattle.flatgrammar.specs.TableViews.{GiveTargets};
-    ghost use Rattle.letterclasses.specs.Stacks.{AreUncounted};
-    ghost use Rattle.letterclasses.specs.ClassBounds.{AreClasses};
+    ghost use Rattle.flatgrammar.specs.Stacks.{AreUncounted};
+    ghost use Rattle.flatgrammar.specs.ClassBounds.{AreClasses};
     ghost use Rattle.lazydfa.specs.Memos.{IsMemo};
     ghost use Rattle.lazydfa.specs.RunVerdicts.{IsOne};
 

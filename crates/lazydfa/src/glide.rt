@@ -5,7 +5,7 @@ ghost use Rattle.lazydfa.specs.Transitions.{StaysBy, StaysOver};
 
 use crate::memo::Memo;
 use crate::transitions::{leads_back, next_row};
-use letterclasses::class_of;
+use flatgrammar::class_of;
 use letters::Letter;
 
 /// In lines of at least this many symbols, the loop tries whether a state stays over four symbols.

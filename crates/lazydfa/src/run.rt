@@ -8,7 +8,7 @@ ghost use Rattle.lazydfa.specs.Conts.{AreKept, AreOlder, last_of};
 ghost use Rattle.lazydfa.specs.Cached.{IsCache, IsCell, Grows, IsStart, IsStartAt};
 ghost use Rattle.lazydfa.specs.Memos.{IsEndOf, IsMemo, IsStepTaken, IsStepTo, IsRunStop, IsTrack};
 ghost use Rattle.lazydfa.specs.Memos.{RunsAt, RunsOver, TracksAt};
-ghost use Rattle.letterclasses.specs.ClassBounds.{AreClasses, IsClassOf};
+ghost use Rattle.flatgrammar.specs.ClassBounds.{AreClasses, IsClassOf};
 ghost use Rattle.lazydfa.specs.declared.cache.State.{State};
 ghost use Rattle.lazydfa.specs.RunVerdicts.{IsRunVerdict};
 
@@ -20,8 +20,7 @@ use crate::glide::{Track, glide};
 use crate::memo::{Memo, forget_all, resumed};
 use crate::transition::{Closure, readers};
 use crate::transitions::{end_of, next_row, note_transition};
-use flatgrammar::{Tables, Verdict, start_target};
-use letterclasses::class_of;
+use flatgrammar::{Tables, Verdict, class_of, start_target};
 use letters::Letter;
 use ruletable::Memory;
 use std::alloc::Global;

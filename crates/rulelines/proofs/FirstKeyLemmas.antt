@@ -8,8 +8,8 @@ use Rattle.std.proofs.lemmas.List.{get_or_default}
 use Rattle.std.proofs.lemmas.Option.{get_or_from_slice_get}
 use Rattle.std.specs.Option.{is_some}
 use Rattle.std.specs.Prelude.{Bool, true, false, Option, None, Some, slice_get, Contains, IsTrue}
-use Rattle.letterclasses.specs.Stacks.{IsNext}
-use Rattle.letterclasses.proofs.AreClassesLemmas.{rising_up}
+use Rattle.flatgrammar.specs.Stacks.{IsNext}
+use Rattle.flatgrammar.proofs.AreClassesLemmas.{rising_up}
 use Rattle.lazydfa.specs.StateSets.{grammar_of, last_in, StateSet}
 use Rattle.lazydfa.proofs.StateSetsLemmas.{got_at}
 use Rattle.rulelines.specs.FirstLines.{sort_key}

@@ -9,8 +9,8 @@ use Rattle.std.proofs.lemmas.Option.{slice_get_within}
 use Rattle.abnfread.specs.Element.{Rule}
 use Rattle.abnfcheck.specs.Derivable.{AreLetters}
 use Rattle.flatgrammar.specs.Flat.{Flat, Dot}
-use Rattle.letterclasses.specs.Stacks.{Accepts, ReadBy, Reach, begins, moved, has_read}
-use Rattle.letterclasses.proofs.StackClosureLemmas.{taken_by_tops, nothing_below}
+use Rattle.flatgrammar.specs.Stacks.{Accepts, ReadBy, Reach, begins, moved, has_read}
+use Rattle.flatgrammar.proofs.StackClosureLemmas.{taken_by_tops, nothing_below}
 use Rattle.rulelines.specs.FirstLines.{ComesFirst, HasNoLineUpTo, IsFirstLine, IsOfOldAlone, IsShortlexBefore, shorter}
 use Rattle.rulelines.specs.FirstLines.{sort_key}
 use Rattle.rulelines.specs.FoundPairs.{AreFound, AreSearched, EndWithNew, FoundPair, IsFoundBefore, IsOldDead, IsWordOf}

@@ -9,7 +9,7 @@ use Rattle.abnfcheck.specs.Derivable.{AreLetters}
 use Rattle.flatgrammar.specs.NodeSteps.{flat_of}
 use Rattle.letters.specs.Letters.{has}
 use Rattle.letters.specs.declared.alphabet.Alphabet.{Alphabet}
-use Rattle.letterclasses.proofs.StacksLemmas.{accepted_holds, holds_accepted}
+use Rattle.flatgrammar.proofs.StacksLemmas.{accepted_holds, holds_accepted}
 use Rattle.lazydfa.specs.StateSets.{grammar_of, last_in, StateSet}
 use Rattle.rulelines.specs.FirstLines.{ComesFirst, IsShortlexBefore, shorter}
 use Rattle.rulelines.specs.declared.list.lines.NextLine.{NextLine}

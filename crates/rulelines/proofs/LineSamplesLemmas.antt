@@ -9,11 +9,11 @@ use Rattle.std.specs.List.Sorted.{IsStrictlyIncreasing}
 use Rattle.std.specs.Prelude.{Bool, true, slice_get, Some, Contains}
 use Rattle.flatgrammar.specs.Flat.{Flat}
 use Rattle.flatgrammar.proofs.SliceGetLemmas.{push_cases}
-use Rattle.letterclasses.proofs.AreClassesLemmas.{rising_up}
+use Rattle.flatgrammar.proofs.AreClassesLemmas.{rising_up}
 use Rattle.lazydfa.proofs.StateSetsLemmas.{contained_at, got_at}
 use Rattle.rulelines.specs.FirstLines.{sort_key}
 use Rattle.rulelines.specs.Samples.{AreInLineOrder, symbol_of}
-use Rattle.letterclasses.specs.Stacks.{AreAlike}
+use Rattle.flatgrammar.specs.Stacks.{AreAlike}
 use Rattle.rulelines.specs.Starts.{AreClassStarts, HaveBothEnds, HaveBothKeys, IsJoinedOn}
 use Rattle.rulelines.specs.StatePairs.{AreSamples, HasSample}
 use Rattle.rulelines.proofs.ComesFirstLemmas.{one_key}

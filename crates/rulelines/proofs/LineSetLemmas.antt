@@ -12,7 +12,7 @@ use Rattle.flatgrammar.specs.FlatVerdicts.{DerivesLine}
 use Rattle.flatgrammar.specs.NodeSteps.{flat_of}
 use Rattle.letters.specs.Letters.{has as has_letter}
 use Rattle.letters.specs.declared.alphabet.Alphabet.{Alphabet}
-use Rattle.letterclasses.specs.Stacks.{AreUncounted, MarksLast}
+use Rattle.flatgrammar.specs.Stacks.{AreUncounted, MarksLast}
 use Rattle.lazydfa.specs.Conts.{last_of}
 use Rattle.lazydfa.specs.RunVerdicts.{IsOne}
 use Rattle.lazydfa.specs.StateSets.{AreMoreStates, AreStatesOf, grammar_of, IsStartState, last_in, StateSets}

@@ -8,7 +8,7 @@ use Rattle.flatgrammar.specs.Flat.{Flat, Dot}
 use Rattle.flatgrammar.specs.NodeSteps.{flat_of}
 use Rattle.flatgrammar.proofs.CallOfLemmas.{get_map, get_unmap}
 use Rattle.flatgrammar.proofs.SliceGetLemmas.{push_cases}
-use Rattle.letterclasses.specs.Stacks.{IsNext}
+use Rattle.flatgrammar.specs.Stacks.{IsNext}
 use Rattle.lazydfa.specs.Conts.{last_of}
 use Rattle.lazydfa.specs.StateSets.{AreMoreStates, grammar_of, IsNextState, last_in, StateSet, StateSets}
 use Rattle.rulelines.specs.declared.pairs.SearchedPair.{SearchedPair}

@@ -12,7 +12,7 @@ use Rattle.flatgrammar.specs.Flat.{Flat}
 use Rattle.flatgrammar.specs.FlatVerdicts.{DerivesLine}
 use Rattle.flatgrammar.specs.NodeSteps.{flat_of}
 use Rattle.flatgrammar.proofs.CallOfLemmas.{get_map}
-use Rattle.letterclasses.specs.Stacks.{AreUncounted, IsStackClosure, MarksLast}
+use Rattle.flatgrammar.specs.Stacks.{AreUncounted, IsStackClosure, MarksLast}
 use Rattle.lazydfa.specs.Conts.{last_of}
 use Rattle.lazydfa.specs.RunVerdicts.{IsOne}
 use Rattle.lazydfa.specs.StateSets.{AreMoreStates, AreStatesOf, grammar_of, IsStartState, last_in, StateSets}

@@ -7,7 +7,7 @@ use Rattle.std.specs.Prelude.{Bool, true, false, Some, slice_get, Contains}
 use Rattle.abnfread.specs.Element.{Rule}
 use Rattle.flatgrammar.specs.Flat.{Flat, Dot}
 use Rattle.letters.specs.declared.alphabet.Alphabet.{Alphabet}
-use Rattle.letterclasses.specs.Stacks.{AreAlike}
+use Rattle.flatgrammar.specs.Stacks.{AreAlike}
 use Rattle.lazydfa.specs.StateSets.{StateSet}
 use Rattle.lazydfa.proofs.StateSetsLemmas.{contained_at, got_at}
 use Rattle.rulelines.specs.FirstLines.{sort_key}

@@ -6,7 +6,7 @@ use Rattle.std.proofs.Common.{ap, subst, arith}
 use Rattle.std.proofs.lemmas.Bool.{cases_lt}
 use Rattle.std.specs.Prelude.{Bool, true, None, Some, Contains}
 use Rattle.flatgrammar.specs.Flat.{Flat, Dot}
-use Rattle.letterclasses.specs.Stacks.{IsNext}
+use Rattle.flatgrammar.specs.Stacks.{IsNext}
 use Rattle.lazydfa.specs.StateSets.{StateSet}
 use Rattle.rulelines.specs.FirstLines.{ComesFirst, IsShortlexBefore, later, shorter, sort_key, symbol}
 use Rattle.rulelines.specs.Samples.{symbol_of}

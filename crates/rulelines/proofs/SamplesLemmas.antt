@@ -20,8 +20,8 @@ use Rattle.letters.specs.declared.alphabet.Alphabet.{Alphabet}
 use Rattle.letters.specs.declared.alphabet.Alphabet.TheVariants.{Bytes, Utf8}
 use Rattle.flatgrammar.specs.Flat.{Flat}
 use Rattle.flatgrammar.proofs.CallOfLemmas.{get_map, get_unmap}
-use Rattle.letterclasses.specs.ClassBounds.{AreJoined, AreNodesSplit, IsFree}
-use Rattle.letterclasses.proofs.AreClassesLemmas.{joined_alike, more_nodes_split}
+use Rattle.flatgrammar.specs.ClassBounds.{AreJoined, AreNodesSplit, IsFree}
+use Rattle.flatgrammar.proofs.AreClassesLemmas.{joined_alike, more_nodes_split}
 use Rattle.lazydfa.proofs.StateSetsLemmas.{contained_at, got_at}
 use Rattle.rulelines.specs.FirstLines.{sort_key}
 use Rattle.rulelines.specs.Samples.{AreCommonBounds, AreInLineOrder, AreKeysOf, cuts, IsKeyAdded, symbol_of}

@@ -19,7 +19,7 @@ use Rattle.rulelines.specs.FoundPairs.{IsOldDead, LeadsToFound}
 use Rattle.rulelines.specs.Samples.{AreInLineOrder}
 use Rattle.rulelines.specs.Search.{found_pair, found_pairs, HasPair, IsPairAdded, IsPairSearch, state_at}
 use Rattle.rulelines.specs.StatePairs.{PairLeads}
-use Rattle.letterclasses.specs.Stacks.{IsNext}
+use Rattle.flatgrammar.specs.Stacks.{IsNext}
 use Rattle.lazydfa.proofs.StateSetsLemmas.{contained_at}
 
 pub get_left : {A : Type 0} (xs ys : List A) (k : ℕ) (x : A) → slice_get xs k ≡ Some x → slice_get (xs ++ ys) k ≡ Some x

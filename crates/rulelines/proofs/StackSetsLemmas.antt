@@ -6,8 +6,8 @@ use Rattle.std.specs.Prelude.{Bool, true, false, Contains, slice_get, Some}
 use Rattle.abnfcheck.specs.Derivable.{AreLetters}
 use Rattle.flatgrammar.specs.Flat.{Calls, calls, Calling, Flat, Has, Node, Dot, Reading, Reads}
 use Rattle.flatgrammar.specs.Flat as f
-use Rattle.letterclasses.specs.Stacks.{Accepts, AreAlike, IsDoneAt, is_done, IsNext, IsReading, reading, Led, led}
-use Rattle.letterclasses.specs.Stacks.{Moves, call, tail_call, return, Reach, ReadBy}
+use Rattle.flatgrammar.specs.Stacks.{Accepts, AreAlike, IsDoneAt, is_done, IsNext, IsReading, reading, Led, led}
+use Rattle.flatgrammar.specs.Stacks.{Moves, call, tail_call, return, Reach, ReadBy}
 use Rattle.rulelines.specs.StatePairs.{AreSamples, StatePair}
 use Rattle.rulelines.specs.StackSets.{AreAllJoined, AreClosedBySuffixes, AreFull, by_stack, cut, done, Drains, ends}
 use Rattle.rulelines.specs.StackSets.{FollowsFrom, IsStartStack, is_start, IsStateFrom, more, moves, one, reads}

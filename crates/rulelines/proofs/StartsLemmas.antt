@@ -19,9 +19,9 @@ use Rattle.letters.specs.Letters.{has}
 use Rattle.letters.specs.declared.alphabet.Alphabet.{Alphabet}
 use Rattle.letters.specs.declared.alphabet.Alphabet.TheVariants.{Bytes, Utf8}
 use Rattle.flatgrammar.specs.Flat.{Flat}
-use Rattle.letterclasses.specs.ClassBounds.{AreNodesSplit, IsFree}
-use Rattle.letterclasses.specs.Stacks.{AreAlike}
-use Rattle.letterclasses.proofs.AreClassesLemmas.{joined_alike, more_nodes_split}
+use Rattle.flatgrammar.specs.ClassBounds.{AreNodesSplit, IsFree}
+use Rattle.flatgrammar.specs.Stacks.{AreAlike}
+use Rattle.flatgrammar.proofs.AreClassesLemmas.{joined_alike, more_nodes_split}
 use Rattle.lazydfa.proofs.StateSetsLemmas.{got_at}
 use Rattle.rulelines.specs.FirstLines.{sort_key}
 use Rattle.rulelines.specs.LineSets.{is_line_symbol}

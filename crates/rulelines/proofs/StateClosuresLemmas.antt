@@ -4,9 +4,9 @@ use Rattle.std.proofs.Common.{◌≡◌, ◌↔◌, ◌⊎◌, inl, inr, ℕ, su
 use Rattle.std.proofs.Common.{sym, ◌∙◌, ap, subst, arith, append_assoc, append-nil, drop, length-append}
 use Rattle.std.specs.Prelude.{Bool, true, slice_get, Some, Contains}
 use Rattle.flatgrammar.specs.Flat.{Flat, Dot}
-use Rattle.letterclasses.specs.Stacks.{Accepts, AreAlike, IsStackClosure, IsNext, IsReading, Led, led, Lifted}
-use Rattle.letterclasses.specs.Stacks.{moves, Reach, ReadBy}
-use Rattle.letterclasses.proofs.StackClosureLemmas.{nothing_below, taken_by_tops}
+use Rattle.flatgrammar.specs.Stacks.{Accepts, AreAlike, IsStackClosure, IsNext, IsReading, Led, led, Lifted}
+use Rattle.flatgrammar.specs.Stacks.{moves, Reach, ReadBy}
+use Rattle.flatgrammar.proofs.StackClosureLemmas.{nothing_below, taken_by_tops}
 use Rattle.lazydfa.specs.StateSets.{StateSet}
 use Rattle.rulelines.specs.MissSearch.{IsLive}
 use Rattle.rulelines.specs.Rests.{Takes}

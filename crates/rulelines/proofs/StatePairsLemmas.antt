@@ -5,9 +5,9 @@ use Rattle.std.specs.Prelude.{Bool, true, slice_get, Some, Contains}
 use Rattle.abnfread.specs.Element.{Rule}
 use Rattle.abnfcheck.specs.Derivable.{AreLetters, RuleDerives}
 use Rattle.flatgrammar.specs.Flat.{Flat, Dot}
-use Rattle.letterclasses.specs.Stacks.{Accepts, AreAlike, IsStackClosure, IsNext}
-use Rattle.letterclasses.proofs.StackClosureLemmas.{next_closure, nothing_below}
-use Rattle.letterclasses.proofs.StacksLemmas.{accepted_holds, holds_accepted}
+use Rattle.flatgrammar.specs.Stacks.{Accepts, AreAlike, IsStackClosure, IsNext}
+use Rattle.flatgrammar.proofs.StackClosureLemmas.{next_closure, nothing_below}
+use Rattle.flatgrammar.proofs.StacksLemmas.{accepted_holds, holds_accepted}
 use Rattle.rulelines.specs.StatePairs.{AcceptsRule, AreClosed, AreSamples, IsStartPair, PairLeads}
 use Rattle.rulelines.specs.StatePairs.{StatePair}
 

@@ -8,7 +8,7 @@ use Rattle.std.specs.List.Sorted.{IsStrictlyIncreasing}
 use Rattle.std.specs.Prelude.{Bool, true, slice_get, Some, Contains, IsTrue}
 use Rattle.flatgrammar.specs.NodeSteps.{flat_of}
 use Rattle.flatgrammar.proofs.SliceGetLemmas.{push_cases}
-use Rattle.letterclasses.specs.Stacks.{AreUncounted, IsStackClosure, IsNext, MarksLast}
+use Rattle.flatgrammar.specs.Stacks.{AreUncounted, IsStackClosure, IsNext, MarksLast}
 use Rattle.lazydfa.specs.Conts.{last_of}
 use Rattle.lazydfa.specs.RunVerdicts.{IsOne}
 use Rattle.lazydfa.specs.StateSets.{AreMoreStates, grammar_of, IsNextState, IsStartState, last_in}

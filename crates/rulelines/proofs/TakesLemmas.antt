@@ -5,9 +5,9 @@ use Rattle.std.proofs.Common.{◌∙◌}
 use Rattle.std.proofs.Common.{ap, subst, arith, drop, append-nil}
 use Rattle.std.specs.Prelude.{Bool, true, slice_get, Some, Contains}
 use Rattle.flatgrammar.specs.Flat.{Flat, Has, Dot}
-use Rattle.letterclasses.specs.Stacks.{Accepts, AreAlike, IsStackClosure, IsNext, IsReading, reading, Led, led}
-use Rattle.letterclasses.specs.Stacks.{LedToEnd}
-use Rattle.letterclasses.specs.Stacks.{Lifted, moves, Moves, Reach, ReadBy, reads}
+use Rattle.flatgrammar.specs.Stacks.{Accepts, AreAlike, IsStackClosure, IsNext, IsReading, reading, Led, led}
+use Rattle.flatgrammar.specs.Stacks.{LedToEnd}
+use Rattle.flatgrammar.specs.Stacks.{Lifted, moves, Moves, Reach, ReadBy, reads}
 use Rattle.lazydfa.specs.StateSets.{StateSet}
 use Rattle.rulelines.specs.Rests.{LeadToEnd, Takes}
 

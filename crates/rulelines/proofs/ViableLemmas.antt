@@ -9,8 +9,8 @@ use Rattle.abnfcheck.specs.Prefixes.{BeginsMember}
 use Rattle.flatgrammar.specs.Flat.{Flat, Dot}
 use Rattle.letters.specs.Letters.{has as has_letter}
 use Rattle.letters.specs.declared.alphabet.Alphabet.{Alphabet}
-use Rattle.letterclasses.specs.Stacks.{AreUncounted, MarksLast, Reach}
-use Rattle.letterclasses.proofs.StacksLemmas.{item_reached, reached_item}
+use Rattle.flatgrammar.specs.Stacks.{AreUncounted, MarksLast, Reach}
+use Rattle.flatgrammar.proofs.StacksLemmas.{item_reached, reached_item}
 use Rattle.lazydfa.specs.RunVerdicts.{IsOne}
 use Rattle.lazydfa.specs.StateSets.{StateSet}
 use Rattle.rulelines.specs.LineSets.{is_line_symbol}

@@ -5,7 +5,7 @@ use Rattle.std.proofs.Common.{refl, sym, ◌∙◌}
 use Rattle.std.proofs.Common.{ap, subst, arith, append_assoc, append-nil, drop, take, length-drop}
 use Rattle.std.specs.Option.{is_some}
 use Rattle.std.specs.Prelude.{Bool, true, false, Option, None, Some, slice_get, Contains}
-use Rattle.letterclasses.specs.Stacks.{IsNext}
+use Rattle.flatgrammar.specs.Stacks.{IsNext}
 use Rattle.lazydfa.specs.StateSets.{grammar_of, last_in, StateSet}
 use Rattle.rulelines.specs.FirstLines.{shorter, sort_key}
 use Rattle.rulelines.specs.Samples.{symbol_of}

@@ -4,7 +4,7 @@ use Rattle.abnfread.specs.Element.{Rule}
 use Rattle.abnfcheck.specs.Derivable.{AreLetters, RuleDerives}
 use Rattle.flatgrammar.specs.Flat.{Flat}
 use Rattle.flatgrammar.specs.FlatVerdicts.{DerivesLine}
-use Rattle.letterclasses.specs.Stacks.{AreUncounted, MarksLast}
+use Rattle.flatgrammar.specs.Stacks.{AreUncounted, MarksLast}
 use Rattle.lazydfa.specs.RunVerdicts.{IsOne}
 use Rattle.lazydfa.specs.StateSets.{grammar_of, last_in, StateSets}
 use Rattle.rulelines.specs.declared.alone.Alone.{Alone}

@@ -5,7 +5,7 @@ use Rattle.abnfread.specs.Element.{Rule}
 use Rattle.flatgrammar.specs.Flat.{Flat, Dot}
 use Rattle.letters.specs.Letters.{has as has_letter}
 use Rattle.letters.specs.declared.alphabet.Alphabet.{Alphabet}
-use Rattle.letterclasses.specs.Stacks.{IsNext}
+use Rattle.flatgrammar.specs.Stacks.{IsNext}
 use Rattle.lazydfa.specs.StateSets.{AreMoreStates, grammar_of, last_in, StateSet, StateSets}
 use Rattle.lowering.specs.GivenPrefixes.{GivesPrefixes}
 use Rattle.rulelines.specs.declared.list.keys.LineSymbols.{LineSymbols}

@@ -3,7 +3,7 @@ use Rattle.std.specs.Prelude.{◌≡◌, ℕ, ◌+◌, ◌<◌, ◌≤◌, Bool,
 use Rattle.std.specs.Prelude.{Option, None, Some}
 use Rattle.abnfcheck.specs.Derivable.{AreLetters}
 use Rattle.flatgrammar.specs.Flat.{Flat, Dot}
-use Rattle.letterclasses.specs.Stacks.{Led, LedToEnd, ReadBy}
+use Rattle.flatgrammar.specs.Stacks.{Led, LedToEnd, ReadBy}
 use Rattle.lazydfa.specs.StateSets.{StateSet}
 use Rattle.rulelines.specs.FirstLines.{ComesFirst, IsShortlexBefore, sort_key}
 

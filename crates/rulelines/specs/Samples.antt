@@ -2,7 +2,7 @@
 use Rattle.std.specs.Prelude.{◌≡◌, ◌⊎◌, ℕ, ◌-◌, ◌<◌, Bool, true, List, [], ◌∷◌, slice_get, Some, Contains}
 use Rattle.std.specs.Prelude.{if◌then◌else◌, ltb, eqb}
 use Rattle.flatgrammar.specs.Flat.{Flat}
-use Rattle.letterclasses.specs.ClassBounds.{AreNodesSplit}
+use Rattle.flatgrammar.specs.ClassBounds.{AreNodesSplit}
 use Rattle.rulelines.specs.FirstLines.{sort_key}
 
 -- the samples are symbols, and come in the order of lines

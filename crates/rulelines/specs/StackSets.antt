@@ -1,7 +1,7 @@
 -- What states accept, and pairs of states that are cut into tops and suffixes below them.
 use Rattle.std.specs.Prelude.{◌≡◌, ◌↔◌, ℕ, Bool, true, false, List, [], ◌∷◌, ◌++◌, Contains}
 use Rattle.flatgrammar.specs.Flat.{Flat, Dot, Set, Has, Reads, Starts}
-use Rattle.letterclasses.specs.Stacks.{IsDoneAt, IsReading, Led, LedToEnd, Moves}
+use Rattle.flatgrammar.specs.Stacks.{IsDoneAt, IsReading, Led, LedToEnd, Moves}
 use Rattle.rulelines.specs.StatePairs.{PairLeads, StatePair}
 
 module _ (flat : Flat) (last : Dot → Bool) where

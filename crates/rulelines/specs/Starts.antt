@@ -1,8 +1,8 @@
 -- Keys at which classes of symbols start, in the order of lines.
 use Rattle.std.specs.Prelude.{◌≡◌, ◌⊎◌, ℕ, ◌+◌, ◌≤◌, Bool, true, List, [], ◌∷◌, slice_get, Some, Contains}
 use Rattle.flatgrammar.specs.Flat.{Flat}
-use Rattle.letterclasses.specs.ClassBounds.{AreNodesSplit}
-use Rattle.letterclasses.specs.Stacks.{AreAlike}
+use Rattle.flatgrammar.specs.ClassBounds.{AreNodesSplit}
+use Rattle.flatgrammar.specs.Stacks.{AreAlike}
 use Rattle.rulelines.specs.FirstLines.{sort_key}
 
 -- the symbol before it is in the same sets

@@ -4,7 +4,7 @@ use Rattle.abnfread.specs.Element.{Rule}
 use Rattle.abnfcheck.specs.Derivable.{AreLetters, RuleDerives}
 use Rattle.flatgrammar.specs.Flat.{Flat, Dot, Concat}
 use Rattle.flatgrammar.specs.FlatVerdicts.{DerivesLine}
-use Rattle.letterclasses.specs.Stacks.{AreAlike, AreUncounted, IsStackClosure, IsNext, MarksLast}
+use Rattle.flatgrammar.specs.Stacks.{AreAlike, AreUncounted, IsStackClosure, IsNext, MarksLast}
 use Rattle.rulelines.specs.FirstLines.{sort_key}
 
 -- a state of each: the stacks whose top reads a symbol, and whether the whole is done

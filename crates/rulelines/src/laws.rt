@@ -5,7 +5,7 @@ ghost use Rattle.abnfcheck.specs.Derivable.{AreLetters, RuleDerives};
 ghost use Rattle.abnfread.specs.Element.{Rule};
 ghost use Rattle.flatgrammar.specs.Flat.{Flat, Dot};
 ghost use Rattle.flatgrammar.specs.FlatVerdicts.{DerivesLine};
-ghost use Rattle.letterclasses.specs.Stacks.{Accepts};
+ghost use Rattle.flatgrammar.specs.Stacks.{Accepts};
 ghost use Rattle.lowering.specs.Lowered.{IsLowered};
 ghost use Rattle.rulelines.specs.CountsWithin.{RuleCountsWithin};
 ghost use Rattle.rulelines.specs.FirstLines.{HasNoLine, HasNoLineUpTo, IsFirstLine, IsOfOldAlone};

@@ -5,8 +5,7 @@ ghost use Rattle.rulelines.specs.FirstLines.{sort_key};
 ghost use Rattle.rulelines.specs.Samples.{AreCommonBounds, AreInLineOrder, AreKeysOf, IsKeyAdded, symbol_of};
 ghost use Rattle.rulelines.specs.StatePairs.{AreSamples};
 
-use flatgrammar::Flat;
-use letterclasses::find_classes;
+use flatgrammar::{Flat, find_classes};
 use letters::Alphabet;
 use ruletable::Memory;
 use std::alloc::Global;

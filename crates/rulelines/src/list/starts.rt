@@ -7,8 +7,7 @@ ghost use Rattle.rulelines.specs.Starts.{HaveKeys, IsLastUpTo};
 
 use crate::list::keys::{LineSymbols, is_inner};
 use crate::samples::key_of;
-use flatgrammar::Flat;
-use letterclasses::find_classes;
+use flatgrammar::{Flat, find_classes};
 use ruletable::Memory;
 use std::alloc::Global;
 

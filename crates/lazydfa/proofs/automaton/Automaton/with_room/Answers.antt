@@ -1,8 +1,8 @@
 use Rattle.std.proofs.Common.{subst}
 use Rattle.flatgrammar.specs.NodeSteps.{flat_of}
-use Rattle.letterclasses.specs.Stacks.{AreUncounted}
+use Rattle.flatgrammar.specs.Stacks.{AreUncounted}
 use Rattle.lazydfa.specs.RunVerdicts.{IsOne}
-use Rattle.letterclasses.specs.ClassBounds.{AreClasses}
+use Rattle.flatgrammar.specs.ClassBounds.{AreClasses}
 use Rattle.lazydfa.proofs.AreTransitionsLemmas.{memo_none}
 use Rattle.lazydfa.proofs.automaton.Automaton.with_room.Goals as goal
 

@@ -1,6 +1,6 @@
 use Rattle.std.proofs.Common.{subst, map, ap}
 use Rattle.flatgrammar.specs.NodeSteps.{flat_of}
-use Rattle.letterclasses.specs.Stacks.{AreUncounted, MarksLast}
+use Rattle.flatgrammar.specs.Stacks.{AreUncounted, MarksLast}
 use Rattle.lazydfa.specs.Conts.{last_of}
 use Rattle.lazydfa.specs.RunVerdicts.{IsOne}
 use Rattle.lazydfa.specs.StateSets.{state_set_of}

@@ -1,5 +1,5 @@
 use Rattle.std.proofs.Common.{subst}
-use Rattle.letterclasses.proofs.AreClassesLemmas.{ascended_rise}
+use Rattle.flatgrammar.proofs.AreClassesLemmas.{ascended_rise}
 use Rattle.rulelines.specs.LineSets.{is_line_symbol}
 use Rattle.rulelines.specs.Starts.{HaveKeys}
 use Rattle.rulelines.proofs.StartsLemmas.{both_keys, sorted_keys, starts_made}

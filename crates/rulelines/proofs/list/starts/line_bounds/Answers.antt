@@ -1,6 +1,6 @@
 use Rattle.std.proofs.Common.{subst, ◌∙◌, ap, ◌++◌, ◌≡◌, ◌+◌, [], ◌∷◌}
 use Rattle.flatgrammar.specs.NodeSteps.{flat_of}
-use Rattle.letterclasses.specs.ClassBounds.{AreNodesSplit}
+use Rattle.flatgrammar.specs.ClassBounds.{AreNodesSplit}
 use Rattle.rulelines.proofs.StartsLemmas.{bounds_made}
 use Rattle.rulelines.proofs.list.starts.line_bounds.Goals as goal
 

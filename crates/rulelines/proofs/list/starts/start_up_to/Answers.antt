@@ -1,6 +1,6 @@
 use Rattle.std.proofs.Common.{leb, rules}
 use Rattle.std.proofs.lemmas.List.Sorted.{IsPartitionPoint-from_clause, IsPartitionedBy-leb}
-use Rattle.letterclasses.proofs.AreClassesLemmas.{rising_up}
+use Rattle.flatgrammar.proofs.AreClassesLemmas.{rising_up}
 use Rattle.rulelines.proofs.StartsLemmas.{start_reported}
 use Rattle.rulelines.proofs.list.starts.start_up_to.Goals as goal
 

@@ -1,2 +1,0 @@
-pub mod ClassBounds
-pub mod Stacks
