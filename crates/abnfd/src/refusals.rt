@@ -62,6 +62,7 @@ fn explain_bytes(
         grammar,
         letters,
         flat: &flat,
+        budget: None,
     };
     explain_first(alloc, &explainer, line)
 }

@@ -83,6 +83,7 @@ pub(crate) fn explain_lines(
         grammar,
         letters,
         flat: &flat,
+        budget: None,
     };
     explain_all(alloc, &explainer, unit, lines)
 }

@@ -216,6 +216,7 @@ fn explain_line(
         grammar: judges.grammar,
         letters: judges.letters,
         flat: more,
+        budget: judges.budget,
     };
     if work.explainer.is_none() {
         work.explainer = automaton_of(work.alloc, more, judges.budget);

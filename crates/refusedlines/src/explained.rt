@@ -37,6 +37,8 @@ pub struct Explainer<'a> {
     pub letters: Alphabet,
     /// The flat grammar that `lower_viable` gives for that alphabet.
     pub flat: &'a Flat,
+    /// How many items the sets of a line may have where they are needed; any number if it is `None`.
+    pub budget: Option<usize>,
 }
 
 /// The longest prefix of a line that is UTF-8.
@@ -131,7 +133,14 @@ fn explain_bytes(
         (rules_of explainer.now.grammar.now.rules) explainer.now.grammar.now.judged line.entry.bytes.now
         line.entry.number out.old.items out.new.items) }
 {
-    let following = find_following(alloc, chart, automaton, explainer.flat, line.bytes)?;
+    let following = find_following(
+        alloc,
+        chart,
+        automaton,
+        explainer.flat,
+        explainer.budget,
+        line.bytes,
+    )?;
     let position = following.after;
     let at = refused_at(position, line.bytes.len(), false);
     let column = column_after(&line.bytes[..position]);
@@ -166,7 +175,14 @@ fn explain_points(
 {
     let first = first_points(alloc, line.bytes)?;
     let points = first.points.as_slice();
-    let following = find_following(alloc, chart, automaton, explainer.flat, points)?;
+    let following = find_following(
+        alloc,
+        chart,
+        automaton,
+        explainer.flat,
+        explainer.budget,
+        points,
+    )?;
     let after = following.after;
     let at = refused_at(after, points.len(), first.size < line.bytes.len());
     let before = &points[..after];
@@ -189,7 +205,8 @@ fn explain_points(
 /// have fewer bytes than `flat.limit()`. The chart is filled anew where the automaton gives no answer.
 ///
 /// # Errors
-/// `Memory` if an allocation fails; a part of the lines may be added then.
+/// `Memory` if an allocation fails, or sets have more items than the explainer's budget; a part of the lines may be
+/// added then.
 pub fn explain_refused(
     alloc: Global,
     chart: &mut Chart,

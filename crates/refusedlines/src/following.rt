@@ -1,7 +1,9 @@
 //! Symbols that can follow the longest viable prefix of a line.
-ghost use Rattle.std.specs.Prelude.{◌≡◌, ◌+◌, ◌≤◌, ℕ, Bool, List, length, map, IfOk, IfSome};
+ghost use Rattle.std.specs.Prelude.{◌≡◌, ◌↔◌, ◌+◌, ◌≤◌, ℕ, Bool, List, length, map, IfOk, IfSome, IsTrue};
 ghost use Rattle.abnfread.specs.Element.{Rule};
 ghost use Rattle.abnfcheck.specs.Prefixes.{IsFurthest};
+ghost use Rattle.earleyitems.specs.ChartSets.{IsSet, set_at};
+ghost use Rattle.flatgrammar.specs.FlatVerdicts.{DerivesLine, IsFlatVerdict};
 ghost use Rattle.lowering.specs.GivenPrefixes.{GivesPrefixes};
 ghost use Rattle.letters.specs.Letters.{has};
 ghost use Rattle.refusedlines.specs.declared.letterruns.run.LetterRun.{LetterRun as the_run};
@@ -9,7 +11,7 @@ ghost use Rattle.refusedlines.specs.Following.{AreFollowing};
 
 use crate::letterruns::{LetterRun, runs_are_one};
 use crate::read_letters::letters_read;
-use earley::{Chart, judge, viable};
+use earley::{Chart, judge, judge_few, viable, viable_few};
 use flatgrammar::{Flat, Verdict};
 use lazydfa::Automaton;
 use letters::Letter;
@@ -28,8 +30,54 @@ pub struct Following {
     pub ends: bool,
 }
 
+// Fills the chart with the item sets of a line, and returns whether the flat grammar derives the line. `Memory` if an
+// allocation fails, or the sets have more items than the budget, if there is one.
+fn judge_within_budget<L: Letter>(
+    chart: &mut Chart,
+    flat: &Flat,
+    budget: Option<usize>,
+    line: &[L],
+) -> Result<bool, Memory>
+    requires { length line.now ≤ flat.now.limit }
+    ensures sets { IfOk result (λ _. (j : ℕ) → IsSet flat.now (map L.number line.now) j (set_at chart.new j)) }
+    ensures answer { IfOk result (λ yes. IsTrue yes ↔ DerivesLine flat.now (map L.number line.now)) }
+{
+    let Some(most) = budget else {
+        return judge(chart, flat, line);
+    };
+    match judge_few(chart, flat, line, most)? {
+        Some(yes) => Ok(yes),
+        None => Err(Memory),
+    }
+}
+
+// Returns the verdict of the flat grammar on a line. `Memory` if an allocation fails, or the sets have more items than
+// the budget, if there is one.
+fn verdict_within_budget<L: Letter>(
+    chart: &mut Chart,
+    flat: &Flat,
+    budget: Option<usize>,
+    line: &[L],
+) -> Result<Verdict, Memory>
+    requires { length line.now ≤ flat.now.limit }
+    ensures { IfOk result (IsFlatVerdict flat.now (map L.number line.now)) }
+{
+    let Some(most) = budget else {
+        return viable(chart, flat, line);
+    };
+    match viable_few(chart, flat, line, most)? {
+        Some(verdict) => Ok(verdict),
+        None => Err(Memory),
+    }
+}
+
 // Returns how many symbols the longest viable prefix of a line has.
-fn furthest_position<L: Letter>(chart: &mut Chart, flat: &Flat, line: &[L]) -> Result<usize, Memory>
+fn furthest_position<L: Letter>(
+    chart: &mut Chart,
+    flat: &Flat,
+    budget: Option<usize>,
+    line: &[L],
+) -> Result<usize, Memory>
     requires { length line.now ≤ flat.now.limit }
     ensures within { IfOk result (λ n. n ≤ length line.now) }
     ensures furthest { IfOk result (λ n. (rules : List Rule) (judged : ℕ)
@@ -38,7 +86,7 @@ fn furthest_position<L: Letter>(chart: &mut Chart, flat: &Flat, line: &[L]) -> R
 {
     values_are_letters(line);
     items_decide();
-    match viable(chart, flat, line)? {
+    match verdict_within_budget(chart, flat, budget, line)? {
         Verdict::Yes => Ok(line.len()),
         Verdict::No(n) => Ok(n),
     }
@@ -49,6 +97,7 @@ fn find_after<L: Letter>(
     alloc: Global,
     chart: &mut Chart,
     flat: &Flat,
+    budget: Option<usize>,
     line: &[L],
 ) -> Result<Following, Memory>
     requires { length line.now + 1 ≤ flat.now.limit }
@@ -59,7 +108,7 @@ fn find_after<L: Letter>(
 {
     values_are_letters(line);
     let after = line.len();
-    let ends = judge(chart, flat, line)?;
+    let ends = judge_within_budget(chart, flat, budget, line)?;
     let dots = chart.dots(after)?;
     let runs = letters_read(alloc, L::ALPHABET, flat, &dots)?;
     Ok(Following { after, runs, ends })
@@ -106,12 +155,13 @@ fn find_by_states<L: Letter>(
 /// the item sets of the line, and then with those of that prefix, and the symbols are those that the items of its last
 /// set read.
 ///
-/// `Memory` if an allocation fails.
+/// `Memory` if an allocation fails, or the sets that are filled have more items than the budget, if there is one.
 pub fn find_following<L: Letter>(
     alloc: Global,
     chart: &mut Chart,
     automaton: &mut Option<Automaton>,
     flat: &Flat,
+    budget: Option<usize>,
     line: &[L],
 ) -> Result<Following, Memory>
     requires within { length line.now + 1 ≤ flat.now.limit }
@@ -128,8 +178,8 @@ pub fn find_following<L: Letter>(
     if let Some(reported) = find_by_states(alloc, automaton, flat, line)? {
         return Ok(reported);
     }
-    let after = furthest_position(chart, flat, line)?;
-    find_after(alloc, chart, flat, &line[..after])
+    let after = furthest_position(chart, flat, budget, line)?;
+    find_after(alloc, chart, flat, budget, &line[..after])
 }
 
 /// Returns nothing. Its contract is a law: at most one list of runs has the symbols that can follow the first symbols

@@ -16,8 +16,8 @@ returns-in-Yes-clause-furthest g c = λ rules judged prefixes.
     subst (λ n. IsFurthest test rules judged x n) size
     (derived_is_furthest test rules judged x
     (subst (λ v. IsVerdict test rules judged x v) c.in-Yes.is
-    (c.items_decide.ensures.verdict test rules judged c.args.flat.now x c.in_ok-viable.field-0 prefixes
-    (omega (arith, short, size)) c.values_are_letters.ensures c.in_ok-viable.ensures.verdict)))
+    (c.items_decide.ensures.verdict test rules judged c.args.flat.now x c.in_ok-verdict_within_budget.field-0 prefixes
+    (omega (arith, short, size)) c.values_are_letters.ensures c.in_ok-verdict_within_budget.ensures)))
 
 pub returns-in-No-clause-furthest : goal.returns-in-No-clause-furthest
 returns-in-No-clause-furthest g c = λ rules judged prefixes.
@@ -26,12 +26,12 @@ returns-in-No-clause-furthest g c = λ rules judged prefixes.
     let short = c.requires in
     let size = length-map c.args.line.now g.L.Letter.number in
     (subst (λ v. IsVerdict test rules judged x v) c.in-No.is
-    (c.items_decide.ensures.verdict test rules judged c.args.flat.now x c.in_ok-viable.field-0 prefixes
-    (omega (arith, short, size)) c.values_are_letters.ensures c.in_ok-viable.ensures.verdict)).1
+    (c.items_decide.ensures.verdict test rules judged c.args.flat.now x c.in_ok-verdict_within_budget.field-0 prefixes
+    (omega (arith, short, size)) c.values_are_letters.ensures c.in_ok-verdict_within_budget.ensures)).1
 
 pub returns-in-No-clause-within : goal.returns-in-No-clause-within
 returns-in-No-clause-within g c =
     let x = map g.L.Letter.number c.args.line.now in
     let size = length-map c.args.line.now g.L.Letter.number in
-    let within = (subst (λ v. IsFlatVerdict c.args.flat.now x v) c.in-No.is c.in_ok-viable.ensures.verdict).1.within in
+    let within = (subst (λ v. IsFlatVerdict c.args.flat.now x v) c.in-No.is c.in_ok-verdict_within_budget.ensures).1.within in
     omega (arith, within, size)
