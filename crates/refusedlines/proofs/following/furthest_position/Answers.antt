@@ -33,5 +33,6 @@ pub returns-in-No-clause-within : goal.returns-in-No-clause-within
 returns-in-No-clause-within g c =
     let x = map g.L.Letter.number c.args.line.now in
     let size = length-map c.args.line.now g.L.Letter.number in
-    let within = (subst (λ v. IsFlatVerdict c.args.flat.now x v) c.in-No.is c.in_ok-verdict_within_budget.ensures).1.within in
+    let verdict = c.in_ok-verdict_within_budget.ensures in
+    let within = (subst (λ v. IsFlatVerdict c.args.flat.now x v) c.in-No.is verdict).1.within in
     omega (arith, within, size)
