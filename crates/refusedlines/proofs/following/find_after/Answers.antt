@@ -13,7 +13,8 @@ returns-clause-following g c = λ rules judged prefixes.
     let short = c.requires in
     let flat = c.args.flat.now in
     let readers = readers_of_set flat x (length x) _ (c.in_ok-ends.ensures.sets (length x)) c.in_ok-dots.dots.items
-    (subst (λ v. AreDotsOf (set_at c.judge_within_budget.new.chart v) c.in_ok-dots.dots.items) (sym size) c.in_ok-dots.ensures) in
+    (subst (λ v. AreDotsOf (set_at c.judge_within_budget.new.chart v) c.in_ok-dots.dots.items) (sym size)
+    c.in_ok-dots.ensures) in
     subst (λ v. AreFollowing (has g.L.Letter.ALPHABET) rules judged x v c.in_ok-runs.runs.items c.in_ok-ends.ends) size
     (are_following (has g.L.Letter.ALPHABET) rules judged flat prefixes x (omega (arith, short, size))
     c.values_are_letters.ensures c.in_ok-dots.dots.items readers
