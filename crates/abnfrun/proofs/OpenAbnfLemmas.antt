@@ -153,6 +153,7 @@ pub judge_is_opened : (text : List ℕ) (settings : AbnfSettings) (notes : List 
       grammar = grammar;
       letters = settings.options.letters;
       viable = settings.options.viable;
+      budget = settings.options.budget;
       limit = judged_size settings settings.limit;
     } → IsOpened text settings notes (Some judge)
 judge_is_opened text settings notes rules known id grammar judge is some same at made =
@@ -168,6 +169,7 @@ judge_is_opened text settings notes rules known id grammar judge is some same at
           judged = at ∙ ready.1;
           letters = refl;
           viable = refl;
+          budget = refl;
           limit = refl;
         },
       );

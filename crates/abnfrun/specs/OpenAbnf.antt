@@ -23,6 +23,7 @@ pub record IsJudgeOf (definitions : List Definition) (settings : AbnfSettings) (
   pub judged : judge.grammar.judged ≡ judged_of definitions (rule_given settings)
   pub letters : judge.letters ≡ settings.options.letters
   pub viable : judge.viable ≡ settings.options.viable
+  pub budget : judge.budget ≡ settings.options.budget
   pub limit : judge.limit ≡ judged_size settings settings.limit
 
 -- The text is a grammar with these notes, which reject it; or lines are judged by it.

@@ -9,12 +9,13 @@ use Rattle.lowering.specs.GivenPrefixes.{GivesPrefixes}
 use Rattle.letters.specs.Letters.{has}
 use Rattle.letters.specs.declared.alphabet.Alphabet.{Alphabet}
 
--- a grammar, what the symbols of a line are, whether the longest viable prefix is asked for, and how many bytes a line
--- may have
+-- a grammar, what the symbols of a line are, whether the longest viable prefix is asked for, how many items the sets of
+-- a line may have, and how many bytes a line may have
 pub record OpenJudge : Type 0 where
   pub grammar : Grammar
   pub letters : Alphabet
   pub viable : Bool
+  pub budget : Option ℕ
   pub limit : ℕ
 
 -- The flat grammar is that of the grammar, for what is asked of lines; the automaton, if there is one, is of it.

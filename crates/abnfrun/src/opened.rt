@@ -3,9 +3,10 @@ ghost use Rattle.std.specs.Prelude.{◌≡◌, ◌≤◌, length, map, IfErr, If
 ghost use Rattle.abnfread.specs.AbnfReading.{IsFaultOf};
 ghost use Rattle.abnfread.specs.AbnfViews.{rules_of};
 ghost use Rattle.abnfrun.specs.AbnfExplainedNotes.{ExplainsAbnfNote};
-ghost use Rattle.abnfrun.specs.AbnfReply.{IsAnswerTo, judged_size};
+ghost use Rattle.abnfrun.specs.AbnfReply.{IsAnswerTo, NeedsMoreItems, judged_size};
 ghost use Rattle.abnfrun.specs.AbnfTextHints.{AreTextHints};
 ghost use Rattle.abnfrun.specs.OpenAbnf.{IsOpened};
+ghost use Rattle.linejudge.specs.InputLines.{IsNoAnswer};
 ghost use Rattle.ruletable.specs.Notes.{said_of};
 ghost use Rattle.toolrun.specs.ReportedNotes.{HintedNotes};
 
@@ -15,7 +16,7 @@ use crate::options::AbnfSettings;
 use abnfcheck::SoundAbnf;
 use flatgrammar::Flat;
 use letters::Alphabet;
-use linejudge::{Answer, Judge};
+use linejudge::{Answer, Judge, NoAnswer};
 use refusedlines::LineUnit;
 use ruletable::{Memory, Note, ReadFault};
 use std::alloc::Global;
@@ -35,6 +36,8 @@ pub struct AbnfJudge {
     letters: Alphabet,
     /// Whether a rejection reports the length of the longest viable prefix.
     viable: bool,
+    /// How many items the sets of a line may have; any number if it is `None`.
+    budget: Option<usize>,
     /// The lowered grammar.
     flat: Flat,
     /// The chart, the automaton and the code points, which serve line after line.
@@ -50,7 +53,13 @@ impl Model for AbnfJudge {
 
     ghost coded = { Prim.hlevel (codes, e.the_row.coded) };
 
-    ghost view = { λ j. record { grammar = j.grammar; letters = j.letters; viable = j.viable; limit = j.flat.limit } };
+    ghost view = { λ j. record {
+      grammar = j.grammar;
+      letters = j.letters;
+      viable = j.viable;
+      budget = j.budget;
+      limit = j.flat.limit;
+    } };
 
     ghost invariant = { λ j. IsReadyFor j.grammar j.letters j.viable j.flat j.work.engines.automaton };
 }
@@ -63,27 +72,27 @@ impl AbnfJudge {
         self.flat.limit()
     }
 
-    /// Returns the answer to a line, as a run of the grammar writes it. `Memory` if an allocation fails.
-    pub fn judge(&mut self, line: &[u8]) -> Result<Answer, Memory>
+    /// Returns the answer to a line, as a run of the grammar writes it. `Memory` if an allocation fails, `Costly` if the
+    /// line needs more items than the budget.
+    pub fn judge(&mut self, line: &[u8]) -> Result<Answer, NoAnswer>
         requires within { length line.now ≤ self.old.limit }
         ensures same { self.new ≡ self.old }
         ensures answer { IfOk result (IsAnswerTo self.old.letters self.old.viable (rules_of self.old.grammar.rules)
             self.old.grammar.judged line.now) }
+        ensures costly { IfErr result (IsNoAnswer (NeedsMoreItems self.old.budget self.old.letters self.old.viable
+            (rules_of self.old.grammar.rules) self.old.grammar.judged line.now)) }
     {
         let judge = LineJudge {
             grammar: &self.grammar,
             letters: self.letters,
             viable: self.viable,
-            budget: None,
+            budget: self.budget,
             flat: &self.flat,
             explains: false,
             unit: LineUnit::Line,
             explainer: None,
         };
-        match judge.judge(&mut self.work, line) {
-            Ok(said) => Ok(said),
-            Err(_) => Err(Memory),
-        }
+        judge.judge(&mut self.work, line)
     }
 }
 
@@ -108,15 +117,17 @@ fn judge_by(
       grammar = grammar;
       letters = settings.now.options.letters;
       viable = settings.now.options.viable;
+      budget = settings.now.options.budget;
       limit = judged_size settings.now settings.now.limit;
     }) }
 {
     let flat = lowered(alloc, &grammar, settings)?;
-    let work = Work::new(alloc, &flat, None);
+    let work = Work::new(alloc, &flat, settings.options.budget);
     Ok(AbnfJudge {
         grammar,
         letters: settings.options.letters,
         viable: settings.options.viable,
+        budget: settings.options.budget,
         flat,
         work,
     })
@@ -124,7 +135,7 @@ fn judge_by(
 
 /// Reads and checks a grammar's text. Returns the notes on it, their text, explained if settings ask for that, and what
 /// judges lines by it as settings ask: by the rule that they name, within their limit. They say what symbols are,
-/// whether the longest viable prefix is asked for, and whether lines have their ends. All else of them is ignored.
+/// whether the longest viable prefix is asked for, the budget, and whether lines have their ends. All else of them is ignored.
 /// Fails by the text's fault if it is not a grammar, or if an allocation fails.
 pub fn open_abnf(
     alloc: Global,

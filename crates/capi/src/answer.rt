@@ -2,9 +2,11 @@
 ghost use Rattle.std.specs.Prelude.{◌≡◌, Some};
 ghost use Rattle.capi.specs.JudgeCall.{IsJudgeCall, c_answer, c_status};
 
-use abnfrun::{AbnfJudge, Answer};
-use ruletable::Memory;
+use abnfrun::{AbnfJudge, Answer, NoAnswer};
 use toolrun::Status;
+
+/// The status of a line that needs more items than the budget.
+pub const COSTLY: u8 = 7;
 
 /// The answer to a line.
 #[repr(C)]
@@ -12,8 +14,8 @@ use toolrun::Status;
 pub struct CAnswer {
     /// How many symbols the longest viable prefix of a rejected line has, if the settings ask for that; else 0.
     pub reached: usize,
-    /// 0: the line is derived; 1: it is not; 3: it is longer than the limit; 5: an allocation failed; `BAD_SETTINGS`:
-    /// there is no judge.
+    /// 0: the line is derived; 1: it is not; 3: it is longer than the limit; 5: an allocation failed; `COSTLY`: it needs
+    /// more items than the budget; `BAD_SETTINGS`: there is no judge.
     pub status: u8,
 }
 
@@ -54,6 +56,7 @@ pub fn judge_line(judge: &mut AbnfJudge, line: &[u8]) -> CAnswer
     }
     match judge.judge(line) {
         Ok(said) => answer_of(said),
-        Err(Memory) => without_answer(Status::NoMemory.code()),
+        Err(NoAnswer::Costly(_)) => without_answer(COSTLY),
+        Err(NoAnswer::Memory) => without_answer(Status::NoMemory.code()),
     }
 }

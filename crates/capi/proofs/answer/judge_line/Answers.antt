@@ -1,6 +1,6 @@
 -- The line is too long, or judged.
 use Rattle.std.proofs.Common.{arith}
-use Rattle.capi.specs.JudgeCall.{answers, no_memory, overlong}
+use Rattle.capi.specs.JudgeCall.{answers, costly, no_memory, overlong}
 use Rattle.capi.proofs.answer.judge_line.Goals as goal
 
 pub returns-then-line-limit-clause-reported : goal.returns-then-line-limit-clause-reported
@@ -15,6 +15,10 @@ returns-in-Ok-clause-reported c =
     let limit = c.limit.ensures in
     answers c.args.judge.now c.in-Ok.said (omega (arith, within, limit)) c.in-Ok.ensures.answer c.answer_of.ensures
 
-pub returns-in-Err-clause-reported : goal.returns-in-Err-clause-reported
-returns-in-Err-clause-reported c =
-    no_memory c.args.judge.now (rw c.code-in-Err.ensures at c.without_answer-in-Err.ensures)
+pub returns-in-Costly-clause-reported : goal.returns-in-Costly-clause-reported
+returns-in-Costly-clause-reported c =
+    costly c.args.judge.now _ c.in-Costly.ensures.costly c.without_answer-in-Costly.ensures
+
+pub returns-in-Memory-clause-reported : goal.returns-in-Memory-clause-reported
+returns-in-Memory-clause-reported c =
+    no_memory c.args.judge.now (rw c.code-in-Memory.ensures at c.without_answer-in-Memory.ensures)
