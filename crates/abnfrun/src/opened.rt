@@ -72,8 +72,8 @@ impl AbnfJudge {
         self.flat.limit()
     }
 
-    /// Returns the answer to a line, as a run of the grammar writes it. `Memory` if an allocation fails, `Costly` if the
-    /// line needs more items than the budget.
+    /// Returns the answer to a line, as a run of the grammar writes it. `Memory` if an allocation fails, `Costly` if
+    /// the line needs more items than the budget.
     pub fn judge(&mut self, line: &[u8]) -> Result<Answer, NoAnswer>
         requires within { length line.now ≤ self.old.limit }
         ensures same { self.new ≡ self.old }
@@ -134,9 +134,9 @@ fn judge_by(
 }
 
 /// Reads and checks a grammar's text. Returns the notes on it, their text, explained if settings ask for that, and what
-/// judges lines by it as settings ask: by the rule that they name, within their limit. They say what symbols are,
-/// whether the longest viable prefix is asked for, the budget, and whether lines have their ends. All else of them is ignored.
-/// Fails by the text's fault if it is not a grammar, or if an allocation fails.
+/// judges lines by it as settings ask: by the rule that they name, within their limit and their budget. They say what
+/// symbols are, whether the longest viable prefix is asked for, and whether lines have their ends. All else of them is
+/// ignored. Fails by the text's fault if it is not a grammar, or if an allocation fails.
 pub fn open_abnf(
     alloc: Global,
     text: &[u8],

@@ -14,8 +14,8 @@ pub const COSTLY: u8 = 7;
 pub struct CAnswer {
     /// How many symbols the longest viable prefix of a rejected line has, if the settings ask for that; else 0.
     pub reached: usize,
-    /// 0: the line is derived; 1: it is not; 3: it is longer than the limit; 5: an allocation failed; `COSTLY`: it needs
-    /// more items than the budget; `BAD_SETTINGS`: there is no judge.
+    /// 0: the line is derived; 1: it is not; 3: it is longer than the limit; 5: an allocation failed; `COSTLY`: it
+    /// needs more items than the budget; `BAD_SETTINGS`: there is no judge.
     pub status: u8,
 }
 
