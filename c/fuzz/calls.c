@@ -286,6 +286,7 @@ static int read_case(test *it, const uint8_t *data, size_t size) {
     it->settings.mode = (data[0] >> 6) % 3;
     it->is_abnf = data[1] & 1;
     it->settings.limit = limits[data[1] >> 1 & 7];
+    it->settings.budget = data[0] >> 6 == 3 && !it->is_abnf ? 1u + data[3] : 0; /* a judge has no budget */
     it->out_size = sizes[data[1] >> 4 & 7];
     it->err_size = sizes[data[2] & 7];
     it->granted = data[2] >> 3 ? 1 + (data[2] >> 3) * (data[3] + 1l) / 4 : -1;
