@@ -272,9 +272,9 @@ class Abnf(_PerThread):
         next to those that can follow. `Listed.RANDOM` draws derived lines by `seed`, and they may come again.
 
         The grammar is opened for the first line. `ValueError` if `limit` is not from 1 to 16777216, `count` not from 1
-        to 4294967295, or `seed` not from 0 to 18446744073709551615. The iterator raises `GrammarError` if the grammar is rejected, `TooManyStacks` after the last
-        line that is found if more may follow, `OutOfMemory` if an allocation fails, and `RuntimeError` on another
-        thread than that which asked for the first line.
+        to 4294967295, or `seed` not from 0 to 18446744073709551615. The iterator raises `GrammarError` if the grammar
+        is rejected, `TooManyStacks` after the last line that is found if more may follow, `OutOfMemory` if an
+        allocation fails, and `RuntimeError` on another thread than that which asked for the first line.
         """
         _in_range("limit", limit, MAX_LIMIT)
         _in_range("count", count, MAX_NUMBER)
@@ -376,8 +376,8 @@ class Peg(_PerThread):
     """A grammar in the syntax of peg(1), with its start rule: the first, if none is named.
 
     A unit of an input looks at no more than `limit` bytes, and prints no more than `budget` bytes. `GrammarError` if
-    the grammar is rejected, `OutOfMemory` if an allocation fails. Each thread reads the grammar once. `file` is the name
-    of the grammar in findings.
+    the grammar is rejected, `OutOfMemory` if an allocation fails. Each thread reads the grammar once. `file` is the
+    name of the grammar in findings.
     """
 
     def __init__(
