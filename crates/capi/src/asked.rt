@@ -17,8 +17,8 @@ pub const BAD_SETTINGS: u8 = 6;
 /// The settings of a run, as C writes them. A later version adds its fields after the whole struct, and so makes it
 /// larger. The unused byte before `budget` stays unused, since callers do not set it.
 ///
-/// An older caller's struct ends before `budget`. So no field from there on is read before the size tells that it is
-/// there.
+/// An older caller's struct ends before `budget`. So no field from there on is read before it is known by the size to
+/// be there.
 #[repr(C)]
 #[derive(Clone, Copy)]
 pub struct CSettings {
