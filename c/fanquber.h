@@ -36,9 +36,10 @@ enum {
     FANQUBER_NOT_KNOWN = 3,   /* fanquber_compare: the budget was spent; fanquber_lines_next: too many states */
     FANQUBER_FAULT = 4,       /* an allocation for an output failed */
     FANQUBER_NO_MEMORY = 5,   /* another allocation failed */
-    FANQUBER_BAD_SETTINGS = 6 /* the library does not know the size of the settings, a number in them is out of its range,
-                               * the name is not UTF-8, or a judge or a runner is open that is to be closed, or closed that
-                               * is to be open: nothing was done */
+    FANQUBER_BAD_SETTINGS = 6, /* the library does not know the size of the settings, a number in them is out of its range,
+                                * the name is not UTF-8, or a judge or a runner is open that is to be closed, or closed that
+                                * is to be open: nothing was done */
+    FANQUBER_COSTLY = 7        /* fanquber_abnf_judge: the sets of the line need more items than the budget */
 };
 
 enum { FANQUBER_DEFAULT_LIMIT = 65536, FANQUBER_MAX_LIMIT = 16777216, FANQUBER_DEFAULT_SEED = 1 };
@@ -55,8 +56,8 @@ typedef struct fanquber_settings {
     bool viable;     /* fanquber_abnf: `no N` in place of `no`: the longest viable prefix has N letters */
     bool nul;        /* fanquber_abnf: lines end with NUL in place of LF, and may hold LF */
     bool explain;    /* a fault of the grammar, notes, rejected lines and stops are explained */
-    size_t budget;   /* fanquber_abnf: the sets of a line have at most so many items; fanquber_peg, its windows, and
-                      * fanquber_peg_run: a unit prints at most so many bytes; 0: any number */
+    size_t budget;   /* fanquber_abnf and fanquber_abnf_judge: the sets of a line have at most so many items; fanquber_peg,
+                      * its windows, and fanquber_peg_run: a unit prints at most so many bytes; 0: any number */
     uint64_t seed;   /* fanquber_lines_open: what FANQUBER_RANDOM draws lines by */
 } fanquber_settings;
 
@@ -118,8 +119,8 @@ typedef struct fanquber_judge {
 typedef struct fanquber_answer {
     size_t reached; /* settings.viable: how many letters the longest viable prefix of a rejected line has; else 0 */
     uint8_t status; /* FANQUBER_DONE: the line is derived; FANQUBER_NO_MATCH: it is not; FANQUBER_OVERLONG: it is not
-                     * judged, since it is longer than the limit; FANQUBER_NO_MEMORY; FANQUBER_BAD_SETTINGS: the judge is
-                     * closed */
+                     * judged, since it is longer than the limit; FANQUBER_COSTLY: it needs more than the budget;
+                     * FANQUBER_NO_MEMORY; FANQUBER_BAD_SETTINGS: the judge is closed */
 } fanquber_answer;
 
 /* Opens a closed judge by a grammar in ABNF, and writes the messages of fanquber_abnf on the grammar into the buffer, its

@@ -4,7 +4,8 @@
 mod fanquber;
 
 use fanquber::{
-    Alone, DEFAULT_BUDGET, Error, Judge, Lines, Listed, Opened, OpenedPeg, Runner, Settings, Status, Tool, compare, run, run_each,
+    Alone, Answer, DEFAULT_BUDGET, Error, Judge, Lines, Listed, Opened, OpenedPeg, Runner, Settings, Status, Tool,
+    compare, run, run_each,
 };
 
 fn each_is_a_run(text: &str, settings: &Settings) -> Result<(), Error> {
@@ -58,6 +59,11 @@ fn budgets() -> Result<(), Error> {
     let got = run(Tool::Peg, b"S <- < 'a'* > {yytext} 'b'", &settings, b"aabaaab")?;
     assert_eq!((got.out, got.status), (b"aa\n".to_vec(), Status::Overlong));
     assert_eq!(got.err, b"unit at byte 3 prints more than 3 bytes\n");
+    let settings = Settings { budget: 100, ..Settings::default() };
+    let Opened::Judge(mut judge) = Judge::open(b"s = s s / \"a\"\n", &settings)? else {
+        panic!("the grammar is rejected");
+    };
+    assert_eq!((judge.judge(&[b'a'; 50])?, judge.judge(b"a")?), (Answer::Costly, Answer::Yes));
     Ok(())
 }
 

@@ -387,6 +387,8 @@ pub enum Answer {
     No(usize),
     /// It is longer than the limit.
     Overlong,
+    /// It needs more items than the budget.
+    Costly,
 }
 
 /// A grammar in ABNF that is read once, and judges line after line. It stays on its thread.
@@ -443,6 +445,7 @@ impl Judge {
             0 => Ok(Answer::Yes),
             1 => Ok(Answer::No(got.reached)),
             3 => Ok(Answer::Overlong),
+            7 => Ok(Answer::Costly),
             _ => Err(Error::Memory),
         }
     }

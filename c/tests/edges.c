@@ -310,6 +310,12 @@ static void judged_lines(void) {
         fanquber_abnf_close(&judge);
     }
     err_size = ROOM;
+    settings = (fanquber_settings){ SIZE, 60, FANQUBER_RUN, FANQUBER_BYTES, false, false, false, false, false, 100, 1 };
+    judge = opened(&settings, "s = s s / \"a\"\n", "", err_size);
+    ANSWERS("aaaaaaaaaaaaaaaaaaaaaaaaaaaaaaaaaaaaaaaaaaaaaaaaaa", 50, FANQUBER_COSTLY, 0);
+    ANSWERS("a", 1, FANQUBER_DONE, 0); /* it goes on */
+    fanquber_abnf_close(&judge);
+    settings = (fanquber_settings){ SIZE, 2, FANQUBER_RUN, FANQUBER_UTF8, true, false, true, false, false, 0, 1 };
     judge = opened(&settings, LETTER_X, "no-rule", err_size);
     CHECK(got.status == FANQUBER_REFUSED && got.err_len > 0 && !judge.is_open);
     settings.named = false;

@@ -145,7 +145,7 @@ class Abnf(_PerThread):
     A line is bytes, or a `str`, which stands for its bytes in UTF-8. Its letters are its bytes, or its code points
     with `Letters.UTF8`. It may hold any byte, and has at most `limit` bytes. `GrammarError` if the grammar is
     rejected, `OutOfMemory` if an allocation fails; each call that judges lines raises `Overlong` for a line above the
-    limit.
+    limit, and `Costly` for one whose sets need more than `budget` items.
 
     Each thread reads the grammar once, and again for `viable` and `refusal`. `file` is the name of the grammar in
     findings.
@@ -158,21 +158,28 @@ class Abnf(_PerThread):
         *,
         letters: Letters = Letters.BYTES,
         limit: int = DEFAULT_LIMIT,
+        budget: Optional[int] = None,
         file: str = "",
     ) -> None:
         super().__init__()
         self._text, self._file = as_bytes(text), file
-        self._rule, self._letters, self._limit = rule, letters, limit
+        self._rule, self._letters, self._limit, self._budget = rule, letters, limit, budget
         self.notes: List[str] = _lines(self._judge().opening.err)
         """The notes on the grammar, none of which rejects it."""
 
     @classmethod
     def from_file(
-        cls, path: Path, rule: Optional[str] = None, *, letters: Letters = Letters.BYTES, limit: int = DEFAULT_LIMIT
+        cls,
+        path: Path,
+        rule: Optional[str] = None,
+        *,
+        letters: Letters = Letters.BYTES,
+        limit: int = DEFAULT_LIMIT,
+        budget: Optional[int] = None,
     ) -> "Abnf":
         """Returns the grammar of a file, whose name its findings bear. `OSError` if the file cannot be read; else
         raises what `Abnf` raises."""
-        return cls(_contents(path), rule, letters=letters, limit=limit, file=os.fspath(path))
+        return cls(_contents(path), rule, letters=letters, limit=limit, budget=budget, file=os.fspath(path))
 
     def _explained(self) -> List[Finding]:
         # A line may hold any byte here, so none is out of reach
@@ -195,7 +202,14 @@ class Abnf(_PerThread):
         """Returns what judges lines on this thread: it is opened when it is first asked for."""
         judge: AbnfJudge = self._opened(
             "viable" if viable else "plain",
-            lambda: AbnfJudge(self._text, limit=self._limit, rule=self._rule, letters=self._letters, viable=viable),
+            lambda: AbnfJudge(
+                self._text,
+                limit=self._limit,
+                rule=self._rule,
+                letters=self._letters,
+                viable=viable,
+                budget=self._budget,
+            ),
         )
         return judge
 
@@ -208,10 +222,10 @@ class Abnf(_PerThread):
             return judge.derived(texts)
         return list(map(bool, self.answers(joined)))
 
-    def answers(self, text: bytes, *, budget: Optional[int] = None) -> bytes:
+    def answers(self, text: bytes) -> bytes:
         """Returns a byte for each line of a text: 1 if the rule derives it, else 0. Lines end at line feeds alone. It
-        is a whole run, which reads the grammar. `Costly` for a line that needs more than `budget` items."""
-        reply = abnf(self._text, text, limit=self._limit, rule=self._rule, letters=self._letters, budget=budget)
+        is a whole run, which reads the grammar."""
+        reply = abnf(self._text, text, limit=self._limit, rule=self._rule, letters=self._letters, budget=self._budget)
         _raise_fault(reply, self._explained)
         return reply.out.replace(b"yes\n", b"\1").replace(b"no\n", b"\0")
 
@@ -248,6 +262,7 @@ class Abnf(_PerThread):
             letters=self._letters,
             nul=nul,
             explain=True,
+            budget=self._budget,
         )
         _raise_fault(reply, self._explained)
         return read_refusal(at, reply.err)

@@ -17,6 +17,7 @@ MAX_NUMBER = 4294967295
 """The greatest count of lines, and the greatest budget."""
 _SONAME = "libfanquber.so.2"
 _BAD_SETTINGS = 6
+_COSTLY = 7
 
 
 class Mode(enum.IntEnum):
@@ -363,20 +364,29 @@ class AbnfJudge(_Opened):
     """A grammar in ABNF that is opened."""
 
     def __init__(
-        self, grammar: Text, *, limit: int, rule: Optional[str], letters: Letters, viable: bool = False
+        self,
+        grammar: Text,
+        *,
+        limit: int,
+        rule: Optional[str],
+        letters: Letters,
+        viable: bool = False,
+        budget: Optional[int] = None,
     ) -> None:
-        settings = _settings(limit, Mode.RUN, rule, letters=letters, viable=viable)
+        settings = _settings(limit, Mode.RUN, rule, budget, letters=letters, viable=viable)
         super().__init__(_library.fanquber_abnf_open, _library.fanquber_abnf_close, settings, grammar, rule)
-        self._limit = limit
+        self._limit, self._budget = limit, budget
 
     def answer(self, line: bytes) -> Answer:
-        """Returns the answer to a line. `Overlong` if it is longer than the limit."""
+        """Returns the answer to a line. `Overlong` if it is longer than the limit, `Costly` if it needs more than the
+        budget."""
         got = _library.fanquber_abnf_judge(ctypes.byref(self._place), line, len(line))
         self._check([got.status])
         return Answer(got.status == Status.DONE, got.reached)
 
     def derived(self, lines: Iterable[bytes]) -> List[bool]:
-        """Returns for each line whether the rule derives it. `Overlong` if one is longer than the limit."""
+        """Returns for each line whether the rule derives it. `Overlong` if one is longer than the limit, `Costly` if
+        one needs more than the budget."""
         call, place = _library.fanquber_abnf_judge, ctypes.byref(self._place)
         statuses = [call(place, line, len(line)).status for line in lines]
         self._check(statuses)
@@ -387,9 +397,11 @@ class AbnfJudge(_Opened):
         if max(statuses, default=0) <= Status.NO_MATCH:
             return
         at = next(index for index, status in enumerate(statuses) if status > Status.NO_MATCH)
+        out = b"".join(b"no\n" if status else b"yes\n" for status in statuses[:at])
+        if statuses[at] == _COSTLY:
+            raise Costly(f"line {at + 1} needs more than {self._budget} items", out)
         if statuses[at] != Status.OVERLONG:
             raise OutOfMemory("out of memory")
-        out = b"".join(b"no\n" if status else b"yes\n" for status in statuses[:at])
         raise Overlong(f"line {at + 1} longer than {self._limit} bytes", out)
 
 

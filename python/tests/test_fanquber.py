@@ -66,9 +66,13 @@ class AbnfTest(unittest.TestCase):
         self.assertEqual(got, (b"yes\n", b"line 2 needs more than 100 items\n", Status.OVERLONG))
         self.assertEqual(fanquber.abnf(pairs, f"{long}\n", budget=1000000).out, b"yes\n")
         with self.assertRaises(Costly) as costly:
-            Abnf(pairs).answers(f"a\n{long}\n".encode(), budget=100)
+            Abnf(pairs, budget=100).answers(f"a\n{long}\n".encode())
         self.assertEqual((str(costly.exception), costly.exception.out), ("line 2 needs more than 100 items", b"yes\n"))
         self.assertEqual(pickle.loads(pickle.dumps(costly.exception)).out, b"yes\n")
+        with self.assertRaises(Costly) as costly:
+            Abnf(pairs, budget=100).judge(["a", "b", long])
+        self.assertEqual((str(costly.exception), costly.exception.out), ("line 3 needs more than 100 items", b"yes\nno\n"))
+        self.assertTrue(Abnf(pairs, budget=1000000).derives(long))
         for budget in (0, -1, 2**64 + 1):
             with self.assertRaises(ValueError):
                 fanquber.abnf(DAY, budget=budget)
