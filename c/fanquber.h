@@ -19,7 +19,7 @@ extern "C" {
 /* The version of this interface. A minor version adds calls, and fields at the end of fanquber_settings. Programs that were
  * built with a header of the same major version and no later minor version run with the library unchanged. */
 #define FANQUBER_VERSION_MAJOR 2
-#define FANQUBER_VERSION_MINOR 1
+#define FANQUBER_VERSION_MINOR 2
 
 /* What to do with the grammar. */
 enum { FANQUBER_RUN = 0, FANQUBER_CHECK = 1, FANQUBER_PRINT = 2 };
@@ -32,16 +32,17 @@ enum {
     FANQUBER_DONE = 0,        /* all input was taken, or each line is derived */
     FANQUBER_NO_MATCH = 1,    /* a position where nothing matches, or a line that is not derived */
     FANQUBER_REFUSED = 2,     /* the grammar is rejected: the error output says why */
-    FANQUBER_OVERLONG = 3,    /* a unit or a line is longer than the limit */
+    FANQUBER_OVERLONG = 3,    /* a unit or a line is longer than the limit, or needs more than the budget */
     FANQUBER_NOT_KNOWN = 3,   /* fanquber_compare: the budget was spent; fanquber_lines_next: too many states */
     FANQUBER_FAULT = 4,       /* an allocation for an output failed */
     FANQUBER_NO_MEMORY = 5,   /* another allocation failed */
-    FANQUBER_BAD_SETTINGS = 6 /* the library does not know the size of the settings, a number in them is out of its range,
-                               * the name is not UTF-8, or a judge or a runner is open that is to be closed, or closed that
-                               * is to be open: nothing was done */
+    FANQUBER_BAD_SETTINGS = 6, /* the library does not know the size of the settings, a number in them is out of its range,
+                                * the name is not UTF-8, or a judge or a runner is open that is to be closed, or closed that
+                                * is to be open: nothing was done */
+    FANQUBER_COSTLY = 7        /* fanquber_abnf_judge: the sets of the line need more items than the budget */
 };
 
-enum { FANQUBER_DEFAULT_LIMIT = 65536, FANQUBER_MAX_LIMIT = 16777216 };
+enum { FANQUBER_DEFAULT_LIMIT = 65536, FANQUBER_MAX_LIMIT = 16777216, FANQUBER_DEFAULT_SEED = 1 };
 
 /* The settings of a run. Begin with FANQUBER_SETTINGS, which are those of the programs without options. A library that
  * knows only a smaller struct, since it is older than this header, returns FANQUBER_BAD_SETTINGS. */
@@ -55,10 +56,13 @@ typedef struct fanquber_settings {
     bool viable;     /* fanquber_abnf: `no N` in place of `no`: the longest viable prefix has N letters */
     bool nul;        /* fanquber_abnf: lines end with NUL in place of LF, and may hold LF */
     bool explain;    /* a fault of the grammar, notes, rejected lines and stops are explained */
+    size_t budget;   /* fanquber_abnf and fanquber_abnf_judge: the sets of a line have at most so many items; fanquber_peg,
+                      * its windows, and fanquber_peg_run: a unit prints at most so many bytes; 0: any number */
+    uint64_t seed;   /* fanquber_lines_open: what FANQUBER_RANDOM draws lines by */
 } fanquber_settings;
 
 #define FANQUBER_SETTINGS { sizeof(fanquber_settings), FANQUBER_DEFAULT_LIMIT, FANQUBER_RUN, FANQUBER_BYTES, \
-                            false, false, false, false, false }
+                            false, false, false, false, false, 0, FANQUBER_DEFAULT_SEED }
 
 /* The result of a call. The lengths are those of the whole outputs, as with snprintf: where out_len is above out_size, the
  * buffer holds a prefix, and a call with more room gives all. */
@@ -115,8 +119,8 @@ typedef struct fanquber_judge {
 typedef struct fanquber_answer {
     size_t reached; /* settings.viable: how many letters the longest viable prefix of a rejected line has; else 0 */
     uint8_t status; /* FANQUBER_DONE: the line is derived; FANQUBER_NO_MATCH: it is not; FANQUBER_OVERLONG: it is not
-                     * judged, since it is longer than the limit; FANQUBER_NO_MEMORY; FANQUBER_BAD_SETTINGS: the judge is
-                     * closed */
+                     * judged, since it is longer than the limit; FANQUBER_COSTLY: it needs more than the budget;
+                     * FANQUBER_NO_MEMORY; FANQUBER_BAD_SETTINGS: the judge is closed */
 } fanquber_answer;
 
 /* Opens a closed judge by a grammar in ABNF, and writes the messages of fanquber_abnf on the grammar into the buffer, its
@@ -202,7 +206,10 @@ fanquber_comparison fanquber_compare(const fanquber_settings *settings, size_t b
 /* Which lines are listed. */
 enum {
     FANQUBER_DERIVED = 0, /* those that the rule derives: shorter ones first, in the order of abnfg(1), each once */
-    FANQUBER_MISSED = 1   /* near ones that it does not derive, as abnfg(1) lists them with `-m miss` */
+    FANQUBER_MISSED = 1,  /* near ones that it does not derive, as abnfg(1) lists them with `-m miss` */
+    FANQUBER_EDGES = 2,   /* near ones as abnfg(1) lists them with `-m miss -e` */
+    FANQUBER_RANDOM = 3   /* lines that it derives, drawn by the seed as with `-m random`: they may come again, and have
+                           * no end if there is one */
 };
 
 /* Lines of a rule, one after another. They begin as FANQUBER_LINES, which is closed. The fields belong to the library. They

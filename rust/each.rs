@@ -4,7 +4,8 @@
 mod fanquber;
 
 use fanquber::{
-    Alone, DEFAULT_BUDGET, Error, Judge, Lines, Listed, Opened, OpenedPeg, Runner, Settings, Status, Tool, compare, run, run_each,
+    Alone, Answer, DEFAULT_BUDGET, Error, Judge, Lines, Listed, Opened, OpenedPeg, Runner, Settings, Status, Tool,
+    compare, run, run_each,
 };
 
 fn each_is_a_run(text: &str, settings: &Settings) -> Result<(), Error> {
@@ -45,11 +46,29 @@ fn listed_lines() -> Result<(), Error> {
     let lines = Lines::open(b"d = 1*2%x30-31\n", &settings, Listed::Derived)?.expect("a grammar");
     let listed: Vec<_> = lines.collect::<Result<_, _>>()?;
     assert_eq!(listed, ["0", "1", "00", "01", "10", "11"].map(str::as_bytes));
+    let edges = Lines::open(b"a = %x20\n", &Settings { limit: 1, ..settings }, Listed::Edges)?.expect("a grammar");
+    assert_eq!(edges.collect::<Result<Vec<_>, _>>()?, ["", "!", "\x1F"].map(str::as_bytes));
+    let mut drawn = Lines::open(b"d = %x30\n", &Settings { seed: 7, ..settings }, Listed::Random)?.expect("a grammar");
+    assert_eq!((drawn.next(), drawn.next()), (Some(Ok(b"0".to_vec())), Some(Ok(b"0".to_vec()))));
     assert!(Lines::open(b"d = )\n", &settings, Listed::Missed)?.is_err_and(|notes| notes == b"line 1: syntax error\n"));
     Ok(())
 }
 
+fn budgets() -> Result<(), Error> {
+    let settings = Settings { budget: 3, ..Settings::default() };
+    let got = run(Tool::Peg, b"S <- < 'a'* > {yytext} 'b'", &settings, b"aabaaab")?;
+    assert_eq!((got.out, got.status), (b"aa\n".to_vec(), Status::Overlong));
+    assert_eq!(got.err, b"unit at byte 3 prints more than 3 bytes\n");
+    let settings = Settings { budget: 100, ..Settings::default() };
+    let Opened::Judge(mut judge) = Judge::open(b"s = s s / \"a\"\n", &settings)? else {
+        panic!("the grammar is rejected");
+    };
+    assert_eq!((judge.judge(&[b'a'; 50])?, judge.judge(b"a")?), (Answer::Costly, Answer::Yes));
+    Ok(())
+}
+
 fn main() -> Result<(), Error> {
+    budgets()?;
     comparisons()?;
     listed_lines()?;
     let words = "S <- < [a-z]+ > { yytext }\n";

@@ -12,6 +12,8 @@ struct CSettings {
     viable: bool,
     nul: bool,
     explain: bool,
+    budget: usize,
+    seed: u64,
 }
 
 #[repr(C)]
@@ -170,6 +172,10 @@ pub struct Settings<'a> {
     pub viable: bool,
     pub nul: bool,
     pub explain: bool,
+    /// How many items the sets of a line may have, or how many bytes a unit may print; any number if it is 0.
+    pub budget: usize,
+    /// The seed of lines by lot.
+    pub seed: u64,
 }
 
 impl Default for Settings<'_> {
@@ -183,6 +189,8 @@ impl Default for Settings<'_> {
             viable: false,
             nul: false,
             explain: false,
+            budget: 0,
+            seed: 1,
         }
     }
 }
@@ -250,6 +258,8 @@ impl Settings<'_> {
             viable: self.viable,
             nul: self.nul,
             explain: self.explain,
+            budget: self.budget,
+            seed: self.seed,
         }
     }
 }
@@ -377,6 +387,8 @@ pub enum Answer {
     No(usize),
     /// It is longer than the limit.
     Overlong,
+    /// It needs more items than the budget.
+    Costly,
 }
 
 /// A grammar in ABNF that is read once, and judges line after line. It stays on its thread.
@@ -433,6 +445,7 @@ impl Judge {
             0 => Ok(Answer::Yes),
             1 => Ok(Answer::No(got.reached)),
             3 => Ok(Answer::Overlong),
+            7 => Ok(Answer::Costly),
             _ => Err(Error::Memory),
         }
     }
@@ -636,6 +649,10 @@ pub enum Listed {
     Derived,
     /// Near ones that it does not derive.
     Missed,
+    /// Near ones, with wrong letters next to those that can follow.
+    Edges,
+    /// Some that it derives, by lot. They have no end if there is one.
+    Random,
 }
 
 /// Lines of a grammar in ABNF, one after another. They stay on their thread.

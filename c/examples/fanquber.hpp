@@ -145,11 +145,12 @@ public:
     /// The notes on the grammar.
     const std::string &notes() const { return notes_; }
 
-    /// Judges a line. Throws std::bad_alloc where an allocation fails, std::length_error for a line above the limit, and
-    /// std::logic_error if the judge was moved from.
+    /// Judges a line. Throws std::bad_alloc where an allocation fails, std::length_error for a line above the limit or the
+    /// budget, and std::logic_error if the judge was moved from.
     answer operator()(std::string_view line) {
         const fanquber_answer got = fanquber_abnf_judge(&own_, line.data() ? line.data() : "", line.size());
         if (got.status == FANQUBER_OVERLONG) throw std::length_error("fanquber: line longer than the limit");
+        if (got.status == FANQUBER_COSTLY) throw std::length_error("fanquber: line needs more than the budget");
         if (got.status == FANQUBER_NO_MEMORY) throw std::bad_alloc();
         if (got.status == FANQUBER_BAD_SETTINGS) throw std::logic_error("fanquber: the judge was moved from");
         return {got.status == FANQUBER_DONE, got.reached};
@@ -263,7 +264,8 @@ private:
 /// Lines of a grammar in ABNF, one after another. They stay on the thread that opens them.
 class lines {
 public:
-    /// `which` is FANQUBER_DERIVED or FANQUBER_MISSED. Throws as the constructor of judge does.
+    /// `which` is FANQUBER_DERIVED, FANQUBER_MISSED, FANQUBER_EDGES or FANQUBER_RANDOM. Throws as the constructor of judge
+    /// does.
     explicit lines(const grammar &of, int which = FANQUBER_DERIVED)
         : notes_(1024, '\0'), line_(of.settings_.limit * (of.settings_.letters == FANQUBER_UTF8 ? 4 : 1), '\0') {
         for (;;) {

@@ -49,6 +49,7 @@ static int take_options(int count, char **words, fanquber_settings *settings, co
         case 'x': settings->explain = true; continue;
         case 's': settings->named = true; *name = value; break;
         case 'l': settings->limit = strtoul(value, NULL, 10); break;
+        case 'b': settings->budget = strtoul(value, NULL, 10); break;
         case 'm': settings->mode = *value == 'c' ? FANQUBER_CHECK : *value == 'p' ? FANQUBER_PRINT : FANQUBER_RUN; break;
         case 'u': settings->letters = *value == 'u' ? FANQUBER_UTF8 : FANQUBER_BYTES; break;
         }

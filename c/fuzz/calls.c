@@ -218,7 +218,7 @@ static void judge_lines(const test *it, const reply *run) {
         CHECK(is_cut(answer.status) || is_cut(again.status) || answer.status == again.status);
         CHECK((answer.status == FANQUBER_OVERLONG) == (len > it->settings.limit));
         CHECK(answer.reached <= len);
-        if (is_cut(answer.status) || answer.status == FANQUBER_OVERLONG) break;
+        if (is_cut(answer.status) || answer.status == FANQUBER_OVERLONG || answer.status == FANQUBER_COSTLY) break;
         if (it->settings.mode == FANQUBER_RUN && run->got.status <= FANQUBER_OVERLONG && is_whole(run)) {
             char want[32] = "yes\n";
             if (answer.status == FANQUBER_NO_MATCH)
@@ -286,6 +286,7 @@ static int read_case(test *it, const uint8_t *data, size_t size) {
     it->settings.mode = (data[0] >> 6) % 3;
     it->is_abnf = data[1] & 1;
     it->settings.limit = limits[data[1] >> 1 & 7];
+    it->settings.budget = data[0] >> 6 == 3 ? 1u + data[3] : 0;
     it->out_size = sizes[data[1] >> 4 & 7];
     it->err_size = sizes[data[2] & 7];
     it->granted = data[2] >> 3 ? 1 + (data[2] >> 3) * (data[3] + 1l) / 4 : -1;

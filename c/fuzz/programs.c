@@ -68,8 +68,8 @@ static fanquber_result run(const opened *of, text input, void *out, size_t out_s
     static const char *modes[] = { "-mrun", "-mcheck", "-mprint" };
     const fanquber_settings *asked = &of->settings;
     const int is_abnf = of->program[0] == 'a';
-    char path[4096], limit[32], rule[4096] = "-s=", options[8] = "-";
-    char *words[10] = { path, limit };
+    char path[4096], limit[32], rule[4096] = "-s=", options[8] = "-", budget[32];
+    char *words[11] = { path, limit };
     int count = 2;
     if (asked->size != sizeof *asked || asked->limit < 1 || asked->limit > FANQUBER_MAX_LIMIT) return BAD;
     if (asked->mode > FANQUBER_PRINT || asked->letters > FANQUBER_UTF8 || of->name.len > sizeof rule - 4) return BAD;
@@ -78,6 +78,8 @@ static fanquber_result run(const opened *of, text input, void *out, size_t out_s
     snprintf(path, sizeof path, "%s/%s", getenv("BIN") ? getenv("BIN") : BIN, of->program);
     snprintf(limit, sizeof limit, "-l%zu", asked->limit);
     words[count++] = (char *)modes[asked->mode];
+    snprintf(budget, sizeof budget, "-b%zu", asked->budget);
+    if (asked->budget) words[count++] = budget;
     if (asked->named) words[count++] = rule;
     if (asked->letters && is_abnf) words[count++] = "-uutf8";
     if (asked->raw && !is_abnf) strcat(options, "r");

@@ -88,6 +88,10 @@ int main() {
     }
     CHECK(is_refused);
     CHECK(fanquber::runner(of)("bcdefgh").out.size() == 7 * 901);
+    fanquber::grammar cheap(fanquber::tool::peg, "S <- < 'a'* > {yytext} 'b'");
+    cheap.settings().budget = 3;
+    CHECK(cheap.run("aabaaab").out == "aa\n" && cheap.run("aabaaab").status == FANQUBER_OVERLONG);
+    CHECK(cheap.run("aabaaab").err == "unit at byte 3 prints more than 3 bytes\n");
     fanquber::grammar newer = of;
     newer.settings().size += 8; // as if fanquber.h had a field more
     bool is_bad = false;

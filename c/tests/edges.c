@@ -1,15 +1,18 @@
-/* edges: what a call does with small buffers, with settings that are out of range, and with each setting, what a judge
- * answers, what a runner writes, and what is found of two grammars, and which lines
- * are listed. */
+/* edges: what a call does with small buffers, with settings that are out of range, with each setting, and with those of
+ * older callers; what a judge answers, what a runner writes, what is found of two grammars, and which lines are listed. */
 #include "check.h"
+
+#include <sys/mman.h>
+#include <unistd.h>
 
 #define LETTER_X "a = \"x\"\n"
 
-/* The library takes settings of this size alone, and their fields at these offsets. */
-enum { SIZE = 24 };
+/* The library takes settings of these sizes alone, and their fields at these offsets. */
+enum { OLDER_SIZE = 24, SIZE = 40 };
 _Static_assert(sizeof(fanquber_settings) == SIZE, "the size of the settings");
 _Static_assert(offsetof(fanquber_settings, size) == 0 && offsetof(fanquber_settings, limit) == 8, "the numbers");
 _Static_assert(offsetof(fanquber_settings, mode) == 16 && offsetof(fanquber_settings, explain) == 22, "the bytes");
+_Static_assert(offsetof(fanquber_settings, budget) == OLDER_SIZE && offsetof(fanquber_settings, seed) == 32, "the rest");
 
 enum { ROOM = 64 };
 static char out[ROOM], err[ROOM];
@@ -54,17 +57,19 @@ static void bad_settings(void) {
         fanquber_settings settings;
         const char *name;
     } rows[] = {
-        { { SIZE, 0, FANQUBER_RUN, FANQUBER_BYTES, false, false, false, false, false }, "" },
-        { { SIZE, FANQUBER_MAX_LIMIT + 1, FANQUBER_RUN, FANQUBER_BYTES, false, false, false, false, false }, "" },
-        { { SIZE, 9, 3, FANQUBER_BYTES, false, false, false, false, false }, "" },
-        { { SIZE, 9, FANQUBER_RUN, 2, false, false, false, false, false }, "" },
-        { { SIZE, 9, FANQUBER_RUN, FANQUBER_BYTES, true, false, false, false, false }, "\xff" },
+        { { SIZE, 0, FANQUBER_RUN, FANQUBER_BYTES, false, false, false, false, false, 0, 1 }, "" },
+        { { SIZE, FANQUBER_MAX_LIMIT + 1, FANQUBER_RUN, FANQUBER_BYTES, false, false, false, false, false, 0, 1 }, "" },
+        { { SIZE, 9, 3, FANQUBER_BYTES, false, false, false, false, false, 0, 1 }, "" },
+        { { SIZE, 9, FANQUBER_RUN, 2, false, false, false, false, false, 0, 1 }, "" },
+        { { SIZE, 9, FANQUBER_RUN, FANQUBER_BYTES, true, false, false, false, false, 0, 1 }, "\xff" },
         /* a size that was not set, and those of smaller and larger structs */
-        { { 0, 9, FANQUBER_RUN, FANQUBER_BYTES, false, false, false, false, false }, "" },
-        { { SIZE - 1, 9, FANQUBER_RUN, FANQUBER_BYTES, false, false, false, false, false }, "" },
-        { { SIZE + 1, 9, FANQUBER_RUN, FANQUBER_BYTES, false, false, false, false, false }, "" },
-        { { 2 * SIZE, 9, FANQUBER_RUN, FANQUBER_BYTES, false, false, false, false, false }, "" },
-        { { SIZE_MAX, 9, FANQUBER_RUN, FANQUBER_BYTES, false, false, false, false, false }, "" },
+        { { 0, 9, FANQUBER_RUN, FANQUBER_BYTES, false, false, false, false, false, 0, 1 }, "" },
+        { { OLDER_SIZE - 1, 9, FANQUBER_RUN, FANQUBER_BYTES, false, false, false, false, false, 0, 1 }, "" },
+        { { OLDER_SIZE + 8, 9, FANQUBER_RUN, FANQUBER_BYTES, false, false, false, false, false, 0, 1 }, "" },
+        { { SIZE - 1, 9, FANQUBER_RUN, FANQUBER_BYTES, false, false, false, false, false, 0, 1 }, "" },
+        { { SIZE + 1, 9, FANQUBER_RUN, FANQUBER_BYTES, false, false, false, false, false, 0, 1 }, "" },
+        { { 2 * SIZE, 9, FANQUBER_RUN, FANQUBER_BYTES, false, false, false, false, false, 0, 1 }, "" },
+        { { SIZE_MAX, 9, FANQUBER_RUN, FANQUBER_BYTES, false, false, false, false, false, 0, 1 }, "" },
     };
     size_t out_size = ROOM, err_size = ROOM;
     for (size_t at = 0; at < sizeof rows / sizeof *rows; at++) {
@@ -114,6 +119,83 @@ static void each_setting(void) {
     settings.raw = true;
     call(fanquber_peg, &settings, "a <- < . > { (yytext) }", "", TEXT("xy"), out_size, err_size);
     ENDS(FANQUBER_DONE, " (x)  (y) ", "");
+}
+
+/* What runs, windows and runners do with a budget. They are rows of the gate for both programs. */
+static void budgets(void) {
+    const char *pairs = "s = s s / \"a\"\n", *words = "S <- < 'a'* > {yytext} 'b'", *input = "aabaaab";
+    const char *stopped = "unit at byte 3 prints more than 3 bytes\n";
+    const fanquber_window windows[] = { { 0, 3 }, { 3, 4 } };
+    fanquber_result results[2];
+    size_t out_size = ROOM, err_size = ROOM;
+    char line[64] = "";
+    fanquber_runner runner = FANQUBER_RUNNER;
+    fanquber_settings settings = FANQUBER_SETTINGS;
+    snprintf(line, sizeof line, "a\n%050d\na\n", 0);
+    for (char *at = line; *at; at++)
+        if (*at == '0') *at = 'a';
+    settings.budget = 100;
+    call(fanquber_abnf, &settings, pairs, "", TEXT(line), out_size, err_size);
+    ENDS(FANQUBER_OVERLONG, "yes\n", "line 2 needs more than 100 items\n");
+    settings.budget = SIZE_MAX;
+    call(fanquber_abnf, &settings, pairs, "", TEXT(line), out_size, err_size);
+    ENDS(FANQUBER_DONE, "yes\nyes\nyes\n", "");
+    settings.budget = 4;
+    call(fanquber_peg, &settings, words, "", TEXT(input), out_size, err_size);
+    ENDS(FANQUBER_DONE, "aa\naaa\n", "");
+    settings.budget = 3;
+    call(fanquber_peg, &settings, words, "", TEXT(input), out_size, err_size);
+    ENDS(FANQUBER_OVERLONG, "aa\n", stopped);
+    got = fanquber_peg_windows(&settings, TEXT(words), TEXT(""), TEXT(input), windows, 2, results, 2, out, out_size, err,
+                               err_size);
+    CHECK(results[0].status == FANQUBER_DONE && results[0].out_len == 3);
+    CHECK(results[1].status == FANQUBER_OVERLONG && results[1].out_len == 0 && results[1].err_len == strlen(stopped));
+    got = fanquber_peg_open(&settings, TEXT(words), TEXT(""), &runner, err, err_size);
+    CHECK(got.status == FANQUBER_DONE);
+    memset(out, '#', ROOM);
+    memset(err, '#', ROOM);
+    got = fanquber_peg_run(&runner, TEXT(input), out, out_size, err, err_size);
+    ENDS(FANQUBER_OVERLONG, "aa\n", stopped);
+    fanquber_peg_close(&runner);
+}
+
+/* Calls of a program that was built with an older header. Its settings end where a page begins that may not be read:
+ * no budget is read, and no seed. */
+static void older_settings(void) {
+    const fanquber_settings newer = FANQUBER_SETTINGS;
+    const size_t page = (size_t)sysconf(_SC_PAGESIZE);
+    size_t out_size = ROOM, err_size = ROOM;
+    char *front = mmap(NULL, 2 * page, PROT_READ | PROT_WRITE, MAP_PRIVATE | MAP_ANONYMOUS, -1, 0);
+    fanquber_settings *settings = (fanquber_settings *)(front + page - OLDER_SIZE);
+    fanquber_judge judge = FANQUBER_JUDGE;
+    fanquber_runner runner = FANQUBER_RUNNER;
+    fanquber_lines lines = FANQUBER_LINES;
+    fanquber_window window = { 0, 1 };
+    fanquber_result result;
+    CHECK(front != MAP_FAILED && mprotect(front + page, page, PROT_NONE) == 0);
+    memcpy(settings, &newer, OLDER_SIZE);
+    settings->size = OLDER_SIZE;
+    call(fanquber_abnf, settings, LETTER_X, "", TEXT("x\ny\n"), out_size, err_size);
+    ENDS(FANQUBER_NO_MATCH, "yes\nno\n", "");
+    call(fanquber_peg, settings, "a <- < . > { yytext }", "", TEXT("x"), out_size, err_size);
+    ENDS(FANQUBER_DONE, "x\n", "");
+    got = fanquber_peg_windows(settings, TEXT("a <- ."), TEXT(""), TEXT("x"), &window, 1, &result, 1, out, ROOM, err, ROOM);
+    CHECK(got.status == FANQUBER_DONE && result.status == FANQUBER_DONE);
+    CHECK(fanquber_abnf_open(settings, TEXT(LETTER_X), TEXT(""), &judge, err, ROOM).status == FANQUBER_DONE);
+    CHECK(fanquber_peg_open(settings, TEXT("a <- ."), TEXT(""), &runner, err, ROOM).status == FANQUBER_DONE);
+    for (uint8_t which = FANQUBER_DERIVED; which <= FANQUBER_RANDOM; which++) {
+        got = fanquber_lines_open(settings, which, TEXT(LETTER_X), TEXT(""), &lines, err, ROOM);
+        CHECK(got.status == FANQUBER_DONE && lines.is_open);
+        fanquber_lines_close(&lines);
+    }
+    CHECK(fanquber_compare(settings, 9, TEXT(LETTER_X), TEXT(""), TEXT(LETTER_X), TEXT(""), out, ROOM, out, 0, err, ROOM)
+              .status == FANQUBER_DONE);
+    settings->size = OLDER_SIZE - 1; /* an unknown size, with no more bytes behind it */
+    call(fanquber_abnf, settings, LETTER_X, "", TEXT("x\n"), out_size, err_size);
+    ENDS(FANQUBER_BAD_SETTINGS, "", "");
+    fanquber_abnf_close(&judge);
+    fanquber_peg_close(&runner);
+    munmap(front, 2 * page);
 }
 
 /* Four windows of an input: a word, two words that lie over one another, and one that is no word. */
@@ -218,7 +300,7 @@ static void judged_lines(void) {
     settings.mode = 7;
     judge = opened(&settings, LETTER_X, "", err_size);
     OPENS(FANQUBER_BAD_SETTINGS, "");
-    settings = (fanquber_settings){ SIZE, 2, FANQUBER_RUN, FANQUBER_UTF8, true, false, true, false, false };
+    settings = (fanquber_settings){ SIZE, 2, FANQUBER_RUN, FANQUBER_UTF8, true, false, true, false, false, 0, 1 };
     for (err_size = 0; err_size < 32; err_size++) {
         judge = opened(&settings, "a = \"x\"\nb = %xE9 \"y\"\n", "B", err_size);
         OPENS(FANQUBER_DONE, "rule 'a' defined but not used\n");
@@ -228,6 +310,12 @@ static void judged_lines(void) {
         fanquber_abnf_close(&judge);
     }
     err_size = ROOM;
+    settings = (fanquber_settings){ SIZE, 60, FANQUBER_RUN, FANQUBER_BYTES, false, false, false, false, false, 100, 1 };
+    judge = opened(&settings, "s = s s / \"a\"\n", "", err_size);
+    ANSWERS("aaaaaaaaaaaaaaaaaaaaaaaaaaaaaaaaaaaaaaaaaaaaaaaaaa", 50, FANQUBER_COSTLY, 0);
+    ANSWERS("a", 1, FANQUBER_DONE, 0); /* it goes on */
+    fanquber_abnf_close(&judge);
+    settings = (fanquber_settings){ SIZE, 2, FANQUBER_RUN, FANQUBER_UTF8, true, false, true, false, false, 0, 1 };
     judge = opened(&settings, LETTER_X, "no-rule", err_size);
     CHECK(got.status == FANQUBER_REFUSED && got.err_len > 0 && !judge.is_open);
     settings.named = false;
@@ -287,7 +375,7 @@ static void runs_of_runners(void) {
     settings.limit = 0;
     runner = opened_runner(&settings, words, "", err_size);
     STARTS(FANQUBER_BAD_SETTINGS, "");
-    settings = (fanquber_settings){ SIZE, 3, FANQUBER_CHECK, FANQUBER_BYTES, true, true, false, false, false };
+    settings = (fanquber_settings){ SIZE, 3, FANQUBER_CHECK, FANQUBER_BYTES, true, true, false, false, false, 0, 1 };
     for (err_size = 0; err_size < 32; err_size++) {
         out_size = ROOM;
         runner = opened_runner(&settings, "a <- 'x'\nb <- < 'y'+ > { (yytext) }\n", "b", err_size);
@@ -416,6 +504,9 @@ static void listed_lines(void) {
         { "k = \"no\" / \"yes\"", FANQUBER_MISSED, FANQUBER_BYTES, false, 256, "|!|N|N!|Y|Y!|NO!|YE|YE!|", FANQUBER_NO_MATCH },
         { "k = \"no\" / \"yes\"", FANQUBER_MISSED, FANQUBER_BYTES, false, 1, "|!|N|Y|", FANQUBER_NO_MATCH },
         { "a = *OCTET", FANQUBER_MISSED, FANQUBER_BYTES, false, 256, "", FANQUBER_NO_MATCH },
+        { "a = %x09 / %x20 / %x22 / %xFF", FANQUBER_EDGES, FANQUBER_BYTES, false, 1, "|!|#|\x08|\x1F|\xFE|",
+          FANQUBER_NO_MATCH },
+        { "a = 3\"x\"", FANQUBER_RANDOM, FANQUBER_BYTES, false, 2, "", FANQUBER_NO_MATCH },
     };
     fanquber_settings settings = FANQUBER_SETTINGS;
     for (size_t at = 0; at < sizeof rows / sizeof *rows; at++) {
@@ -440,6 +531,27 @@ static void listed_lines(void) {
     }
 }
 
+/* Lines by lot: each is one of the rule, and the same seed gives the same ones. */
+static void drawn_lines(void) {
+    enum { DRAWN = 40 };
+    const uint64_t seeds[] = { 1, 1, UINT64_MAX };
+    char drawn[3][DRAWN] = { "", "", "" };
+    fanquber_settings settings = FANQUBER_SETTINGS;
+    for (size_t turn = 0; turn < 3; turn++) {
+        fanquber_lines lines = FANQUBER_LINES;
+        settings.seed = seeds[turn];
+        got = fanquber_lines_open(&settings, FANQUBER_RANDOM, TEXT("d = DIGIT\n"), TEXT(""), &lines, err, ROOM);
+        CHECK(got.status == FANQUBER_DONE && lines.is_open);
+        for (size_t at = 0; at < DRAWN; at++) {
+            const fanquber_line next = fanquber_lines_next(&lines, drawn[turn] + at, 1);
+            CHECK(next.status == FANQUBER_DONE && next.len == 1);
+            CHECK(drawn[turn][at] >= '0' && drawn[turn][at] <= '9');
+        }
+        fanquber_lines_close(&lines);
+    }
+    CHECK(memcmp(drawn[0], drawn[1], DRAWN) == 0 && memcmp(drawn[0], drawn[2], DRAWN) != 0);
+}
+
 /* What opening lines does with small buffers, and where nothing is opened. */
 static void unlisted_lines(void) {
     const char *grammar = "a = \"0\"\nb = \"12\"\n", *note = "rule 'a' defined but not used\n";
@@ -457,7 +569,7 @@ static void unlisted_lines(void) {
         CHECK(fanquber_lines_next(&lines, out, room).status == FANQUBER_NO_MATCH && holds(out, room, "12", 2));
         fanquber_lines_close(&lines);
     }
-    got = fanquber_lines_open(&settings, 2, TEXT(grammar), TEXT("b"), &lines, err, ROOM);
+    got = fanquber_lines_open(&settings, 4, TEXT(grammar), TEXT("b"), &lines, err, ROOM);
     CHECK(got.status == FANQUBER_BAD_SETTINGS && !lines.is_open);
     got = fanquber_lines_open(&settings, FANQUBER_MISSED, TEXT(grammar), TEXT("\xff"), &lines, err, ROOM);
     CHECK(got.status == FANQUBER_BAD_SETTINGS && !lines.is_open);
@@ -468,6 +580,7 @@ static void unlisted_lines(void) {
 int main(void) {
     judged_lines();
     listed_lines();
+    drawn_lines();
     unlisted_lines();
     compared_rules();
     uncompared_rules();
@@ -477,6 +590,8 @@ int main(void) {
     windows_of_grammars();
     small_buffers();
     bad_settings();
+    older_settings();
     each_setting();
+    budgets();
     return wrong;
 }

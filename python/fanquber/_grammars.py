@@ -9,11 +9,16 @@ from typing import Any, Callable, Dict, Iterable, Iterator, List, NamedTuple, Op
 from . import _programs
 from ._library import (
     DEFAULT_LIMIT,
+    DEFAULT_SEED,
     MAX_LIMIT,
+    MAX_NUMBER,
+    MAX_SEED,
     AbnfJudge,
-    DerivedLines,
+    Costly,
     GrammarError,
     Letters,
+    Listed,
+    ListedLines,
     Mode,
     OutOfMemory,
     Overlong,
@@ -39,8 +44,6 @@ MANY = 10000
 DEFAULT_BUDGET = 1000000
 DEFAULT_LENGTH = 256
 DEFAULT_COUNT = 1000
-MAX_NUMBER = 4294967295
-"""The greatest count of lines, and the greatest budget."""
 
 
 def _lines(text: bytes) -> List[str]:
@@ -53,7 +56,8 @@ def _raise_fault(reply: Reply, findings: Callable[[], List[Finding]]) -> None:
     if reply.status == Status.REFUSED:
         raise GrammarError([it for it in _lines(reply.err) if not it.startswith("  ")], findings())
     if reply.status == Status.OVERLONG:
-        raise Overlong(_lines(reply.err)[-1], reply.out)
+        message = _lines(reply.err)[-1]
+        raise (Costly if " more than " in message else Overlong)(message, reply.out)
     if reply.status >= Status.FAULT:
         raise OutOfMemory("out of memory")
 
@@ -141,7 +145,7 @@ class Abnf(_PerThread):
     A line is bytes, or a `str`, which stands for its bytes in UTF-8. Its letters are its bytes, or its code points
     with `Letters.UTF8`. It may hold any byte, and has at most `limit` bytes. `GrammarError` if the grammar is
     rejected, `OutOfMemory` if an allocation fails; each call that judges lines raises `Overlong` for a line above the
-    limit.
+    limit, and `Costly` for one whose sets need more than `budget` items.
 
     Each thread reads the grammar once, and again for `viable` and `refusal`. `file` is the name of the grammar in
     findings.
@@ -154,21 +158,28 @@ class Abnf(_PerThread):
         *,
         letters: Letters = Letters.BYTES,
         limit: int = DEFAULT_LIMIT,
+        budget: Optional[int] = None,
         file: str = "",
     ) -> None:
         super().__init__()
         self._text, self._file = as_bytes(text), file
-        self._rule, self._letters, self._limit = rule, letters, limit
+        self._rule, self._letters, self._limit, self._budget = rule, letters, limit, budget
         self.notes: List[str] = _lines(self._judge().opening.err)
         """The notes on the grammar, none of which rejects it."""
 
     @classmethod
     def from_file(
-        cls, path: Path, rule: Optional[str] = None, *, letters: Letters = Letters.BYTES, limit: int = DEFAULT_LIMIT
+        cls,
+        path: Path,
+        rule: Optional[str] = None,
+        *,
+        letters: Letters = Letters.BYTES,
+        limit: int = DEFAULT_LIMIT,
+        budget: Optional[int] = None,
     ) -> "Abnf":
         """Returns the grammar of a file, whose name its findings bear. `OSError` if the file cannot be read; else
         raises what `Abnf` raises."""
-        return cls(_contents(path), rule, letters=letters, limit=limit, file=os.fspath(path))
+        return cls(_contents(path), rule, letters=letters, limit=limit, budget=budget, file=os.fspath(path))
 
     def _explained(self) -> List[Finding]:
         # A line may hold any byte here, so none is out of reach
@@ -191,7 +202,14 @@ class Abnf(_PerThread):
         """Returns what judges lines on this thread: it is opened when it is first asked for."""
         judge: AbnfJudge = self._opened(
             "viable" if viable else "plain",
-            lambda: AbnfJudge(self._text, limit=self._limit, rule=self._rule, letters=self._letters, viable=viable),
+            lambda: AbnfJudge(
+                self._text,
+                limit=self._limit,
+                rule=self._rule,
+                letters=self._letters,
+                viable=viable,
+                budget=self._budget,
+            ),
         )
         return judge
 
@@ -207,7 +225,7 @@ class Abnf(_PerThread):
     def answers(self, text: bytes) -> bytes:
         """Returns a byte for each line of a text: 1 if the rule derives it, else 0. Lines end at line feeds alone. It
         is a whole run, which reads the grammar."""
-        reply = abnf(self._text, text, limit=self._limit, rule=self._rule, letters=self._letters)
+        reply = abnf(self._text, text, limit=self._limit, rule=self._rule, letters=self._letters, budget=self._budget)
         _raise_fault(reply, self._explained)
         return reply.out.replace(b"yes\n", b"\1").replace(b"no\n", b"\0")
 
@@ -244,6 +262,7 @@ class Abnf(_PerThread):
             letters=self._letters,
             nul=nul,
             explain=True,
+            budget=self._budget,
         )
         _raise_fault(reply, self._explained)
         return read_refusal(at, reply.err)
@@ -252,22 +271,34 @@ class Abnf(_PerThread):
         """Returns the text of the grammar in its canonical form."""
         return canonical_text("abnf", self._text, self._file)
 
-    def lines(self, *, limit: int = DEFAULT_LENGTH, count: int = DEFAULT_COUNT) -> Iterator[bytes]:
+    def lines(
+        self,
+        *,
+        limit: int = DEFAULT_LENGTH,
+        count: int = DEFAULT_COUNT,
+        which: Listed = Listed.DERIVED,
+        seed: int = DEFAULT_SEED,
+    ) -> Iterator[bytes]:
         """Returns an iterator over the first lines that the rule derives, as abnfg(1) lists them: shorter ones first,
         each once. None is left out but those that hold a NUL byte. They have at most `limit` letters each, and are at
         most `count`.
 
-        The grammar is opened for the first line. `ValueError` if `limit` is not from 1 to 16777216 or `count` not from
-        1 to 4294967295. The iterator raises `GrammarError` if the grammar is rejected, `TooManyStacks` after the last
-        line that is found if more may follow, `OutOfMemory` if an allocation fails, and `RuntimeError` on another
-        thread than that which asked for the first line.
+        `Listed.MISSED` asks for near lines that the rule does not derive, `Listed.EDGES` for these with wrong letters
+        next to those that can follow. `Listed.RANDOM` draws derived lines by `seed`, and they may come again.
+
+        The grammar is opened for the first line. `ValueError` if `limit` is not from 1 to 16777216, `count` not from 1
+        to 4294967295, or `seed` not from 0 to 18446744073709551615. The iterator raises `GrammarError` if the grammar
+        is rejected, `TooManyStacks` after the last line that is found if more may follow, `OutOfMemory` if an
+        allocation fails, and `RuntimeError` on another thread than that which asked for the first line.
         """
         _in_range("limit", limit, MAX_LIMIT)
         _in_range("count", count, MAX_NUMBER)
-        return itertools.islice(self._derived(limit), count)
+        _in_range("seed", seed, MAX_SEED, 0)
+        return itertools.islice(self._listed(limit, Listed(which), seed), count)
 
-    def _derived(self, limit: int) -> Iterator[bytes]:
-        with contextlib.closing(DerivedLines(self._text, limit=limit, rule=self._rule, letters=self._letters)) as lines:
+    def _listed(self, limit: int, which: Listed, seed: int) -> Iterator[bytes]:
+        opened = ListedLines(self._text, which, limit=limit, rule=self._rule, letters=self._letters, seed=seed)
+        with contextlib.closing(opened) as lines:
             _raise_fault(lines.opening, self._explained)
             while (line := lines.next()) is not None:
                 yield line
@@ -282,9 +313,9 @@ class Abnf(_PerThread):
         return _compared([self._text, new._text], rules, names, self._letters, budget)
 
 
-def _in_range(name: str, number: int, most: int) -> None:
-    if not 1 <= number <= most:
-        raise ValueError(f"{name} {number}: it is from 1 to {most}")
+def _in_range(name: str, number: int, most: int, least: int = 1) -> None:
+    if not least <= number <= most:
+        raise ValueError(f"{name} {number}: it is from {least} to {most}")
 
 
 def _options(letters: Letters, rules: Iterable[Tuple[str, Optional[str]]]) -> List[Text]:
@@ -359,8 +390,9 @@ def _peg_run(reply: Reply) -> PegRun:
 class Peg(_PerThread):
     """A grammar in the syntax of peg(1), with its start rule: the first, if none is named.
 
-    A unit of an input looks at no more than `limit` bytes. `GrammarError` if the grammar is rejected, `OutOfMemory` if
-    an allocation fails. Each thread reads the grammar once. `file` is the name of the grammar in findings.
+    A unit of an input looks at no more than `limit` bytes, and prints no more than `budget` bytes. `GrammarError` if
+    the grammar is rejected, `OutOfMemory` if an allocation fails. Each thread reads the grammar once. `file` is the
+    name of the grammar in findings.
     """
 
     def __init__(
@@ -370,21 +402,28 @@ class Peg(_PerThread):
         *,
         raw: bool = False,
         limit: int = DEFAULT_LIMIT,
+        budget: Optional[int] = None,
         file: str = "",
     ) -> None:
         super().__init__()
         self._text, self._file = as_bytes(text), file
-        self._start, self._raw, self._limit = start, raw, limit
+        self._start, self._raw, self._limit, self._budget = start, raw, limit, budget
         self.notes: List[str] = _lines(self._runner().opening.err)
         """The notes on the grammar, none of which rejects it."""
 
     @classmethod
     def from_file(
-        cls, path: Path, start: Optional[str] = None, *, raw: bool = False, limit: int = DEFAULT_LIMIT
+        cls,
+        path: Path,
+        start: Optional[str] = None,
+        *,
+        raw: bool = False,
+        limit: int = DEFAULT_LIMIT,
+        budget: Optional[int] = None,
     ) -> "Peg":
         """Returns the grammar of a file, whose name its findings bear. `OSError` if the file cannot be read; else
         raises what `Peg` raises."""
-        return cls(_contents(path), start, raw=raw, limit=limit, file=os.fspath(path))
+        return cls(_contents(path), start, raw=raw, limit=limit, budget=budget, file=os.fspath(path))
 
     def _explained(self) -> List[Finding]:
         return check("peg", self._text, self._start, file=self._file)
@@ -402,13 +441,16 @@ class Peg(_PerThread):
     def _runner(self) -> PegRunner:
         """Returns what runs the grammar on this thread: it is opened when it is first asked for."""
         runner: PegRunner = self._opened(
-            "runner", lambda: PegRunner(self._text, limit=self._limit, start=self._start, raw=self._raw)
+            "runner",
+            lambda: PegRunner(
+                self._text, limit=self._limit, start=self._start, raw=self._raw, budget=self._budget
+            ),
         )
         return runner
 
     def run(self, data: Text) -> PegRun:
         """Returns what the actions print on an input, unit after unit. `Overlong` if a unit looks at more bytes than
-        the limit."""
+        the limit, `Costly` if it prints more bytes than the budget."""
         return _peg_run(self._runner().run(as_bytes(data)))
 
     def run_each(self, texts: Iterable[Text]) -> List[PegRun]:

@@ -11,8 +11,13 @@ Text = Union[bytes, str]
 
 DEFAULT_LIMIT = 65536
 MAX_LIMIT = 16777216
+DEFAULT_SEED = 1
+MAX_SEED = 18446744073709551615
+MAX_NUMBER = 4294967295
+"""The greatest count of lines, and the greatest budget."""
 _SONAME = "libfanquber.so.2"
 _BAD_SETTINGS = 6
+_COSTLY = 7
 
 
 class Mode(enum.IntEnum):
@@ -39,6 +44,15 @@ class Status(enum.IntEnum):
     OVERLONG = 3
     FAULT = 4
     NO_MEMORY = 5
+
+
+class Listed(enum.IntEnum):
+    """Which lines of a rule are listed."""
+
+    DERIVED = 0
+    MISSED = 1
+    EDGES = 2
+    RANDOM = 3
 
 
 class Reply(NamedTuple):
@@ -75,6 +89,17 @@ class Overlong(FanquberError):
         return Overlong, (str(self), self.out)
 
 
+class Costly(FanquberError):
+    """A line needs more items than the budget, or a unit prints more bytes. `out` has what was written before it."""
+
+    def __init__(self, message: str, out: bytes) -> None:
+        super().__init__(message)
+        self.out = out
+
+    def __reduce__(self) -> Tuple[Any, ...]:
+        return Costly, (str(self), self.out)
+
+
 class OutOfMemory(FanquberError, MemoryError):
     """An allocation failed."""
 
@@ -95,6 +120,8 @@ class _Settings(ctypes.Structure):
         ("viable", ctypes.c_bool),
         ("nul", ctypes.c_bool),
         ("explain", ctypes.c_bool),
+        ("budget", ctypes.c_size_t),
+        ("seed", ctypes.c_uint64),
     ]
 
 
@@ -198,11 +225,23 @@ def _run(
         out_size, err_size = max(out_size, got.out_len), max(err_size, got.err_len)
 
 
-def _settings(limit: int, mode: Mode, start: Optional[str], **others: Any) -> _Settings:
+def _settings(
+    limit: int,
+    mode: Mode,
+    start: Optional[str],
+    budget: Optional[int] = None,
+    seed: int = DEFAULT_SEED,
+    **others: Any,
+) -> _Settings:
     # A number that C cannot hold would be cut
     if not 1 <= limit <= MAX_LIMIT:
         raise ValueError(f"limit {limit}: it is from 1 to {MAX_LIMIT}")
-    return _Settings(size=ctypes.sizeof(_Settings), limit=limit, mode=mode, named=start is not None, **others)
+    if budget is not None and not 1 <= budget <= MAX_NUMBER:
+        raise ValueError(f"budget {budget}: it is from 1 to {MAX_NUMBER}")
+    if not 0 <= seed <= MAX_SEED:
+        raise ValueError(f"seed {seed}: it is from 0 to {MAX_SEED}")
+    size, named = ctypes.sizeof(_Settings), start is not None
+    return _Settings(size=size, limit=limit, mode=mode, named=named, budget=budget or 0, seed=seed, **others)
 
 
 def peg(
@@ -214,9 +253,10 @@ def peg(
     start: Optional[str] = None,
     raw: bool = False,
     explain: bool = False,
+    budget: Optional[int] = None,
 ) -> Reply:
-    """Returns what pegi(1) writes for a grammar and an input."""
-    settings = _settings(limit, mode, start, raw=raw, explain=explain)
+    """Returns what pegi(1) writes for a grammar and an input. A unit prints at most `budget` bytes."""
+    settings = _settings(limit, mode, start, budget, raw=raw, explain=explain)
     return _run(_library.fanquber_peg, settings, grammar, start, data, 65536)
 
 
@@ -228,6 +268,7 @@ def peg_each(
     start: Optional[str] = None,
     raw: bool = False,
     explain: bool = False,
+    budget: Optional[int] = None,
 ) -> List[Reply]:
     """Returns for each text what pegi(1) writes for it, as `peg` does. The grammar is read and checked once."""
     parts = [as_bytes(text) for text in texts]
@@ -236,7 +277,7 @@ def peg_each(
     for window, part in zip(windows, parts):
         window.at, window.len = at, len(part)
         at += len(part)
-    settings = _settings(limit, Mode.RUN, start, raw=raw, explain=explain)
+    settings = _settings(limit, Mode.RUN, start, budget, raw=raw, explain=explain)
     more = (windows, len(parts), results, len(parts))
     out, err, _ = _run(_library.fanquber_peg_windows, settings, grammar, start, b"".join(parts), 65536, more)
     # The messages on the grammar stand once, before those of the runs
@@ -260,9 +301,11 @@ def abnf(
     viable: bool = False,
     nul: bool = False,
     explain: bool = False,
+    budget: Optional[int] = None,
 ) -> Reply:
-    """Returns what abnfi(1) writes for a grammar and the lines of an input."""
-    settings = _settings(limit, mode, rule, letters=letters, viable=viable, nul=nul, explain=explain)
+    """Returns what abnfi(1) writes for a grammar and the lines of an input. The sets of a line have at most `budget`
+    items."""
+    settings = _settings(limit, mode, rule, budget, letters=letters, viable=viable, nul=nul, explain=explain)
     text = as_bytes(data)
     # An answer is `yes`, or `no` with a number of at most eight digits
     room = (12 if viable else 4) * (text.count(b"\0" if nul else b"\n") + 1)
@@ -321,20 +364,29 @@ class AbnfJudge(_Opened):
     """A grammar in ABNF that is opened."""
 
     def __init__(
-        self, grammar: Text, *, limit: int, rule: Optional[str], letters: Letters, viable: bool = False
+        self,
+        grammar: Text,
+        *,
+        limit: int,
+        rule: Optional[str],
+        letters: Letters,
+        viable: bool = False,
+        budget: Optional[int] = None,
     ) -> None:
-        settings = _settings(limit, Mode.RUN, rule, letters=letters, viable=viable)
+        settings = _settings(limit, Mode.RUN, rule, budget, letters=letters, viable=viable)
         super().__init__(_library.fanquber_abnf_open, _library.fanquber_abnf_close, settings, grammar, rule)
-        self._limit = limit
+        self._limit, self._budget = limit, budget
 
     def answer(self, line: bytes) -> Answer:
-        """Returns the answer to a line. `Overlong` if it is longer than the limit."""
+        """Returns the answer to a line. `Overlong` if it is longer than the limit, `Costly` if it needs more than the
+        budget."""
         got = _library.fanquber_abnf_judge(ctypes.byref(self._place), line, len(line))
         self._check([got.status])
         return Answer(got.status == Status.DONE, got.reached)
 
     def derived(self, lines: Iterable[bytes]) -> List[bool]:
-        """Returns for each line whether the rule derives it. `Overlong` if one is longer than the limit."""
+        """Returns for each line whether the rule derives it. `Overlong` if one is longer than the limit, `Costly` if
+        one needs more than the budget."""
         call, place = _library.fanquber_abnf_judge, ctypes.byref(self._place)
         statuses = [call(place, line, len(line)).status for line in lines]
         self._check(statuses)
@@ -345,17 +397,21 @@ class AbnfJudge(_Opened):
         if max(statuses, default=0) <= Status.NO_MATCH:
             return
         at = next(index for index, status in enumerate(statuses) if status > Status.NO_MATCH)
+        out = b"".join(b"no\n" if status else b"yes\n" for status in statuses[:at])
+        if statuses[at] == _COSTLY:
+            raise Costly(f"line {at + 1} needs more than {self._budget} items", out)
         if statuses[at] != Status.OVERLONG:
             raise OutOfMemory("out of memory")
-        out = b"".join(b"no\n" if status else b"yes\n" for status in statuses[:at])
         raise Overlong(f"line {at + 1} longer than {self._limit} bytes", out)
 
 
 class PegRunner(_Opened):
     """A grammar of peg(1) that is opened. It keeps buffers of the size that its runs needed."""
 
-    def __init__(self, grammar: Text, *, limit: int, start: Optional[str], raw: bool) -> None:
-        settings = _settings(limit, Mode.RUN, start, raw=raw)
+    def __init__(
+        self, grammar: Text, *, limit: int, start: Optional[str], raw: bool, budget: Optional[int] = None
+    ) -> None:
+        settings = _settings(limit, Mode.RUN, start, budget, raw=raw)
         super().__init__(_library.fanquber_peg_open, _library.fanquber_peg_close, settings, grammar, start)
         self._out, self._err = ctypes.create_string_buffer(4096), ctypes.create_string_buffer(256)
 
@@ -370,18 +426,18 @@ class PegRunner(_Opened):
             self._err = ctypes.create_string_buffer(max(len(err), got.err_len))
 
 
-def _open_derived(settings: Any, *others: Any) -> _Result:
-    """Opens the lines that the rule of a grammar derives."""
-    result: _Result = _library.fanquber_lines_open(settings, 0, *others)
-    return result
+class ListedLines(_Opened):
+    """Lines of a rule in ABNF, one after another. None holds a NUL byte."""
 
+    def __init__(
+        self, grammar: Text, which: Listed, *, limit: int, rule: Optional[str], letters: Letters, seed: int
+    ) -> None:
+        def opens(settings: Any, *others: Any) -> _Result:
+            result: _Result = _library.fanquber_lines_open(settings, which, *others)
+            return result
 
-class DerivedLines(_Opened):
-    """The lines that a rule in ABNF derives, one after another. None holds a NUL byte."""
-
-    def __init__(self, grammar: Text, *, limit: int, rule: Optional[str], letters: Letters) -> None:
-        settings = _settings(limit, Mode.RUN, rule, letters=letters, nul=True)
-        super().__init__(_open_derived, _library.fanquber_lines_close, settings, grammar, rule)
+        settings = _settings(limit, Mode.RUN, rule, seed=seed, letters=letters, nul=True)
+        super().__init__(opens, _library.fanquber_lines_close, settings, grammar, rule)
         # A line of so many letters fits
         self._line = ctypes.create_string_buffer(limit * (4 if letters == Letters.UTF8 else 1))
 

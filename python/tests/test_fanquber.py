@@ -7,7 +7,7 @@ import unittest
 import unittest.mock
 
 import fanquber
-from fanquber import Abnf, GrammarError, Letters, Mode, Overlong, Peg, Status
+from fanquber import Abnf, Costly, GrammarError, Letters, Listed, Mode, Overlong, Peg, Status
 
 EXAMPLES = pathlib.Path(__file__).resolve().parent.parent.parent / "examples"
 DAY = 'day = 4DIGIT "-" 2DIGIT "-" 2DIGIT\n'
@@ -60,6 +60,37 @@ class AbnfTest(unittest.TestCase):
             with self.assertRaises(ValueError):
                 Abnf(DAY, limit=limit)
 
+    def test_budgets(self):
+        pairs, long = 's = s s / "a"', "a" * 50
+        got = fanquber.abnf(pairs, f"a\n{long}\na\n", budget=100)
+        self.assertEqual(got, (b"yes\n", b"line 2 needs more than 100 items\n", Status.OVERLONG))
+        self.assertEqual(fanquber.abnf(pairs, f"{long}\n", budget=1000000).out, b"yes\n")
+        with self.assertRaises(Costly) as costly:
+            Abnf(pairs, budget=100).answers(f"a\n{long}\n".encode())
+        self.assertEqual((str(costly.exception), costly.exception.out), ("line 2 needs more than 100 items", b"yes\n"))
+        self.assertEqual(pickle.loads(pickle.dumps(costly.exception)).out, b"yes\n")
+        with self.assertRaises(Costly) as costly:
+            Abnf(pairs, budget=100).judge(["a", "b", long])
+        self.assertEqual((str(costly.exception), costly.exception.out), ("line 3 needs more than 100 items", b"yes\nno\n"))
+        self.assertTrue(Abnf(pairs, budget=1000000).derives(long))
+        for budget in (0, -1, 2**64 + 1):
+            with self.assertRaises(ValueError):
+                fanquber.abnf(DAY, budget=budget)
+
+    def test_listed_lines(self):
+        k = Abnf('k = "no" / "yes"')
+        missed = [b"", b"!", b"N", b"N!", b"Y", b"Y!", b"NO!", b"YE", b"YE!"]
+        self.assertEqual(list(k.lines(which=Listed.MISSED)), missed)
+        edges = Abnf("a = %x09 / %x20 / %x22 / %xFF").lines(which=Listed.EDGES, limit=1)
+        self.assertEqual(list(edges), [b"", b"!", b"#", b"\x08", b"\x1f", b"\xfe"])
+        drawn = [list(k.lines(which=Listed.RANDOM, count=50, seed=seed)) for seed in (1, 1, 2**64 - 1)]
+        self.assertEqual(drawn[0], drawn[1])
+        self.assertEqual([len(it) for it in drawn], [50] * 3)
+        self.assertTrue(all(k.judge(drawn[0] + drawn[2])))
+        for seed in (-1, 2**64):
+            with self.assertRaises(ValueError):
+                k.lines(which=Listed.RANDOM, seed=seed)
+
     def test_many_lines(self):
         lines = [f"{year:04}-01-01" for year in range(10000)]
         self.assertEqual(Abnf(DAY).judge(lines), [True] * 10000)
@@ -98,6 +129,11 @@ class PegTest(unittest.TestCase):
         self.assertEqual(Peg("a<-'x'").canonical(), b'a <- "x"\n')
         with self.assertRaises(Overlong):
             Peg("a <- 'xxx'", limit=2).run("xxx")
+        with self.assertRaises(Costly) as costly:
+            Peg("S <- < 'a'* > {yytext} 'b'", budget=3).run("aabaaab")
+        message, out = "unit at byte 3 prints more than 3 bytes", b"aa\n"
+        self.assertEqual((str(costly.exception), costly.exception.out), (message, out))
+        self.assertEqual(Peg("S <- < 'a'* > {yytext} 'b'", budget=4).run("aabaaab").out, b"aa\naaa\n")
         for limit in (0, fanquber.MAX_LIMIT + 1):
             with self.assertRaises(ValueError):
                 Peg("a <- 'x'", limit=limit)

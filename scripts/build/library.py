@@ -26,7 +26,7 @@ from crates import below, listed, uses
 TOP = pathlib.Path(__file__).resolve().parents[2]
 CRATE = "fanquber_c"
 SONAME = "libfanquber.so.2"
-VERSION = "2.1"
+VERSION = "2.2"
 RT = os.environ.get("RT", "rt").split()
 CC = os.environ.get("CC", "cc").split()
 

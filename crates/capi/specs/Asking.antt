@@ -1,5 +1,5 @@
 -- The settings that C asks for.
-use Rattle.std.specs.Prelude.{◌≡◌, ◌≢◌, ◌<◌, ◌==◌, ℕ, Bool, true, false, List, Option, Some, None, option_copied}
+use Rattle.std.specs.Prelude.{◌≡◌, ◌<◌, ◌==◌, ◌||◌, ℕ, Bool, true, false, List, Option, Some, None, option_copied}
 use Rattle.std.specs.Prelude.{if◌then◌else◌, IsSome}
 use Rattle.std.specs.Str.{IsUtf8}
 use Rattle.abnfrun.specs.declared.options.AbnfOptions.{AbnfOptions}
@@ -12,9 +12,16 @@ use Rattle.toolrun.specs.declared.settings.Mode.{Mode}
 use Rattle.toolrun.specs.declared.settings.Mode.TheVariants.{Run, Check, Print}
 use Rattle.toolrun.specs.declared.settings.Settings.{Settings}
 
--- how many bytes the settings have: two numbers of eight bytes, seven fields of one byte, and one unused byte
+-- how many bytes older settings have: two numbers of eight bytes, seven fields of one byte, and one unused byte
+abbrev pub older_size : ℕ
+older_size = 24
+
+-- how many bytes the settings have: two more numbers of eight bytes
 abbrev pub settings_size : ℕ
-settings_size = 24
+settings_size = 40
+
+abbrev pub is_known_size : ℕ → Bool
+is_known_size n = (n == older_size) || (n == settings_size)
 
 -- the mode of a number
 abbrev pub mode_by : ℕ → Option Mode
@@ -29,12 +36,24 @@ abbrev pub name_by : Bool → List ℕ → Option (List ℕ)
 name_by true name = Some name
 name_by false name = None
 
+-- the budget of a number
+abbrev pub budget_by : ℕ → Option ℕ
+budget_by n = if n == 0 then None else Some n
+
+-- the budget; older settings have none
+abbrev pub budget_asked : CSettings → Option ℕ
+budget_asked asked = if asked.size == settings_size then budget_by asked.budget else None
+
+-- the seed; that of older settings is 1
+abbrev pub seed_asked : CSettings → ℕ
+seed_asked asked = if asked.size == settings_size then asked.seed else 1
+
 -- C asks for these options of the peg tool
 pub record PegMeant (asked : CSettings) (options : PegOptions) : Type 0 where
   pub raw : options.style.raw ≡ asked.raw
   pub escapes : options.style.escapes ≡ false
   pub whole : options.whole ≡ false
-  pub budget : options.budget ≡ None
+  pub budget : options.budget ≡ budget_asked asked
 
 -- C asks for these options of the ABNF tool
 pub record AbnfMeant (asked : CSettings) (options : AbnfOptions) : Type 0 where
@@ -47,12 +66,12 @@ pub record AbnfMeant (asked : CSettings) (options : AbnfOptions) : Type 0 where
   pub numbered : options.numbered ≡ false
   pub quiet : options.quiet ≡ false
   pub line_buffered : options.line_buffered ≡ false
-  pub budget : options.budget ≡ None
+  pub budget : options.budget ≡ budget_asked asked
 
--- C asks for these settings, by a struct of the size that this version knows. AreMeant says which options it asks for.
+-- C asks for these settings, by a struct of a size that is known. AreMeant says which options it asks for.
 pub record IsMeant {O : Type 0} (AreMeant : CSettings → O → Type 0) (asked : CSettings) (name : List ℕ)
     (settings : Settings O) : Type 0 where
-  pub size : asked.size ≡ settings_size
+  pub size : is_known_size asked.size ≡ true
   pub mode : mode_by asked.mode ≡ Some settings.mode
   pub letters : IsSome (alphabet_by asked.letters)
   pub limit : settings.limit ≡ asked.limit
@@ -60,9 +79,9 @@ pub record IsMeant {O : Type 0} (AreMeant : CSettings → O → Type 0) (asked :
   pub explain : settings.explain ≡ asked.explain
   pub options : AreMeant asked settings.options
 
--- C asks for no settings: the struct has another size, a number is out of its range, or the name is not UTF-8
+-- C asks for no settings: the struct has an unknown size, a number is out of its range, or the name is not UTF-8
 pub data IsInvalid (asked : CSettings) (name : List ℕ) : Type 0 where
-  other_size : asked.size ≢ settings_size → IsInvalid asked name
+  other_size : is_known_size asked.size ≡ false → IsInvalid asked name
   no_mode : mode_by asked.mode ≡ None → IsInvalid asked name
   no_letters : alphabet_by asked.letters ≡ None → IsInvalid asked name
   too_small : asked.limit < 1 → IsInvalid asked name

@@ -16,10 +16,10 @@ use Rattle.rulelines.specs.declared.comparison.Comparison.{Comparison}
 use Rattle.toolrun.specs.Status.{code_of}
 use Rattle.toolrun.specs.declared.status.Status.{Status}
 
--- the settings of one side: an empty name is none
+-- the settings of one side: an empty name is none, and neither a budget nor a seed matters
 abbrev pub asked_for : CSettings → List ℕ → CSettings
-asked_for asked [] = record asked { named = false }
-asked_for asked (c ∷ name) = asked
+asked_for asked [] = record asked { named = false; budget = 0; seed = 0 }
+asked_for asked (c ∷ name) = record asked { budget = 0; seed = 0 }
 
 -- the bytes of the first line that one rule alone derives, if it is known
 abbrev pub first_line_bytes : Alphabet → Alone → List ℕ

@@ -1,6 +1,6 @@
 -- The lines of a rule that C lists, and the next one.
 use Rattle.std.proofs.Common.{Global, Vec}
-use Rattle.std.specs.Prelude.{◌≡◌, ◌==◌, ℕ, Bool, false, List, Option, Some, None, IfSome, if◌then◌else◌}
+use Rattle.std.specs.Prelude.{◌≡◌, ◌==◌, ℕ, Bool, true, false, List, Option, Some, None, IfSome, if◌then◌else◌}
 use Rattle.abnfcheck.specs.AbnfGrammar.{Grammar}
 use Rattle.abnfexplain.specs.AbnfExplained.{Explains}
 use Rattle.abnfread.specs.AbnfReading.{IsFaultOf}
@@ -12,19 +12,22 @@ use Rattle.abnfrun.specs.AbnfTextHints.{AreTextHints}
 use Rattle.capi.specs.GrammarsCompared.{IsOpenGrammar}
 use Rattle.capi.specs.OpenCall.{IsOpening}
 use Rattle.capi.specs.declared.listing.LineList.{LineList}
-use Rattle.capi.specs.declared.listing.LineList.TheVariants.{Derived, Missed}
+use Rattle.capi.specs.declared.listing.LineList.TheVariants.{Derived, Missed, Drawn}
 use Rattle.capi.specs.declared.listing.Listing.{Listing}
 use Rattle.capi.specs.declared.listing.ListKind.{ListKind}
 use Rattle.capi.specs.declared.listing.ListKind.TheVariants as kind
 use Rattle.letters.specs.declared.alphabet.Alphabet.{Alphabet}
-use Rattle.rulelines.specs.LineSets.{AreRuleLines, IsFirstStep, IsLineAfter, IsLineIn}
+use Rattle.rulelines.specs.LineSets.{AreRuleLines, IsFirstStep, IsLineAfter, IsLineIn, IsSomeLine}
 use Rattle.rulelines.specs.MissLists.{AreMissesOf, AreOfRule, IsMissStep}
+use Rattle.rulelines.specs.Seeds.{seed_of}
 use Rattle.rulelines.specs.declared.list.lines.NextLine.{NextLine}
 use Rattle.ruletable.specs.Notes.{Said}
 
--- the lines of a number: those that the rule derives, or near ones that it does not
-abbrev pub kind_by : ℕ → Option ListKind
-kind_by n = if n == 0 then Some kind.Derived else (if n == 1 then Some kind.Missed else None)
+-- the lines of a number: those that the rule derives; near ones that it does not, without wrong symbols next to those
+-- that can follow, and with them; or some that it derives, by lot from a seed
+abbrev pub kind_by : ℕ → ℕ → Option ListKind
+kind_by n seed = if n == 0 then Some kind.Derived else (if n == 1 then Some (kind.Missed false) else
+    (if n == 2 then Some (kind.Missed true) else (if n == 3 then Some (kind.Drawn seed) else None)))
 
 -- the byte that ends a line, which listed lines do not have: LF, or NUL
 abbrev pub line_end : Bool → ℕ
@@ -34,8 +37,15 @@ line_end nul = if nul then 0 else 10
 abbrev pub IsListFor : ListKind → Alphabet → ℕ → ℕ → List Rule → ℕ → LineList → Type 0
 IsListFor kind.Derived letters end limit rules id (Derived lines) = AreRuleLines letters end limit rules id lines
 IsListFor kind.Derived letters end limit rules id (Missed misses) = ⊥
-IsListFor kind.Missed letters end limit rules id (Derived lines) = ⊥
-IsListFor kind.Missed letters end limit rules id (Missed misses) = AreMissesOf letters end limit false rules id misses
+IsListFor kind.Derived letters end limit rules id (Drawn lines lots) = ⊥
+IsListFor (kind.Missed edges) letters end limit rules id (Derived lines) = ⊥
+IsListFor (kind.Missed edges) letters end limit rules id (Missed misses) =
+    AreMissesOf letters end limit edges rules id misses
+IsListFor (kind.Missed edges) letters end limit rules id (Drawn lines lots) = ⊥
+IsListFor (kind.Drawn seed) letters end limit rules id (Derived lines) = ⊥
+IsListFor (kind.Drawn seed) letters end limit rules id (Missed misses) = ⊥
+IsListFor (kind.Drawn seed) letters end limit rules id (Drawn lines lots) =
+    AreRuleLines letters end limit rules id lines × (seed_of lots ≡ seed)
 
 -- before the first line, what C lists is as settings ask, unless the grammar has too many states
 pub record IsListingFor (of_kind : ListKind) (settings : AbnfSettings) (grammar : Grammar) (listing : Listing) : Type 0
@@ -56,11 +66,15 @@ abbrev pub IsLinesOpening : ListKind → List ℕ → AbnfSettings → List ℕ 
 IsLinesOpening of_kind text settings = IsOpening (IsFaultOf text) (Explains text) (ExplainsAbnfNote text)
     (AreTextHints text settings) (IsListingOf of_kind text settings) settings
 
--- the line after the last one that a list returned, or the first, and what is left of the list
+-- the line after the last one that a list returned, or the first, and what is left of the list; by lot, some line
 abbrev pub IsNextListed : LineList → Option (Vec ℕ Global) → LineList → NextLine → Type 0
 IsNextListed (Derived lines) None left step = (left ≡ Derived lines) × IsFirstStep (IsLineIn lines) step
 IsNextListed (Derived lines) (Some last) left step = (left ≡ Derived lines)
     × IsLineAfter (IsLineIn lines) last.items step
 IsNextListed (Missed misses) last (Derived lines) step = ⊥
+IsNextListed (Missed misses) last (Drawn lines lots) step = ⊥
 IsNextListed (Missed misses) last (Missed left) step = (left.prefixes.set ≡ misses.prefixes.set)
     × ((rules : List Rule) (id : ℕ) → AreOfRule rules id misses → IsMissStep rules id misses left step)
+IsNextListed (Drawn lines lots) last (Derived left) step = ⊥
+IsNextListed (Drawn lines lots) last (Missed left) step = ⊥
+IsNextListed (Drawn lines lots) last (Drawn left later) step = (left ≡ lines) × IsSomeLine (IsLineIn lines) step

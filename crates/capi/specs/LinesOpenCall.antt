@@ -1,6 +1,6 @@
 -- What a call that opens a grammar for lines leaves.
 use Rattle.std.specs.Prelude.{◌≡◌, ℕ, List, Some, None}
-use Rattle.capi.specs.Asking.{AbnfMeant}
+use Rattle.capi.specs.Asking.{AbnfMeant, seed_asked}
 use Rattle.capi.specs.BufferRun.{Filled, IsUntouched}
 use Rattle.capi.specs.LineLists.{IsLinesOpening, kind_by}
 use Rattle.capi.specs.OpenCall.{IsOpenCall, Slot}
@@ -12,8 +12,8 @@ use Rattle.capi.specs.declared.listing.Listing.{Listing}
 -- and nothing was done.
 pub data IsLinesOpenCall (which : ℕ) (asked : CSettings) (grammar name : List ℕ) (slot : Slot Listing) (err : Filled)
     (code : ℕ) : Type 0 where
-  of_kind : (kind : ListKind) → kind_by which ≡ Some kind
+  of_kind : (kind : ListKind) → kind_by which (seed_asked asked) ≡ Some kind
       → IsOpenCall AbnfMeant (λ settings. IsLinesOpening kind grammar settings) asked name slot err code
       → IsLinesOpenCall which asked grammar name slot err code
-  of_none : kind_by which ≡ None → slot.new ≡ slot.old → IsUntouched err → code ≡ 6
+  of_none : kind_by which (seed_asked asked) ≡ None → slot.new ≡ slot.old → IsUntouched err → code ≡ 6
       → IsLinesOpenCall which asked grammar name slot err code

@@ -2,6 +2,7 @@
 ghost use Rattle.std.specs.Prelude.{◌≡◌, Some, true, option_copied, MatchOption, MatchResult};
 ghost use Rattle.std.specs.Str.{IsUtf8};
 ghost use Rattle.capi.specs.Asking.{AbnfMeant, IsMeant, IsInvalid, PegMeant, alphabet_by, mode_by, name_by};
+ghost use Rattle.capi.specs.Asking.{budget_asked, is_known_size, seed_asked};
 ghost use Rattle.capi.specs.declared.asked.CSettings.{CSettings as Asked};
 
 use abnfrun::{AbnfOptions, Alphabet, Printed};
@@ -14,7 +15,10 @@ use toolrun::{MAX_LIMIT, Mode, Settings};
 pub const BAD_SETTINGS: u8 = 6;
 
 /// The settings of a run, as C writes them. A later version adds its fields after the whole struct, and so makes it
-/// larger. The unused byte at the end of this one stays unused, since callers do not set it.
+/// larger. The unused byte before `budget` stays unused, since callers do not set it.
+///
+/// An older caller's struct ends before `budget`. So no field from there on is read before it is known by the size to
+/// be there.
 #[repr(C)]
 #[derive(Clone, Copy)]
 pub struct CSettings {
@@ -37,10 +41,47 @@ pub struct CSettings {
     /// Whether messages are explained: a fault of the grammar's text, a note, a rejected line, a stop. Hints follow the
     /// notes.
     pub explain: bool,
+    /// How many items the sets of a line may have, or how many bytes a unit may print. 0: any number.
+    pub budget: usize,
+    /// The seed of lines by lot.
+    pub seed: u64,
 }
 
-/// The only size of the settings so far.
+/// The size of the settings that end before `budget`.
+const OLDER_SIZE: usize = 24;
+
+/// The size of the settings.
 const SETTINGS_SIZE: usize = size_of::<CSettings>();
+
+/// Returns whether the settings have a size that is known.
+fn has_known_size(asked: &CSettings) -> bool
+    ensures { result ≡ is_known_size asked.now.size }
+{
+    asked.size == OLDER_SIZE || asked.size == SETTINGS_SIZE
+}
+
+/// Returns the budget that C asks for. `None` if it is 0, or the struct ends before it.
+fn budget_of(asked: &CSettings) -> Option<usize>
+    ensures { result ≡ budget_asked asked.now }
+{
+    if asked.size != SETTINGS_SIZE {
+        return None;
+    }
+    match asked.budget {
+        0 => None,
+        budget => Some(budget),
+    }
+}
+
+/// Returns the seed that C asks for; 1 if the struct ends before it.
+pub(crate) fn seed_of(asked: &CSettings) -> u64
+    ensures { result ≡ seed_asked asked.now }
+{
+    if asked.size != SETTINGS_SIZE {
+        return 1;
+    }
+    asked.seed
+}
 
 fn mode_of(mode: u8) -> Option<Mode>
     ensures { result ≡ mode_by mode }
@@ -84,7 +125,7 @@ impl COptions for PegOptions {
                 escapes: false,
             },
             whole: false,
-            budget: None,
+            budget: budget_of(asked),
         }
     }
 }
@@ -103,7 +144,7 @@ impl COptions for AbnfOptions {
             numbered: false,
             quiet: false,
             line_buffered: false,
-            budget: None,
+            budget: budget_of(asked),
         }
     }
 }
@@ -130,7 +171,7 @@ fn start_of<'a>(named: bool, name: &'a [u8]) -> Result<Option<&'a str>, NotUtf8>
 pub fn settings_of<'a, O: COptions>(asked: &CSettings, name: &'a [u8]) -> Option<Settings<'a, O>>
     ensures { MatchOption result (IsInvalid asked.now name.entry.now) (IsMeant O.are_meant asked.now name.entry.now) }
 {
-    if asked.size != SETTINGS_SIZE {
+    if !has_known_size(asked) {
         return None;
     }
     let Some(mode) = mode_of(asked.mode) else {

@@ -43,17 +43,31 @@ fn uncompared(status: u8) -> CComparison
     }
 }
 
-/// Returns the settings of one of two grammars: without a name if that is empty.
+/// Returns the settings of one of two grammars: without a name if that is empty, and without budget and seed, which an
+/// older struct does not have.
 fn side_asked(asked: &CSettings, name: &[u8]) -> CSettings
     ensures { result ≡ asked_for asked.now name.now }
 {
+    let side = CSettings {
+        size: asked.size,
+        limit: asked.limit,
+        mode: asked.mode,
+        letters: asked.letters,
+        named: asked.named,
+        raw: asked.raw,
+        viable: asked.viable,
+        nul: asked.nul,
+        explain: asked.explain,
+        budget: 0,
+        seed: 0,
+    };
     if name.is_empty() {
         return CSettings {
             named: false,
-            ..*asked
+            ..side
         };
     }
-    *asked
+    side
 }
 
 /// Lays what is reported into the buffers, as much of it as there is room for.

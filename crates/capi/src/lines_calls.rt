@@ -6,7 +6,7 @@ ghost use Rattle.capi.specs.LineLists.{IsLinesOpening};
 ghost use Rattle.capi.specs.LinesOpenCall.{IsLinesOpenCall};
 ghost use Rattle.capi.specs.OpenCall.{code_reported, text_reported};
 
-use crate::asked::{BAD_SETTINGS, CSettings, settings_of};
+use crate::asked::{BAD_SETTINGS, CSettings, seed_of, settings_of};
 use crate::grammar::{OpenGrammar, open_grammar};
 use crate::lines_slot::{CLines, put_lines, take_lines};
 use crate::listing::{CLine, ListKind, kind_of, listing_of, next_line, no_line};
@@ -39,12 +39,13 @@ fn open_lines(
 }
 
 /// Reads and checks a grammar in ABNF, and puts lines of its judged rule into an empty handle. `which` is 0 for the
-/// lines that the rule derives, shorter ones first, and 1 for near ones that it does not derive. They have at most as
-/// many letters as the limit of the settings, and not the byte that ends lines. Lays the messages on the grammar into
-/// the buffer, as much as there is room for. A rejected grammar leaves the handle empty. The mode must be valid, and
-/// has no other effect.
+/// lines that the rule derives, shorter ones first, and 1 for near ones that it does not derive. It is 2 for these with
+/// each symbol that cannot follow a prefix, next to one that can, and 3 for some that the rule derives, by lot from the
+/// seed of the settings. They have at most as many letters as the limit of the settings, and not the byte that ends
+/// lines. Lays the messages on the grammar into the buffer, as much as there is room for. A rejected grammar leaves the
+/// handle empty. The mode must be valid, and has no other effect.
 ///
-/// Returns `BAD_SETTINGS` and does nothing where the settings are invalid, `which` is neither, or the handle is not
+/// Returns `BAD_SETTINGS` and does nothing where the settings are invalid, `which` is above 3, or the handle is not
 /// empty. Settings are invalid if the size is unknown, a number is out of its range, or the name is not UTF-8.
 pub fn lines_open(
     alloc: Global,
@@ -60,7 +61,8 @@ pub fn lines_open(
         (record { old = slot.old.listing.held; new = slot.new.listing.held })
         (record { old = err.old; new = err.new; len = result.err_len }) result.status }
 {
-    let Some(kind) = kind_of(which) else {
+    let seed = seed_of(asked);
+    let Some(kind) = kind_of(which, seed) else {
         return nothing_done();
     };
     if slot.is_open {

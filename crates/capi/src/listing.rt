@@ -3,12 +3,13 @@ ghost use Rattle.std.specs.Prelude.{◌≡◌, ◌≤◌, IfOk, IfSome, None, So
 ghost use Rattle.abnfread.specs.AbnfViews.{rules_of};
 ghost use Rattle.capi.specs.NextLineCall.{IsLineCall, c_line_status};
 ghost use Rattle.capi.specs.LineLists.{IsListFor, IsListingFor, IsNextListed, kind_by, line_end};
-ghost use Rattle.rulelines.specs.LineSets.{IsFirstStep, IsLineAfter, IsLineIn};
+ghost use Rattle.rulelines.specs.MissLists.{AreMissesOf};
+ghost use Rattle.rulelines.specs.LineSets.{AreRuleLines, IsFirstStep, IsLineAfter, IsLineIn, IsSomeLine};
 
 use crate::buffer::lay;
 use abnfcheck::SoundAbnf;
 use abnfrun::{AbnfSettings, Alphabet};
-use rulelines::{Lines, MissSet, Misses, NextLine, line_bytes};
+use rulelines::{Lines, Lots, MissSet, Misses, NextLine, line_bytes};
 use ruletable::Memory;
 use std::alloc::Global;
 use toolrun::Status;
@@ -32,8 +33,10 @@ pub struct CLine {
 pub(crate) enum ListKind {
     /// Those that the rule derives.
     Derived,
-    /// Near ones that it does not.
-    Missed,
+    /// Near ones that it does not; with wrong symbols next to those that can follow, too, if that is asked for.
+    Missed(bool),
+    /// Some that it derives, by lot from this seed.
+    Drawn(u64),
 }
 
 /// Lines of a rule, one after another.
@@ -43,6 +46,8 @@ pub enum LineList {
     Derived(Lines),
     /// Near ones that it does not.
     Missed(Misses),
+    /// Some that it derives, by lot.
+    Drawn(Lines, Lots),
 }
 
 /// Lines that C lists.
@@ -56,13 +61,15 @@ pub struct Listing {
     pub last: Option<Vec<u32>>,
 }
 
-/// Returns which lines a number asks for.
-pub(crate) fn kind_of(which: u8) -> Option<ListKind>
-    ensures { result ≡ kind_by which }
+/// Returns which lines a number asks for. Those by lot are drawn from this seed.
+pub(crate) fn kind_of(which: u8, seed: u64) -> Option<ListKind>
+    ensures { result ≡ kind_by which seed }
 {
     match which {
         0 => Some(ListKind::Derived),
-        1 => Some(ListKind::Missed),
+        1 => Some(ListKind::Missed(false)),
+        2 => Some(ListKind::Missed(true)),
+        3 => Some(ListKind::Drawn(seed)),
         _ => None,
     }
 }
@@ -72,6 +79,49 @@ pub(crate) fn no_line(status: u8) -> CLine
     ensures { result ≡ c_line_status status }
 {
     CLine { len: 0, status }
+}
+
+/// Returns the byte that ends a line.
+fn end_byte(settings: &AbnfSettings<'_>) -> u8
+    ensures { result ≡ line_end settings.now.options.nul }
+{
+    if settings.options.nul { 0 } else { b'\n' }
+}
+
+/// Returns the lines that the judged rule of a grammar derives, as settings ask, before the first one; `None` if it has
+/// too many states. `Memory` if an allocation fails.
+fn derived_lines(
+    alloc: Global,
+    grammar: &SoundAbnf,
+    settings: &AbnfSettings<'_>,
+) -> Result<Option<Lines>, Memory>
+    ensures { IfOk result (λ reported. IfSome reported (AreRuleLines settings.now.options.letters
+        (line_end settings.now.options.nul) settings.now.limit (rules_of grammar.now.rules) grammar.now.judged)) }
+{
+    let end = end_byte(settings);
+    let limit = settings.limit as u32;
+    Lines::new(alloc, grammar, settings.options.letters, end, limit, ROOM)
+}
+
+/// Returns near lines that the judged rule of a grammar does not derive, as settings ask, before the first one; `None`
+/// if it has too many states. `Memory` if an allocation fails.
+fn missed_lines(
+    alloc: Global,
+    edges: bool,
+    grammar: &SoundAbnf,
+    settings: &AbnfSettings<'_>,
+) -> Result<Option<Misses>, Memory>
+    ensures { IfOk result (λ reported. IfSome reported (AreMissesOf settings.now.options.letters
+        (line_end settings.now.options.nul) settings.now.limit edges (rules_of grammar.now.rules)
+        grammar.now.judged)) }
+{
+    let set = MissSet {
+        alphabet: settings.options.letters,
+        terminator: end_byte(settings),
+        limit: settings.limit as u32,
+        edges,
+    };
+    Misses::new(alloc, grammar, set, ROOM)
 }
 
 /// Returns the lines that settings ask for of a grammar, before the first one; `None` if it has too many states.
@@ -85,26 +135,19 @@ fn list_of(
     ensures { IfOk result (λ reported. IfSome reported (IsListFor kind settings.now.options.letters
         (line_end settings.now.options.nul) settings.now.limit (rules_of grammar.now.rules) grammar.now.judged)) }
 {
-    let alphabet = settings.options.letters;
-    let terminator = if settings.options.nul { 0 } else { b'\n' };
-    let limit = settings.limit as u32;
     match kind {
-        ListKind::Derived => match Lines::new(alloc, grammar, alphabet, terminator, limit, ROOM)? {
+        ListKind::Derived => match derived_lines(alloc, grammar, settings)? {
             Some(lines) => Ok(Some(LineList::Derived(lines))),
             None => Ok(None),
         },
-        ListKind::Missed => {
-            let set = MissSet {
-                alphabet,
-                terminator,
-                limit,
-                edges: false,
-            };
-            match Misses::new(alloc, grammar, set, ROOM)? {
-                Some(misses) => Ok(Some(LineList::Missed(misses))),
-                None => Ok(None),
-            }
-        }
+        ListKind::Missed(edges) => match missed_lines(alloc, edges, grammar, settings)? {
+            Some(misses) => Ok(Some(LineList::Missed(misses))),
+            None => Ok(None),
+        },
+        ListKind::Drawn(seed) => match derived_lines(alloc, grammar, settings)? {
+            Some(lines) => Ok(Some(LineList::Drawn(lines, Lots::new(seed)))),
+            None => Ok(None),
+        },
     }
 }
 
@@ -138,14 +181,14 @@ fn derived_step(lines: &mut Lines, last: &Option<Vec<u32>>) -> Result<Option<Nex
     }
 }
 
-/// Returns the line after the last one; the first, if there is none. `None` if there is no room for the states.
-/// `Memory` if an allocation fails.
+/// Returns the next line of a list. `None` if there is no room for the states. `Memory` if an allocation fails.
 fn step(list: &mut LineList, last: &Option<Vec<u32>>) -> Result<Option<NextLine>, Memory>
     ensures { IfOk result (λ reported. IfSome reported (IsNextListed list.old last.now list.new)) }
 {
     match list {
         LineList::Derived(lines) => derived_step(lines, last),
         LineList::Missed(misses) => misses.next(),
+        LineList::Drawn(lines, lots) => lines.by_lot(lots),
     }
 }
 
