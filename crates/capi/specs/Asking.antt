@@ -37,12 +37,12 @@ name_by true name = Some name
 name_by false name = None
 
 -- the budget of a number
-abbrev pub budget_by : ℕ → Option ℕ
-budget_by n = if n == 0 then None else Some n
+abbrev pub budget_for : ℕ → Option ℕ
+budget_for n = if n == 0 then None else Some n
 
 -- the budget; older settings have none
 abbrev pub budget_asked : CSettings → Option ℕ
-budget_asked asked = if asked.size == settings_size then budget_by asked.budget else None
+budget_asked asked = if asked.size == settings_size then budget_for asked.budget else None
 
 -- the seed; that of older settings is 1
 abbrev pub seed_asked : CSettings → ℕ
