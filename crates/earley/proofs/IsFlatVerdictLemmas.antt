@@ -37,8 +37,8 @@ is_no flat x sets end n are size derives le some none = (
   },
 )
 
-pub derives_line : {T : Type 0} (number : T → ℕ) (flat : Flat) (line : List T) (yes : Bool)
-    → IsTrue yes ↔ Holds flat (map number line) (length line) (at flat.start 1) 0
-    → IsTrue yes ↔ DerivesLine flat (map number line)
-derives_line number flat line yes holds =
-    subst (λ n. IsTrue yes ↔ Holds flat (map number line) n (at flat.start 1) 0) (sym (length-map line number)) holds
+pub derives_line : {T : Type 0} (number : T → ℕ) (flat : Flat) (line : List T) (said : Bool)
+    → IsTrue said ↔ Holds flat (map number line) (length line) (at flat.start 1) 0
+    → IsTrue said ↔ DerivesLine flat (map number line)
+derives_line number flat line said holds =
+    subst (λ n. IsTrue said ↔ Holds flat (map number line) n (at flat.start 1) 0) (sym (length-map line number)) holds
