@@ -1,6 +1,6 @@
 //! The log of the keys.
 ghost use Rattle.std.specs.Prelude.{◌≡◌, ℕ, ◌+◌, ◌<◌, ◌≤◌, ◌^◌, [], ◌∷◌, ◌++◌, length, true, IfOk};
-ghost use Rattle.std.specs.Prelude.{IfSome, IfNone, OnOk, OnErr};
+ghost use Rattle.std.specs.Prelude.{IfSome, IfNone, OnOk, OnErr, vec_capacity, vec_len};
 ghost use Rattle.memo.specs.KeyLog.{tasks_of, row_of, position_of, run_of, steps_of};
 ghost use Rattle.memo.specs.LogEntries.{node_of, evals_of, AreCovered};
 ghost use Rattle.memo.specs.Parts.{IsIn};
@@ -127,6 +127,28 @@ fn cover(index: &mut Index, entries: &[Entry], covered: &mut usize) -> Result<()
         *covered = at + 1;
     }
     Ok(())
+}
+
+// Makes room for more entries.
+#[inline(never)]
+fn more_entries(entries: &mut Vec<Entry>) -> Result<(), Memory>
+    ensures items { entries.new.items ≡ entries.old.items }
+    ensures room { OnOk result (vec_len entries.new < vec_capacity entries.new) }
+{
+    entries.reserve(1)?;
+    Ok(())
+}
+
+// Makes room for one more entry.
+#[inline(always)]
+fn make_room(entries: &mut Vec<Entry>) -> Result<(), Memory>
+    ensures items { entries.new.items ≡ entries.old.items }
+    ensures room { OnOk result (vec_len entries.new < vec_capacity entries.new) }
+{
+    if entries.len() < entries.capacity() {
+        return Ok(());
+    }
+    more_entries(entries)
 }
 
 impl KeyLog {
@@ -317,7 +339,8 @@ impl KeyLog {
         let extent = entry.extent();
         let last = narrow(self.entries.len())?;
         let count = self.count.checked_add(extent.count).ok_or(Memory)?;
-        self.entries.push(entry)?;
+        make_room(&mut self.entries)?;
+        self.entries.push_reserved(entry);
         self.count = count;
         let row = extent.row;
         self.high[row] = raised(self.high[row], self.unit, extent.highest, last);
