@@ -1,13 +1,14 @@
 #!/usr/bin/env python3
-"""Measures the greatest time and memory that hostile grammars and their lines or units reach, without a budget.
+"""Measures the greatest time and memory that hostile grammars and their lines or units reach.
 
-usage: worst_cases.py [-r RANDOM] [-s SEED] [-n SHOWN] [-t SECONDS]
+usage: worst_cases.py [-r RANDOM] [-s SEED] [-n SHOWN] [-t SECONDS] [-b BUDGET]
 
 Runs bin/abnfi and bin/pegi on families of grammars with one line or unit of 1,000, 8,000 and 64,000 bytes, and
 bin/abnfi on RANDOM grammars (200 if not given), with a line of 2,000 letters each. A run has SECONDS of processor time
 (10) and 2 GB; it is not tried on a longer line once it has used one of them up. Prints for each family and length the
 seconds, the MB and the status, and of the random grammars the SHOWN (5) that take most time, and most memory. `>`
-stands before what was ended. BIN names the folder of the programs, bin/ if not set.
+stands before what was ended. At last it prints the greatest of both for each program. Runs have no budget, or `-b
+BUDGET`. BIN names the folder of the programs, bin/ if not set.
 """
 import argparse
 import collections
@@ -31,6 +32,8 @@ MANY = 5000
 Family = collections.namedtuple("Family", "program grammar piece front end", defaults=("", ""))
 # What a run used: seconds, MB, and its status, negative for a signal.
 Cost = collections.namedtuple("Cost", "seconds memory status")
+# The options of each run, and what the runs of each program took.
+options, taken = [], collections.defaultdict(list)
 
 
 def abnf(grammar, piece="a", front="", end=""):
@@ -77,11 +80,14 @@ def cost_of(program, grammar, given, seconds, folder):
     """Returns what a run takes that has so many seconds."""
     (folder / "grammar").write_bytes(grammar)
     (folder / "given").write_bytes(given)
-    words = [*BOUNDED, str(seconds), BIN / program, "-l", "16777216", folder / "grammar", folder / "given"]
+    files = [folder / "grammar", folder / "given"]
+    words = [*BOUNDED, str(seconds), BIN / program, "-l", "16777216", *options, *files]
     child = subprocess.Popen(words, stdout=subprocess.DEVNULL, stderr=subprocess.DEVNULL)
     _, status, used = os.wait4(child.pid, 0)
     child.returncode = os.waitstatus_to_exitcode(status)
-    return Cost(used.ru_utime + used.ru_stime, used.ru_maxrss / 1000, child.returncode)
+    cost = Cost(used.ru_utime + used.ru_stime, used.ru_maxrss / 1000, child.returncode)
+    taken[program].append(cost)
+    return cost
 
 
 def is_ended(cost):
@@ -125,10 +131,16 @@ def main():
     words.add_argument("-s", default="1")
     words.add_argument("-n", type=int, default=5)
     words.add_argument("-t", type=int, default=10)
+    words.add_argument("-b", type=int)
     asked = words.parse_args()
+    if asked.b:
+        options.extend(["-b", str(asked.b)])
     with tempfile.TemporaryDirectory(prefix="worst-") as folder:
         families(asked.t, pathlib.Path(folder))
         random_ones(random.Random(asked.s), asked.r, asked.n, asked.t, pathlib.Path(folder))
+    for program, costs in taken.items():
+        seconds, memory = max(it.seconds for it in costs), max(it.memory for it in costs)
+        print(f"| {program}, greatest | {seconds:.1f} s, {memory:,.0f} MB |")
     return 0
 
 
