@@ -15,10 +15,10 @@ returns-in-Ok-clause-reported c =
     let limit = c.limit.ensures in
     answers c.args.judge.now c.in-Ok.said (omega (arith, within, limit)) c.in-Ok.ensures.answer c.answer_of.ensures
 
-pub returns-in-Costly-clause-reported : goal.returns-in-Costly-clause-reported
-returns-in-Costly-clause-reported c =
-    costly c.args.judge.now _ c.in-Costly.ensures.costly c.without_answer-in-Costly.ensures
+pub returns-in-Err-Costly-clause-reported : goal.returns-in-Err-Costly-clause-reported
+returns-in-Err-Costly-clause-reported c =
+    costly c.args.judge.now _ c.in-Err-Costly.ensures.costly c.without_answer-in-Err-Costly.ensures
 
-pub returns-in-Memory-clause-reported : goal.returns-in-Memory-clause-reported
-returns-in-Memory-clause-reported c =
-    no_memory c.args.judge.now (rw c.code-in-Memory.ensures at c.without_answer-in-Memory.ensures)
+pub returns-in-Err-Memory-clause-reported : goal.returns-in-Err-Memory-clause-reported
+returns-in-Err-Memory-clause-reported c =
+    no_memory c.args.judge.now (rw c.code-in-Err-Memory.ensures at c.without_answer-in-Err-Memory.ensures)
