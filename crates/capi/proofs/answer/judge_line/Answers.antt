@@ -17,7 +17,8 @@ returns-in-Ok-clause-reported c =
 
 pub returns-in-Err-Costly-clause-reported : goal.returns-in-Err-Costly-clause-reported
 returns-in-Err-Costly-clause-reported c =
-    costly c.args.judge.now _ c.in-Err-Costly.ensures.costly c.without_answer-in-Err-Costly.ensures
+    let more = rw c.in-Err-Costly.field-0-is at c.in-Err-Costly.ensures.costly in
+    costly c.args.judge.now _ more c.without_answer-in-Err-Costly.ensures
 
 pub returns-in-Err-Memory-clause-reported : goal.returns-in-Err-Memory-clause-reported
 returns-in-Err-Memory-clause-reported c =
