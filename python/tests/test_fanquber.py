@@ -83,7 +83,7 @@ class AbnfTest(unittest.TestCase):
         missed = [b"", b"!", b"N", b"N!", b"Y", b"Y!", b"NO!", b"YE", b"YE!"]
         self.assertEqual(list(k.lines(which=Listed.MISSED)), missed)
         edges = Abnf("a = %x09 / %x20 / %x22 / %xFF").lines(which=Listed.EDGES, limit=1)
-        self.assertEqual(list(edges), [b"", b"!", b"#", b"\x08", b"\x1f", b"\xfe"])
+        self.assertEqual(list(edges), [b"", b"!", b"#", b"\x08", b"\n", b"\x1f", b"\xfe"])
         drawn = [list(k.lines(which=Listed.RANDOM, count=50, seed=seed)) for seed in (1, 1, 2**64 - 1)]
         self.assertEqual(drawn[0], drawn[1])
         self.assertEqual([len(it) for it in drawn], [50] * 3)
