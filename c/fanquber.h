@@ -27,7 +27,7 @@ enum { FANQUBER_RUN = 0, FANQUBER_CHECK = 1, FANQUBER_PRINT = 2 };
 /* What the lines of a grammar in ABNF are made of. */
 enum { FANQUBER_BYTES = 0, FANQUBER_UTF8 = 1 };
 
-/* Status codes: the exit statuses of the programs, and one more. */
+/* Status codes: the exit statuses of the programs, and two more. */
 enum {
     FANQUBER_DONE = 0,        /* all input was taken, or each line is derived */
     FANQUBER_NO_MATCH = 1,    /* a position where nothing matches, or a line that is not derived */
