@@ -25,6 +25,6 @@ pub mod RunIterationsLemmas
 pub mod IterationsGiveLemmas
 pub mod TurnedLemmas
 pub mod SkippedLemmas
-pub mod TakeEventLemmas
 pub mod KeptAtLemmas
 pub mod NextWrittenLemmas
+pub mod RecallsLemmas

@@ -16,3 +16,4 @@ pub mod Stands
 pub mod Done
 pub mod EventLog
 pub mod WaitingHeads
+pub mod QuietJoins

@@ -4,7 +4,10 @@
 mod event_log;
 mod link;
 mod replay;
+mod shared;
+mod silence;
 mod take;
 mod waiting;
+mod walk;
 
 pub use event_log::EventLog;

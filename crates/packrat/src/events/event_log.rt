@@ -10,7 +10,7 @@ ghost use Rattle.packrat.specs.EventLog.{IsHead, kept_at, AreGrown, IsBefore};
 
 use crate::events::link::{Link, link_of, narrow};
 use crate::events::replay::write_waiting;
-use crate::events::waiting::Waiting;
+use crate::events::walk::ReplayWalk;
 use gramcheck::SoundPeg;
 use pegmatch::{Kept, PrintStyle, ReplayFault};
 use ruletable::{Memory, Sink};
@@ -26,8 +26,8 @@ use std::marker::Model;
 pub struct EventLog {
     /// The links. Each names only heads before it.
     links: Vec<Link>,
-    /// The stack of a replay.
-    waiting: Waiting,
+    /// The state of a replay.
+    walk: ReplayWalk,
 }
 
 impl Model for EventLog {
@@ -49,7 +49,7 @@ impl EventLog {
     {
         EventLog {
             links: Vec::new(alloc),
-            waiting: Waiting::new(alloc),
+            walk: ReplayWalk::new(alloc),
         }
     }
 
@@ -158,10 +158,10 @@ impl EventLog {
         if head == 0 {
             return Ok(());
         }
-        if self.waiting.begin(head, self.links.len()).is_err() {
+        if self.walk.waiting.begin(head, self.links.len()).is_err() {
             return Err(ReplayFault::Memory);
         }
-        match write_waiting(peg, window, style, &self.links, &mut self.waiting, out) {
+        match write_waiting(peg, window, style, &self.links, &mut self.walk, out) {
             Ok(()) => Ok(()),
             Err(_) => Err(ReplayFault::Write),
         }

@@ -8,9 +8,9 @@ use crate::events::link::Link;
 use crate::events::waiting::Waiting;
 use pegmatch::Kept;
 
-// Returns the link of a head, if it has one.
+/// Returns the link of a head, if it has one.
 #[inline(always)]
-fn link_at(links: &[Link], head: usize) -> Option<Link>
+pub(crate) fn link_at(links: &[Link], head: usize) -> Option<Link>
     requires { head ≤ length links.now }
     ensures some { IfSome result (λ link. (i : ℕ) × (head ≡ i + 1) × (slice_get links.now i ≡ Some link)) }
     ensures none { IfNone result (head ≡ 0) }

@@ -1,5 +1,5 @@
-//! Heads that wait until they are written, with room for as many as there are links.
-ghost use Rattle.std.specs.Prelude.{◌≡◌, ◌<◌, ◌≤◌, [], ◌∷◌, length, IfSome, IfNone, OnOk};
+//! Heads that wait until they are written, with room for one more than there are links.
+ghost use Rattle.std.specs.Prelude.{◌≡◌, ◌<◌, [], ◌∷◌, length, IfSome, IfNone, OnOk};
 
 use crate::events::link::narrow;
 use ruletable::Memory;
@@ -32,19 +32,25 @@ impl Waiting {
         }
     }
 
-    /// Drops the heads, makes room for so many, and adds a first one.
+    /// Drops the heads, makes room for one more than so many, and adds a first one.
     ///
     /// # Errors
     /// `Memory` if an allocation fails, or if the head does not fit in 32 bits.
     pub(crate) fn begin(&mut self, head: usize, room: usize) -> Result<(), Memory>
-        requires { 0 < room }
         ensures heads { OnOk result (self.new.heads ≡ head ∷ []) }
-        ensures room { OnOk result (room ≤ self.new.room) }
+        ensures room { OnOk result (room < self.new.room) }
     {
         self.heads.clear();
-        self.heads.reserve(room)?;
+        self.heads.reserve(room.checked_add(1).ok_or(Memory)?)?;
         self.push(narrow(head)?);
         Ok(())
+    }
+
+    /// Returns how many heads wait.
+    pub(crate) fn len(&self) -> usize
+        ensures { result ≡ length self.now.heads }
+    {
+        self.heads.len()
     }
 
     /// Adds a head; there must be room for it.

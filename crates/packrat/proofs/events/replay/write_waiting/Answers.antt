@@ -31,3 +31,19 @@ pub returns-clause-bytes : goal.returns-clause-bytes
 returns-clause-bytes g c = λ all s r. none_next _ _ _ all _ _ _ _
     (c.in_default.ensures.kept ∙ ap (kept_at_all (reverse c.args.links.now)) c.in_default.ensures.none)
     (c.events.invariant.written all s r)
+
+pub write_shared-requires-clause-stands : goal.write_shared-requires-clause-stands
+write_shared-requires-clause-stands g c =
+    let s = c.requires.stands in
+    let h = c.events.invariant.written s.0 s.1 s.2 in
+    let n = first_next _ _ _ s.0 _ _ _ _ c.in-Some.ensures.kept _ _ h in
+    let w = next_written _ _ _ s.0 _ _ _ _ c.in-Some.ensures.kept _ _ h _ (c.in-Ok.ensures.bytes n.event n.stands) in
+    (s.0, w.later, w.written.done, w.left, rw c.capture_after-capture.ensures w.written.printed)
+
+pub returns-then-left-eq0-clause-bytes : goal.returns-then-left-eq0-clause-bytes
+returns-then-left-eq0-clause-bytes g c = λ all s r.
+    let h = c.events.invariant.written all s r in
+    let n = first_next _ _ _ all _ _ _ _ c.in-Some.ensures.kept _ _ h in
+    let w = next_written _ _ _ all _ _ _ _ c.in-Some.ensures.kept _ _ h _ (c.in-Ok.ensures.bytes n.event n.stands) in
+    c.write_shared.ensures.bytes _ all w.later w.written.done w.written.appends w.left
+    (rw c.capture_after-capture.ensures w.written.printed)

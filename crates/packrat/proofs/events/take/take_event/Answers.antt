@@ -1,8 +1,8 @@
 use Rattle.std.proofs.Common.{◌+◌, ◌∷◌, length, refl, sym, arith, ◌∙◌}
 use Rattle.packrat.specs.declared.events.link.Link.TheVariants.{Opened, Closed, Acted, Join}
 use Rattle.packrat.specs.WaitingHeads.{AreWaiting}
-use Rattle.packrat.proofs.TakeEventLemmas.{at_head, waiting_within, waiting_next, waiting_join, waiting_fit}
-use Rattle.packrat.proofs.TakeEventLemmas.{none_reported, one_reported, join_reported, none_fewer, join_fewer}
+use Rattle.packrat.proofs.KeptAtLemmas.{at_head, waiting_within, waiting_next, waiting_join, waiting_fit}
+use Rattle.packrat.proofs.KeptAtLemmas.{none_reported, one_reported, join_reported, none_fewer, join_fewer}
 use Rattle.packrat.proofs.events.take.take_event.Goals as goal
 
 pub link_at-requires : goal.link_at-requires

@@ -1,6 +1,6 @@
 use Rattle.std.proofs.Common.{◌≡◌, ◌+◌, ◌∷◌, length, reverse}
 use Rattle.packrat.specs.WaitingHeads.{kept_at_all, AreWaiting}
-use Rattle.packrat.proofs.TakeEventLemmas.{steps_at_all}
+use Rattle.packrat.proofs.KeptAtLemmas.{steps_at_all}
 use Rattle.packrat.proofs.events.take.take_event.Given as goal
 
 abbrev pub invariant-down : goal.invariant-down

@@ -8,7 +8,7 @@ use Rattle.pegmatch.specs.KeptEvents.{StandFor, no_event}
 use Rattle.pegmatch.specs.Text.{text_of}
 use Rattle.pegmatch.proofs.IsPrintedLemmas.{same_events}
 use Rattle.packrat.proofs.KeptAtLemmas.{none_kept}
-use Rattle.packrat.proofs.TakeEventLemmas.{one_waits}
+use Rattle.packrat.proofs.KeptAtLemmas.{one_waits}
 use Rattle.packrat.proofs.events.event_log.EventLog.replay.Goals as goal
 use Rattle.packrat.proofs.events.event_log.EventLog.replay.Goals.{in-Ok, in-Err}
 
