@@ -34,8 +34,8 @@ enum {
     FANQUBER_REFUSED = 2,     /* the grammar is rejected: the error output says why */
     FANQUBER_OVERLONG = 3,    /* a unit or a line is longer than the limit, or needs more than the budget */
     FANQUBER_NOT_KNOWN = 3,   /* fanquber_compare: the budget was spent; fanquber_lines_next: too many states */
-    FANQUBER_FAULT = 4,       /* an allocation for an output failed */
-    FANQUBER_NO_MEMORY = 5,   /* another allocation failed */
+    FANQUBER_FAULT = 4,       /* the length of an output does not fit into a size_t */
+    FANQUBER_NO_MEMORY = 5,   /* an allocation failed */
     FANQUBER_BAD_SETTINGS = 6, /* the library does not know the size of the settings, a number in them is out of its range,
                                 * the name is not UTF-8, or a judge or a runner is open that is to be closed, or closed that
                                 * is to be open: nothing was done */
@@ -73,7 +73,8 @@ typedef struct fanquber_result {
 } fanquber_result;
 
 /* Both calls read the grammar, the name and the input, and write the output and the error output of the run at the front
- * of two buffers, as much as there is room for. The other bytes of the buffers stay as they are.
+ * of two buffers, as much as there is room for. The other bytes of the buffers stay as they are. What does not fit is
+ * counted and not kept, so the memory of a call does not grow with its outputs.
  *
  * No pointer is null, also where its length is 0: pass "" for a name that is not given. No length is above PTRDIFF_MAX.
  * The buffers overlap nothing else that is passed. All calls are independent: any thread may call at any time, but

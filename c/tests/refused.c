@@ -1,6 +1,6 @@
-/* refused GRAMMAR: each allocation of a call is refused in turn. The status is then FANQUBER_FAULT or FANQUBER_NO_MEMORY,
- * or the reply is whole, and no memory is leaked, nor by a judge or a runner that was closed. GRAMMAR is that of RFC
- * 3986. Link it with the static library and -Wl,--wrap=malloc,--wrap=realloc,--wrap=free. */
+/* refused GRAMMAR: each allocation of a call is refused in turn. The status is then FANQUBER_NO_MEMORY, or the reply is
+ * whole, and no memory is leaked, nor by a judge or a runner that was closed. GRAMMAR is that of RFC 3986. Link it with
+ * the static library and -Wl,--wrap=malloc,--wrap=realloc,--wrap=free. */
 #include "check.h"
 
 enum { MOST = 1000000 };
@@ -52,7 +52,7 @@ static void sweep(const char *title, tool *run, const char *grammar, size_t gram
         CHECK(live == base);
         CHECK(got.out_len <= strlen(printed) && memcmp(out, printed, got.out_len) == 0);
         if (got.status == status) CHECK(got.out_len == strlen(printed));
-        else CHECK(!is_all && (got.status == FANQUBER_FAULT || got.status == FANQUBER_NO_MEMORY));
+        else CHECK(!is_all && got.status == FANQUBER_NO_MEMORY);
         if (is_all || wrong) {
             printf("%s: %ld allocations refused in turn\n", title, granted);
             return;
@@ -110,9 +110,9 @@ static void sweep_runner(void) {
         CHECK(runner.is_open || live == base);
         for (int turn = 0; turn < 4 && runner.is_open; turn++) {
             got = fanquber_peg_run(&runner, TEXT(inputs[turn % 2]), out, sizeof out, err, sizeof err);
-            CHECK(got.status == turn % 2 || (got.status >= FANQUBER_FAULT && left == 0));
+            CHECK(got.status == turn % 2 || (got.status == FANQUBER_NO_MEMORY && left == 0));
             CHECK(got.out_len <= strlen(printed[turn % 2]) && memcmp(out, printed[turn % 2], got.out_len) == 0);
-            CHECK(got.status >= FANQUBER_FAULT || got.out_len == strlen(printed[turn % 2]));
+            CHECK(got.status == FANQUBER_NO_MEMORY || got.out_len == strlen(printed[turn % 2]));
         }
         int is_all = left > 0;
         left = -1;
@@ -150,8 +150,8 @@ static void sweep_windows(void) {
         size_t first = got.err_len - results[0].err_len - results[1].err_len;
         int is_reported = first == strlen(front) && memcmp(err, front, first) == 0;
         CHECK(is_reported || (!is_all && first == 0));
-        CHECK(results[0].status == FANQUBER_DONE ? is_reported : results[0].status >= FANQUBER_FAULT);
-        CHECK(results[1].status == FANQUBER_NO_MATCH ? is_reported : results[1].status >= FANQUBER_FAULT);
+        CHECK(results[0].status == FANQUBER_DONE ? is_reported : results[0].status == FANQUBER_NO_MEMORY);
+        CHECK(results[1].status == FANQUBER_NO_MATCH ? is_reported : results[1].status == FANQUBER_NO_MEMORY);
         if (is_all || wrong) {
             printf("windows: %ld allocations refused in turn\n", granted);
             return;

@@ -66,10 +66,12 @@ EXEMPT = (
     "fixpoint: needs.are_needs_within", "abnfcheck: table_marks.productive_rules",
     "rulenames: used_names.add_use", "pegmatch: leaves.match_any", "feed: Feed.front",
     "pegnodes: cut.cut_grammar", "pegnodes: byte_tables.find_tables", "pegnodes: template.cut_templates",
-    "capi: calls.abnf", "capi: runner_calls.peg_open",
+    "capi: calls.abnf", "capi: runner_calls.peg_open", "memoryrun: whole_run.abnf_in_memory",
+    "memoryrun: whole_run.peg_in_memory",
     # A crate above has such an edit.
-    "abnfrun: AbnfJudge.judge", "memoryrun: whole_run.abnf_in_memory", "memoryrun: whole_run.peg_in_memory",
-    "earleyitems: ItemChart.dots", "toolrun: plan.plan_of", "toolrun: tool.act", "diagnostics: explained.positions_of",
+    "abnfrun: AbnfJudge.judge", "memoryrun: buffer_run.abnf_into_buffers", "memoryrun: buffer_run.peg_into_buffers",
+    "memoryrun: buffer_run.run_opened_into", "earleyitems: ItemChart.dots", "toolrun: plan.plan_of",
+    "toolrun: tool.act", "diagnostics: explained.positions_of",
 )
 
 

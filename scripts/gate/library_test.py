@@ -1,7 +1,7 @@
 #!/usr/bin/env python3
 """Tests the library for C that the gate or `make lib` made: each folder of examples/ runs through C and through the
-package of python/; then come settings, buffers and windows at their edges, four threads at once, each allocation
-failing in turn, and the examples and tests in C++ and Rust.
+package of python/; then come settings, buffers and windows at their edges, outputs of 200 MB, four threads at once,
+each allocation failing in turn, and the examples and tests in C++ and Rust.
 
 usage: library_test.py
 
@@ -82,6 +82,7 @@ class Test:
             self.ends(f"{name}.c", [self.built(CC, TOP / f"c/examples/{name}.c")], out=out)
         reported = [self.examples(self.built(CC, TOP / "c/examples/run.c"))]
         self.ends("edges", [self.built(CC, TOP / "c/tests/edges.c")], out=b"")
+        self.ends("memory", [self.built(CC, TOP / "c/tests/memory.c")], out=b"")
         self.ends("threads", [self.built(CC, TOP / "c/tests/threads.c", "-pthread"), uris], out=b"")
         refused = self.built(CC, TOP / "c/tests/refused.c", *REFUSED, flags=(self.folder / "libfanquber.a",))
         reported += self.ends("refused", [refused, uris]).stdout.decode().splitlines()

@@ -1,12 +1,10 @@
 -- One window after others.
 -- Serves: peg_windows
-use Rattle.std.proofs.Common.{◌≡◌, ℕ, true, false, List, [], ◌∷◌, ◌++◌, refl, sym, ◌∙◌, ap, arith, ◌<◌, length, take}
+use Rattle.std.proofs.Common.{◌≡◌, ℕ, List, [], ◌∷◌, ◌++◌, refl, sym, ◌∙◌, ap, arith, ◌<◌, length, take}
 use Rattle.std.proofs.Common.{append_assoc, map, slice_index_or, slice_set, ◌+◌, inl, inr}
 use Rattle.std.proofs.lemmas.List.{append-nil, take_more, take_more_set}
-use Rattle.std.specs.Prelude.{Result, Ok, Err, if◌then◌else◌}
 use Rattle.std.specs.List.{flat_map}
-use Rattle.std.specs.Result.{is_err, is_ok}
-use Rattle.capi.specs.WindowRuns.{AreWindowRuns, HaveRun, IsWindowRun, KeptRun, WindowRun, more, none, outside}
+use Rattle.capi.specs.WindowRuns.{AreWindowRuns, HaveRun, IsWindowRun, WindowRun, more, none, outside}
 use Rattle.capi.specs.WindowRuns.{window_bytes, ran, result_of}
 use Rattle.capi.specs.WindowsRun.{IsRunAfter, StandsWhole, goes_on}
 use Rattle.capi.specs.declared.result.CResult.{CResult}
@@ -17,16 +15,6 @@ use Rattle.toolrun.specs.Input.{Input, bounded}
 use Rattle.toolrun.proofs.DeliversLemmas.{delivers_after}
 use Rattle.toolrun.specs.Plan.{Follows, after_notes, in_reply, reported_after}
 use Rattle.toolrun.specs.Reply.{Reply}
-
-module _ {A E : Type 0} (old other new : List ℕ) where
-  pub text_is_kept : (r : Result A E) → new ≡ (if is_ok r then old ++ other else old) → is_err r ≡ true → new ≡ old
-  text_is_kept (Ok x) is bad = absurd (cc)
-  text_is_kept (Err x) is bad = is
-
-  pub text_is_appended : (r : Result A E) → new ≡ (if is_ok r then old ++ other else old) → is_err r ≡ false
-      → new ≡ old ++ other
-  text_is_appended (Ok x) is good = is
-  text_is_appended (Err x) is good = absurd (cc)
 
 module _ (Ran : List ℕ → WindowRun → Type 0) (input : List ℕ) where
   flat_of : (f : WindowRun → List ℕ) (runs : List WindowRun) (run : WindowRun)
@@ -106,12 +94,6 @@ after_as States first notes bytes run plain whole Does p out status err stands i
       delivers = delivers_after first notes plain whole _ out status err stands
           (rw (p.states.0, is) at p.delivers);
     }) stands
-
--- what is kept of runs that are seen in another way
-pub kept_reported : (Ran Seen : List ℕ → WindowRun → Type 0)
-    → ((bytes : List ℕ) (run : WindowRun) → Ran bytes run → Seen bytes run)
-    → (bytes : List ℕ) (kept : WindowRun) → KeptRun Ran bytes kept → KeptRun Seen bytes kept
-kept_reported Ran Seen reports bytes kept (run, was, saved) = (run, reports bytes run was, saved)
 
 -- a planned run is one after the first messages
 pub planned_is_after : (States : Input → List ℕ → Reply → Type 0) (first : List ℕ) (Does : Input → Reply → Type 0)

@@ -1,29 +1,12 @@
 -- What a run leaves in the buffers of C.
-use Rattle.std.specs.Prelude.{◌≡◌, ℕ, List, ◌++◌, length, take, drop}
+use Rattle.std.specs.Prelude.{◌≡◌, ℕ, List}
 use Rattle.capi.specs.Asking.{IsMeant, IsInvalid}
 use Rattle.capi.specs.declared.asked.CSettings.{CSettings}
+pub use Rattle.memoryrun.specs.Filled.{laid, Filled, IsLaid, IsUntouched}
 use Rattle.memoryrun.specs.MemoryRun.{IsMemoryRun}
 use Rattle.toolrun.specs.Input.{Input}
 use Rattle.toolrun.specs.Reply.{Reply}
 use Rattle.toolrun.specs.declared.settings.Settings.{Settings}
-
--- a text over the front of a buffer, as much of it as there is room for
-abbrev pub laid : List ℕ → List ℕ → List ℕ
-laid text room = take (length room) text ++ drop (length text) room
-
--- a buffer before and after, and how many bytes the whole text has
-pub record Filled : Type 0 where
-  pub old : List ℕ
-  pub new : List ℕ
-  pub len : ℕ
-
--- as much of the text as there is room for was laid into the buffer
-abbrev pub IsLaid : List ℕ → Filled → Type 0
-IsLaid text buffer = (buffer.new ≡ laid text buffer.old) × (buffer.len ≡ length text)
-
--- the buffer is as it was, and there is no text
-abbrev pub IsUntouched : Filled → Type 0
-IsUntouched buffer = (buffer.new ≡ buffer.old) × (buffer.len ≡ 0)
 
 -- A run was made with the settings that C asks for, and as much of both outputs as there is room for was laid into the
 -- buffers; or C asks for no settings, and nothing was done.

@@ -13,4 +13,5 @@ pub mod OpenCall
 pub mod PointerOwns
 pub mod RunCall
 pub mod WindowRuns
+pub mod WindowWrites
 pub mod WindowsRun

@@ -1,5 +1,5 @@
 -- What the runs of the windows of an input leave. Ran says which run the bytes of a window have.
-use Rattle.std.specs.Prelude.{◌≡◌, ◌<◌, ◌≤◌, ◌+◌, ◌⊎◌, ℕ, List, [], ◌∷◌, ◌++◌, length, map, take, drop}
+use Rattle.std.specs.Prelude.{◌≡◌, ◌<◌, ◌≤◌, ◌+◌, ℕ, List, [], ◌∷◌, ◌++◌, length, map, take, drop}
 use Rattle.std.specs.List.{flat_map}
 use Rattle.capi.specs.declared.result.CResult.{CResult}
 use Rattle.capi.specs.declared.windows.CWindow.{CWindow}
@@ -49,13 +49,3 @@ pub record HaveRun (Ran : List ℕ → WindowRun → Type 0) (input : List ℕ) 
   pub out_is : out ≡ flat_map (λ (run : WindowRun). run.out) runs
   pub err_is : err ≡ flat_map (λ (run : WindowRun). run.err) runs
   pub results_are : results ≡ map result_of runs
-
--- What is kept of a run: all of it; or an allocation failed, and all of its output is kept or nothing, and none of its
--- messages.
-pub data IsSaved (ran kept : WindowRun) : Type 0 where
-  whole : kept ≡ ran → IsSaved ran kept
-  part : kept.code ≡ 5 → kept.err ≡ [] → (kept.out ≡ []) ⊎ (kept.out ≡ ran.out) → IsSaved ran kept
-
--- what is kept of such a run
-abbrev pub KeptRun : (List ℕ → WindowRun → Type 0) → List ℕ → WindowRun → Type 0
-KeptRun Ran bytes kept = (run : WindowRun) × Ran bytes run × IsSaved run kept

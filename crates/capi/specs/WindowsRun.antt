@@ -3,7 +3,7 @@ use Rattle.std.specs.Prelude.{◌≡◌, ◌≢◌, ◌⊎◌, ℕ, List, [], �
 use Rattle.capi.specs.Asking.{IsMeant, IsInvalid}
 use Rattle.capi.specs.BufferRun.{Filled, IsLaid, IsUntouched}
 use Rattle.capi.specs.FrontText.{StandsFirst}
-use Rattle.capi.specs.WindowRuns.{HaveRun, KeptRun, WindowRun}
+use Rattle.capi.specs.WindowRuns.{HaveRun, WindowRun}
 use Rattle.capi.specs.declared.asked.CSettings.{CSettings}
 use Rattle.capi.specs.declared.result.CResult.{CResult}
 use Rattle.capi.specs.declared.windows.CWindow.{CWindow}
@@ -43,7 +43,7 @@ pub data IsWindowsRun {O : Type 0} (AreMeant : CSettings → O → Type 0)
     (windows : List CWindow) (results : Results) (out err : Filled) (code : ℕ) : Type 0 where
   all_ran : (settings : Settings O) (first printed reported : List ℕ) → IsMeant AreMeant asked name settings
       → StandsFirst (States settings) first
-      → HaveRun (KeptRun (IsRunAfter (States settings) first)) input windows printed reported results.new
+      → HaveRun (IsRunAfter (States settings) first) input windows printed reported results.new
       → IsLaid printed out → IsLaid (first ++ reported) err → code ≡ 0
       → IsWindowsRun AreMeant States asked name input windows results out err code
   no_settings : IsInvalid asked name → results.new ≡ results.old → IsUntouched out → IsUntouched err

@@ -2,32 +2,31 @@
 ghost use Rattle.std.specs.Prelude.{◌≡◌};
 ghost use Rattle.abnfrun.specs.AbnfAnswers.{AbnfStates};
 ghost use Rattle.capi.specs.Asking.{AbnfMeant, PegMeant};
-ghost use Rattle.capi.specs.BufferRun.{IsLaid, IsBufferRun};
+ghost use Rattle.capi.specs.BufferRun.{IsBufferRun};
 ghost use Rattle.pegrun.specs.Answers.{States};
 ghost use Rattle.capi.specs.WindowsRun.{IsWindowsRun};
 ghost use Rattle.toolrun.specs.Status.{code_of};
 
 use crate::asked::{CSettings, settings_of};
-use crate::buffer::lay;
 use crate::front::front_of;
 use crate::result::{CResult, nothing_done};
-use crate::windows::{CWindow, run_windows};
+use crate::windows::{CWindow, WindowsOf, run_windows};
 use abnfrun::AbnfOptions;
-use memoryrun::{Outputs, abnf_in_memory, peg_in_memory};
+use memoryrun::{BufferOutputs, BufferSink, abnf_into_buffers, peg_into_buffers};
 use pegrun::{PegLanguage, PegOptions};
 use std::alloc::Global;
 use toolrun::{Status, plan_of};
 
-/// Lays what a run wrote into the buffers, as much of it as there is room for.
-pub(crate) fn hand_out(outputs: &Outputs, out: &mut [u8], err: &mut [u8]) -> CResult
-    ensures out { IsLaid outputs.now.out.items (record { old = out.old; new = out.new; len = result.out_len }) }
-    ensures err { IsLaid outputs.now.err.items (record { old = err.old; new = err.new; len = result.err_len }) }
-    ensures status { result.status ≡ code_of outputs.now.status }
+/// Returns the result of a run as C has it.
+pub(crate) fn c_result(ran: BufferOutputs) -> CResult
+    ensures out_len { result.out_len ≡ ran.out_len }
+    ensures err_len { result.err_len ≡ ran.err_len }
+    ensures status { result.status ≡ code_of ran.status }
 {
     CResult {
-        out_len: lay(outputs.out.as_slice(), out),
-        err_len: lay(outputs.err.as_slice(), err),
-        status: outputs.status.code(),
+        out_len: ran.out_len,
+        err_len: ran.err_len,
+        status: ran.status.code(),
     }
 }
 
@@ -47,10 +46,11 @@ pub fn peg(
         (record { old = out.old; new = out.new; len = result.out_len })
         (record { old = err.old; new = err.new; len = result.err_len }) result.status }
 {
-    match settings_of::<PegOptions>(asked, name) {
-        Some(settings) => hand_out(&peg_in_memory(alloc, grammar, &settings, input), out, err),
-        None => nothing_done(),
-    }
+    let Some(settings) = settings_of::<PegOptions>(asked, name) else {
+        return nothing_done();
+    };
+    let ran = peg_into_buffers(alloc, grammar, &settings, input, out, err);
+    c_result(ran)
 }
 
 /// Judges the lines of an input by a grammar in ABNF, as `run_abnf` does, and lays both outputs into the buffers, as
@@ -69,10 +69,11 @@ pub fn abnf(
         (record { old = out.old; new = out.new; len = result.out_len })
         (record { old = err.old; new = err.new; len = result.err_len }) result.status }
 {
-    match settings_of::<AbnfOptions>(asked, name) {
-        Some(settings) => hand_out(&abnf_in_memory(alloc, grammar, &settings, input), out, err),
-        None => nothing_done(),
-    }
+    let Some(settings) = settings_of::<AbnfOptions>(asked, name) else {
+        return nothing_done();
+    };
+    let ran = abnf_into_buffers(alloc, grammar, &settings, input, out, err);
+    c_result(ran)
 }
 
 /// Runs a grammar of peg(1) on each window of an input by itself, as `run_peg` does. Reads and checks the grammar once.
@@ -107,11 +108,24 @@ pub fn peg_windows(
         return nothing_done();
     };
     let front = front_of(alloc, plan_of::<PegLanguage>(alloc, grammar, &settings));
-    let texts = run_windows::<PegLanguage>(alloc, front, &settings, input, windows, results);
-    let outputs = Outputs {
-        out: texts.out,
-        err: texts.err,
-        status: Status::Done,
+    let of = WindowsOf {
+        settings: &settings,
+        input,
+        windows,
     };
-    hand_out(&outputs, out, err)
+    let mut printed = BufferSink::new(out, b"");
+    let mut reported = BufferSink::new(err, front.reported.as_slice());
+    run_windows::<PegLanguage>(
+        alloc,
+        &front.plan,
+        &of,
+        results,
+        &mut printed,
+        &mut reported,
+    );
+    CResult {
+        out_len: printed.len,
+        err_len: reported.len,
+        status: Status::Done.code(),
+    }
 }

@@ -6,9 +6,9 @@ ghost use Rattle.toolrun.specs.Status.{code_of};
 
 use crate::alone::CAlone;
 use crate::asked::{BAD_SETTINGS, CSettings, settings_of};
-use crate::buffer::lay;
 use crate::compared::{CompareReport, compare_texts};
 use abnfrun::AbnfOptions;
+use memoryrun::lay;
 use ruletable::Memory;
 use std::alloc::Global;
 use toolrun::Status;

@@ -5,7 +5,6 @@
 mod alone;
 mod answer;
 mod asked;
-mod buffer;
 mod calls;
 mod compare_call;
 mod compared;
@@ -27,7 +26,6 @@ mod runner_box;
 mod runner_calls;
 mod runs;
 mod slot;
-mod window_texts;
 mod windows;
 
 pub use alone::CAlone;

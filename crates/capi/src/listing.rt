@@ -6,9 +6,9 @@ ghost use Rattle.capi.specs.LineLists.{IsListFor, IsListingFor, IsNextListed, ki
 ghost use Rattle.rulelines.specs.MissLists.{AreMissesOf};
 ghost use Rattle.rulelines.specs.LineSets.{AreRuleLines, IsFirstStep, IsLineAfter, IsLineIn, IsSomeLine};
 
-use crate::buffer::lay;
 use abnfcheck::SoundAbnf;
 use abnfrun::{AbnfSettings, Alphabet};
+use memoryrun::lay;
 use rulelines::{Lines, Lots, MissSet, Misses, NextLine, line_bytes};
 use ruletable::Memory;
 use std::alloc::Global;

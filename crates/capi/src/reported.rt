@@ -3,9 +3,9 @@ ghost use Rattle.std.specs.Prelude.{◌≡◌, false};
 ghost use Rattle.capi.specs.BufferRun.{IsLaid};
 ghost use Rattle.capi.specs.OpenCall.{IsFaultReported, code_reported, text_reported};
 
-use crate::buffer::lay;
 use crate::front::text_of_first;
 use crate::result::CResult;
+use memoryrun::lay;
 use ruletable::{Memory, ReadFault};
 use std::alloc::Global;
 use toolrun::{First, Language, Settings, Status};

@@ -6,7 +6,7 @@ ghost use Rattle.capi.specs.GrammarOpenings.{IsPegOpening};
 ghost use Rattle.capi.specs.RunCall.{IsRunCall};
 
 use crate::asked::{CSettings, settings_of};
-use crate::calls::hand_out;
+use crate::calls::c_result;
 use crate::opening::open_runner;
 use crate::reported::lay_reported;
 use crate::result::{CResult, nothing_done};
@@ -63,9 +63,9 @@ pub fn peg_run(
         return nothing_done();
     }
     let mut runner = take_runner(alloc, slot);
-    let outputs = run_input(alloc, &mut runner, input);
+    let ran = run_input(alloc, &mut runner, input, out, err);
     put_runner(runner, slot);
-    hand_out(&outputs, out, err)
+    c_result(ran)
 }
 
 /// Frees the runner, if the handle is not empty, and leaves the handle empty.

@@ -1,11 +1,12 @@
 //! Runs of a grammar of peg(1) that was opened.
-ghost use Rattle.std.specs.Prelude.{◌≡◌};
+ghost use Rattle.std.specs.Prelude.{◌≡◌, ℕ, List};
+ghost use Rattle.capi.specs.BufferRun.{IsLaid};
 ghost use Rattle.capi.specs.GrammarOpenings.{RunsBy};
 ghost use Rattle.capi.specs.RunCall.{HasRunOn};
 ghost use Rattle.toolrun.specs.Status.{code_of};
 
 use crate::runner::Runner;
-use memoryrun::{Outputs, run_opened};
+use memoryrun::{BufferOutputs, run_opened_into};
 use pegrun::{PegOptions, PegRunner, PegSettings};
 use std::alloc::Global;
 use toolrun::{Mode, Settings};
@@ -25,10 +26,19 @@ pub(crate) fn runner_by(peg: PegRunner, settings: &PegSettings<'_>) -> Runner
     }
 }
 
-/// Runs an open grammar on an input, and returns what the run writes after the messages on the grammar.
-pub(crate) fn run_input(alloc: Global, runner: &mut Runner, input: &[u8]) -> Outputs
+/// Runs an open grammar on an input, and lays what the run writes after the messages on the grammar into the buffers.
+pub(crate) fn run_input(
+    alloc: Global,
+    runner: &mut Runner,
+    input: &[u8],
+    out: &mut [u8],
+    err: &mut [u8],
+) -> BufferOutputs
     ensures same { runner.new ≡ runner.old }
-    ensures runs { HasRunOn runner.old input.now result.out.items result.err.items (code_of result.status) }
+    ensures runs { (printed : List ℕ) × (reported : List ℕ)
+        × HasRunOn runner.old input.now printed reported (code_of result.status)
+        × IsLaid printed (record { old = out.old; new = out.new; len = result.out_len })
+        × IsLaid reported (record { old = err.old; new = err.new; len = result.err_len }) }
 {
     let settings = Settings {
         mode: Mode::Run,
@@ -42,5 +52,5 @@ pub(crate) fn run_input(alloc: Global, runner: &mut Runner, input: &[u8]) -> Out
             budget: runner.budget,
         },
     };
-    run_opened(alloc, &mut runner.peg, &settings, input)
+    run_opened_into(alloc, &mut runner.peg, &settings, input, out, err)
 }

@@ -1,2 +1,4 @@
+pub mod BufferSinkLemmas
+mod GhostBytesLemmas
 mod MemoryRunLemmas
 mod PlannedRunLemmas

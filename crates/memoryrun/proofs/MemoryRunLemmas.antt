@@ -1,5 +1,5 @@
 -- A run that is right, over memory.
--- Serves: peg_in_memory, abnf_in_memory
+-- Serves: peg_in_memory, abnf_in_memory, peg_into_buffers, abnf_into_buffers
 use Rattle.std.proofs.Common.{◌≡◌, ℕ, Bool, false, Option, Some, List, [], refl, sym}
 use Rattle.std.specs.Prelude.{IfSome}
 use Rattle.std.specs.Io.KnownBytes.{Appends, Consumes}
@@ -39,9 +39,10 @@ module _ (States : Input → List ℕ → Reply → Type 0) where
     };
   }
 
-  from_memory : (r1 : Option (List ℕ)) (input out err : List ℕ) (out_failed err_failed : Bool) (code : ℕ) →
-      (taken wrote reported : List ℕ) × Consumes (Some input) r1 taken × Appends (Some []) (Some out) wrote
-      × Appends (Some []) (Some err) reported × IsRight States input (record {
+  -- a reader over the input before; what both writers took
+  pub run_of_sinks : (r0 r1 o0 o1 e0 e1 : Option (List ℕ)) (input : List ℕ) (out_failed err_failed : Bool) (code : ℕ)
+      → r0 ≡ Some input → IfSome r0 (λ given. (taken wrote reported : List ℕ) × Consumes r0 r1 taken
+      × Appends o0 o1 wrote × Appends e0 e1 reported × IsRight States given (record {
         taken = taken;
         read_failed = false;
         out = wrote;
@@ -49,9 +50,19 @@ module _ (States : Input → List ℕ → Reply → Type 0) where
         err = reported;
         err_failed = err_failed;
         status = code;
-      }) → IsMemoryRun States input out err code
-  from_memory r1 input out err out_failed err_failed code w =
-      rw (w.4, w.5) (right_in_memory input w.0 w.1 w.2 out_failed err_failed code w.6)
+      })) → (printed : List ℕ) × (reported : List ℕ) × IsMemoryRun States input printed reported code
+      × Appends o0 o1 printed × Appends e0 e1 reported
+  run_of_sinks r0 r1 o0 o1 e0 e1 input out_failed err_failed code r p =
+      let w = rw r at p in
+      (w.1, w.2, right_in_memory input w.0 w.1 w.2 out_failed err_failed code w.6, w.4, w.5)
+
+  -- what writers took that were empty before and hold these texts after the run
+  pub run_held : (o0 o1 e0 e1 : Option (List ℕ)) (input out err : List ℕ) (code : ℕ) → o0 ≡ Some [] → e0 ≡ Some []
+      → Some out ≡ o1 → Some err ≡ e1 → (printed : List ℕ) × (reported : List ℕ)
+      × IsMemoryRun States input printed reported code × Appends o0 o1 printed × Appends e0 e1 reported
+      → IsMemoryRun States input out err code
+  run_held o0 o1 e0 e1 input out err code o e printed reported w =
+      let held = rw (sym reported) at (rw (sym printed) at (rw e at (rw o at w))) in rw (held.3, held.4) held.2
 
   -- a reader over the input and empty writers before; the same after the run
   pub memory_run : (r0 r1 o0 o1 e0 e1 : Option (List ℕ)) (input out err : List ℕ) (out_failed err_failed : Bool)
@@ -67,5 +78,5 @@ module _ (States : Input → List ℕ → Reply → Type 0) where
         status = code;
       })) → IsMemoryRun States input out err code
   memory_run r0 r1 o0 o1 e0 e1 input out err out_failed err_failed code r o e printed reported p =
-      from_memory r1 input out err out_failed err_failed code
-      (rw (sym reported) at (rw (sym printed) at (rw e at (rw o at (rw r at p)))))
+      run_held o0 o1 e0 e1 input out err code o e printed reported
+      (run_of_sinks r0 r1 o0 o1 e0 e1 input out_failed err_failed code r p)

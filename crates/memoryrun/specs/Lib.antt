@@ -1,2 +1,4 @@
+pub mod BufferContents
+pub mod Filled
 pub mod MemoryRun
 pub mod PlannedRun

@@ -6,10 +6,11 @@ ghost use Rattle.pegrun.specs.ByteUnits.{AreByteUnits, IsByteUnit, known_text};
 ghost use Rattle.pegmatch.specs.Answers.{most_matches};
 ghost use Rattle.pegrun.specs.MatchCalls.{calls_of};
 
-use crate::byte_units::{ByteUnit, ByteUnits};
+use crate::byte_units::{ByteUnit, ByteUnits, MOST_TEXT};
+use crate::draft::Draft;
 use gramcheck::SoundPeg;
 use pegmatch::{Matcher, PrintStyle, ReplayFault, Unit};
-use ruletable::{Sink, SinkOf, WriteFault};
+use ruletable::{Sink, WriteFault};
 use std::alloc::Global;
 
 /// The result of the start rule at the front of a window.
@@ -77,7 +78,8 @@ impl<M: Matcher> CountedMatcher<M> {
         }
     }
 
-    /// Matches the first two bytes of a window, with more bytes to come. Returns the table entry for the first byte.
+    /// Matches the first two bytes of a window, with more bytes to come. Returns the table entry for the first byte:
+    /// `Other` if its text is too long to be stored.
     fn ask(&mut self, peg: &SoundPeg, window: &[u8], style: PrintStyle) -> ByteUnit
         requires { 2 ≤ length window.now }
         ensures known { (b : ℕ) → slice_get window.now 0 ≡ Some b
@@ -85,9 +87,9 @@ impl<M: Matcher> CountedMatcher<M> {
         ensures units { self.new.units ≡ self.old.units }
         ensures once { calls_of M.matches self.new ≤ calls_of M.matches self.old + 1 }
     {
-        let mut text = SinkOf::new(Vec::new(self.units.alloc));
-        match self.print_unit(peg, &window[..2], true, style, &mut text) {
-            Ok(Attempt::Printed(1)) => ByteUnit::of(text.into_inner()),
+        let mut draft = Draft::new(self.units.alloc, MOST_TEXT);
+        match self.print_unit(peg, &window[..2], true, style, &mut draft) {
+            Ok(Attempt::Printed(1)) => ByteUnit::Prints(draft.text),
             _ => ByteUnit::Other,
         }
     }

@@ -11,7 +11,7 @@ use ruletable::{Sink, WriteFault, write_whole};
 use std::alloc::{AllocError, Global};
 
 /// The greatest length of a stored text, in bytes.
-const MOST_TEXT: usize = 64;
+pub(crate) const MOST_TEXT: usize = 64;
 
 /// A table entry, for the units that begin with one byte.
 #[derive(Drop)]
@@ -22,18 +22,6 @@ pub(crate) enum ByteUnit {
     Other,
     /// Each such unit takes one byte and prints this text, whatever follows.
     Prints(Vec<u8>),
-}
-
-impl ByteUnit {
-    /// Returns the entry for a text: `Other` if the text is too long.
-    pub(crate) fn of(text: Vec<u8>) -> ByteUnit
-        ensures { IfSome (known_text (Some result)) (λ kept. kept ≡ text.items) }
-    {
-        if text.len() > MOST_TEXT {
-            return ByteUnit::Other;
-        }
-        ByteUnit::Prints(text)
-    }
 }
 
 /// The texts of units of one byte, by that byte. An entry is added after such a unit is matched.

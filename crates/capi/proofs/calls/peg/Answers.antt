@@ -2,7 +2,8 @@
 use Rattle.capi.specs.BufferRun.{ran}
 use Rattle.capi.proofs.calls.peg.Goals as goal
 
-pub returns-in-Some : goal.returns-in-Some
-returns-in-Some c =
-    ran c.in-Some.settings c.peg_in_memory.result.out.items c.peg_in_memory.result.err.items c.in-Some.ensures
-    (rw c.hand_out.ensures.status c.peg_in_memory.ensures) c.hand_out.ensures.out c.hand_out.ensures.err
+pub returns : goal.returns
+returns c =
+    let run = c.peg_into_buffers-ran.ensures in
+    rw (c.c_result.ensures.status, c.c_result.ensures.out_len, c.c_result.ensures.err_len)
+    (ran c.in-Some.settings run.0 run.1 c.in-Some.ensures run.2 run.3 run.4)

@@ -12,7 +12,11 @@ returns-then-not-slot-clause-ran c =
 
 pub returns-clause-ran : goal.returns-clause-ran
 returns-clause-ran c =
-    let outputs = c.run_input-outputs.result in
-    rw (c.take_runner-runner.ensures.runner, c.hand_out.ensures.status)
-    (runs c.take_runner-runner.result.value outputs.out.items outputs.err.items
-    (rw c.deref_mut.ensures.value at c.run_input-outputs.ensures.runs) c.hand_out.ensures.out c.hand_out.ensures.err)
+    let run = c.run_input-ran.ensures.runs in
+    rw (
+      c.take_runner-runner.ensures.runner,
+      c.c_result.ensures.status,
+      c.c_result.ensures.out_len,
+      c.c_result.ensures.err_len,
+    )
+    (runs c.take_runner-runner.result.value run.0 run.1 (rw c.deref_mut.ensures.value at run.2) run.3 run.4)
