@@ -6,7 +6,7 @@ function __abnfi_rules
     set -l at 2
     while test $at -le (count $words)
         switch $words[$at]
-            case -m --mode -s --rule -l --limit -u --letters -b --budget -p --print
+            case -m --mode -s --rule -l --limit -u --letters -b --budget -p --print -f --format
                 set at (math $at + 1)
             case '-*'
             case '*'
@@ -35,5 +35,6 @@ complete -c abnfi -s q -l quiet -d 'Print nothing, and end at the first refused 
 complete -c abnfi -l line-buffered -d 'Answer each line before more input is read'
 complete -c abnfi -s w -l viable -d 'Write how far a refused line goes: no N'
 complete -c abnfi -s x -l explain -d 'Explain messages in more lines'
+complete -c abnfi -s f -l format -x -a 'text gcc json' -d 'Choose the form of messages'
 complete -c abnfi -s h -l help -f -d 'Print this help'
 complete -c abnfi -l version -f -d 'Print the version'

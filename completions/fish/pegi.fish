@@ -6,7 +6,7 @@ function __pegi_rules
     set -l at 2
     while test $at -le (count $words)
         switch $words[$at]
-            case -m --mode -s --rule -l --limit -b --budget
+            case -m --mode -s --rule -l --limit -b --budget -f --format
                 set at (math $at + 1)
             case '-*'
             case '*'
@@ -29,5 +29,6 @@ complete -c pegi -s 1 -l whole -d 'Take the input as one unit, up to its end'
 complete -c pegi -s r -l raw -d 'Print actions verbatim'
 complete -c pegi -l escapes -d 'Replace escapes in actions by their bytes'
 complete -c pegi -s x -l explain -d 'Explain messages in more lines'
+complete -c pegi -s f -l format -x -a 'text gcc json' -d 'Choose the form of messages'
 complete -c pegi -s h -l help -f -d 'Print this help'
 complete -c pegi -l version -f -d 'Print the version'

@@ -75,7 +75,7 @@ def shown(program):
     found = set()
     for letter, name, value, said in re.findall(r"(?m)^  (?:-(\w), |    )--([\w-]+)(?: <(\w+)>)? +(.*)$", text):
         values = re.search(r" \[possible values: (.*)\]", said)
-        said = re.sub(r" \[(possible values|default: (run|bytes|answers|all|\d+)\]).*", "", said)
+        said = re.sub(r" \[(possible values|default: (run|bytes|text|answers|all|\d+)\]).*", "", said)
         found.add((letter, name, value, said, tuple(values[1].split(", ")) if values else ()))
     return found, re.search(r"(?m)^  <(?:GRAMMAR|TEXT|OLD)>(?:\.\.\.)? +(.*)$", text)[1]
 

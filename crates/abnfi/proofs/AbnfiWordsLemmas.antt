@@ -5,10 +5,14 @@ use Rattle.std.specs.Prelude.{IfOk, Result}
 use Rattle.abnfi.specs.AbnfiCommand.{ArePrinted, IsAbnfiApp, abnfi_app}
 use Rattle.clap.specs.Words.{App, app_of}
 use Rattle.clap.specs.declared.builder.command.Command.{Command}
-use Rattle.cli.specs.Command.{AreAlphabets, AreModes, Names}
+use Rattle.cli.specs.Command.{AreAlphabets, AreFormats, AreModes, Names}
 
-pub app_made : {E : Type 0} (r : Result Command E) (modes alphabets printed : Names) → AreModes modes
-    → IfOk r (λ c. app_of c ≡ abnfi_app modes alphabets printed) → AreAlphabets alphabets → ArePrinted printed
+pub app_made : {E : Type 0} (r : Result Command E) (modes alphabets printed formats : Names) → AreModes modes
+    → IfOk r (λ c. app_of c ≡ abnfi_app modes alphabets printed formats) → AreAlphabets alphabets → ArePrinted printed
+    → AreFormats formats
     → (app : App) × IsAbnfiApp app × IfOk r (λ c. app_of c ≡ app)
-app_made r modes alphabets printed named is letters what =
-    (abnfi_app modes alphabets printed, (modes, named, alphabets, letters, printed, what, refl), is)
+app_made r modes alphabets printed formats named is letters what form = (
+  abnfi_app modes alphabets printed formats,
+  (modes, named, alphabets, letters, printed, what, formats, form, refl),
+  is,
+)

@@ -5,8 +5,8 @@ use Rattle.std.specs.Str.{bytes_eq}
 use Rattle.clap.specs.Words.{App, Row, first_of, one_of}
 use Rattle.abnfrun.specs.declared.options.AbnfOptions.{AbnfOptions}
 use Rattle.cli.specs.Asked.{IsBudgetOf, alphabet_named, is_flagged}
-use Rattle.cli.specs.Command.{AreAlphabets, AreModes, AreNames, Names, budget_rule, choice_rule, flag_rule}
-use Rattle.cli.specs.Command.{letters_rule, long_flag_rule, tool_app}
+use Rattle.cli.specs.Command.{AreAlphabets, AreFormats, AreModes, AreNames, Names, budget_rule, choice_rule, flag_rule}
+use Rattle.cli.specs.Command.{format_rule, letters_rule, long_flag_rule, tool_app}
 use Rattle.linejudge.specs.declared.printed.Printed.{Printed}
 use Rattle.linejudge.specs.declared.printed.Printed.TheVariants.{Answers, Count, Derived, Nothing, Refused}
 
@@ -16,9 +16,9 @@ ArePrinted =
     AreNames (codes "answers" ∷ codes "derived" ∷ codes "refused" ∷ codes "count" ∷ codes "none" ∷ [])
 
 -- `abnfi [-m MODE] [-l N] [-s RULE] [-u MODE] [-p WHAT] [-H] [-n] [-w] [-z] [-k] [-q] [--line-buffered] [-b N] [-x]
--- GRAMMAR [FILE]..`
-abbrev pub abnfi_app : Names → Names → Names → App
-abnfi_app names alphabets printed = tool_app names (codes "abnfi") (letters_rule alphabets
+-- [-f FORM] GRAMMAR [FILE]..`
+abbrev pub abnfi_app : Names → Names → Names → Names → App
+abnfi_app names alphabets printed formats = tool_app names (codes "abnfi") (letters_rule alphabets
     ∷ flag_rule (codes "viable") (code "w")
     ∷ flag_rule (codes "null-data") (code "z")
     ∷ choice_rule (codes "print") (code "p") printed (codes "answers")
@@ -26,12 +26,15 @@ abnfi_app names alphabets printed = tool_app names (codes "abnfi") (letters_rule
     ∷ flag_rule (codes "line-number") (code "n")
     ∷ flag_rule (codes "keep-ends") (code "k")
     ∷ flag_rule (codes "quiet") (code "q")
-    ∷ long_flag_rule (codes "line-buffered") ∷ budget_rule ∷ [])
+    ∷ long_flag_rule (codes "line-buffered")
+    ∷ budget_rule
+    ∷ format_rule formats ∷ [])
 
 -- this is the command of the program
 abbrev pub IsAbnfiApp : App → Type 0
 IsAbnfiApp app = (names : Names) × AreModes names × (alphabets : Names) × AreAlphabets alphabets ×
-    (printed : Names) × ArePrinted printed × (app ≡ abnfi_app names alphabets printed)
+    (printed : Names) × ArePrinted printed × (formats : Names) × AreFormats formats ×
+    (app ≡ abnfi_app names alphabets printed formats)
 
 -- what is printed by that name; answers where none is given
 abbrev pub printed_named : Option (List ℕ) → Printed

@@ -3,11 +3,13 @@ ghost use Rattle.std.specs.Prelude.{◌≡◌, codes};
 ghost use Rattle.abnfi.specs.AbnfiCommand.{AsksAbnfi, IsAbnfiApp, printed_named};
 ghost use Rattle.abnfrun.specs.AbnfAnswers.{AbnfStates};
 ghost use Rattle.clap.specs.Words.{first_value, found_of};
+ghost use Rattle.findings.specs.declared.messages.Syntax.TheVariants.{Abnf};
 
 use abnfrun::{AbnfOptions, AbnfSettings, Printed, run_abnf};
 use clap::{ArgMatches, Command};
 use cli::{BufferedSink, Parameter, Program, budget_of, is_given, letters_of, tool_command};
 use feed::Source;
+use findings::Syntax;
 use ruletable::Sink;
 use std::alloc::{AllocError, Global};
 use toolrun::Status;
@@ -41,6 +43,7 @@ Output:
       --line-buffered  Answer each line before more input is read
   -w, --viable         Write how far a refused line goes: no N
   -x, --explain        Explain messages in more lines
+  -f, --format <FORM>  Choose the form of messages [default: text] [possible values: text, gcc, json]
 
 Other options:
   -h, --help     Print this help
@@ -58,7 +61,7 @@ Example:
   abnfi date.abnf dates.txt";
 
 /// The options of the program alone.
-static OWN: [Parameter; 10] = [
+static OWN: [Parameter; 11] = [
     Parameter::Choice("letters", 'u', "MODE", &["bytes", "utf8"], "bytes"),
     Parameter::Flag("viable", 'w'),
     Parameter::Flag("null-data", 'z'),
@@ -75,6 +78,7 @@ static OWN: [Parameter; 10] = [
     Parameter::Flag("quiet", 'q'),
     Parameter::LongFlag("line-buffered"),
     Parameter::Number("budget", 'b', 4_294_967_295, "4294967295"),
+    Parameter::Choice("format", 'f', "FORM", &["text", "gcc", "json"], "text"),
 ];
 
 fn printed_of(matches: &ArgMatches<'_>) -> Printed
@@ -90,7 +94,7 @@ fn printed_of(matches: &ArgMatches<'_>) -> Printed
 }
 
 /// The program `abnfi [-m MODE] [-l N] [-s RULE] [-u MODE] [-p WHAT] [-H] [-n] [-w] [-z] [-k] [-q] [--line-buffered]
-/// [-b N] [-x] GRAMMAR [FILE]..`.
+/// [-b N] [-x] [-f FORM] GRAMMAR [FILE]..`.
 pub(crate) struct Abnfi;
 
 impl Program for Abnfi {
@@ -101,6 +105,12 @@ impl Program for Abnfi {
     ghost asks = { AsksAbnfi };
 
     ghost states = { AbnfStates };
+
+    ghost language = { Abnf };
+
+    fn syntax() -> Syntax {
+        Syntax::Abnf
+    }
 
     fn command<'a>(alloc: Global) -> Result<Command<'a>, AllocError> {
         tool_command(alloc, "abnfi", HELP, OWN.as_slice())

@@ -19,7 +19,7 @@ use toolrun::Status;
 
 /// Runs the program `abnfi`. It judges the lines that the reader gives by the grammar in the file GRAMMAR, as
 /// `run_abnf` says, with the settings of the words. These are its own name and `[-m MODE] [-l N] [-s RULE] [-u MODE]
-/// [-p WHAT] [-H] [-n] [-w] [-z] [-k] [-q] [--line-buffered] [-b N] [-x] GRAMMAR [FILE]..`.
+/// [-p WHAT] [-H] [-n] [-w] [-z] [-k] [-q] [--line-buffered] [-b N] [-x] [-f FORM] GRAMMAR [FILE]..`.
 ///
 /// Words without a run, a grammar that cannot be read and an allocation that fails end it as `tool_main` says.
 pub(crate) fn abnfi_main<R: Files + AllocGlobal, I: Source, O: BufferedSink, E: Sink>(

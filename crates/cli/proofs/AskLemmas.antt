@@ -6,7 +6,7 @@ use Rattle.std.specs.Borrow.{Bor}
 use Rattle.clap.specs.Words.{Row, Text, first_of, first_value, one_of, one_text, rows_of}
 use Rattle.clap.specs.declared.parser.matches.Found.{Found}
 use Rattle.clap.proofs.WalkLemmas.{first_value-rows, one_text-rows}
-use Rattle.cli.specs.Asked.{AreWhole, Ask, IsLimitOf, input_named, is_flagged, mode_named}
+use Rattle.cli.specs.Asked.{AreWhole, Ask, IsLimitOf, explained_in, format_named, input_named, mode_named}
 use Rattle.cli.specs.declared.settings.Asked.{Asked}
 
 first_found : (f : Found) (rows : List Row) → rows_of f ≡ rows → (id : Text) → first_value f id ≡ first_of id rows
@@ -21,11 +21,12 @@ pub words_ask : {O : Type 0} (Asks : List Row → O → Type 0) (f : Found) (row
     → IsLimitOf (one_text f (codes "limit")) a.settings.limit
     → option_map (λ s. s.now) a.settings.start ≡ first_value f (codes "rule")
     → a.settings.input.now ≡ input_named (first_value f (codes "file"))
-    → a.settings.explain ≡ is_flagged (first_of (codes "explain") (rows_of f))
+    → a.settings.explain ≡ explained_in (rows_of f)
     → Asks (rows_of f) a.settings.options
     → option_map (λ s. s.now) path ≡ first_value f (codes "grammar") → path ≡ Some a.path
-    → option_map (λ s. s.now) a.file ≡ first_value f (codes "file") → Ask Asks rows a
-words_ask Asks f rows e whole a path mode limit start input explain options word is file =
+    → option_map (λ s. s.now) a.file ≡ first_value f (codes "file")
+    → a.format ≡ format_named (first_of (codes "format") (rows_of f)) → Ask Asks rows a
+words_ask Asks f rows e whole a path mode limit start input explain options word is file format =
     let w = whole.limit in
     let number = subst (λ o. IsLimitOf o a.settings.limit) w.1 limit in
     record {
@@ -33,11 +34,12 @@ words_ask Asks f rows e whole a path mode limit start input explain options word
       limit = (w.0, sym (one_found f rows e (codes "limit")) ∙ w.1, w.2, number w.2.0 w.2.1 w.2.2);
       start = start ∙ first_found f rows e (codes "rule");
       input = input ∙ ap input_named (first_found f rows e (codes "file"));
-      explain = explain ∙ ap (λ (r : List Row). is_flagged (first_of (codes "explain") r)) e;
+      explain = explain ∙ ap explained_in e;
       options = subst (λ r. Asks r a.settings.options) e options;
       grammar = sym (first_found f rows e (codes "grammar"))
           ∙ (sym word ∙ ap (option_map (λ (s : Bor Text). s.now)) is);
       file = file ∙ first_found f rows e (codes "file");
+      format = format ∙ ap (λ (r : List Row). format_named (first_of (codes "format") r)) e;
     }
 
 -- what is mapped to something is something

@@ -1,17 +1,20 @@
 -- The runs on several files: what is reported, and how one run follows those before.
--- Serves: lines_named, own_of, report_named, report_no_memory, run_inputs, run_grammars, check_and_run, run_several
+-- Serves: lines_named, own_of, report_from, report_no_memory, run_inputs, run_grammars, check_and_run, run_several
 use native.Mathlib.Numerals.{unary_clauses}
 use Rattle.std.proofs.Common.{◌≡◌, ◌∙◌, ap, subst, sym, refl, true≢false, inl, inr, ℕ, Bool, true, false}
 use Rattle.std.proofs.Common.{List, [], ◌∷◌, ◌++◌, append_assoc, append-nil, ◌≤◌, ◌⊎◌, Option, None, Some, map, take}
 use Rattle.std.proofs.Common.{drop, length, ◌+◌, ◌<◌, arith}
-use Rattle.std.specs.Prelude.{Result, Ok, Err, ◌==◌, codes, max, option_map, unwrap_or}
+use Rattle.std.specs.Prelude.{Result, Ok, Err, ◌==◌, max, option_map, unwrap_or}
 use Rattle.std.proofs.lemmas.List.{map-append, take-append-drop, take_all}
 use Rattle.std.specs.Borrow.{Bor}
-use Rattle.clap.specs.Words.{Row, Text, first_of}
-use Rattle.cli.specs.Asked.{Ask, files_in, mode_named}
+use Rattle.clap.specs.Words.{Row, Text}
+use Rattle.cli.specs.Asked.{Ask, files_in}
 use Rattle.cli.specs.FileRuns.{AllRun, AreFew, AreFewAsked, HasRunFiles, HasRunSeveral, RunsInOrder}
-use Rattle.cli.specs.FileRuns.{IsGrammarRun, IsReportedText, both_calls, lines_named, more, name_before, none}
+use Rattle.cli.specs.FileRuns.{IsGrammarRun, IsReportedText, Manners, both_calls, lines_named, more, name_before, none}
+use Rattle.cli.specs.FileRuns.{is_plain, writes_asked}
 use Rattle.cli.specs.declared.settings.Asked.{Asked}
+use Rattle.cli.specs.declared.settings.Format.{Format}
+use Rattle.findings.specs.declared.messages.Syntax.{Syntax}
 use Rattle.ruletable.specs.Writing.{Flags, Writes}
 use Rattle.ruletable.specs.declared.sink.WriteFault.{WriteFault}
 use Rattle.ruletable.proofs.AppendsLemmas.{IsPrefixOf-same}
@@ -148,28 +151,40 @@ pub files_named : (o : Option (Bor (List (Bor Text)))) (d r : Bor (List (Bor Tex
 files_named None d r all e empty is = rw (is, empty, sym e) refl
 files_named (Some x) d r all e empty is = rw (is, sym e) refl
 
-pub few_asked : (rows same : List Row) (mode : Mode) (names : List Text) → rows ≡ same
-    → mode ≡ mode_named (first_of (codes "mode") rows) → names ≡ files_in rows → AreFew mode names → AreFewAsked same
-few_asked rows same mode names e is named few =
-    subst AreFewAsked e (subst (λ q. AreFew q (files_in rows)) is (subst (AreFew mode) named few))
+plain_asked : (f g : Format) (m n : Mode) (a b c d : Option Text) → f ≡ g → m ≡ n → a ≡ b → c ≡ d
+    → is_plain f m a c ≡ is_plain g n b d
+plain_asked f g m n a b c d format mode grammar file =
+    ap (λ (x : Format). is_plain x m a c) format ∙ ap (λ (x : Mode). is_plain g x a c) mode
+    ∙ ap (λ (x : Option Text). is_plain g n x c) grammar ∙ ap (λ (x : Option Text). is_plain g n b x) file
 
-module _ {O : Type 0} (Asks : List Row → O → Type 0) (States : List ℕ → Settings O → Input → List ℕ → Reply → Type 0)
+pub few_asked : {O : Type 0} (Asks : List Row → O → Type 0) (rows same : List Row) (asked : Asked O) (names : List Text)
+    → rows ≡ same → Ask Asks rows asked → names ≡ files_in rows → AreFew asked.settings.mode names
+    → is_plain asked.format asked.settings.mode (Some asked.path.now) (option_map (λ s. s.now) asked.file) ≡ true
+    → AreFewAsked same
+few_asked Asks rows same asked names e ask named few plain = subst AreFewAsked e (
+  subst (λ (q : Mode). AreFew q (files_in rows)) ask.mode (subst (AreFew asked.settings.mode) named few),
+  sym (plain_asked _ _ _ _ _ _ _ _ ask.format ask.mode (sym ask.grammar) ask.file) ∙ plain,
+)
+
+module _ {O : Type 0} (syntax_of : Syntax) (Asks : List Row → O → Type 0)
+    (States : List ℕ → Settings O → Input → List ℕ → Reply → Type 0)
   where
     pub ran_asked : (rows same : List Row) (asked : Asked O) (names : List Text) (out err : Stream) (code : ℕ)
         → rows ≡ same → Ask Asks rows asked → names ≡ files_in rows
-        → HasRunFiles States asked.settings.mode asked.settings asked.path.now names out err code
-        → HasRunSeveral Asks States same out err code
+        → HasRunFiles (writes_asked syntax_of asked) States asked.settings.mode asked.settings asked.path.now names out
+        err code → HasRunSeveral syntax_of Asks States same out err code
     ran_asked rows same asked names out err code e ask named ran = inl (
       asked,
       subst (λ r. Ask Asks r asked) e ask,
-      subst (λ ns. HasRunFiles States asked.settings.mode asked.settings asked.path.now ns out err code)
+      subst (λ ns. HasRunFiles (writes_asked syntax_of asked) States asked.settings.mode asked.settings asked.path.now
+          ns out err code)
           (named ∙ ap files_in e) ran,
     )
 
-    pub grammars_ran : (mode : Mode) (settings : Settings O) (path : Text) (names : List Text) (out err : Stream)
-        (code : ℕ) → (mode ≡ Run → ⊥)
-        → AllRun (IsGrammarRun (λ g. States g settings)) (path ∷ names) out err code
-        → HasRunFiles States mode settings path names out err code
-    grammars_ran Run settings path names out err code isnt ran = absurd (isnt refl)
-    grammars_ran Check settings path names out err code isnt ran = ran
-    grammars_ran Print settings path names out err code isnt ran = ran
+    pub grammars_ran : (Writes : Manners) (mode : Mode) (settings : Settings O) (path : Text) (names : List Text)
+        (out err : Stream) (code : ℕ) → (mode ≡ Run → ⊥)
+        → AllRun (IsGrammarRun Writes (λ g. States g settings)) (path ∷ names) out err code
+        → HasRunFiles Writes States mode settings path names out err code
+    grammars_ran Writes Run settings path names out err code isnt ran = absurd (isnt refl)
+    grammars_ran Writes Check settings path names out err code isnt ran = ran
+    grammars_ran Writes Print settings path names out err code isnt ran = ran

@@ -1,11 +1,14 @@
 -- What the words of a command line ask for.
 use Rattle.std.specs.Prelude.{◌≡◌, ◌==◌, ◌≤◌, ℕ, option_map, Bool, true, false, List, Option, Some, None, codes}
-use Rattle.std.specs.Prelude.{[], if◌then◌else◌, is_some, unwrap_or}
+use Rattle.std.specs.Prelude.{[], ◌||◌, not, if◌then◌else◌, is_some, unwrap_or}
 use Rattle.std.specs.Str.{bytes_eq}
 use Rattle.std.specs.Str.Parse.{IsNumeral, digits_value, without_leading_plus}
 use Rattle.clap.specs.Words.{Row, Text, all_of, first_of, first_value, one_of, one_text}
 use Rattle.clap.specs.declared.parser.matches.Found.{Found}
 use Rattle.cli.specs.declared.settings.Asked.{Asked}
+use Rattle.cli.specs.declared.settings.Format.{Format}
+use Rattle.cli.specs.declared.settings.Format.TheVariants as format
+use Rattle.findings.specs.declared.form.FindingForm.TheVariants.{Gcc, Json}
 use Rattle.letters.specs.declared.alphabet.Alphabet.{Alphabet}
 use Rattle.letters.specs.declared.alphabet.Alphabet.TheVariants.{Bytes, Utf8}
 use Rattle.toolrun.specs.declared.settings.Mode.{Mode}
@@ -57,6 +60,21 @@ abbrev pub is_flagged : Option Text → Bool
 is_flagged None = false
 is_flagged (Some text) = bytes_eq text (codes "true")
 
+-- the form of messages of a name; lines of text where none is given
+abbrev pub format_named : Option Text → Format
+format_named None = format.Text
+format_named (Some name) = if bytes_eq name (codes "gcc") then format.Findings Gcc else
+    if bytes_eq name (codes "json") then format.Findings Json else format.Text
+
+abbrev pub is_text : Format → Bool
+is_text format.Text = true
+is_text (format.Findings form) = false
+
+-- messages are explained: the words ask for that, or for findings
+abbrev pub explained_in : List Row → Bool
+explained_in rows =
+    is_flagged (first_of (codes "explain") rows) || not (is_text (format_named (first_of (codes "format") rows)))
+
 -- the files that words name after the grammar
 abbrev pub files_in : List Row → List Text
 files_in rows = unwrap_or (all_of (codes "file") rows) []
@@ -73,7 +91,8 @@ pub record Ask {O : Type 0} (Asks : List Row → O → Type 0) (rows : List Row)
       × (asked.settings.limit ≡ digits_value 10 (without_leading_plus text))
   pub start : option_map (λ s. s.now) asked.settings.start ≡ first_of (codes "rule") rows
   pub input : asked.settings.input.now ≡ input_named (first_of (codes "file") rows)
-  pub explain : asked.settings.explain ≡ is_flagged (first_of (codes "explain") rows)
+  pub explain : asked.settings.explain ≡ explained_in rows
   pub options : Asks rows asked.settings.options
   pub grammar : first_of (codes "grammar") rows ≡ Some asked.path.now
   pub file : option_map (λ s. s.now) asked.file ≡ first_of (codes "file") rows
+  pub format : asked.format ≡ format_named (first_of (codes "format") rows)

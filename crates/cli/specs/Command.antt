@@ -119,6 +119,14 @@ tool_app modes name own = program_app name (choice_rule (codes "mode") (code "m"
 abbrev pub letters_rule : Names → Rule
 letters_rule names = choice_rule (codes "letters") (code "u") names (codes "bytes")
 
+-- `-f FORMAT`, one of the names; `text` where it is not given
+abbrev pub format_rule : Names → Rule
+format_rule names = choice_rule (codes "format") (code "f") names (codes "text")
+
+-- these are the names of the forms of messages
+abbrev pub AreFormats : Names → Type 0
+AreFormats = AreNames (codes "text" ∷ codes "gcc" ∷ codes "json" ∷ [])
+
 -- these are the names of the alphabets of a line
 abbrev pub AreAlphabets : Names → Type 0
 AreAlphabets = AreNames (codes "bytes" ∷ codes "utf8" ∷ [])

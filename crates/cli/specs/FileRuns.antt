@@ -1,14 +1,20 @@
 -- The runs of a program whose words name several files, one after another.
 use Prim.Native.Char.{code}
-use Rattle.std.specs.Prelude.{◌≡◌, ◌≤◌, ◌<◌, ◌⊎◌, ◌++◌, ◌∷◌, ◌&&◌, ◌==◌, ℕ, Bool, true, false, not, List, []}
-use Rattle.std.specs.Prelude.{Some, codes, drop, if◌then◌else◌, length, max, take}
+use Rattle.std.specs.Prelude.{◌≡◌, ◌≤◌, ◌<◌, ◌⊎◌, ◌++◌, ◌∷◌, ◌&&◌, ◌||◌, ◌==◌, ℕ, Bool, true, false, not, List, []}
+use Rattle.std.specs.Prelude.{Option, Some, codes, drop, if◌then◌else◌, length, max, option_map, take}
 use Rattle.std.specs.Io.KnownBytes.{Appends}
 use Rattle.std.specs.Str.{bytes_eq}
 use Rattle.clap.specs.Words.{Row, Text, first_of}
-use Rattle.cli.specs.Asked.{Ask, files_in, mode_named}
-use Rattle.cli.specs.Inputs.{InputlessStates, IsUnopened}
+use Rattle.cli.specs.Asked.{Ask, files_in, format_named, is_text, mode_named}
+use Rattle.cli.specs.Inputs.{InputlessStates, IsUnopened, are_shared}
 use Rattle.cli.specs.declared.input.Inputless.{Inputless}
+use Rattle.cli.specs.declared.held.Manner.{Manner}
+use Rattle.cli.specs.declared.held.Origin.{Origin}
 use Rattle.cli.specs.declared.settings.Asked.{Asked}
+use Rattle.cli.specs.declared.settings.Format.{Format}
+use Rattle.cli.specs.declared.settings.Format.TheVariants as format
+use Rattle.findings.specs.MessageFindings.{findings_text}
+use Rattle.findings.specs.declared.messages.Syntax.{Syntax}
 use Rattle.toolrun.specs.Delivery.{IsReported, greatest_met}
 use Rattle.toolrun.specs.Input.{Input}
 use Rattle.toolrun.specs.Reply.{Reply}
@@ -37,10 +43,27 @@ own_messages first all = if bytes_eq (take (length first) all) first then drop (
 abbrev pub IsReportedText : List ℕ → Stream → Type 0
 IsReportedText text err = (part : List ℕ) × Appends err.old err.new part × IsReported err.failed part text
 
--- These messages were written with the name before their lines, after a run of that status; or an allocation failed.
-abbrev pub IsNamedReport : Text → List ℕ → ℕ → Stream → ℕ → Type 0
-IsNamedReport name messages status err code =
-    (IsReportedText (lines_named name true messages) err × (code ≡ greatest_met status false err.failed))
+-- how messages on a grammar or an input are written: by the name of its file, and the text of the grammar, which counts
+-- as empty for an input
+abbrev pub Manners : Type 0
+Manners = Text → List ℕ → List ℕ → List ℕ
+
+-- with the name before each line that no space begins, or as findings, where that name is given for the start rule
+abbrev pub writes_in : Syntax → Option Text → Format → Manners
+writes_in syntax start format.Text = λ name grammar messages. lines_named name true messages
+writes_in syntax start (format.Findings form) = findings_text form syntax start
+
+-- as the code asks for it
+abbrev pub writes_as : Manner → Manners
+writes_as m = writes_in m.syntax (option_map (λ s. s.now) m.start) m.format
+
+abbrev pub writes_from : Origin → List ℕ → List ℕ
+writes_from origin = writes_as origin.manner origin.name.now origin.text.now
+
+-- These messages were written so, after a run of that status; or an allocation failed.
+abbrev pub IsReportAs : (List ℕ → List ℕ) → List ℕ → ℕ → Stream → ℕ → Type 0
+IsReportAs written messages status err code =
+    (IsReportedText (written messages) err × (code ≡ greatest_met status false err.failed))
     ⊎ (IsReportedText (message_of NoMemory) err × (code ≡ 5))
 
 -- an allocation failed before all else
@@ -49,32 +72,33 @@ HasNoMemory out err code =
     (out.new ≡ out.old) × (out.failed ≡ out.was) × IsReportedText (message_of NoMemory) err × (code ≡ 5)
 
 -- A run whose messages were held, and written after it, but for the first ones.
-pub record IsHeldRun (States : Input → List ℕ → Reply → Type 0) (first : List ℕ) (name : Text) (messages : List ℕ)
+pub record IsHeldRun (States : Input → List ℕ → Reply → Type 0) (first : List ℕ) (written : List ℕ → List ℕ)
+    (messages : List ℕ)
     (reader out err : Stream) (code : ℕ) : Type 0 where
   pub held_all : Bool
   pub status : ℕ
   pub right : RunIsRight States reader out
       (record { old = Some []; new = Some messages; was = false; failed = not held_all }) status
-  pub reported : IsNamedReport name (own_messages first messages) status err code
+  pub reported : IsReportAs written (own_messages first messages) status err code
 
 -- The run on the input of that name; or that file could not be opened. No clause can say what a file holds.
-abbrev pub IsInputRun : (Input → List ℕ → Reply → Type 0) → List ℕ → Text → Stream → Stream → ℕ → Type 0
-IsInputRun States first name out err code =
-    ((messages : List ℕ) × (reader : Stream) × IsHeldRun States first name messages reader out err code)
+abbrev pub IsInputRun : Manners → (Input → List ℕ → Reply → Type 0) → List ℕ → Text → Stream → Stream → ℕ → Type 0
+IsInputRun Writes States first name out err code =
+    ((messages : List ℕ) × (reader : Stream) × IsHeldRun States first (Writes name []) messages reader out err code)
     ⊎ ((why : Inputless) × IsUnopened name why × RunIsRight (InputlessStates why) no_input out err code)
 
 -- The run on a grammar, which the file of that name holds, without an input; or that file could not be read.
-abbrev pub HasRunGrammar : (List ℕ → Input → List ℕ → Reply → Type 0) → Text → List ℕ → List ℕ → Stream → Stream → ℕ
-    → Type 0
-HasRunGrammar States name grammar messages out err code =
+abbrev pub HasRunGrammar : Manners → (List ℕ → Input → List ℕ → Reply → Type 0) → Text → List ℕ → List ℕ → Stream
+    → Stream → ℕ → Type 0
+HasRunGrammar Writes States name grammar messages out err code =
     ((reader : Stream) × (reader.old ≡ Some [])
-    × IsHeldRun (States grammar) [] name messages reader out err code)
-    ⊎ ((out.new ≡ out.old) × (out.failed ≡ out.was) × IsNamedReport name (message_of Unreadable) 4 err code)
+    × IsHeldRun (States grammar) [] (Writes name grammar) messages reader out err code)
+    ⊎ ((out.new ≡ out.old) × (out.failed ≡ out.was) × IsReportAs (Writes name []) (message_of Unreadable) 4 err code)
 
 -- so it was for some grammar
-abbrev pub IsGrammarRun : (List ℕ → Input → List ℕ → Reply → Type 0) → Text → Stream → Stream → ℕ → Type 0
-IsGrammarRun States name out err code =
-    (grammar messages : List ℕ) × HasRunGrammar States name grammar messages out err code
+abbrev pub IsGrammarRun : Manners → (List ℕ → Input → List ℕ → Reply → Type 0) → Text → Stream → Stream → ℕ → Type 0
+IsGrammarRun Writes States name out err code =
+    (grammar messages : List ℕ) × HasRunGrammar Writes States name grammar messages out err code
 
 -- two calls, one after the other
 abbrev pub both_calls : Stream → Stream → Stream
@@ -99,35 +123,42 @@ IsInMode mode settings new = (new.mode ≡ mode) × (new.limit ≡ settings.limi
     × (new.explain ≡ settings.explain) × (new.options ≡ settings.options)
 
 -- the run of a grammar on the input of that name, with these settings but for that name
-abbrev pub IsRunOnInput : {O : Type 0} → (List ℕ → Settings O → Input → List ℕ → Reply → Type 0) → List ℕ → Settings O
-    → List ℕ → Text → Stream → Stream → ℕ → Type 0
-IsRunOnInput {O = O} States grammar settings first name out err code =
+abbrev pub IsRunOnInput : {O : Type 0} → Manners → (List ℕ → Settings O → Input → List ℕ → Reply → Type 0) → List ℕ
+    → Settings O → List ℕ → Text → Stream → Stream → ℕ → Type 0
+IsRunOnInput {O = O} Writes States grammar settings first name out err code =
     (named : Settings O) × IsInMode settings.mode settings named × (named.input.now ≡ name)
-    × IsInputRun (States grammar named) first name out err code
+    × IsInputRun Writes (States grammar named) first name out err code
 
 -- The grammar is checked, and its messages are written once. Where nothing rejects it, it is run on the inputs of these
 -- names.
-pub data HasRunOnInputs {O : Type 0} (States : List ℕ → Settings O → Input → List ℕ → Reply → Type 0)
+pub data HasRunOnInputs {O : Type 0} (Writes : Manners)
+    (States : List ℕ → Settings O → Input → List ℕ → Reply → Type 0)
     (settings : Settings O) (path : Text) (names : List Text) : Stream → Stream → ℕ → Type 0 where
   rejected : (checks : Settings O) (grammar first : List ℕ) (out err : Stream) (code : ℕ)
-      → IsInMode Check settings checks → HasRunGrammar (λ g. States g checks) path grammar first out err code
+      → IsInMode Check settings checks → HasRunGrammar Writes (λ g. States g checks) path grammar first out err code
       → (0 < code) ⊎ ((out.failed ≡ true) ⊎ (err.failed ≡ true))
-      → HasRunOnInputs States settings path names out err code
+      → HasRunOnInputs Writes States settings path names out err code
   runs : (checks judges : Settings O) (grammar first : List ℕ) (out out_next err err_next : Stream) (code : ℕ)
-      → IsInMode Check settings checks → HasRunGrammar (λ g. States g checks) path grammar first out err 0
+      → IsInMode Check settings checks → HasRunGrammar Writes (λ g. States g checks) path grammar first out err 0
       → IsInMode Run settings judges
-      → AllRun (IsRunOnInput States grammar judges first) names out_next err_next code
+      → AllRun (IsRunOnInput Writes States grammar judges first) names out_next err_next code
       → out.new ≡ out_next.old → err.new ≡ err_next.old
-      → HasRunOnInputs States settings path names (both_calls out out_next) (both_calls err err_next) code
+      → HasRunOnInputs Writes States settings path names (both_calls out out_next) (both_calls err err_next) code
+
+-- the inputs of these names; standard input where there is no name
+abbrev pub inputs_of : List Text → List Text
+inputs_of [] = codes "-" ∷ []
+inputs_of (name ∷ names) = name ∷ names
 
 -- What is done where the words name several files: inputs of a run, or else grammars.
-abbrev pub HasRunFiles : {O : Type 0} → (List ℕ → Settings O → Input → List ℕ → Reply → Type 0) → Mode → Settings O
-    → Text → List Text → Stream → Stream → ℕ → Type 0
-HasRunFiles States Run settings path names out err code = HasRunOnInputs States settings path names out err code
-HasRunFiles States Check settings path names out err code =
-    AllRun (IsGrammarRun (λ g. States g settings)) (path ∷ names) out err code
-HasRunFiles States Print settings path names out err code =
-    AllRun (IsGrammarRun (λ g. States g settings)) (path ∷ names) out err code
+abbrev pub HasRunFiles : {O : Type 0} → Manners → (List ℕ → Settings O → Input → List ℕ → Reply → Type 0) → Mode
+    → Settings O → Text → List Text → Stream → Stream → ℕ → Type 0
+HasRunFiles Writes States Run settings path names out err code =
+    HasRunOnInputs Writes States settings path (inputs_of names) out err code
+HasRunFiles Writes States Check settings path names out err code =
+    AllRun (IsGrammarRun Writes (λ g. States g settings)) (path ∷ names) out err code
+HasRunFiles Writes States Print settings path names out err code =
+    AllRun (IsGrammarRun Writes (λ g. States g settings)) (path ∷ names) out err code
 
 -- few files are named: one at most for a run, and none else
 abbrev pub AreFew : Mode → List Text → Type 0
@@ -135,13 +166,25 @@ AreFew Run names = length names ≤ 1
 AreFew Check names = names ≡ []
 AreFew Print names = names ≡ []
 
--- so few are named by words
+-- messages are lines of text, or standard input is named for this grammar and this file
+abbrev pub is_plain : Format → Mode → Option Text → Option Text → Bool
+is_plain format mode grammar file = is_text format || are_shared mode grammar file
+
+-- so few are named by words that ask for lines of text, or whose run has no input
 abbrev pub AreFewAsked : List Row → Type 0
 AreFewAsked rows = AreFew (mode_named (first_of (codes "mode") rows)) (files_in rows)
+    × (is_plain (format_named (first_of (codes "format") rows)) (mode_named (first_of (codes "mode") rows))
+    (first_of (codes "grammar") rows) (first_of (codes "file") rows) ≡ true)
 
--- What is done where nothing is wrong with the words, and they name several files; or an allocation failed.
-abbrev pub HasRunSeveral : {O : Type 0} → (List Row → O → Type 0)
+-- how messages are written that words ask for
+abbrev pub writes_asked : {O : Type 0} → Syntax → Asked O → Manners
+writes_asked syntax asked = writes_in syntax (option_map (λ s. s.now) asked.settings.start) asked.format
+
+-- What is done where nothing is wrong with the words, and they name several files, or ask for findings; or an
+-- allocation failed.
+abbrev pub HasRunSeveral : {O : Type 0} → Syntax → (List Row → O → Type 0)
     → (List ℕ → Settings O → Input → List ℕ → Reply → Type 0) → List Row → Stream → Stream → ℕ → Type 0
-HasRunSeveral {O = O} Asks States rows out err code = ((asked : Asked O) × Ask Asks rows asked
-    × HasRunFiles States asked.settings.mode asked.settings asked.path.now (files_in rows) out err code)
+HasRunSeveral {O = O} syntax Asks States rows out err code = ((asked : Asked O) × Ask Asks rows asked
+    × HasRunFiles (writes_asked syntax asked) States asked.settings.mode asked.settings asked.path.now (files_in rows)
+    out err code)
     ⊎ HasNoMemory out err code

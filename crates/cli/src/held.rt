@@ -1,7 +1,7 @@
-//! Runs whose messages are held, and then written with a name before their lines.
+//! Runs whose messages are held, and then written with a name before their lines, or as findings.
 ghost use Rattle.std.specs.Prelude.{◌≡◌, ◌++◌, IfOk, OnOk, Some, [], false, not, true};
-ghost use Rattle.cli.specs.FileRuns.{IsNamedReport, IsReportedText, lines_named as the_lines, name_before};
-ghost use Rattle.cli.specs.FileRuns.{own_messages};
+ghost use Rattle.cli.specs.FileRuns.{IsReportAs, IsReportedText, lines_named as the_lines, name_before};
+ghost use Rattle.cli.specs.FileRuns.{own_messages, writes_from};
 ghost use Rattle.toolrun.specs.Right.{RunIsRight};
 ghost use Rattle.toolrun.specs.Status.{code_of};
 ghost use Rattle.toolrun.specs.Stop.{message_of};
@@ -10,10 +10,34 @@ ghost use Rattle.toolrun.specs.declared.stop.Stop.TheVariants.{NoMemory};
 
 use crate::output::BufferedSink;
 use crate::program::Program;
+use crate::settings::Format;
 use feed::Source;
+use findings::{FindingManner, Syntax, finding_messages};
 use ruletable::{Memory, Sink, SinkOf, write_whole};
 use std::alloc::Global;
 use toolrun::{Settings, Status};
+
+/// The manner in which messages are written.
+#[derive(Clone, Copy)]
+pub(crate) struct Manner<'a> {
+    /// Their form.
+    pub(crate) format: Format,
+    /// The syntax of grammars.
+    pub(crate) syntax: Syntax,
+    /// The name of the start rule, if one is given.
+    pub(crate) start: Option<&'a str>,
+}
+
+/// What messages are about.
+#[derive(Clone, Copy)]
+pub(crate) struct Origin<'a, 'b> {
+    /// The manner in which they are written.
+    pub(crate) manner: Manner<'a>,
+    /// The name of the file.
+    pub(crate) name: &'a str,
+    /// The text of the grammar; empty for those on an input.
+    pub(crate) text: &'b [u8],
+}
 
 /// A run, and its messages.
 #[derive(Drop)]
@@ -94,20 +118,39 @@ pub(crate) fn report_no_memory<E: Sink>(err: &mut E) -> Status
     Status::NoMemory
 }
 
-/// Writes messages with the name before each line that no space begins, after a run of that status. Returns the status,
-/// or that of a fault where the writer failed and that is greater; `NoMemory` if an allocation fails.
-pub(crate) fn report_named<E: Sink>(
+// Returns messages as they are written: with the name before each line that no space begins, or as findings. `Memory`
+// if an allocation fails.
+fn written_text(alloc: Global, origin: &Origin<'_, '_>, messages: &[u8]) -> Result<Vec<u8>, Memory>
+    ensures { IfOk result (λ text. text.items ≡ writes_from origin.now messages.now) }
+{
+    let manner = origin.manner;
+    match manner.format {
+        Format::Text => lines_named(alloc, origin.name, messages),
+        Format::Findings(form) => {
+            let asked = FindingManner {
+                form,
+                syntax: manner.syntax,
+                start: manner.start,
+            };
+            finding_messages(alloc, asked, origin.name, origin.text, messages)
+        }
+    }
+}
+
+/// Writes messages, after a run of that status. Returns the status, or that of a fault where the writer failed and that
+/// is greater; `NoMemory` if an allocation fails.
+pub(crate) fn report_from<E: Sink>(
     alloc: Global,
-    name: &str,
+    origin: &Origin<'_, '_>,
     messages: &[u8],
     status: Status,
     err: &mut E,
 ) -> Status
     requires err_is_fresh { E.failed err.old ≡ false }
-    ensures { IsNamedReport name.now messages.now (code_of status) (passed E.contents E.failed err.old err.new)
-        (code_of result) }
+    ensures { IsReportAs (writes_from origin.now) messages.now (code_of status)
+        (passed E.contents E.failed err.old err.new) (code_of result) }
 {
-    let Ok(text) = lines_named(alloc, name, messages) else {
+    let Ok(text) = written_text(alloc, origin, messages) else {
         return report_no_memory(err);
     };
     match write_whole(err, text.as_slice()) {
@@ -116,21 +159,21 @@ pub(crate) fn report_named<E: Sink>(
     }
 }
 
-/// Writes the messages of a run but for these first ones, with the name before their lines.
+/// Writes the messages of a run but for these first ones.
 pub(crate) fn report_held<E: Sink>(
     alloc: Global,
-    name: &str,
+    origin: &Origin<'_, '_>,
     first: &[u8],
     run: &HeldRun,
     err: &mut E,
 ) -> Status
     requires err_is_fresh { E.failed err.old ≡ false }
-    ensures { IsNamedReport name.now (own_messages first.now run.now.messages.items) (code_of run.now.status)
-        (passed E.contents E.failed err.old err.new) (code_of result) }
+    ensures { IsReportAs (writes_from origin.now) (own_messages first.now run.now.messages.items)
+        (code_of run.now.status) (passed E.contents E.failed err.old err.new) (code_of result) }
 {
     if !run.held_all {
         return report_no_memory(err);
     }
     let own = own_of(first, run.messages.as_slice());
-    report_named(alloc, name, own, run.status, err)
+    report_from(alloc, origin, own, run.status, err)
 }

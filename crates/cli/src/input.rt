@@ -63,8 +63,8 @@ fn open_named<'a, R: Files>(rt: &R, name: &'a str) -> Result<R::File, Inputless<
     }
 }
 
-/// Returns whether the words name standard input for the grammar and for the input of a run.
-fn is_shared<O>(asked: &Asked<'_, O>) -> bool
+/// Returns whether the words name standard input for the grammar and for the first input of a run.
+pub(crate) fn is_shared<O>(asked: &Asked<'_, O>) -> bool
     ensures { result ≡ are_shared asked.now.settings.mode (Some asked.now.path.now)
         (option_map (λ s. s.now) asked.now.file) }
 {

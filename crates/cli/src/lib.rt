@@ -22,7 +22,7 @@ pub use input::{Input, Inputless, open_source};
 pub use output::{BufferedSink, Output};
 pub use program::{Program, parse, parse_words};
 pub use reading::{Job, Unready, end_unready, read_grammar, read_job};
-pub use settings::{Asked, read_words, settings_of};
+pub use settings::{Asked, Format, read_words, settings_of};
 pub use several::{greater_status, run_several};
 pub use sizes::plain_words;
 pub use start::{end_without_memory, start_program, words_of};

@@ -5,6 +5,7 @@ ghost use Rattle.clap.specs.Words.{App, Row, app_of, found_of, is_simple, is_sim
 ghost use Rattle.clap.specs.declared.parser.matches.ArgMatches.{ArgMatches as Matches};
 ghost use Rattle.cli.specs.Asked.{AreWhole};
 ghost use Rattle.cli.specs.Parsing.{IsParsedBy, Parses};
+ghost use Rattle.findings.specs.declared.messages.Syntax.{Syntax as GrammarSyntax};
 ghost use Rattle.toolrun.specs.Input.{Input};
 ghost use Rattle.toolrun.specs.Reply.{Reply};
 ghost use Rattle.toolrun.specs.Right.{RunIsRight};
@@ -15,6 +16,7 @@ ghost use Rattle.toolrun.specs.declared.settings.Settings.{Settings as AllSettin
 use crate::output::BufferedSink;
 use clap::{ArgMatches, Command, Error};
 use feed::Source;
+use findings::Syntax;
 use ruletable::Sink;
 use std::alloc::{AllocError, Global};
 use std::convert::AsStr;
@@ -33,6 +35,13 @@ pub trait Program {
 
     /// Which notes, and which reply after them, are stated for a grammar's text, settings and an input.
     ghost states: { List ℕ → AllSettings Self.Options → Input → List ℕ → Reply → Type 0 };
+
+    /// The syntax of the grammars.
+    ghost language: { GrammarSyntax };
+
+    /// Returns the syntax of the grammars.
+    fn syntax() -> Syntax
+        ensures { result ≡ language };
 
     /// Returns the command. `AllocError` if an allocation fails.
     fn command<'a>(alloc: Global) -> Result<Command<'a>, AllocError>

@@ -61,14 +61,15 @@ pub fn read_job<'a, P: Program, R: Files + AllocGlobal>(
 ) -> Result<Job<'a, P::Options>, Unready>
     ensures job { (app : App) × P.is_app app × MatchResult result
         (λ job. (fault_of app (map string_bytes words.entry.now) ≡ []) ×
-        ((path : _) × (file : _) × Ask P.asks (matches_of app (map string_bytes words.entry.now))
-        (record { settings = job.settings; path = path; file = file })))
+        ((path : _) × (file : _) × (format : _) × Ask P.asks (matches_of app (map string_bytes words.entry.now))
+        (record { settings = job.settings; path = path; file = file; format = format })))
         (IsUnready (fault_of app (map string_bytes words.entry.now))) }
 {
     let Asked {
         settings,
         path,
         file: _,
+        format: _,
     } = match read_words::<P, String>(rt.alloc(), words) {
         Ok(asked) => asked,
         Err(error) => return Err(Unready::Words(error)),

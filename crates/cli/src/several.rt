@@ -1,17 +1,18 @@
 //! The runs of a program whose words name several files.
-ghost use Rattle.std.specs.Prelude.{◌≡◌, ◌≢◌, ◌≤◌, ◌⊎◌, ◌∷◌, IfSome, None, [], false, map, max};
+ghost use Rattle.std.specs.Prelude.{◌≡◌, ◌≢◌, ◌≤◌, ◌⊎◌, ◌∷◌, IfSome, None, Some, [], false, map, max, option_map};
 ghost use Rattle.std.specs.Prelude.{string_bytes, true};
 ghost use Rattle.clap.specs.Words.{App, fault_of, matches_of};
 ghost use Rattle.cli.specs.FileRuns.{AllRun, AreFew, AreFewAsked, HasRunGrammar, HasRunOnInputs, HasRunSeveral};
-ghost use Rattle.cli.specs.FileRuns.{IsGrammarRun, IsInMode, IsNamedReport, IsRunOnInput};
+ghost use Rattle.cli.specs.FileRuns.{IsGrammarRun, IsInMode, IsReportAs, IsRunOnInput, inputs_of as the_inputs};
+ghost use Rattle.cli.specs.FileRuns.{is_plain as is_plain_asked, writes_as, writes_asked, writes_from};
 ghost use Rattle.toolrun.specs.Status.{code_of};
 ghost use Rattle.toolrun.specs.Stop.{message_of};
 ghost use Rattle.toolrun.specs.Stream.{passed};
 ghost use Rattle.toolrun.specs.declared.stop.Stop.TheVariants.{Unreadable};
 
 use crate::fault::end_inputless;
-use crate::held::{report_held, report_named, report_no_memory, run_held};
-use crate::input::open_reader;
+use crate::held::{Manner, Origin, report_from, report_held, report_no_memory, run_held};
+use crate::input::{is_shared, open_reader};
 use crate::output::BufferedSink;
 use crate::program::{Program, parse};
 use crate::reading::read_grammar;
@@ -45,37 +46,46 @@ struct CheckedJob<'a, O> {
     text: Vec<u8>,
     /// The messages on it.
     messages: Vec<u8>,
+    /// The manner in which messages are written.
+    manner: Manner<'a>,
 }
 
-// Reports that the grammar in the file of that name cannot be read for this reason.
-fn report_unread<E: Sink>(alloc: Global, name: &str, fault: &io::Error, err: &mut E) -> Status
+// Reports that a grammar cannot be read for this reason.
+fn report_unread<E: Sink>(
+    alloc: Global,
+    origin: &Origin<'_, '_>,
+    fault: &io::Error,
+    err: &mut E,
+) -> Status
     requires err_is_fresh { E.failed err.old ≡ false }
-    ensures { IsNamedReport name.now (message_of Unreadable) 4 (passed E.contents E.failed err.old err.new)
-        (code_of result) }
+    ensures { IsReportAs (writes_from origin.now) (message_of Unreadable) 4
+        (passed E.contents E.failed err.old err.new) (code_of result) }
 {
     if fault.kind() == ErrorKind::OutOfMemory {
         return report_no_memory(err);
     }
-    report_named(
+    report_from(
         alloc,
-        name,
+        origin,
         b"cannot read the grammar\n",
         Status::Fault,
         err,
     )
 }
 
-// Runs the grammar in the file of that name without an input, and writes the messages with the name before their lines.
-fn run_grammar<P: Program, R: Files + AllocGlobal, O: BufferedSink, E: Sink>(
+// Runs the grammar in the file of that name without an input, and writes the messages.
+fn run_grammar<'a, P: Program, R: Files + AllocGlobal, O: BufferedSink, E: Sink>(
     rt: &R,
     settings: &Settings<'_, P::Options>,
-    name: &str,
+    manner: Manner<'a>,
+    name: &'a str,
     out: &mut O,
     err: &mut E,
 ) -> GrammarRun
     requires out_is_fresh { O.failed out.old ≡ false }
     requires err_is_fresh { E.failed err.old ≡ false }
-    ensures { HasRunGrammar (λ text. P.states text settings.now) name.now result.text.items result.messages.items
+    ensures { HasRunGrammar (writes_as manner.entry) (λ text. P.states text settings.now) name.now result.text.items
+        result.messages.items
         (passed O.contents O.failed out.old out.new) (passed E.contents E.failed err.old err.new)
         (code_of result.status) }
 {
@@ -83,7 +93,12 @@ fn run_grammar<P: Program, R: Files + AllocGlobal, O: BufferedSink, E: Sink>(
     let text = match read_grammar(rt, name) {
         Ok(text) => text,
         Err(fault) => {
-            let status = report_unread(alloc, name, &fault, err);
+            let origin = Origin {
+                manner,
+                name,
+                text: &[],
+            };
+            let status = report_unread(alloc, &origin, &fault, err);
             return GrammarRun {
                 text: Vec::new(alloc),
                 messages: Vec::new(alloc),
@@ -94,7 +109,12 @@ fn run_grammar<P: Program, R: Files + AllocGlobal, O: BufferedSink, E: Sink>(
     let nothing: &[u8] = &[];
     let mut reader = SourceOf::new(nothing);
     let run = run_held::<P, _, O>(alloc, text.as_slice(), settings, &mut reader, out);
-    let status = report_held(alloc, name, &[], &run, err);
+    let origin = Origin {
+        manner,
+        name,
+        text: text.as_slice(),
+    };
+    let status = report_held(alloc, &origin, &[], &run, err);
     GrammarRun {
         text,
         messages: run.messages,
@@ -117,18 +137,19 @@ fn settings_on<'a, O: Copy>(settings: &Settings<'a, O>, input: &'a str) -> Setti
     }
 }
 
-// Runs a grammar on the input of that name, and writes the messages with the name before their lines.
-fn run_input<P: Program, R: Files + AllocGlobal, S: Read + Drop, O: BufferedSink, E: Sink>(
+// Runs a grammar on the input of that name, and writes the messages.
+fn run_input<'a, P: Program, R: Files + AllocGlobal, S: Read + Drop, O: BufferedSink, E: Sink>(
     rt: &R,
-    job: &CheckedJob<'_, P::Options>,
-    name: &str,
+    job: &CheckedJob<'a, P::Options>,
+    name: &'a str,
     standard: &mut Option<S>,
     out: &mut O,
     err: &mut E,
 ) -> Status
     requires out_is_fresh { O.failed out.old ≡ false }
     requires err_is_fresh { E.failed err.old ≡ false }
-    ensures { IsRunOnInput P.states job.now.text.items job.now.settings job.now.messages.items name.now
+    ensures { IsRunOnInput (writes_as job.now.manner) P.states job.now.text.items job.now.settings
+        job.now.messages.items name.now
         (passed O.contents O.failed out.old out.new) (passed E.contents E.failed err.old err.new) (code_of result) }
 {
     let alloc = rt.alloc();
@@ -136,7 +157,12 @@ fn run_input<P: Program, R: Files + AllocGlobal, S: Read + Drop, O: BufferedSink
     match open_reader(rt, name, standard) {
         Ok(mut reader) => {
             let run = run_held::<P, _, O>(alloc, job.text.as_slice(), &settings, &mut reader, out);
-            report_held(alloc, name, job.messages.as_slice(), &run, err)
+            let origin = Origin {
+                manner: job.manner,
+                name,
+                text: &[],
+            };
+            report_held(alloc, &origin, job.messages.as_slice(), &run, err)
         }
         Err(why) => end_inputless(alloc, &why, out, err),
     }
@@ -159,18 +185,18 @@ fn is_over<O: Sink, E: Sink>(most: Status, out: &O, err: &E) -> bool
 
 // Runs a grammar on the inputs of these names, in order. It ends where a writer fails, or a status is 4 or 5. Returns
 // the greatest status.
-fn run_inputs<P: Program, R: Files + AllocGlobal, S: Read + Drop, O: BufferedSink, E: Sink>(
+fn run_inputs<'a, P: Program, R: Files + AllocGlobal, S: Read + Drop, O: BufferedSink, E: Sink>(
     rt: &R,
-    job: &CheckedJob<'_, P::Options>,
-    names: &[&str],
+    job: &CheckedJob<'a, P::Options>,
+    names: &[&'a str],
     mut standard: Option<S>,
     out: &mut O,
     err: &mut E,
 ) -> Status
     requires out_is_fresh { O.failed out.old ≡ false }
     requires err_is_fresh { E.failed err.old ≡ false }
-    ensures { AllRun (IsRunOnInput P.states job.now.text.items job.now.settings job.now.messages.items)
-        (map (λ s. s.now) names.now)
+    ensures { AllRun (IsRunOnInput (writes_as job.now.manner) P.states job.now.text.items job.now.settings
+        job.now.messages.items) (map (λ s. s.now) names.now)
         (passed O.contents O.failed out.old out.new) (passed E.contents E.failed err.old err.new) (code_of result) }
 {
     let mut most = Status::Done;
@@ -185,26 +211,32 @@ fn run_inputs<P: Program, R: Files + AllocGlobal, S: Read + Drop, O: BufferedSin
 }
 
 // Checks the grammar in the file, and runs it on the inputs of these names if nothing rejects it.
-fn check_and_run<P: Program, R: Files + AllocGlobal, S: Read + Drop, O: BufferedSink, E: Sink>(
+fn check_and_run<'a, P: Program, R: Files + AllocGlobal, S: Read + Drop, O: BufferedSink, E: Sink>(
     rt: &R,
-    asked: Asked<'_, P::Options>,
-    names: &[&str],
+    asked: Asked<'a, P::Options>,
+    names: &[&'a str],
     standard: S,
     out: &mut O,
     err: &mut E,
 ) -> Status
     requires out_is_fresh { O.failed out.old ≡ false }
     requires err_is_fresh { E.failed err.old ≡ false }
-    ensures { HasRunOnInputs P.states asked.entry.settings asked.entry.path.now (map (λ s. s.now) names.now)
+    ensures { HasRunOnInputs (writes_asked P.language asked.entry) P.states asked.entry.settings asked.entry.path.now
+        (map (λ s. s.now) names.now)
         (passed O.contents O.failed out.old out.new) (passed E.contents E.failed err.old err.new) (code_of result) }
 {
     let mut settings = asked.settings;
+    let manner = Manner {
+        format: asked.format,
+        syntax: P::syntax(),
+        start: settings.start,
+    };
     settings.mode = Mode::Check;
     let GrammarRun {
         text,
         messages,
         status,
-    } = run_grammar::<P, R, O, E>(rt, &settings, asked.path, out, err);
+    } = run_grammar::<P, R, O, E>(rt, &settings, manner, asked.path, out, err);
     if status.code() > 0 {
         return status;
     }
@@ -216,6 +248,7 @@ fn check_and_run<P: Program, R: Files + AllocGlobal, S: Read + Drop, O: Buffered
         settings,
         text,
         messages,
+        manner,
     };
     // a grammar that is standard input has taken it
     let standard = if asked.path == "-" {
@@ -226,30 +259,44 @@ fn check_and_run<P: Program, R: Files + AllocGlobal, S: Read + Drop, O: Buffered
     run_inputs::<P, R, S, O, E>(rt, &job, names, standard, out, err)
 }
 
-// Runs the grammars in the files of these names without an input, in order, the first name apart. It ends where a
-// writer fails, or a status is 4 or 5. Returns the greatest status.
+// Runs the grammar that the words name first, and those in the files of these names, without an input, in order. It
+// ends where a writer fails, or a status is 4 or 5. Returns the greatest status.
 fn run_grammars<P: Program, R: Files + AllocGlobal, O: BufferedSink, E: Sink>(
     rt: &R,
-    settings: &Settings<'_, P::Options>,
-    first: &str,
+    asked: &Asked<'_, P::Options>,
     names: &[&str],
     out: &mut O,
     err: &mut E,
 ) -> Status
     requires out_is_fresh { O.failed out.old ≡ false }
     requires err_is_fresh { E.failed err.old ≡ false }
-    ensures { AllRun (IsGrammarRun (λ text. P.states text settings.now)) (first.now ∷ map (λ s. s.now) names.now)
+    ensures { AllRun (IsGrammarRun (writes_asked P.language asked.now) (λ text. P.states text asked.now.settings))
+        (asked.now.path.now ∷ map (λ s. s.now) names.now)
         (passed O.contents O.failed out.old out.new) (passed E.contents E.failed err.old err.new) (code_of result) }
 {
-    let mut most = run_grammar::<P, R, O, E>(rt, settings, first, out, err).status;
+    let settings = &asked.settings;
+    let manner = Manner {
+        format: asked.format,
+        syntax: P::syntax(),
+        start: settings.start,
+    };
+    let mut most = run_grammar::<P, R, O, E>(rt, settings, manner, asked.path, out, err).status;
     for name in names {
         if is_over(most, out, err) {
             return most;
         }
-        let run = run_grammar::<P, R, O, E>(rt, settings, name, out, err);
+        let run = run_grammar::<P, R, O, E>(rt, settings, manner, name, out, err);
         most = greater_status(most, run.status);
     }
     most
+}
+
+// Returns whether one run serves, if few files are named: messages are lines of text, or no input is left.
+fn is_plain<O>(asked: &Asked<'_, O>) -> bool
+    ensures { result ≡ is_plain_asked asked.now.format asked.now.settings.mode (Some asked.now.path.now)
+        (option_map (λ s. s.now) asked.now.file) }
+{
+    asked.format.is_text() || is_shared(asked)
 }
 
 // Returns whether so few files are named that one run reads them.
@@ -263,14 +310,23 @@ fn are_few(mode: Mode, names: &[&str]) -> bool
     }
 }
 
-/// Runs a program whose words name several files. `None` if something is wrong with the words, or if they name at most
-/// one input of a run, or one grammar to check or print.
+// Returns the names of the inputs; that of standard input if there is none.
+fn inputs_of<'a, 'b>(names: &'b [&'a str]) -> &'b [&'a str]
+    ensures { map (λ s. s.now) result.now ≡ the_inputs (map (λ s. s.now) names.entry.now) }
+{
+    if names.is_empty() { &["-"] } else { names }
+}
+
+/// Runs a program whose words name several files, or ask for findings. `None` if something is wrong with the words, or
+/// if they ask for text and name at most one input of a run, or one grammar to check or print. So it is if they name
+/// standard input for the grammar and the only input of a run.
 ///
 /// - `-m run`: the grammar is checked first. Its messages are written once. If nothing rejects it, each file is an
 ///   input of its own, in order, and the settings name it. `-` is standard input, which is empty where it is named
 ///   again.
 /// - Other modes: each file is a grammar.
-/// - The name of the file, a colon and a space stand before each line of messages that no space begins.
+/// - The name of the file, a colon and a space stand before each line of messages that no space begins. Findings are
+///   written in their form.
 /// - A file that cannot be read ends the run: a message on `err`, `Fault`. So does a writer that fails, and a status of
 ///   4 or 5. Else the status is the greatest one.
 /// - If an allocation for messages fails: `out of memory`, `NoMemory`.
@@ -287,7 +343,7 @@ pub fn run_several<P: Program, R: Files + AllocGlobal, S: Read + Drop, O: Buffer
         × ((fault_of app (map string_bytes words.now) ≢ []) ⊎ AreFewAsked (matches_of app
         (map string_bytes words.now)))) }
     ensures some { IfSome result (λ status. (app : App) × P.is_app app
-        × HasRunSeveral P.asks P.states (matches_of app (map string_bytes words.now))
+        × HasRunSeveral P.language P.asks P.states (matches_of app (map string_bytes words.now))
         (passed O.contents O.failed out.old out.new) (passed E.contents E.failed err.old err.new) (code_of status)) }
 {
     let matches = match parse::<P, String>(rt.alloc(), words) {
@@ -298,11 +354,18 @@ pub fn run_several<P: Program, R: Files + AllocGlobal, S: Read + Drop, O: Buffer
     let asked = asked_of::<P>(&matches);
     let names = matches.get_strs("file").unwrap_or(&[]);
     let mode = asked.settings.mode;
-    if are_few(mode, names) {
+    if is_plain(&asked) && are_few(mode, names) {
         return None;
     }
     if mode == Mode::Run {
-        return Some(check_and_run::<P, R, S, O, E>(rt, asked, names, standard, out, err));
+        return Some(check_and_run::<P, R, S, O, E>(
+            rt,
+            asked,
+            inputs_of(names),
+            standard,
+            out,
+            err,
+        ));
     }
-    Some(run_grammars::<P, R, O, E>(rt, &asked.settings, asked.path, names, out, err))
+    Some(run_grammars::<P, R, O, E>(rt, &asked, names, out, err))
 }

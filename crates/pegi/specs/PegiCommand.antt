@@ -3,18 +3,21 @@ use Prim.Native.Char.{code}
 use Rattle.std.specs.Prelude.{◌≡◌, List, [], ◌∷◌, codes}
 use Rattle.clap.specs.Words.{App, Row, first_of, one_of}
 use Rattle.cli.specs.Asked.{IsBudgetOf, is_flagged}
-use Rattle.cli.specs.Command.{AreModes, Names, budget_rule, flag_rule, long_flag_rule, tool_app}
+use Rattle.cli.specs.Command.{AreFormats, AreModes, Names, budget_rule, flag_rule, format_rule, long_flag_rule}
+use Rattle.cli.specs.Command.{tool_app}
 use Rattle.pegrun.specs.declared.options.PegOptions.{PegOptions}
 
--- `pegi [-m MODE] [-l N] [-s RULE] [-b N] [-r] [-1] [--escapes] [-x] GRAMMAR [FILE]..`
-abbrev pub pegi_app : Names → App
-pegi_app modes = tool_app modes (codes "pegi") (budget_rule ∷ flag_rule (codes "raw") (code "r")
+-- `pegi [-m MODE] [-l N] [-s RULE] [-b N] [-r] [-1] [--escapes] [-x] [-f FORM] GRAMMAR [FILE]..`
+abbrev pub pegi_app : Names → Names → App
+pegi_app modes formats = tool_app modes (codes "pegi") (budget_rule ∷ flag_rule (codes "raw") (code "r")
     ∷ flag_rule (codes "whole") (code "1")
-    ∷ long_flag_rule (codes "escapes") ∷ [])
+    ∷ long_flag_rule (codes "escapes")
+    ∷ format_rule formats ∷ [])
 
 -- this is the command of the program
 abbrev pub IsPegiApp : App → Type 0
-IsPegiApp app = (modes : Names) × AreModes modes × (app ≡ pegi_app modes)
+IsPegiApp app = (modes : Names) × AreModes modes × (formats : Names) × AreFormats formats
+    × (app ≡ pegi_app modes formats)
 
 -- the matches ask for these options
 pub record AsksPegi (rows : List Row) (options : PegOptions) : Type 0 where

@@ -1,10 +1,12 @@
 //! The command of the program.
+ghost use Rattle.findings.specs.declared.messages.Syntax.TheVariants.{Peg};
 ghost use Rattle.pegi.specs.PegiCommand.{AsksPegi, IsPegiApp};
 ghost use Rattle.pegrun.specs.Answers.{States};
 
 use clap::{ArgMatches, Command};
 use cli::{BufferedSink, Parameter, Program, budget_of, is_given, tool_command};
 use feed::Source;
+use findings::Syntax;
 use pegrun::{PegOptions, PegSettings, PrintStyle, run_peg};
 use ruletable::Sink;
 use std::alloc::{AllocError, Global};
@@ -25,12 +27,13 @@ Grammar:
   -s, --rule <RULE>  Start from this rule [default: the first rule]
 
 Input and output:
-  -l, --limit <N>   Look at no more than N bytes, or Nk, NM, in a unit, from 1 to 16777216 [default: 65536]
-  -b, --budget <N>  Print no more than N bytes in a unit, from 1 to 4294967295 [default: 4294967295, any number]
-  -1, --whole       Take the input as one unit, up to its end
-  -r, --raw         Print actions verbatim
-      --escapes     Replace escapes in actions by their bytes
-  -x, --explain     Explain messages in more lines
+  -l, --limit <N>      Look at no more than N bytes, or Nk, NM, in a unit, from 1 to 16777216 [default: 65536]
+  -b, --budget <N>     Print no more than N bytes in a unit, from 1 to 4294967295 [default: 4294967295, any number]
+  -1, --whole          Take the input as one unit, up to its end
+  -r, --raw            Print actions verbatim
+      --escapes        Replace escapes in actions by their bytes
+  -x, --explain        Explain messages in more lines
+  -f, --format <FORM>  Choose the form of messages [default: text] [possible values: text, gcc, json]
 
 Other options:
   -h, --help     Print this help
@@ -48,14 +51,15 @@ Example:
   pegi username.peg letter.txt";
 
 /// The options of the program alone.
-static OWN: [Parameter; 4] = [
+static OWN: [Parameter; 5] = [
     Parameter::Number("budget", 'b', 4_294_967_295, "4294967295"),
     Parameter::Flag("raw", 'r'),
     Parameter::Flag("whole", '1'),
     Parameter::LongFlag("escapes"),
+    Parameter::Choice("format", 'f', "FORM", &["text", "gcc", "json"], "text"),
 ];
 
-/// The program `pegi [-m MODE] [-l N] [-s RULE] [-b N] [-r] [-1] [--escapes] [-x] GRAMMAR [FILE]..`.
+/// The program `pegi [-m MODE] [-l N] [-s RULE] [-b N] [-r] [-1] [--escapes] [-x] [-f FORM] GRAMMAR [FILE]..`.
 pub(crate) struct Pegi;
 
 impl Program for Pegi {
@@ -66,6 +70,12 @@ impl Program for Pegi {
     ghost asks = { AsksPegi };
 
     ghost states = { States };
+
+    ghost language = { Peg };
+
+    fn syntax() -> Syntax {
+        Syntax::Peg
+    }
 
     fn command<'a>(alloc: Global) -> Result<Command<'a>, AllocError> {
         tool_command(alloc, "pegi", HELP, OWN.as_slice())

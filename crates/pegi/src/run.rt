@@ -19,7 +19,7 @@ use toolrun::Status;
 
 /// Runs the program `pegi`. It runs the grammar in the file GRAMMAR on the bytes that the reader gives, as `run_peg`
 /// says, with the settings of the words. These are its own name and `[-m MODE] [-l N] [-s RULE] [-b N] [-r] [-1]
-/// [--escapes] [-x] GRAMMAR [FILE]..`.
+/// [--escapes] [-x] [-f FORM] GRAMMAR [FILE]..`.
 ///
 /// - `-h`: the help on `out`, `Done`.
 /// - Other words, or a value out of its range: what is wrong with them on `err`, `Refused`, and nothing is read.

@@ -1,4 +1,3 @@
-use Rattle.std.proofs.Common.{◌∙◌}
 use Rattle.std.proofs.lemmas.Result.{IfOk-weaker}
 use Rattle.cli.specs.Command.{parameter_rule}
 use Rattle.cli.proofs.AddedLemmas.{arg_made}

@@ -15,4 +15,4 @@ returns g c =
     words_ask g.P.Program.asks (found_of c.args.matches.now) (rows_of (found_of c.args.matches.now)) refl
     (c.follows.ensures.whole c.args.matches.now c.requires) _ c.get_str.result
     settings.mode settings.limit settings.start settings.input settings.explain settings.options
-    c.get_str.ensures c.unwrap.ensures c.get_str-2.ensures
+    c.get_str.ensures c.unwrap.ensures c.get_str-2.ensures c.format_of.ensures

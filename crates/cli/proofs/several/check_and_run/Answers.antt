@@ -12,7 +12,8 @@ returns-then-code-gt0 g c =
     rejected _ c.run_grammar-text.result.text.items c.run_grammar-text.result.messages.items
     (passed g.O.Sink.contents g.O.Sink.failed c.args.out.now c.run_grammar-text.new.out)
     (passed g.E.Sink.contents g.E.Sink.failed c.args.err.now c.run_grammar-text.new.err)
-    (code_of c.run_grammar-text.result.status) (refl, refl, refl, refl, refl) c.run_grammar-text.ensures
+    (code_of c.run_grammar-text.result.status) (refl, refl, refl, refl, refl)
+    (rw c.syntax.ensures at c.run_grammar-text.ensures)
     (inl (rw c.code.ensures at c.if-code-gt0.true))
 
 pub returns-then-is_over : goal.returns-then-is_over
@@ -20,7 +21,8 @@ returns-then-is_over g c =
     rejected _ c.run_grammar-text.result.text.items c.run_grammar-text.result.messages.items
     (passed g.O.Sink.contents g.O.Sink.failed c.args.out.now c.run_grammar-text.new.out)
     (passed g.E.Sink.contents g.E.Sink.failed c.args.err.now c.run_grammar-text.new.err)
-    (code_of c.run_grammar-text.result.status) (refl, refl, refl, refl, refl) c.run_grammar-text.ensures
+    (code_of c.run_grammar-text.result.status) (refl, refl, refl, refl, refl)
+    (rw c.syntax.ensures at c.run_grammar-text.ensures)
     (over_some (code_of c.run_grammar-text.result.status) (c.is_over.ensures.over c.if-is_over.true))
 
 pub returns : goal.returns
@@ -33,5 +35,7 @@ returns g c =
     (passed g.O.Sink.contents g.O.Sink.failed c.run_grammar-text.new.out c.run_inputs.new.out)
     (passed g.E.Sink.contents g.E.Sink.failed c.args.err.now c.run_grammar-text.new.err)
     (passed g.E.Sink.contents g.E.Sink.failed c.run_grammar-text.new.err c.run_inputs.new.err)
-    (code_of c.run_inputs.result) (refl, refl, refl, refl, refl) (rw none at c.run_grammar-text.ensures)
-    (refl, refl, refl, refl, refl) c.run_inputs.ensures refl refl
+    (code_of c.run_inputs.result) (refl, refl, refl, refl, refl)
+    (rw (none, c.syntax.ensures) at c.run_grammar-text.ensures)
+    (refl, refl, refl, refl, refl)
+    (rw c.syntax.ensures at c.run_inputs.ensures) refl refl

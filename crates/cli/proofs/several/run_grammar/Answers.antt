@@ -16,6 +16,6 @@ returns g c = inl (
     held_all = c.run_held-run.result.held_all;
     status = code_of c.run_held-run.result.status;
     right = rw c.as_slice.ensures.value at c.run_held-run.ensures;
-    reported = c.report_held-status.ensures;
+    reported = rw c.as_slice-2.ensures.value at c.report_held-status.ensures;
   },
 )

@@ -1,7 +1,7 @@
 -- The runs on inputs, one after another.
 use Rattle.std.proofs.Common.{[], arith, refl}
 use Rattle.std.proofs.lemmas.List.{take_more}
-use Rattle.cli.specs.FileRuns.{none, IsRunOnInput}
+use Rattle.cli.specs.FileRuns.{none, IsRunOnInput, writes_as}
 use Rattle.toolrun.specs.Status.{code_of}
 use Rattle.toolrun.specs.Stream.{passed}
 use Rattle.cli.proofs.FileRunsLemmas.{all_run, have_more, some_run}
@@ -12,15 +12,15 @@ loop-name-init g c = none _ _ refl refl
 
 pub returns-then-is_over : goal.returns-then-is_over
 returns-then-is_over g c =
-    some_run (IsRunOnInput g.P.Program.states c.args.job.now.text.items c.args.job.now.settings
-    c.args.job.now.messages.items)
+    some_run (IsRunOnInput (writes_as c.args.job.now.manner) g.P.Program.states c.args.job.now.text.items
+    c.args.job.now.settings c.args.job.now.messages.items)
     [] c.args.names.now c.loop-name.name-index _ _ (code_of c.loop-name.most)
     c.loop-name.invariant (c.is_over.ensures.over c.if-is_over.true)
 
 pub loop-name-preserved : goal.loop-name-preserved
 loop-name-preserved g c =
-    have_more (IsRunOnInput g.P.Program.states c.args.job.now.text.items c.args.job.now.settings
-    c.args.job.now.messages.items)
+    have_more (IsRunOnInput (writes_as c.args.job.now.manner) g.P.Program.states c.args.job.now.text.items
+    c.args.job.now.settings c.args.job.now.messages.items)
     [] c.args.names.now c.loop-name.name-index _
     (passed g.O.Sink.contents g.O.Sink.failed c.args.out.now c.loop-name.out)
     (passed g.O.Sink.contents g.O.Sink.failed c.loop-name.out c.run_input-status.new.out)
@@ -32,7 +32,7 @@ loop-name-preserved g c =
 
 pub returns : goal.returns
 returns g c =
-    all_run (IsRunOnInput g.P.Program.states c.args.job.now.text.items c.args.job.now.settings
-    c.args.job.now.messages.items)
+    all_run (IsRunOnInput (writes_as c.args.job.now.manner) g.P.Program.states c.args.job.now.text.items
+    c.args.job.now.settings c.args.job.now.messages.items)
     [] c.args.names.now c.loop-name.name-index _ _ (code_of c.loop-name.most)
     c.loop-name.invariant (omega (arith, c.loop-name-test.false))

@@ -17,7 +17,8 @@ returns-in-Ok g c =
         job.0,
         job.1,
         λ none. job_comes g.P.Program.asks g.P.Program.states (matches_of job.0 words)
-            (record { settings = c.in-Ok.job.settings; path = job.2.1.0; file = job.2.1.1 }) job.2.1.2
+            (record { settings = c.in-Ok.job.settings; path = job.2.1.0; file = job.2.1.1; format = job.2.1.2 })
+            job.2.1.3
             c.as_slice.result.now
             (passed g.I.Source.remaining g.I.Source.failed c.args.reader.now c.run.new.reader)
             (passed g.O.Sink.contents g.O.Sink.failed c.args.out.now c.run.new.out)

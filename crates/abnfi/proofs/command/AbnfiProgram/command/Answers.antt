@@ -6,4 +6,4 @@ use Rattle.abnfi.proofs.command.AbnfiProgram.command.Goals as goal
 pub returns : goal.returns
 returns c =
     let made = rw c.as_slice.ensures at c.tool_command.ensures in
-    record { app = app_made c.tool_command.result made.0 _ _ made.1 made.2 refl refl }
+    record { app = app_made c.tool_command.result made.0 _ _ _ made.1 made.2 refl refl refl }

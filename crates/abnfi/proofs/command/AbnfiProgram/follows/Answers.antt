@@ -6,7 +6,7 @@ use Rattle.abnfi.proofs.command.AbnfiProgram.follows.Goals as goal
 
 pub returns : goal.returns
 returns c = record {
-  simple = λ app is. ap is_simple is.6;
-  free = λ app is. ap is_simple_and_free is.6;
-  whole = λ m by. tool_whole by.1.0 (codes "abnfi") _ refl refl refl by.2 (by.3 ∙ by.1.6) m by.4;
+  simple = λ app is. ap is_simple is.8;
+  free = λ app is. ap is_simple_and_free is.8;
+  whole = λ m by. tool_whole by.1.0 (codes "abnfi") _ refl refl refl by.2 (by.3 ∙ by.1.8) m by.4;
 }

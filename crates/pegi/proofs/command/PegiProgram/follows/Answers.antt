@@ -6,7 +6,7 @@ use Rattle.pegi.proofs.command.PegiProgram.follows.Goals as goal
 
 pub returns : goal.returns
 returns c = record {
-  simple = λ app is. ap is_simple is.2;
-  free = λ app is. ap is_simple_and_free is.2;
-  whole = λ m by. tool_whole by.1.0 (codes "pegi") _ refl refl refl by.2 (by.3 ∙ by.1.2) m by.4;
+  simple = λ app is. ap is_simple is.4;
+  free = λ app is. ap is_simple_and_free is.4;
+  whole = λ m by. tool_whole by.1.0 (codes "pegi") _ refl refl refl by.2 (by.3 ∙ by.1.4) m by.4;
 }

@@ -1,0 +1,14 @@
+pub mod ExplainingLines
+pub mod FaultFindings
+pub mod FindingTexts
+pub mod Findings
+pub mod FirstRules
+pub mod GccLines
+pub mod InputFindings
+pub mod JsonLines
+pub mod MessageFindings
+pub mod MessageParts
+pub mod MessageSorts
+pub mod NameColumns
+pub mod NoteFindings
+pub mod UnitFindings
