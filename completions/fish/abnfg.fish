@@ -28,7 +28,7 @@ complete -c abnfg -s c -l count -x -d 'List at most N lines, from 1 to 429496729
 complete -c abnfg -s e -l edges -d 'Also list lines of mode `miss` by wrong symbols next to those that can follow'
 complete -c abnfg -s g -l seed -x -d 'Draw lines of mode `random` by this number, from 0 to 18446744073709551615'
 complete -c abnfg -s u -l letters -x -a 'bytes utf8' -d 'Take bytes or code points of UTF-8 as symbols'
-complete -c abnfg -s x -l explain -d 'Explain why lines of mode `miss` are rejected'
+complete -c abnfg -s x -l explain -d 'Explain why lines of mode `miss` are rejected, or report the goals of mode `cover`'
 complete -c abnfg -s z -l null-data -d 'End lines with NUL bytes in place of line feeds'
 complete -c abnfg -s h -l help -f -d 'Print this help'
 complete -c abnfg -l version -f -d 'Print the version'

@@ -62,6 +62,7 @@ class Program:
 GRAMMAR = "The file of the grammar, at most 1048576 bytes"
 MODE = Option("m", "mode", "MODE", ("run", "check", "print"), "Choose what to do with the grammar")
 EXPLAIN = Option("x", "explain", "", (), "Explain messages in more lines")
+FORMAT = Option("f", "format", "FORM", ("text", "gcc", "json"), "Choose the form of messages")
 HELP = Option("h", "help", "", (), "Print this help")
 VERSION = Option("", "version", "", (), "Print the version")
 PROGRAMS = (
@@ -75,6 +76,7 @@ PROGRAMS = (
         Option("r", "raw", "", (), "Print actions verbatim"),
         Option("", "escapes", "", (), "Replace escapes in actions by their bytes"),
         EXPLAIN,
+        FORMAT,
         HELP,
         VERSION,
     ), "<-", GRAMMAR),
@@ -94,6 +96,7 @@ PROGRAMS = (
         Option("", "line-buffered", "", (), "Answer each line before more input is read"),
         Option("w", "viable", "", (), "Write how far a refused line goes: no N"),
         EXPLAIN,
+        FORMAT,
         HELP,
         VERSION,
     ), "=", GRAMMAR),
@@ -124,7 +127,8 @@ PROGRAMS = (
         Option("e", "edges", "", (), "Also list lines of mode `miss` by wrong symbols next to those that can follow"),
         Option("g", "seed", "SEED", (), "Draw lines of mode `random` by this number, from 0 to 18446744073709551615"),
         Option("u", "letters", "MODE", ("bytes", "utf8"), "Take bytes or code points of UTF-8 as symbols"),
-        Option("x", "explain", "", (), "Explain why lines of mode `miss` are rejected"),
+        Option("x", "explain", "", (),
+               "Explain why lines of mode `miss` are rejected, or report the goals of mode `cover`"),
         Option("z", "null-data", "", (), "End lines with NUL bytes in place of line feeds"),
         HELP,
         VERSION,

@@ -1,9 +1,84 @@
-"""The short lines of symbols that reach the goals of a grammar's rules (slow_abnf.py), as sets."""
+"""The goals of a grammar's rules (slow_abnf.py) as texts, and the short lines of symbols that reach them, as sets."""
 import collections
 import math
 
 import slow_abnf
 from short_lists import ShortLists
+
+RANKS = {"alt": 0, "concat": 1, "rep": 2}
+WORDS = {"first": "first of ", "last": "last of ", "other": "other case of ", "taken": " taken", "left": " left out"}
+
+
+def around(e, rank):
+    """Returns the canonical text of an element, in parentheses if it holds together less tightly than so."""
+    text = canonical(e)
+    return f"({text})" if RANKS.get(e[0], 3) < rank else text
+
+
+def turns_text(least, most):
+    low = str(least) if least else ""
+    return str(most) if least == most else low + "*" + ("" if most is None else str(most))
+
+
+def canonical(e):
+    """Returns the canonical text of an element."""
+    if e[0] == "text":
+        return ("%s" if e[2] else "") + '"' + e[1].decode() + '"'
+    if e[0] == "values":
+        return "%x" + ".".join(f"{it:02X}" for it in e[1])
+    if e[0] == "range":
+        return f"%x{e[1]:02X}-{e[2]:02X}"
+    if e[0] == "concat":
+        return " ".join(around(it, 2) for it in e[1])
+    if e[0] == "alt":
+        return " / ".join(around(it, 1) for it in e[1])
+    if e[0] == "rep":
+        return turns_text(e[1], e[2]) + around(e[3], 3)
+    return f"[{canonical(e[1])}]" if e[0] == "opt" else e[1]
+
+
+def turn_counts(least, most):
+    """Returns which numbers of iterations of a repetition are goals."""
+    if most is None:
+        return [least, least + 1]
+    return [least] + [most] * (most != least) + [1] * (least == 0 and most > 1)
+
+
+def ways(e):
+    """Returns the ways of an element that are goals, in order."""
+    if e[0] == "alt":
+        return [f"chosen {i}" for i in range(len(e[1]))]
+    if e[0] == "rep":
+        return [f"turns {it}" for it in turn_counts(e[1], e[2])]
+    if e[0] == "text":
+        return ["same"] + ["other"] * (not e[2] and e[1].swapcase() != e[1])
+    return {"opt": ["taken", "left"], "range": ["first", "last"], "values": ["same"]}.get(e[0], [])
+
+
+def goals_in(e, place):
+    """Yields the goals within an element, its own first: their places, with their ways, and their elements."""
+    for way in ways(e):
+        yield (*place, way), e
+    for i, part in enumerate(slow_abnf.parts(e)):
+        yield from goals_in(part, (*place, i))
+
+
+def goal_text(e, way):
+    """Returns what an element does in the way of a goal."""
+    kind, _, number = way.partition(" ")
+    if kind == "chosen":
+        return "alternative " + canonical(e[1][int(number)])
+    if kind == "turns":
+        return f"{number} turns of {canonical(e)}"
+    return canonical(e) + WORDS[kind] if kind in ("taken", "left") else WORDS.get(kind, "") + canonical(e)
+
+
+def all_goals(rules, key):
+    """Returns the goals of the rules to which names lead from a rule, by their places, with their texts: in the order
+    of the rules and of the places."""
+    near = slow_abnf.reached(rules, key)
+    return {goal: f"{goal_text(e, goal[-1])} in {rules.spelled.get(it, it)}"
+            for it, body in rules.all.items() if it in near for goal, e in goals_in(body, (it,))}
 
 
 class Reached(ShortLists):
@@ -97,6 +172,6 @@ class Reached(ShortLists):
             yield "same", self.lists(e)
         elif e[0] == "text":
             yield "same", self.lists(("text", e[1], True))
-            if not e[2]:
+            if "other" in ways(e):
                 other = bytes(ord(chr(c).swapcase()) if c < 128 else c for c in e[1])
                 yield "other", self.lists(("text", other, True))

@@ -1,7 +1,8 @@
 #!/usr/bin/env python3
 """Compares bin/abnfg with a slow answer on random grammars: all short lists that the rule derives, as a set, in order.
 With `-m random` each line is derived, and a seed gives the same lines again. With `-m cover` the lines are compared
-with the goals that short lists reach: each line is a shortest one for some goal, and each goal has one.
+with the goals that short lists reach: each line is a shortest one for some goal, and each goal has one. With `-x` this
+is so for the goal that is reported of each line, and the goals that are reported as missed are those of no short list.
 
 usage: random_lines.py [-n GRAMMARS] [-s SEED]
 
@@ -20,7 +21,7 @@ import tempfile
 
 import random_abnf
 import slow_abnf
-from covered_lines import Reached
+from covered_lines import Reached, all_goals
 from short_lists import ShortLists, bounds_in, is_taken, line_key
 
 BIN = pathlib.Path(__file__).resolve().parents[2] / "bin"
@@ -74,7 +75,7 @@ class Case:
         self.plain = [*(["-s", rule] if rule else []), *(["-u", "utf8"] if self.is_utf8 else []),
                       *(["-z"] if self.end == 0 else [])]
         self.words = [*self.plain, "-c", str(self.count), "-l", str(self.limit)]
-        self.most, self.goals = self.limit, {}
+        self.most, self.reaching, self.least = self.limit, {}, {}
 
     def find_lines(self, rules, key, limit):
         bodies = [rules.all[it] for it in slow_abnf.reached(rules, key) if it in rules.all]
@@ -89,12 +90,15 @@ class Case:
         return [*self.plain, "-c", "100000", "-l", str(self.most)]
 
     def find_goals(self):
-        """Sets the greatest length of lines of `-m cover`, and the lists that reach each goal."""
+        """Sets the greatest length of lines of `-m cover`, the lists that reach each goal, and the shortest of them."""
         bodies = [self.rules.all[it] for it in slow_abnf.reached(self.rules, self.key) if it in self.rules.all]
         letters, self.most = end_letters(bodies, self.is_utf8, self.end), self.limit
         while self.most > 1 and len(letters) ** self.most > MOST_REACHED:
             self.most -= 1
-        self.goals = Reached(self.rules, letters, self.most).goal_lists(self.key)
+        found = Reached(self.rules, letters, self.most).goal_lists(self.key)
+        self.reaching = {goal: lists for goal, lists in found.items() if lists}
+        self.least = {goal: {it for it in lists if len(it) == min(map(len, lists))}
+                      for goal, lists in self.reaching.items()}
 
     def output(self):
         return b"".join(written(it, self.is_utf8) + bytes([self.end]) for it in self.lines)
@@ -124,13 +128,30 @@ class Case:
         if self.is_refused:
             return "refused" if (out, err, status) == (b"", self.reported, 2) else None
         lines, rest = self.records(out)
-        least = {goal: {it for it in lists if len(it) == min(map(len, lists))} for goal, lists in self.goals.items()}
-        is_right = not rest and all(any(it in lists for lists in least.values()) for it in lines)
-        is_complete = all(not lists or lists & set(lines) for lists in least.values())
+        is_right = not rest and all(any(it in lists for lists in self.least.values()) for it in lines)
+        is_complete = all(lists & set(lines) for lists in self.reaching.values())
         lengths = [len(it) for it in lines]
         is_ordered = len(set(lines)) == len(lines) and lengths == sorted(lengths, reverse=True)
         is_ended = (err, status) == (self.reported, 0 if lines else 1)
         return "covered" if is_right and is_complete and is_ordered and is_ended else None
+
+    def is_explained(self, covered, explained):
+        """Returns whether a run of `-m cover -x` is as that run without `-x`, but for a goal of each line, for which
+        that is a shortest one, and the goals that no line reaches, in order."""
+        if self.is_refused:
+            return explained == covered
+        out, err, status = explained
+        goals, unit = all_goals(self.rules, self.key), "line" if self.end else "record"
+        missed = [f"in no line: {text}" for goal, text in goals.items() if goal not in self.least]
+        if missed:
+            missed.append(f"{len(missed)} goals are in no line")
+        lines, _ = self.records(out)
+        reported = err[len(self.reported):].decode().split("\n")
+        reached = [{f"{unit} {number}: {goals[it]}" for it, lists in self.least.items() if line in lists}
+                   for number, line in enumerate(lines, 1)]
+        is_same = (out, status) == (covered[0], covered[2]) and err.startswith(self.reported)
+        is_right = all(it in texts for it, texts in zip(reported, reached))
+        return is_same and is_right and reported[len(lines):] == [*missed, ""]
 
     def drawn(self, out, err, status):
         """Returns how a run of lines by lot ended: a word, or nothing if something is wrong with it."""
@@ -175,9 +196,9 @@ def main():
             if how is None:
                 print(f"grammar {number}: abnfg {' '.join(case.words)}: {ran}\n{case.text}\nwanted: {case.output()}")
                 return 1
-            covered = run(cover)
-            if case.covered(*covered) is None:
-                print(f"grammar {number}: abnfg {' '.join(map(str, cover[1:-1]))}: {covered}\n{case.text}")
+            covered, explained = run(cover), run([*cover, "-x"])
+            if case.covered(*covered) is None or not case.is_explained(covered, explained):
+                print(f"grammar {number}: abnfg {' '.join(map(str, cover[1:-1]))}: {covered}\n{case.text}\n{explained}")
                 return 1
             if case.drawn(*drawn) is None or run(by_lot) != drawn:
                 print(f"grammar {number}: abnfg -m random -g {case.seed} {' '.join(case.words)}: {drawn}\n{case.text}")

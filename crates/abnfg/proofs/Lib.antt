@@ -5,3 +5,6 @@ pub mod ListWordsLemmas
 pub mod WrittenLinesLemmas
 pub mod ReturnedLinesLemmas
 pub mod RefusalsFromLemmas
+pub mod GoalTextLemmas
+pub mod CoverTextLemmas
+pub mod CoverReplyLemmas

@@ -1,26 +1,22 @@
 -- The lines that a source of a mode returns.
 -- Serves: abnfg_main (right)
-use Rattle.std.proofs.Common.{◌≡◌, ◌∙◌, ℕ, zero, suc, ◌+◌, ◌<◌, ◌≤◌, List, [], ◌∷◌, ◌++◌, inl, inr, refl, sym, ap}
+use Rattle.std.proofs.Common.{◌≡◌, ℕ, List, [], ◌∷◌, ◌++◌, inl, refl, sym}
 use Rattle.std.proofs.Common.{subst, arith}
-use Rattle.std.proofs.Common.{Option, None, Some, Vec, Global, add-one, get_or, length, take}
-use Rattle.std.proofs.Math.Seq.{take-suc}
+use Rattle.std.proofs.Common.{Option, None, Some, Vec, Global}
 use Rattle.std.specs.Prelude.{Result, Ok, Err, IfOk, IfSome}
 use Rattle.std.specs.List.{All}
 use Rattle.std.proofs.lemmas.List.Elements.{All-push, All-weaker}
 use Rattle.abnfg.proofs.ListedLinesLemmas.{all_as, first_as, no_lines_first, none_listed}
 use Rattle.abnfg.specs.ListedLines.{AreListed, IsListStep, end_of}
-use Rattle.abnfg.specs.ListModes.{AreFirstAsked, AreLinesAsked, AreMissesAsked, FirstIn, HasReturned, IsCoverOf}
-use Rattle.abnfg.specs.ListModes.{IsNextItem, IsReturnStep, WholeIn, prefixes_asked}
+use Rattle.abnfg.specs.ListModes.{AreFirstAsked, AreLinesAsked, AreMissesAsked, FirstIn, HasReturned}
+use Rattle.abnfg.specs.ListModes.{IsReturnStep, WholeIn, prefixes_asked}
 use Rattle.abnfg.specs.declared.lines.ListMode.{ListMode}
 use Rattle.abnfg.specs.declared.lines.ListMode.TheVariants.{All as InOrder, Cover, Miss, Random}
 use Rattle.abnfg.specs.declared.lines.ListSettings.{ListSettings}
-use Rattle.abnfg.specs.declared.source.CoveredLines.{CoveredLines}
 use Rattle.abnfg.specs.declared.source.DerivedLines.{DerivedLines}
 use Rattle.abnfg.specs.declared.source.LineSource.{LineSource}
-use Rattle.abnfg.specs.declared.source.LineSource.TheVariants.{Covered, Derived, Drawn, Missed}
+use Rattle.abnfg.specs.declared.source.LineSource.TheVariants.{Derived, Drawn, Missed}
 use Rattle.abnfread.specs.Element.{Rule}
-use Rattle.coverlines.specs.CoverLines.{line_items}
-use Rattle.coverlines.specs.declared.cover.CoverLine.{CoverLine}
 use Rattle.rulelines.specs.LineSets.{IsLineIn, IsRuleLine, IsSomeLine, LineSet}
 use Rattle.rulelines.specs.MissLists.{AreAllMisses, AreFirstMisses, AreMissesOf, AreOfRule}
 use Rattle.rulelines.specs.MissLists.{IsMissStep, MissList}
@@ -30,21 +26,6 @@ use Rattle.rulelines.specs.declared.list.lines.NextLine.TheVariants.{Line, Done}
 use Rattle.rulelines.specs.declared.list.lots.Lots.{Lots}
 use Rattle.ruletable.specs.declared.memory.Memory.{Memory}
 use Rattle.rulelines.proofs.MissLinesLemmas.{first_misses, no_prefixes, reported_first}
-
--- the first lists of some
-take_none : (ws : List (List ℕ)) → take 0 ws ≡ []
-take_none ws = refl
-
-taken_more : (ws : List (List ℕ)) (i : ℕ) (w : List ℕ) → i < length ws → w ≡ get_or ws i w
-    → take (i + 1) ws ≡ take i ws ++ w ∷ []
-taken_more ws i w lt is = ap (λ (k : ℕ). take k ws) (add-one i) ∙ take-suc ws i w lt
-    ∙ ap (λ v. take i ws ++ v ∷ []) (sym is)
-
-taken_past : (ws : List (List ℕ)) (n : ℕ) → length ws ≤ n → take n ws ≡ ws
-taken_past [] zero le = refl
-taken_past [] (suc n) le = refl
-taken_past (w ∷ ws) zero le = absurd (omega (arith, le))
-taken_past (w ∷ ws) (suc n) le = ap (λ v. w ∷ v) (taken_past ws n (omega (arith, le)))
 
 module _ (s : ListSettings) (rules : List Rule) (id : ℕ) where
   abbrev FirstOf : ListMode → List (List ℕ) → Type 0
@@ -77,12 +58,6 @@ module _ (s : ListSettings) (rules : List Rule) (id : ℕ) where
       → AreFirstAsked s rules id ws
   returned_first (Derived d) ws is =
       subst (λ (m : ListMode). FirstOf m ws) (sym is.0) (first_as (IsLineIn d.lines) RuleLine is.1 ws is.2.first)
-  returned_first (Covered d) ws is =
-      subst (λ (m : ListMode). FirstOf m ws) (sym is.0) (inr (record {
-        lines = d.lines.items;
-        cover = is.1;
-        are = (d.done, is.2);
-      }))
   returned_first (Missed m) ws is =
       subst (λ (m : ListMode). FirstOf m ws) (sym is.0)
       (subst (λ (v : PrefixSet). FirstMissesIn v ws) is.1.0 (reported_first rules id m ws is.2))
@@ -98,15 +73,6 @@ module _ (s : ListSettings) (rules : List Rule) (id : ℕ) where
     are,
     subst (λ (v : Option (Vec ℕ Global)). AreListed (IsLineIn d.lines) v []) (sym none)
         (none_listed (IsLineIn d.lines)),
-  )
-
-  pub none_covered : (d : CoveredLines) → s.mode ≡ Cover → IsCoverOf s rules id d.lines.items → d.done ≡ 0
-      → HasReturned s rules id (Covered d) []
-  none_covered d mode are none = (
-    mode,
-    are,
-    sym (ap (λ n. take n (line_items d.lines.items)) none
-        ∙ take_none (line_items d.lines.items)),
   )
 
   pub none_missed : (m : MissList) → s.mode ≡ Miss
@@ -133,23 +99,6 @@ module _ (s : ListSettings) (rules : List Rule) (id : ℕ) where
   )
   derived_next old new same ws Done is all =
       subst (λ (m : ListMode). WholeOf m ws) (sym is.0) (all_as (IsLineIn old.lines) RuleLine is.1 ws all)
-
-  pub covered_next : (old new : CoveredLines) → new.lines ≡ old.lines → (ws : List (List ℕ)) (step : NextLine)
-      → HasReturned s rules id (Covered old) ws
-      → IsNextItem (line_items old.lines.items) old.done new.done step → IsReturnStep s rules id (Covered new) ws step
-  covered_next old new same ws (Line w) is next = (
-    is.0,
-    subst (λ (v : Vec CoverLine Global). IsCoverOf s rules id v.items) (sym same) is.1,
-    ap (λ v. v ++ w.items ∷ []) is.2 ∙ sym (taken_more (line_items old.lines.items) old.done w.items next.0 next.1)
-        ∙ ap (λ n. take n (line_items old.lines.items)) (sym next.2)
-        ∙ ap (λ (v : Vec CoverLine Global). take new.done (line_items v.items)) (sym same),
-  )
-  covered_next old new same ws Done is all =
-      subst (λ (m : ListMode). WholeOf m ws) (sym is.0) (record {
-        lines = old.lines.items;
-        cover = is.1;
-        are = is.2 ∙ taken_past (line_items old.lines.items) old.done all;
-      })
 
   same_misses : (old new : MissList) → new.prefixes.set ≡ old.prefixes.set → AreMissesAsked s rules id old
       → AreMissesAsked s rules id new
@@ -189,11 +138,6 @@ derived_returns old new same (Ok (Some step)) next =
     λ s rules id ws is. derived_next s rules id old new same ws step is (next ws is.2)
 derived_returns old new same (Ok None) next = tt
 derived_returns old new same (Err e) next = tt
-
-pub covered_returns : (old new : CoveredLines) → new.lines ≡ old.lines → (step : NextLine)
-    → IsNextItem (line_items old.lines.items) old.done new.done step
-    → Returns (Covered old) (Covered new) (Ok (Some step))
-covered_returns old new same step next = λ s rules id ws is. covered_next s rules id old new same ws step is next
 
 pub missed_returns : (old new : MissList) → new.prefixes.set ≡ old.prefixes.set
     → (r : Result (Option NextLine) Memory)

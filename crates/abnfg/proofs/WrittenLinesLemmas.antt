@@ -47,7 +47,8 @@ kept_push s was now ws w before more =
     more ∙ (ap (λ v. v ++ explained_asked s (w ∷ [])) before
     ∙ sym (explained_push (explains_by s.mode s.explain) s.letters ws w))
 
-explained_none : (b : Bool) (alphabet : Alphabet) → [] ≡ explained_lines b alphabet []
+-- no line is explained
+pub explained_none : (b : Bool) (alphabet : Alphabet) → [] ≡ explained_lines b alphabet []
 explained_none true alphabet = refl
 explained_none false alphabet = refl
 

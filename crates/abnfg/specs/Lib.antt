@@ -3,3 +3,5 @@ pub mod ListWords
 pub mod ListedLines
 pub mod ListModes
 pub mod ListRefusals
+pub mod CoverGoals
+pub mod CoverLists

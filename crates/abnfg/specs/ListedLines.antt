@@ -14,7 +14,6 @@ use Rattle.ruletable.specs.Writing.{AppendsPart}
 use Rattle.ruletable.specs.declared.sink.WriteFault.{WriteFault}
 use Rattle.rulelines.specs.FirstLines.{ComesFirst, IsShortlexBefore}
 use Rattle.rulelines.specs.LineBytes.{line_bytes}
-use Rattle.toolrun.specs.Plan.{stopped}
 use Rattle.toolrun.specs.Reply.{Reply, without_memory}
 use Rattle.toolrun.specs.RunEnd.{ended_status, ended_text}
 use Rattle.toolrun.specs.Status.{code_of}
@@ -22,7 +21,7 @@ use Rattle.toolrun.specs.Stop.{message_of}
 use Rattle.toolrun.specs.declared.ending.Ending.{Ending}
 use Rattle.toolrun.specs.declared.status.Status.{Status}
 use Rattle.toolrun.specs.declared.status.Status.TheVariants.{Done, NoMatch, NoMemory as WithoutMemory, Overlong}
-use Rattle.toolrun.specs.declared.stop.Stop.TheVariants.{NoMemory, Quiet}
+use Rattle.toolrun.specs.declared.stop.Stop.TheVariants.{NoMemory}
 
 -- the byte that ends a line: LF, or NUL
 abbrev pub end_of : Bool → ℕ
@@ -45,7 +44,8 @@ module _ (first whole : List (List ℕ) → Type 0) (why : List (List ℕ) → L
   pub data LinesReply : Reply → Type 0 where
     listed : {ws : List (List ℕ)} {text : List ℕ} → first ws → AreEnough whole count ws → why ws text
         → LinesReply (record { out = flat_map text_of ws; err = text; status = code_of Done; taken = 0 })
-    no_line : whole [] → LinesReply (stopped (Quiet NoMatch))
+    no_line : {text : List ℕ} → whole [] → why [] text
+        → LinesReply (record { out = []; err = text; status = code_of NoMatch; taken = 0 })
     too_many : {ws : List (List ℕ)} {text : List ℕ} → first ws → length ws ≤ count → why ws text → LinesReply (record {
       out = flat_map text_of ws;
       err = text ++ codes "too many stacks\n";

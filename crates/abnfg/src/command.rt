@@ -28,7 +28,7 @@ Lines:
   -e, --edges           Also list lines of mode `miss` by wrong symbols next to those that can follow
   -g, --seed <SEED>     Draw lines of mode `random` by this number, from 0 to 18446744073709551615 [default: 1]
   -u, --letters <MODE>  Take bytes or code points of UTF-8 as symbols [default: bytes] [possible values: bytes, utf8]
-  -x, --explain         Explain why lines of mode `miss` are rejected
+  -x, --explain         Explain why lines of mode `miss` are rejected, or report the goals of mode `cover`
   -z, --null-data       End lines with NUL bytes in place of line feeds
 
 Other options:

@@ -3,7 +3,7 @@ ghost use Rattle.std.specs.Prelude.{◌≡◌, ◌∷◌, ◌++◌, ℕ, List, [
 ghost use Rattle.abnfg.specs.ListedLines.{AreWritten, EndsExplained, HaltEnds, IsHaltAt, IsRecordWritten};
 ghost use Rattle.abnfg.specs.ListedLines.{IsWrittenNext, LinesReply, end_of, record_text};
 ghost use Rattle.abnfg.specs.ListModes.{AreExplained, AreFirstAsked, AreLinesKept, AreWholeAsked, HasReturned};
-ghost use Rattle.abnfg.specs.ListModes.{WithKept, explained_asked};
+ghost use Rattle.abnfg.specs.ListModes.{WithKept, explained_asked, reaches_goals};
 ghost use Rattle.abnfg.specs.ListRefusals.{AreRefusalsFrom, explains_by};
 ghost use Rattle.abnfg.specs.declared.lines.ListSettings.{ListSettings as the_settings};
 ghost use Rattle.abnfread.specs.AbnfViews.{rules_of};
@@ -14,6 +14,7 @@ ghost use Rattle.ruletable.specs.Writing.{Flags};
 ghost use Rattle.toolrun.specs.Stopped.{Fulfils};
 ghost use Rattle.toolrun.specs.Stream.{no_input, passed};
 
+use crate::covered::list_cover;
 use crate::refusals::explain_lines;
 use crate::source::LineSource;
 use abnfcheck::SoundAbnf;
@@ -51,7 +52,7 @@ pub(crate) struct ListSettings<'a> {
     pub(crate) nul: bool,
     /// Whether each symbol that cannot follow a prefix is listed after it, next to one that can.
     pub(crate) edges: bool,
-    /// Whether it is explained why lines that miss the rule are rejected.
+    /// Whether it is explained why lines that miss the rule are rejected, and which goals others reach.
     pub(crate) explain: bool,
     /// The seed of lines by lot.
     pub(crate) seed: u64,
@@ -77,8 +78,12 @@ pub(crate) fn end_byte(settings: &ListSettings<'_>) -> u8
     if settings.nul { 0 } else { b'\n' }
 }
 
-// Returns the text of a line with its end. `Memory` if an allocation fails.
-fn line_text(alloc: Global, settings: &ListSettings<'_>, line: &[u32]) -> Result<Vec<u8>, Memory>
+/// Returns the text of a line with its end. `Memory` if an allocation fails.
+pub(crate) fn line_text(
+    alloc: Global,
+    settings: &ListSettings<'_>,
+    line: &[u32],
+) -> Result<Vec<u8>, Memory>
     ensures { IfOk result (λ text. text.items ≡ record_text settings.now.letters (end_of settings.now.nul) line.now) }
 {
     let mut text = line_bytes(alloc, settings.letters, line)?;
@@ -87,7 +92,7 @@ fn line_text(alloc: Global, settings: &ListSettings<'_>, line: &[u32]) -> Result
 }
 
 // Returns the next line after so many, or why there is none.
-fn next_line(source: &mut LineSource<'_>, done: u32) -> Result<Vec<u32>, Halt>
+fn next_line(source: &mut LineSource, done: u32) -> Result<Vec<u32>, Halt>
     ensures { (settings : the_settings) (rules : List Rule) (id : ℕ) (ws : List (List ℕ)) →
         HasReturned settings rules id source.old ws → length ws ≡ done →
         MatchResult result (λ line. HasReturned settings rules id source.new (ws ++ line.items ∷ []))
@@ -163,7 +168,7 @@ fn write_record<O: Sink>(
 fn write_next<O: Sink>(
     alloc: Global,
     settings: &ListSettings<'_>,
-    source: &mut LineSource<'_>,
+    source: &mut LineSource,
     done: u32,
     kept: &mut Vec<Vec<u8>>,
     out: &mut O,
@@ -188,7 +193,7 @@ fn write_next<O: Sink>(
 fn write_lines<O: Sink>(
     alloc: Global,
     settings: &ListSettings<'_>,
-    source: &mut LineSource<'_>,
+    source: &mut LineSource,
     kept: &mut Vec<Vec<u8>>,
     out: &mut O,
 ) -> Result<Halt, WriteFault>
@@ -211,8 +216,8 @@ fn write_lines<O: Sink>(
     Ok(Halt::All)
 }
 
-// Returns what explanations call the lines: records, if NUL ends them.
-fn unit_of(settings: &ListSettings<'_>) -> LineUnit
+/// Returns what explanations call the lines: records, if NUL ends them.
+pub(crate) fn unit_of(settings: &ListSettings<'_>) -> LineUnit
     ensures { result ≡ unit_for settings.now.nul }
 {
     if settings.nul {
@@ -280,6 +285,7 @@ fn write_asked<O: Sink>(
     kept: &mut Vec<Vec<u8>>,
     out: &mut O,
 ) -> Result<Halt, WriteFault>
+    requires mode { reaches_goals settings.now.mode ≡ false }
     requires fresh { O.failed out.old ≡ false }
     requires none { kept.old.items ≡ [] }
     ensures lines { AreWritten (WithKept settings.now kept.new.items (AreFirstAsked settings.now
@@ -293,6 +299,30 @@ fn write_asked<O: Sink>(
         Ok(Some(mut source)) => write_lines(alloc, settings, &mut source, kept, out),
         Ok(None) => Ok(Halt::TooMany),
         Err(Memory) => Ok(Halt::NoMemory),
+    }
+}
+
+// Writes the lines of a source that are asked for, each with its end, and returns how the run ends: with why they are
+// rejected, if that is asked for. `WriteFault` if the output fails; then a prefix of a line is written after whole
+// lines.
+fn list_source<O: Sink>(
+    alloc: Global,
+    settings: &ListSettings<'_>,
+    grammar: &SoundAbnf,
+    out: &mut O,
+) -> Result<Ending, WriteFault>
+    requires mode { reaches_goals settings.now.mode ≡ false }
+    requires fresh { O.failed out.old ≡ false }
+    ensures { Fulfils (λ input. LinesReply (AreFirstAsked settings.now (rules_of grammar.now.rules) grammar.now.judged)
+        (AreWholeAsked settings.now (rules_of grammar.now.rules) grammar.now.judged)
+        (AreExplained settings.now (rules_of grammar.now.rules) grammar.now.judged)
+        (record_text settings.now.letters (end_of settings.now.nul)) settings.now.count) no_input
+        (passed O.contents O.failed out.old out.new) result }
+{
+    let mut kept = Vec::new(alloc);
+    match write_asked(alloc, settings, grammar, &mut kept, out) {
+        Ok(halt) => Ok(ending_of(alloc, settings, grammar, halt, &kept)),
+        Err(fault) => Err(fault),
     }
 }
 
@@ -312,9 +342,10 @@ pub(crate) fn list_lines<O: Sink>(
         (record_text settings.now.letters (end_of settings.now.nul)) settings.now.count) no_input
         (passed O.contents O.failed out.old out.new) result }
 {
-    let mut kept = Vec::new(alloc);
-    match write_asked(alloc, settings, grammar, &mut kept, out) {
-        Ok(halt) => Ok(ending_of(alloc, settings, grammar, halt, &kept)),
-        Err(fault) => Err(fault),
+    match settings.mode {
+        ListMode::Cover => list_cover(alloc, settings, grammar, out),
+        ListMode::All | ListMode::Miss | ListMode::Random => {
+            list_source(alloc, settings, grammar, out)
+        }
     }
 }

@@ -2,6 +2,8 @@
 #![tactic(auto)]
 
 mod command;
+mod covered;
+mod goal_texts;
 mod grammar;
 mod lines;
 mod refusals;

@@ -51,6 +51,7 @@ fn list_asked<R: Files + AllocGlobal, O: Sink, E: Sink>(
 ///   ones first, and else by the first symbol that differs: %x21-7E, then the space, then others by number. Each stands
 ///   there once. They are as many as the words ask for, or all that have at most so many symbols.
 /// - With `-x` and `-m miss`: then on `err` why the rule rejects each of the lines.
+/// - With `-x` and `-m cover`: then on `err` the goal of each of the lines, and the goals that no line reaches.
 /// - There is no such line: `NoMatch`.
 /// - The states of the grammar are too many, or it bounds the repetitions of a nullable operand: `too many stacks`,
 ///   `Overlong`. What is written is right, and more may be missing.

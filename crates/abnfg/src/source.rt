@@ -1,17 +1,15 @@
 //! The lines that are asked for, one after another.
-ghost use Rattle.std.specs.Prelude.{◌≡◌, ℕ, List, [], IfOk, IfSome};
+ghost use Rattle.std.specs.Prelude.{◌≡◌, ℕ, List, [], IfOk, IfSome, false};
 ghost use Rattle.abnfg.specs.ListedLines.{AreListed, IsListStep, IsStepOf, end_of};
-ghost use Rattle.abnfg.specs.ListModes.{HasReturned, IsCoverOf, IsNextItem, IsReturnStep};
+ghost use Rattle.abnfg.specs.ListModes.{HasReturned, IsReturnStep, reaches_goals};
 ghost use Rattle.abnfg.specs.declared.lines.ListSettings.{ListSettings as the_settings};
 ghost use Rattle.abnfread.specs.AbnfViews.{rules_of};
 ghost use Rattle.abnfread.specs.Element.{Rule};
-ghost use Rattle.coverlines.specs.CoverLines.{line_items};
 ghost use Rattle.rulelines.specs.LineSets.{AreRuleLines, IsLineIn};
 ghost use Rattle.rulelines.specs.MissLists.{AreMissesOf};
 
 use crate::lines::{ListMode, ListSettings, end_byte};
 use abnfcheck::SoundAbnf;
-use coverlines::{CoverLine, LineBounds, cover_lines};
 use rulelines::{Lines, Lots, MissSet, Misses, NextLine};
 use ruletable::Memory;
 use std::alloc::Global;
@@ -94,75 +92,26 @@ fn missed_lines(
     Misses::new(alloc, grammar, set, ROOM)
 }
 
-/// The lines that reach the goals of a grammar, in order.
-#[derive(Drop)]
-pub(crate) struct CoveredLines<'a> {
-    /// Allocates the lines.
-    alloc: Global,
-    /// The lines.
-    lines: Vec<CoverLine<'a>>,
-    /// How many were returned.
-    done: usize,
-}
-
-impl CoveredLines<'_> {
-    // Returns the next line, and `Done` if there is none. `Memory` if an allocation fails.
-    fn next(&mut self) -> Result<NextLine, Memory>
-        ensures lines { self.new.lines ≡ self.old.lines }
-        ensures next { IfOk result (IsNextItem (line_items self.old.lines.items) self.old.done self.new.done) }
-    {
-        if self.lines.len() <= self.done {
-            return Ok(NextLine::Done);
-        }
-        let line = Vec::from_slice(self.alloc, &self.lines[self.done].line)?;
-        self.done += 1;
-        Ok(NextLine::Line(line))
-    }
-}
-
-// Returns the lines that reach the goals of a grammar. `Memory` if an allocation fails.
-fn covered_lines<'a>(
-    alloc: Global,
-    settings: &ListSettings<'_>,
-    grammar: &'a SoundAbnf,
-) -> Result<CoveredLines<'a>, Memory>
-    ensures { IfOk result (λ covered. IsCoverOf settings.now (rules_of grammar.now.rules) grammar.now.judged
-        covered.lines.items × (covered.done ≡ 0)) }
-{
-    let bounds = LineBounds {
-        alphabet: settings.letters,
-        terminator: u32::from(end_byte(settings)),
-        limit: settings.limit as usize,
-    };
-    let lines = cover_lines(alloc, grammar, bounds)?;
-    Ok(CoveredLines {
-        alloc,
-        lines,
-        done: 0,
-    })
-}
-
 /// The lines that a mode lists, one after another.
 #[derive(Drop)]
-pub(crate) enum LineSource<'a> {
+pub(crate) enum LineSource {
     /// Those that the rule derives.
     Derived(DerivedLines),
-    /// Some of these, which reach each goal.
-    Covered(CoveredLines<'a>),
     /// Near ones that it does not derive.
     Missed(Misses),
     /// Some that it derives, by lot.
     Drawn(Lines, Lots),
 }
 
-impl<'a> LineSource<'a> {
-    /// Returns the lines that are asked for of the judged rule of a grammar, before the first one. `None` if there is
-    /// no room for the states. `Memory` if an allocation fails.
+impl LineSource {
+    /// Returns the lines that are asked for of the judged rule of a grammar, before the first one. The mode is not
+    /// `Cover`. `None` if there is no room for the states. `Memory` if an allocation fails.
     pub(crate) fn new(
         alloc: Global,
         settings: &ListSettings<'_>,
-        grammar: &'a SoundAbnf,
-    ) -> Result<Option<LineSource<'a>>, Memory>
+        grammar: &SoundAbnf,
+    ) -> Result<Option<LineSource>, Memory>
+        requires { reaches_goals settings.now.mode ≡ false }
         ensures { IfOk result (λ reported. IfSome reported (λ source. HasReturned settings.now
             (rules_of grammar.now.rules) grammar.now.judged source [])) }
     {
@@ -173,10 +122,6 @@ impl<'a> LineSource<'a> {
                 };
                 let last = None;
                 Ok(Some(LineSource::Derived(DerivedLines { alloc, lines, last })))
-            }
-            ListMode::Cover => {
-                let covered = covered_lines(alloc, settings, grammar)?;
-                Ok(Some(LineSource::Covered(covered)))
             }
             ListMode::Miss => {
                 let Some(misses) = missed_lines(alloc, settings, grammar)? else {
@@ -190,6 +135,7 @@ impl<'a> LineSource<'a> {
                 };
                 Ok(Some(LineSource::Drawn(lines, Lots::new(settings.seed))))
             }
+            ListMode::Cover => unreachable!(),
         }
     }
 
@@ -202,7 +148,6 @@ impl<'a> LineSource<'a> {
     {
         match self {
             LineSource::Derived(derived) => derived.next(),
-            LineSource::Covered(covered) => Ok(Some(covered.next()?)),
             LineSource::Missed(misses) => misses.next(),
             LineSource::Drawn(lines, lots) => lines.by_lot(lots),
         }

@@ -5,4 +5,4 @@ mod position;
 mod print;
 mod terminal;
 
-pub use print::{is_abnf_read_back, print_abnf};
+pub use print::{is_abnf_read_back, print_abnf, print_elem};

@@ -69,9 +69,11 @@ fn print_repeated<W: Sink>(
     }
 }
 
-// An element as a rule's body.
+/// Writes the canonical text of an element, as it stands as a rule's body: on one line, and with no parentheses but
+/// those that it needs within. `WriteFault` if the writer fails; then a prefix of the text is written. It takes no
+/// memory, and recurses no deeper than the element.
 #[cycle(printing)]
-fn print_elem<W: Sink>(e: &Elem, w: &mut W) -> Result<(), WriteFault>
+pub fn print_elem<W: Sink>(e: &Elem, w: &mut W) -> Result<(), WriteFault>
     requires { W.failed w.old ≡ false }
     ensures bytes { Writes (W.contents w.old) (W.contents w.new) (canon.text_of (element_of e.now)) result }
     ensures flag { Flags (W.failed w.old) (W.failed w.new) result }

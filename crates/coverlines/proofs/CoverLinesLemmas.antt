@@ -11,29 +11,28 @@ use Rattle.std.proofs.lemmas.Bool.{cases_eq, cases_lt}
 use Rattle.std.proofs.lemmas.List.{map-append}
 use Rattle.std.proofs.lemmas.List.Edits.{get_or-insert_above, get_or-insert_at, get_or-insert_below, length-insert}
 use Rattle.std.proofs.lemmas.List.Elements.{Contains-append_cases, Contains-append_left, Contains-append_right}
-use Rattle.std.proofs.lemmas.List.Elements.{Contains-get_or}
 use Rattle.std.proofs.lemmas.List.Sorted.{Contains-permutation, IsPermutation-insert, IsPermutation-sym}
 use Rattle.abnfread.specs.Element.{Element, Rule, bodies}
 use Rattle.abnfcheck.specs.Derivable.{AreLetters}
 use Rattle.abnfcheck.proofs.YieldsLemmas.{letters_both, letters_parts}
 use Rattle.letters.specs.Letters.{has}
-use Rattle.coverlines.specs.CoverLines.{AddsFitting, AddsLines, AddsMadeLines, AddsSome, AreGoalLines, ComesLater}
-use Rattle.coverlines.specs.CoverLines.{HasItems, HasLinesOf, IsCover, IsGoalLine, IsLineAt}
-use Rattle.coverlines.specs.CoverLines.{IsLineOf, IsLineOfOne, IsReached, IsRight, MayAddLines, Reaches, line_around}
+use Rattle.coverlines.specs.CoverLines.{AddsFitting, AddsLines, AddsMadeLines, AddsSome, AreGoalLines}
+use Rattle.coverlines.specs.CoverLines.{Falls, HasLineOf, HasLinesOf, IsGoalLine, IsLineAt}
+use Rattle.coverlines.specs.CoverLines.{IsLineOf, IsLineOfOne, IsRight, MayAddLines, Reaches, line_around}
 use Rattle.coverlines.specs.CoverLines.{line_items}
 use Rattle.coverlines.specs.Goals.{Does, Goal}
-use Rattle.coverlines.specs.MadeWords.{AreMade, HasMade, MakesSo}
+use Rattle.coverlines.specs.MadeWords.{AreMade, MakesSo}
 use Rattle.coverlines.specs.RuleContexts.{AreRuleSites, AreShortestContexts, IsContext, StandsAround, context_at}
 use Rattle.coverlines.specs.RuleContexts.{context_cost, sites_at, size_of}
 use Rattle.coverlines.specs.Shortest.{IsShortestOf, may}
-use Rattle.coverlines.specs.Sites.{HasShorter, IsLeastAt, StandsAt, Stood, room_of, stood_of}
+use Rattle.coverlines.specs.Sites.{IsLeastAt, StandsAt, Stood, room_of, stood_of}
 use Rattle.coverlines.specs.declared.bounds.LineBounds.{LineBounds}
 use Rattle.coverlines.specs.declared.context.LineContext.{LineContext}
 use Rattle.coverlines.specs.declared.cover.CoverLine.{CoverLine}
 use Rattle.coverlines.specs.declared.made.MadeWord.{MadeWord}
 use Rattle.coverlines.specs.declared.sites.Site.{Site}
 use Rattle.coverlines.proofs.GoalsLemmas.{does_derived, one_element}
-use Rattle.coverlines.proofs.KnownWordsLemmas.{body_below, body_there}
+use Rattle.coverlines.proofs.KnownWordsLemmas.{body_there}
 use Rattle.coverlines.proofs.MemberLemmas.{first_in, from_mapped, item_in, later_in, mapped_in, member_cases}
 use Rattle.coverlines.proofs.MemberLemmas.{none_in, only_in}
 use Rattle.coverlines.proofs.MemberLemmas.{taken_more, taken_past}
@@ -59,17 +58,17 @@ module _ (xs : List CoverLine) (i : ℕ) (y d : CoverLine) (le : i ≤ length xs
       above (k - 1) up within is (subst (λ n. get_or (insert xs i y) n d ≡ get_or xs (k - 1) d) (sym is)
       (get_or-insert_above xs i y d (k - 1) up le))) (cases_eq k i)) (cases_lt k i)
 
-  pairs_of : (u v s t : CoverLine) → u ≡ s → v ≡ t → ComesLater s t → ComesLater u v
-  pairs_of u v s t p q r = subst (λ x. ComesLater x v) (sym p) (subst (λ x. ComesLater s x) (sym q) r)
+  pairs_of : (u v s t : CoverLine) → u ≡ s → v ≡ t → Falls s t → Falls u v
+  pairs_of u v s t p q r = subst (λ x. Falls x v) (sym p) (subst (λ x. Falls s x) (sym q) r)
 
-  pairs_put : AllPairs ComesLater xs → ((k : ℕ) → k < i → ComesLater (get_or xs k d) y)
-      → ((k : ℕ) → i ≤ k → k < length xs → ComesLater y (get_or xs k d))
+  pairs_put : AllPairs Falls xs → ((k : ℕ) → k < i → Falls (get_or xs k d) y)
+      → ((k : ℕ) → i ≤ k → k < length xs → Falls y (get_or xs k d))
       → (k l : ℕ) → k < l → l < length (insert xs i y)
-      → ComesLater (get_or (insert xs i y) k d) (get_or (insert xs i y) l d)
+      → Falls (get_or (insert xs i y) k d) (get_or (insert xs i y) l d)
   pairs_put h front back k l lt in' = by k l lt (stood_before k (omega (arith, lt, in'))) (stood_before l in')
     where
       by : (k l : ℕ) → k < l → StoodBefore k → StoodBefore l
-          → ComesLater (get_or (insert xs i y) k d) (get_or (insert xs i y) l d)
+          → Falls (get_or (insert xs i y) k d) (get_or (insert xs i y) l d)
       by k l lt (below a p) (below c q) = pairs_of _ _ _ _ p q (h k l d lt (omega (arith, c, le)))
       by k l lt (below a p) (here c q) = pairs_of _ _ _ _ p q (front k a)
       by k l lt (below a p) (above j c n o q) = pairs_of _ _ _ _ p q (h k j d (omega (arith, a, c)) n)
@@ -81,32 +80,20 @@ module _ (xs : List CoverLine) (i : ℕ) (y d : CoverLine) (le : i ≤ length xs
       by k l lt (above m a f r p) (above j c n o q) = pairs_of _ _ _ _ p q (h m j d (omega (arith, r, o, lt)) n)
 
 module _ (lines : List CoverLine) (at : ℕ) (line : CoverLine) where
-  pub added_order : at ≤ length lines → AllPairs ComesLater lines
+  pub added_order : at ≤ length lines → AllPairs Falls lines
       → AllWithin (λ l. length line.line.items ≤ length l.line.items) lines 0 at
       → (at < length lines → HoldsAt (λ l. length l.line.items < length line.line.items) lines at)
-      → (Contains (line_items lines) line.line.items → ⊥) → AllPairs ComesLater (insert lines at line)
-  added_order le order longer next absent k l d lt in' = pairs_put lines at line d le order
-      (λ n less. record {
-        shorter = longer n d (omega arith) less;
-        other = λ same. absent (there n d (omega (arith, less, le)) same);
-      })
-      (λ n more within. record {
-        shorter = shorter n more within d;
-        other = λ same. absent (there n d within (sym same));
-      }) k l lt in'
+      → AllPairs Falls (insert lines at line)
+  added_order le order longer next k l d lt in' = pairs_put lines at line d le order
+      (λ n less. longer n d (omega arith) less) (λ n more within. shorter n more within d) k l lt in'
     where
-      there : (n : ℕ) (d : CoverLine) → n < length lines → (get_or lines n d).line.items ≡ line.line.items
-          → Contains (line_items lines) line.line.items
-      there n d within same = subst (λ w. Contains (line_items lines) w) same
-          (mapped_in (λ l. l.line.items) (get_or lines n d) lines (Contains-get_or lines n d within))
-
       shorter : (n : ℕ) → at ≤ n → n < length lines → (d : CoverLine)
           → length (get_or lines n d).line.items ≤ length line.line.items
       shorter n more within d = ⊎_elim
           (λ same. let s = next (omega (arith, more, within)) d in
           subst (λ m. length (get_or lines m d).line.items ≤ length line.line.items) (sym same) (omega (arith, s)))
           (λ other. let s = next (omega (arith, more, within)) d in
-          let o = (order at n d (omega (arith, more, other)) within).shorter in omega (arith, s, o)) (cases_eq n at)
+          let o = order at n d (omega (arith, more, other)) within in omega (arith, s, o)) (cases_eq n at)
 
   pub line_added : (limit : ℕ) → length line.line.items ≤ limit → AddsFitting limit line lines (insert lines at line)
   line_added limit fits = record {
@@ -117,12 +104,8 @@ module _ (lines : List CoverLine) (at : ℕ) (line : CoverLine) where
           (Contains-permutation (insert lines at line) (line ∷ lines) l
           (IsPermutation-sym (line ∷ lines) (insert lines at line) (IsPermutation-insert lines at line)) among));
     };
-    there = λ le. record {
-      line = line;
-      among = Contains-permutation (line ∷ lines) (insert lines at line) line (IsPermutation-insert lines at line)
-          (first_in line lines);
-      is = refl;
-    };
+    there = λ le. Contains-permutation (line ∷ lines) (insert lines at line) line
+        (IsPermutation-insert lines at line) (first_in line lines);
   }
 
 -- whether one of the lines is a list
@@ -157,17 +140,14 @@ long_line limit line lines over = record {
   there = λ le. absurd (omega (arith, over, le));
 }
 
-pub known_line : (limit : ℕ) (line : CoverLine) (lines : List CoverLine)
-    → Contains (line_items lines) line.line.items → AddsFitting limit line lines lines
-known_line limit line lines among = record {
-  adds = nothing_new (λ l. (l ≡ line) × (length line.line.items ≤ limit)) lines;
-  there = λ le. let m = from_mapped (λ (l : CoverLine). l.line.items) line.line.items lines among in
-      record { line = m.0; among = m.1; is = m.2 };
+more_lines : (kind : CoverLine → Type 0) (rule : ℕ) (old new : List CoverLine) (w : List ℕ) → AddsSome kind old new
+    → HasLineOf rule old w → HasLineOf rule new w
+more_lines kind rule old new w adds h = record {
+  line = h.line;
+  among = adds.keeps h.line h.among;
+  rule_is = h.rule_is;
+  is = h.is;
 }
-
-more_items : (kind : CoverLine → Type 0) (old new : List CoverLine) (w : List ℕ) → AddsSome kind old new
-    → HasItems old w → HasItems new w
-more_items kind old new w adds h = record { line = h.line; among = adds.keeps h.line h.among; is = h.is }
 
 -- the lines of what an element makes
 module _ (limit rule : ℕ) (c : LineContext) (s : Stood) where
@@ -178,7 +158,7 @@ module _ (limit rule : ℕ) (c : LineContext) (s : Stood) where
   }
 
   pub next_made_line : (all : List MadeWord) (i : ℕ) (m : MadeWord) (line : CoverLine) (old mid new : List CoverLine)
-      → i < length all → m ≡ get_or all i m → line.rule ≡ rule → line.way ≡ m.way
+      → i < length all → m ≡ get_or all i m → line.goal.rule ≡ rule → line.goal.way ≡ m.way
       → line.line.items ≡ line_around c s m.word.items → AddsMadeLines limit rule c s (take i all) old mid
       → AddsFitting limit line mid new → AddsMadeLines limit rule c s (take (i + 1) all) old new
   next_made_line all i m line old mid new lt is rule_is way_is line_is h a =
@@ -189,7 +169,7 @@ module _ (limit rule : ℕ) (c : LineContext) (s : Stood) where
               (h.adds.right l prior)) (λ last. inr (own l last.0 last.1)) (a.adds.right l among);
         };
         complete = λ n among le. ⊎_elim
-            (λ prior. more_items _ mid new (line_around c s n.word.items) a.adds (h.complete n prior le))
+            (λ prior. more_lines _ rule mid new (line_around c s n.word.items) a.adds (h.complete n prior le))
             (λ last. complete n (only_in m n last) le) (Contains-append_cases (take i all) (m ∷ []) n among);
       })
     where
@@ -211,10 +191,14 @@ module _ (limit rule : ℕ) (c : LineContext) (s : Stood) where
       }
 
       complete : (n : MadeWord) → m ≡ n → length (line_around c s n.word.items) ≤ limit
-          → HasItems new (line_around c s n.word.items)
-      complete n same le = subst (λ (x : MadeWord). HasItems new (line_around c s x.word.items)) same
-          (subst (HasItems new) line_is (a.there (subst (λ (w : List ℕ). length w ≤ limit) (sym line_is)
-          (subst (λ (x : MadeWord). length (line_around c s x.word.items) ≤ limit) (sym same) le))))
+          → HasLineOf rule new (line_around c s n.word.items)
+      complete n same le = subst (λ (x : MadeWord). HasLineOf rule new (line_around c s x.word.items)) same (record {
+        line = line;
+        among = a.there (subst (λ (w : List ℕ). length w ≤ limit) (sym line_is)
+            (subst (λ (x : MadeWord). length (line_around c s x.word.items) ≤ limit) (sym same) le));
+        rule_is = rule_is;
+        is = line_is;
+      })
 
 -- the lines of sites
 module _ (b : LineBounds) (rules : List Rule) (rule : ℕ) (c : LineContext) where
@@ -253,7 +237,7 @@ module _ (b : LineBounds) (rules : List Rule) (rule : ℕ) (c : LineContext) whe
   later_lines kind s old new adds h = record {
     all = h.all;
     are = h.are;
-    each = λ m among le. more_items kind old new (line_around c s m.word.items) adds (h.each m among le);
+    each = λ m among le. more_lines kind rule old new (line_around c s m.word.items) adds (h.each m among le);
   }
 
   pub more_sites : (xs : List Stood) (s : Stood) (old mid new : List CoverLine) → AddsLines b rules rule c xs old mid
@@ -331,13 +315,13 @@ module _ (b : LineBounds) (rules : List Rule) (contexts : List (Option LineConte
             subst (λ k. HasLinesOf b rules k c new s) (sym own) (subst (λ d. HasLinesOf b rules n d new s) same
             (a.complete s (subst (λ k. Contains (sites_at sites k) s) own among)))
 
-site_below : (ps : List (Vec Site Global)) (id : ℕ) (s : Stood) → Contains (sites_at ps id) s → id < length ps
+pub site_below : (ps : List (Vec Site Global)) (id : ℕ) (s : Stood) → Contains (sites_at ps id) s → id < length ps
 site_below [] id s among = absurd (none_in s among)
 site_below (p ∷ ps) zero s among = omega arith
 site_below (p ∷ ps) (suc id) s among = let lt = site_below ps id s among in omega (arith, lt)
 
 -- the line of a goal
-line_length : (c : LineContext) (s : Stood) (w : List ℕ)
+pub line_length : (c : LineContext) (s : Stood) (w : List ℕ)
     → length (line_around c s w) ≡ (size_of c + room_of s) + length w
 line_length c s w =
     let n = length-append (c.before.items ++ s.before) (w ++ (s.after ++ c.after.items)) in
@@ -346,7 +330,7 @@ line_length c s w =
     let k = length-append s.after c.after.items in omega (arith, n, m, l, k)
 
 -- what stands round, and the word, of a line that reaches a goal
-record Parts (b : LineBounds) (rules : List Rule) (judged : ℕ) (goal : Goal) (w : List ℕ) : Type 0 where
+pub record Parts (b : LineBounds) (rules : List Rule) (judged : ℕ) (goal : Goal) (w : List ℕ) : Type 0 where
   pub does : Does (has b.alphabet) (may b) rules judged goal w
   pub around : StandsAround b rules judged goal.rule does.before does.after
   pub stands : StandsAt b rules does.body goal.site (record {
@@ -359,7 +343,7 @@ record Parts (b : LineBounds) (rules : List Rule) (judged : ℕ) (goal : Goal) (
       + length does.word
 
 module _ (b : LineBounds) (rules : List Rule) (judged : ℕ) where
-  parts_of : (goal : Goal) (w : List ℕ) → Reaches b rules judged goal w → Parts b rules judged goal w
+  pub parts_of : (goal : Goal) (w : List ℕ) → Reaches b rules judged goal w → Parts b rules judged goal w
   parts_of goal w r = record {
     does = d;
     around = record { around = d.around; before = front.0; after = rest.1 };
@@ -390,7 +374,7 @@ module _ (b : LineBounds) (rules : List Rule) (judged : ℕ) where
       rest = letters_parts (may b) d.right d.after middle.1
 
   -- a context, a site and a word make a line that reaches their goal
-  line_reaches : (goal : Goal) (c : LineContext) (s : Stood) (body : Element) (word : List ℕ)
+  pub line_reaches : (goal : Goal) (c : LineContext) (s : Stood) (body : Element) (word : List ℕ)
       → StandsAround b rules judged goal.rule c.before.items c.after.items
       → slice_get (bodies rules) goal.rule ≡ Some body → StandsAt b rules body goal.site s
       → MakesSo b rules s.element goal.way word → length (line_around c s word) ≤ b.limit
@@ -457,7 +441,7 @@ module _ (b : LineBounds) (rules : List Rule) (judged : ℕ) where
         let three = short.least d.word makes in
         let n = line_length c s word in omega (arith, n, long, one, two, three)
 
-    right_line : (line : CoverLine) → Contains lines line → IsRight b rules judged line
+    pub right_line : (line : CoverLine) → Contains lines line → IsRight b rules judged line
     right_line line among = by (found.right line among)
       where
         shown : (line : CoverLine) (rule : ℕ) (c : LineContext) (s : Stood) (body : Element) (site : List ℕ)
@@ -488,68 +472,3 @@ module _ (b : LineBounds) (rules : List Rule) (judged : ℕ) where
             let one = g.is.one in
             let short = g.is.are.right one.made one.among in
             shown line g.rule g.context g.is.stood body.0 at.0 one.made lt g.known body.1 at.1 short one.is
-
-    reached_goal : (goal : Goal) (w : List ℕ) → Reaches b rules judged goal w → IsReached b rules judged lines goal w
-    reached_goal goal w r = by (context_at contexts goal.rule) refl
-      where
-        p : Parts b rules judged goal w
-        p = parts_of goal w r
-
-        lt : goal.rule < length rules
-        lt = body_below rules goal.rule p.does.body p.does.body_is
-
-        few : length p.does.before + length p.does.after ≤ b.limit
-        few = let long = p.long in let le = r.line.within in omega (arith, long, le)
-
-        cost : context_cost b.limit (context_at contexts goal.rule) ≤ length p.does.before + length p.does.after
-        cost = h.least goal.rule p.does.before p.does.after lt p.around few
-
-        site : HasShorter b rules p.does.body (sites_at sites goal.rule) goal.site (record {
-          element = p.does.element;
-          before = p.does.left;
-          after = p.does.right;
-        })
-        site = (all.each goal.rule p.does.body p.does.body_is).complete goal.site (record {
-          element = p.does.element;
-          before = p.does.left;
-          after = p.does.right;
-        }) p.stands (let long = p.long in let le = r.line.within in omega (arith, long, le))
-
-        made : (ms : List MadeWord) → AreMade b rules site.other.element ms
-            → HasMade b rules site.other.element ms goal.way p.does.word
-        made ms are = are.complete goal.way p.does.word
-            (subst (λ e. MakesSo b rules e goal.way p.does.word) (sym site.same) p.makes)
-            (let long = p.long in let le = r.line.within in omega (arith, long, le))
-
-        by : (x : Option LineContext) → context_at contexts goal.rule ≡ x → IsReached b rules judged lines goal w
-        by None at = let c = subst (λ x. context_cost b.limit x ≤ length p.does.before + length p.does.after) at cost in
-            absurd (omega (arith, c, few))
-        by (Some c) at =
-            let own = subst (λ x. context_cost b.limit x ≤ length p.does.before + length p.does.after) at cost in
-            let there = found.complete goal.rule c site.other lt at site.among in
-            let m = made there.all there.are in
-            let long = p.long in
-            let le = r.line.within in
-            let n = line_length c site.other m.made.word.items in
-            let room = site.within in
-            let word = m.within in
-            let fits : length (line_around c site.other m.made.word.items) ≤ length w =
-            omega (arith, long, n, own, room, word) in
-            let item = there.each m.made m.among (omega (arith, fits, le)) in
-            let makes = (there.are.right m.made m.among).is in
-            let reaches = line_reaches goal c site.other p.does.body m.made.word.items (context_of goal.rule c at)
-            p.does.body_is site.stands
-            (subst (λ v. MakesSo b rules site.other.element v m.made.word.items) m.same makes)
-            (omega (arith, fits, le)) in record {
-              line = item.line;
-              among = item.among;
-              reaches = subst (Reaches b rules judged goal) (sym item.is) reaches;
-              within = subst (λ (v : List ℕ). length v ≤ length w) (sym item.is) fits;
-            }
-
-    pub lines_cover : AllPairs ComesLater lines → IsCover b rules judged lines
-    lines_cover order = record {
-      right = λ k d lt. right_line (get_or lines k d) (Contains-get_or lines k d lt);
-      complete = reached_goal;
-      order = order;
-    }

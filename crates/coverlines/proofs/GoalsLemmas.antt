@@ -3,9 +3,9 @@
 use Rattle.std.proofs.Common.{◌≡◌, ℕ, zero, suc, Bool, true, false, List, [], ◌∷◌, ◌++◌, map, append_assoc}
 use Rattle.std.proofs.Common.{append-nil, Some, refl, sym, ◌∙◌, subst, arith}
 use Rattle.abnfread.specs.Element as e
-use Rattle.abnfread.specs.Element.{Element, Elements, Rule, bodies, body_of, id_of, none, more}
+use Rattle.abnfread.specs.Element.{Element, Elements, Rule, none, more}
 use Rattle.abnfcheck.specs.Derivable as der
-use Rattle.abnfcheck.specs.Derivable.{AreLetters, Derives, DerivesAll, DerivesSome, DerivesTimes, RuleDerives, Spelled}
+use Rattle.abnfcheck.specs.Derivable.{Derives, DerivesAll, DerivesSome, DerivesTimes, RuleDerives, Spelled}
 use Rattle.abnfcheck.specs.Derivable.{StandsFor}
 use Rattle.abnfcheck.proofs.RuleIdLemmas.{body_at_id}
 use Rattle.letters.specs.Letters.{has}
@@ -32,7 +32,7 @@ other_spelled [] = der.end
 other_spelled (c ∷ t) = der.next (swapped_stands c) (other_spelled t)
 
 -- what stands round two lists
-round_both : (u x w y v : List ℕ) → u ++ ((x ++ (w ++ y)) ++ v) ≡ (u ++ x) ++ (w ++ (y ++ v))
+pub round_both : (u x w y v : List ℕ) → u ++ ((x ++ (w ++ y)) ++ v) ≡ (u ++ x) ++ (w ++ (y ++ v))
 round_both u x w y v = simp append_assoc
 
 module _ (b : LineBounds) (rules : List Rule) where

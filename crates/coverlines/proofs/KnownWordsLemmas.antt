@@ -14,7 +14,7 @@ use Rattle.ruletable.specs.Rules as table
 use Rattle.abnfread.specs.AbnfViews.{element_of, rule_of, rules_of}
 use Rattle.abnfread.specs.declared.elem.Elem.{Elem}
 use Rattle.abnfread.specs.Element as e
-use Rattle.abnfread.specs.Element.{Element, Elements, Rule, bodies, body_of, id_of, none, more}
+use Rattle.abnfread.specs.Element.{Element, Elements, Rule, bodies, body_of, id_of}
 use Rattle.abnfcheck.specs.Derivable as der
 use Rattle.abnfcheck.specs.Derivable.{AreLetters, Derives, DerivesAll, DerivesSome, DerivesTimes, Spelled}
 use Rattle.abnfcheck.proofs.RuleIdLemmas.{body_at_id}

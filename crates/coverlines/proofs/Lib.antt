@@ -3,6 +3,10 @@ mod GoalsLemmas
 mod KnownWordsLemmas
 mod MadeLemmas
 mod MemberLemmas
+mod MissedGoalsLemmas
+mod NamedIdsLemmas
+mod NeededLinesLemmas
+mod RuleBasesLemmas
 mod RuleContextsLemmas
 mod ShortestLemmas
 mod SitesLemmas

@@ -7,20 +7,22 @@ use Rattle.std.proofs.Common.{Some, None, Vec}
 use Rattle.std.proofs.Common.{Global, refl, sym, ◌∙◌, ap, subst, arith}
 use Rattle.std.proofs.lemmas.Bool.{cases_eq}
 use Rattle.std.proofs.lemmas.List.Elements.{Contains-append_left, Contains-append_right, Contains-append_cases}
+use Rattle.std.proofs.lemmas.List.{take-append-drop}
 use Rattle.abnfread.specs.AbnfViews.{element_of, elements_of}
 use Rattle.abnfread.specs.Element as e
-use Rattle.abnfread.specs.Element.{Element, Elements, Rule, none, more}
+use Rattle.abnfread.specs.Element.{Element, Elements, Rule}
 use Rattle.abnfread.specs.declared.elem.Elem.{Elem}
 use Rattle.abnfcheck.specs.Derivable as der
-use Rattle.abnfcheck.specs.Derivable.{AreLetters, AtMost, Derives, DerivesAll, DerivesTimes}
+use Rattle.abnfcheck.specs.Derivable.{AreLetters, AtMost, DerivesAll}
 use Rattle.abnfcheck.proofs.YieldsLemmas.{letters_both, letters_parts}
 use Rattle.letters.specs.Letters.{has}
 use Rattle.coverlines.specs.Goals as g
 use Rattle.coverlines.specs.Goals.{Beside, Inside, member_at}
 use Rattle.coverlines.specs.Sites.{AddsSites, AreSites, AreSitesTo, HasShorter, IsLeastAt, IsSiteBelow, MayAddSites}
-use Rattle.coverlines.specs.Sites.{OtherRounds, StandsAt, Stood, room_of, stood_in}
+use Rattle.coverlines.specs.Sites.{OtherRounds, StandsAt, Stood, room_of, stood_in, stood_of}
 use Rattle.coverlines.specs.Shortest.{IsShortest, may, SpellsAll, SpellsTimes}
 use Rattle.coverlines.specs.declared.bounds.LineBounds.{LineBounds}
+use Rattle.coverlines.specs.declared.sites.Site.{Site}
 use Rattle.coverlines.proofs.MemberLemmas.{first_in, from_mapped, mapped_in, only_in}
 use Rattle.coverlines.proofs.ShortestLemmas.{fewer_rounds, same_shortest, times_both}
 
@@ -40,7 +42,7 @@ pub record Split (C : List ℕ → List ℕ → Type 0) (P : Stood → Type 0) (
   pub stands : P inner
   pub is : s ≡ stood_in front back inner
 
-room_in : (u v : List ℕ) (s : Stood) → room_of (stood_in u v s) ≡ (length u + length v) + room_of s
+pub room_in : (u v : List ℕ) (s : Stood) → room_of (stood_in u v s) ≡ (length u + length v) + room_of s
 room_in u v s = let n = length-append u s.before in let m = length-append s.after v in omega (arith, n, m)
 
 take_all : {A : Type 0} (xs : List A) → take (length xs) xs ≡ xs
@@ -559,3 +561,33 @@ module _ (b : LineBounds) (rules : List Rule) where
     where
       by : {x y : List ℕ} {el : Element} → Inside (has b.alphabet) (may b) rules (e.Prose t) (i ∷ p) el x y → ⊥
       by h = elim h [ ]
+
+  -- the same sites, of which some first ones come last
+  pub sites_moved : (el : Element) (n : ℕ) (old new : List Site) → new ≡ drop n old ++ take n old
+      → AreSites b rules el (map stood_of old) → AreSites b rules el (map stood_of new)
+  sites_moved el n old new same h = record {
+    right = λ s among. let m = from_mapped stood_of s new among in
+        h.right s (subst (Contains (map stood_of old)) m.2 (mapped_in stood_of m.0 old (from m.0 m.1)));
+    complete = λ p s at le.
+        let k = h.complete p s at le in
+        let m = from_mapped stood_of k.other old k.among in record {
+          other = k.other;
+          among = subst (Contains (map stood_of new)) m.2 (mapped_in stood_of m.0 new (to m.0 m.1));
+          stands = k.stands;
+          same = k.same;
+          within = k.within;
+        };
+  }
+    where
+      to : (x : Site) → Contains old x → Contains new x
+      to x among = subst (λ xs. Contains xs x) (sym same) (⊎_elim
+          (λ l. Contains-append_right (drop n old) (take n old) x l)
+          (λ r. Contains-append_left (drop n old) (take n old) x r)
+          (Contains-append_cases (take n old) (drop n old) x
+          (subst (λ xs. Contains xs x) (sym (take-append-drop n old)) among)))
+
+      from : (x : Site) → Contains new x → Contains old x
+      from x among = subst (λ xs. Contains xs x) (take-append-drop n old) (⊎_elim
+          (λ l. Contains-append_right (take n old) (drop n old) x l)
+          (λ r. Contains-append_left (take n old) (drop n old) x r)
+          (Contains-append_cases (drop n old) (take n old) x (subst (λ xs. Contains xs x) same among)))

@@ -20,7 +20,11 @@ use Rattle.coverlines.specs.declared.sites.Site.{Site}
 abbrev pub line_items : List CoverLine → List (List ℕ)
 line_items lines = map (λ line. line.line.items) lines
 
--- a line is not longer than another one that comes before it, and differs from it
+-- a line is not longer than another one that comes before it
+abbrev pub Falls : CoverLine → CoverLine → Type 0
+Falls u v = length v.line.items ≤ length u.line.items
+
+-- .. and differs from it
 pub record ComesLater (u v : CoverLine) : Type 0 where
   pub shorter : length v.line.items ≤ length u.line.items
   pub other : u.line.items ≢ v.line.items
@@ -40,31 +44,31 @@ module _ (b : LineBounds) (rules : List Rule) (judged : ℕ) where
   -- of the lines that reach a goal of its rule in its way, it is a shortest one
   pub record IsRight (line : CoverLine) : Type 0 where
     pub site : List ℕ
-    pub shortest : IsShortestOf (Reaches (record { rule = line.rule; site = site; way = line.way })) b.limit
+    pub shortest : IsShortestOf (Reaches (record { rule = line.goal.rule; site = site; way = line.goal.way })) b.limit
         line.line.items
 
-  -- one of the lines reaches a goal, and is not longer than a line that does
-  pub record IsReached (lines : List CoverLine) (g : Goal) (w : List ℕ) : Type 0 where
+  -- one of the lines reaches a goal
+  pub record IsReached (lines : List CoverLine) (g : Goal) : Type 0 where
     pub line : CoverLine
     pub among : Contains lines line
     pub reaches : Reaches g line.line.items
-    pub within : length line.line.items ≤ length w
 
-  -- Each line is a shortest one for some goal, and each goal that a line reaches is reached by one that is not longer.
-  -- No line comes twice, and longer ones come first.
+  -- Each line is a shortest one for some goal, and each goal that a derived line reaches is reached by one of them. No
+  -- line comes twice, and longer ones come first.
   pub record IsCover (lines : List CoverLine) : Type 0 where
     pub right : All IsRight lines
-    pub complete : (g : Goal) (w : List ℕ) → Reaches g w → IsReached lines g w
+    pub complete : (g : Goal) (w : List ℕ) → Reaches g w → IsReached lines g
     pub order : AllPairs ComesLater lines
 
 -- a line: what stands round the rule, what stands round the element in it, and what the element derives
 abbrev pub line_around : LineContext → Stood → List ℕ → List ℕ
 line_around c s word = (c.before.items ++ s.before) ++ (word ++ (s.after ++ c.after.items))
 
--- there is a line of these symbols
-pub record HasItems (lines : List CoverLine) (w : List ℕ) : Type 0 where
+-- there is a line of these symbols for a goal of the rule
+pub record HasLineOf (rule : ℕ) (lines : List CoverLine) (w : List ℕ) : Type 0 where
   pub line : CoverLine
   pub among : Contains lines line
+  pub rule_is : line.goal.rule ≡ rule
   pub is : line.line.items ≡ w
 
 -- lines of a kind were added
@@ -75,13 +79,13 @@ pub record AddsSome (kind : CoverLine → Type 0) (old new : List CoverLine) : T
 -- a line was added, if it has at most `limit` symbols
 pub record AddsFitting (limit : ℕ) (line : CoverLine) (old new : List CoverLine) : Type 0 where
   pub adds : AddsSome (λ l. (l ≡ line) × (length line.line.items ≤ limit)) old new
-  pub there : length line.line.items ≤ limit → HasItems new line.line.items
+  pub there : length line.line.items ≤ limit → Contains new line
 
 module _ (limit rule : ℕ) (c : LineContext) (s : Stood) where
   -- a line of the rule, by what an element makes
   pub record IsLineOf (made : MadeWord) (line : CoverLine) : Type 0 where
-    pub rule_is : line.rule ≡ rule
-    pub way_is : line.way ≡ made.way
+    pub rule_is : line.goal.rule ≡ rule
+    pub way_is : line.goal.way ≡ made.way
     pub line_is : line.line.items ≡ line_around c s made.word.items
     pub within : length line.line.items ≤ limit
 
@@ -94,7 +98,7 @@ module _ (limit rule : ℕ) (c : LineContext) (s : Stood) where
   -- each line that fits is there
   abbrev pub HasLinesOfAll : List MadeWord → List CoverLine → Type 0
   HasLinesOfAll all lines = (m : MadeWord) → Contains all m → length (line_around c s m.word.items) ≤ limit
-      → HasItems lines (line_around c s m.word.items)
+      → HasLineOf rule lines (line_around c s m.word.items)
 
   -- the lines of these lists were added
   pub record AddsMadeLines (all : List MadeWord) (old new : List CoverLine) : Type 0 where

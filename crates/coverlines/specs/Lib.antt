@@ -2,6 +2,10 @@ pub mod CoverLines
 pub mod Goals
 pub mod KnownWords
 pub mod MadeWords
-pub mod Sites
+pub mod MissedGoals
+pub mod MissedSteps
+pub mod NamedIds
+pub mod NeededLines
 pub mod RuleContexts
 pub mod Shortest
+pub mod Sites

@@ -47,8 +47,8 @@ fn improve(limit: usize, known: &mut Vec<Option<LineContext>>, id: usize, new: L
     true
 }
 
-// Returns the name that an element is, if it is one.
-fn name_of(e: &Elem) -> Option<&[u8]>
+/// Returns the name that an element is, if it is one.
+pub(crate) fn name_of(e: &Elem) -> Option<&[u8]>
     ensures { MatchOption result ((name : List ℕ) → element_of e.now ≡ Name name → ⊥)
         (λ name. element_of e.now ≡ Name name.now) }
 {

@@ -109,8 +109,8 @@ fn add_alternatives<'a>(
     Ok(())
 }
 
-// Returns a shortest list of the rounds of a repetition after the first one, of as few as may be.
-fn other_rounds(
+/// Returns a shortest list of the rounds of a repetition after the first one, of as few as may be.
+pub(crate) fn other_rounds(
     alloc: Global,
     words: &Words<'_>,
     least: u32,
@@ -165,7 +165,7 @@ fn add_operands<'a>(
     }
 }
 
-/// Returns the elements within an element, itself first.
+/// Returns the elements within an element, itself last.
 #[cycle(sites)]
 pub(crate) fn sites<'a>(
     alloc: Global,
@@ -180,5 +180,7 @@ pub(crate) fn sites<'a>(
     let context = LineContext::empty(alloc);
     found.push(Site { elem: e, context })?;
     add_operands(alloc, words, e, &mut found)?;
+    let own = found.len().min(1);
+    found.rotate_left(own);
     Ok(found)
 }

@@ -1,7 +1,9 @@
 //! What an element may do.
 
+use abnfread::Elem;
+
 /// What an element does in a derivation.
-#[derive(Clone, Copy)]
+#[derive(Clone, Copy, PartialEq, Eq)]
 pub enum GoalWay {
     /// An alternation takes the alternative of that number.
     Chosen(usize),
@@ -19,4 +21,15 @@ pub enum GoalWay {
     Same,
     /// A text gives itself with each letter in the other case.
     OtherCase,
+}
+
+/// What an element in the body of a rule does in a derivation.
+#[derive(Clone, Copy)]
+pub struct CoverGoal<'a> {
+    /// The id of the rule.
+    pub rule: usize,
+    /// The element.
+    pub elem: &'a Elem,
+    /// What it does.
+    pub way: GoalWay,
 }

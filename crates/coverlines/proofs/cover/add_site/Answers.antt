@@ -9,9 +9,7 @@ loop-one-preserved c = record {
   order = c.in_ok-add_line.ensures.order;
   added = l.next_made_line c.args.words.now.bounds.limit c.args.rule c.args.outer.now (stood_of c.args.site.now)
       c.deref-one-items.result.now c.loop-one.one-index c.one-item.result (record {
-        rule = c.args.rule;
-        elem = c.args.site.now.elem;
-        way = c.one-item.result.way;
+        goal = record { rule = c.args.rule; elem = c.args.site.now.elem; way = c.one-item.result.way };
         line = c.in_ok-line.field-0;
       }) c.args.found.now.items c.loop-one.found.items c.add_line.new.found.items c.loop-one-test.true c.one-item.is
       refl refl (rw (c.in_ok-context.ensures.before, c.in_ok-context.ensures.after, c.deref.ensures.value) at

@@ -77,10 +77,12 @@ add_operands-returns-in-Opt t c = IfOk-weaker c.add_inner-in-Opt.result _ _ (λ 
     c.add_inner-in-Opt.ensures
 
 pub sites-returns : goal.sites-returns
-sites-returns t c = λ rules known. c.in_ok-add_operands.ensures rules known
+sites-returns t c = λ rules known. p.sites_moved c.args.words.now.bounds rules (element_of c.args.e.now)
+    c.min-own.result c.add_operands.new.found.items c.rotate_left.new.self.items c.rotate_left.ensures.items
+    (c.in_ok-add_operands.ensures rules known
     (rw (c.in_ok-push.ensures.items, c.new-found.ensures.items) (p.whole_placed c.args.words.now.bounds rules
     (element_of c.args.e.now) (record {
       element = element_of c.args.e.now;
       before = c.empty-context.result.before.items;
       after = c.empty-context.result.after.items;
-    }) refl c.empty-context.ensures.before c.empty-context.ensures.after))
+    }) refl c.empty-context.ensures.before c.empty-context.ensures.after)))

@@ -1,9 +1,8 @@
 -- The next line of each kind.
-use Rattle.std.proofs.Common.{Some, subst, sym}
-use Rattle.std.specs.Prelude.{Ok}
-use Rattle.abnfg.proofs.ReturnedLinesLemmas.{Returns, covered_returns, derived_returns, drawn_returns, missed_returns}
+use Rattle.std.proofs.Common.{subst, sym}
+use Rattle.abnfg.proofs.ReturnedLinesLemmas.{Returns, derived_returns, drawn_returns, missed_returns}
 use Rattle.abnfg.specs.declared.source.LineSource.{LineSource}
-use Rattle.abnfg.specs.declared.source.LineSource.TheVariants.{Covered, Derived, Drawn, Missed}
+use Rattle.abnfg.specs.declared.source.LineSource.TheVariants.{Derived, Drawn, Missed}
 use Rattle.abnfg.proofs.source.LineSource.next.Goals as goal
 
 pub returns-in-Derived : goal.returns-in-Derived
@@ -24,11 +23,3 @@ returns-in-Drawn c =
     (sym c.in-Drawn.is)
     (drawn_returns c.in-Drawn.lines c.by_lot.new.self c.in-Drawn.lots c.by_lot.new.lots c.by_lot.ensures.same
     c.by_lot.result c.by_lot.ensures.is)
-
-pub returns-in_ok-next-in-Covered : goal.returns-in_ok-next-in-Covered
-returns-in_ok-next-in-Covered c =
-    subst (λ (v : LineSource). Returns v (Covered c.next-in-Covered.new.self)
-    (Ok (Some c.in_ok-next-in-Covered.field-0)))
-    (sym c.in-Covered.is)
-    (covered_returns c.in-Covered.covered c.next-in-Covered.new.self c.next-in-Covered.ensures.lines
-    c.in_ok-next-in-Covered.field-0 c.in_ok-next-in-Covered.ensures.next)

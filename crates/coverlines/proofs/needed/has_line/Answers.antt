@@ -3,7 +3,7 @@ use Rattle.std.proofs.Common.{◌∙◌}
 use Rattle.std.proofs.lemmas.Bool.Decides.{Decides-eqb}
 use Rattle.std.proofs.lemmas.Slice.Eq.{slice_eq-Decides}
 use Rattle.coverlines.proofs.CoverLinesLemmas as l
-use Rattle.coverlines.proofs.cover.has_line.Goals as goal
+use Rattle.coverlines.proofs.needed.has_line.Goals as goal
 
 pub loop-other-preserved : goal.loop-other-preserved
 loop-other-preserved c = l.none_more c.args.lines.now c.loop-other.other-index c.other-item.result c.args.line.now
