@@ -11,7 +11,7 @@ usage: gate.py
 
 Prints the last line of `rt ci` last. The status is 0 if all of it is green. RT names the command, `rt` if not set. What
 there is no C compiler for is skipped, and so are tests of Python without pytest: faults.py, library_test.py and
-python_test.py say so.
+python_test.py say so, and so does fuzz.py where clang has no libFuzzer.
 """
 import os
 import pathlib
@@ -37,7 +37,8 @@ AFTER = (
     ("oracles/random_pairs.py", "-n", "300"), ("oracles/random_lines.py", "-n", "300"),
     ("oracles/random_misses.py", "-n", "300"), ("oracles/listed_lines.py",),
     ("bench/hostile_grammars.py",), ("gate/faults.py",), ("gate/completions_test.py",), ("gate/package_test.py",),
-    ("gate/line_buffered_test.py",), ("gate/library_test.py",), ("gate/python_test.py",)
+    ("gate/line_buffered_test.py",), ("gate/quickfix_test.py",), ("gate/library_test.py",), ("oracles/fuzz.py",),
+    ("gate/python_test.py",)
 )
 TOP = pathlib.Path(__file__).resolve().parents[2]
 RT = os.environ.get("RT", "rt").split()

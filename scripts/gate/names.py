@@ -64,14 +64,15 @@ NO_CODE = re.compile(r"""b?'(?:\\.|[^'\\\n])'|(?://|--)[^\n]*|["](?:\\.|[^"\\])*
 # The most crates of the workspace, and the most that a chain of uses has which ends in a program. A program is a crate
 # of its own, as `abnfd` and `abnfg`. `rfcforms` reads XML, since `abnfblocks` and `abnftexts` are full. In `rfcforms`
 # the functions of `rfcvalues` would be 124 with its own, and `abnfblocks` would wait for `abnfexplain`. In `rulelines`
-# those of `coverlines` would be 174 with its own; each library below `abnfg` with room is proved for `abnfi` too.
-MOST_CRATES = 50
+# those of `coverlines` would be 174 with its own; each library below `abnfg` with room is proved for `abnfi` too. In
+# `cli` the functions of `findings` would be 125 with its own.
+MOST_CRATES = 51
 LONGEST_CHAIN = 10
 # The programs, each with the parts of crates.txt of which it uses nothing, and the most crates below it.
 PROGRAMS = {
     "pegi": ({"ABNF", "RFCs"}, None),
     "abnfi": ({"peg", "RFCs"}, None),
-    "abnfx": ({"peg"}, 15),
+    "abnfx": ({"peg"}, 16),
     "abnfd": ({"peg", "RFCs"}, None),
     "abnfg": ({"peg", "RFCs"}, None),
 }

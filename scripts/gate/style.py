@@ -31,7 +31,7 @@ TOP = pathlib.Path(__file__).resolve().parents[2]
 # The crates whose doc comments are clean.
 SOURCES = """
     abnfblocks abnfcheck abnfd abnfexplain abnfg abnfhints abnfi abnfprint abnfread abnfrun abnftexts abnfx capi cli
-    coverlines diagnostics earley earleyitems fanquber fanquber_c feed fixpoint flatgrammar gramcheck lazydfa
+    coverlines diagnostics earley earleyitems fanquber fanquber_c feed findings fixpoint flatgrammar gramcheck lazydfa
     letters lexer linejudge lowering matchfailure memo memoryrun packrat pegexplain pegi pegmatch pegnodes
     pegprint pegread pegrun refusedlines rfcforms rfcvalues rulelines rulenames ruletable tests_answers
     tests_calls toolrun uses
