@@ -9,12 +9,11 @@ use Rattle.lexer.specs.TokenLists as lexing
 use Rattle.lexer.specs.TokenLists.{Tok, tok, last_one, one_more}
 use Rattle.lexer.specs.Viability.{say_none, say_more}
 use Rattle.lexer.specs.declared.limits.TheConstants.{MAX_OPEN}
-use Rattle.lexer.proofs.ViabilityLemmas as lemmas
 use Rattle.abnfread.specs.declared.kind.AbnfKind.{AbnfKind}
 use Rattle.abnfread.specs.declared.kind.AbnfKind.TheVariants as kinds
 use Rattle.abnfread.specs.AbnfKinds.{ends_list}
 use Rattle.abnfread.specs.AbnfReading.{Reads}
-use Rattle.abnfread.specs.AbnfSays.{SaysKind, says_name, says_text, says_cased, says_num, says_prose, Says, says}
+use Rattle.abnfread.specs.AbnfSays.{SaysKind, says_name, says_text, says_cased, says_num, says_prose, says}
 use Rattle.abnfread.specs.AbnfSays.{SayAll, AreSmall, open_after, IsShallow}
 use Rattle.abnfread.specs.AbnfSlices.{White, First, Run, is_quotable, is_prose, Stands, name, text, cased, prose}
 use Rattle.abnfread.specs.AbnfSpelling as spelling
@@ -28,7 +27,6 @@ use Rattle.abnfread.specs.Element.{more, Definition}
 use Rattle.abnfread.specs.MarkedTokens.{Marked, margin, marks}
 use Rattle.abnfread.specs.Numerals.{says_values, last_number, more_numbers, Listed}
 use Rattle.abnfread.proofs.NumeralLemmas.{run-part, heads-equal, tails-equal}
-use Rattle.abnfread.proofs.SaysKindLemmas.{one-word}
 use Rattle.abnfprint.specs.CanonicalAbnf.{wraps}
 use Rattle.abnfprint.specs.declared.position.Context.{Context}
 use Rattle.abnfprint.specs.declared.position.Context.TheVariants.{Alternative, Member, Repeated}

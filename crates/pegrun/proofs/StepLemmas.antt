@@ -1,7 +1,7 @@
 -- What came of the start rule at the front of a window is a step of the run.
 -- Serves: run_peg (right)
 use Rattle.std.proofs.Common.{◌≡◌, ℕ, zero, suc, ◌<◌, ◌≤◌, Bool, true, false, Option, List, [], length, drop, take}
-use Rattle.std.proofs.Common.{refl, arith, subst, nat_lt, inl, inr, length-drop, length-take, if◌then◌else◌, ◌==◌}
+use Rattle.std.proofs.Common.{refl, arith, subst, nat_lt, inl, inr, length-drop, if◌then◌else◌, ◌==◌}
 use Rattle.std.specs.Prelude.{Result, Ok, Err}
 use Rattle.std.proofs.lemmas.Grind.{common_steps}
 use Rattle.std.specs.Io.KnownBytes.{Appends}
@@ -10,10 +10,9 @@ use Rattle.ruletable.proofs.AppendsLemmas.{Appends-none, Appends-same}
 use Rattle.pegread.specs.PegViews.{rules_of}
 use Rattle.gramcheck.specs.Grammar.{Grammar, IsSoundGrammar}
 use Rattle.gramcheck.specs.Outcome.{Outcome, Fails, Takes, Event}
-use Rattle.gramcheck.proofs.StartRuleLemmas.{rises_of_start}
 use Rattle.pegmatch.specs.Answers.{StartGives, WasEnough}
 use Rattle.pegmatch.specs.Text.{text_of}
-use Rattle.pegrun.specs.Attempts.{IsLimited, IsStep, StaysWithin, step_after}
+use Rattle.pegrun.specs.Attempts.{IsLimited, IsStep, step_after}
 use Rattle.toolrun.specs.Input.{Input}
 use Rattle.pegrun.specs.Units.{MayRun, GivesAt, IsUnit, Ends, broken, overlong, no_match, finished, empty_before_end}
 use Rattle.pegrun.specs.Units.{IsWithin, costly, empty_at_end, is_after_whole, no_unit}

@@ -1,6 +1,6 @@
 -- What one attempt at a unit comes to, and what it writes.
 use Rattle.std.specs.Prelude.{◌≡◌, ℕ, zero, suc, ◌+◌, ◌<◌, ◌≤◌, ◌⊎◌, ◌==◌, ⊤, Bool, true, List, length, Option, Result}
-use Rattle.std.specs.Prelude.{Ok, Err, Some, None, if◌then◌else◌, []}
+use Rattle.std.specs.Prelude.{Ok, Err, Some, None, if◌then◌else◌}
 use Rattle.std.specs.Io.KnownBytes.{Appends, Keeps}
 use Rattle.ruletable.specs.Writing.{AppendsPart, Flags}
 use Rattle.ruletable.specs.declared.sink.WriteFault.{WriteFault}
