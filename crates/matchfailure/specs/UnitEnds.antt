@@ -1,9 +1,9 @@
 -- Where the start rule ends on a text.
 use Rattle.std.specs.Prelude.{ℕ, ◌==◌, Bool, false, List, Option, Some, None}
 use Rattle.gramcheck.specs.Outcome.{Event, Outcome, Fails, Takes, RuleGives}
+use Rattle.memo.specs.declared.found.Found.{Found}
+use Rattle.memo.specs.declared.found.Found.TheVariants.{Took, Failed}
 use Rattle.pegread.specs.Pattern.{Rule}
-use Rattle.pegmatch.specs.declared.matcher.Unit.{Unit as UnitAnswer}
-use Rattle.pegmatch.specs.declared.matcher.Unit.TheVariants.{Took, Failed, Need}
 
 -- the outcome of a success that ends there, or of a failure
 abbrev pub outcome_at : Option ℕ → List Event → Outcome
@@ -21,8 +21,7 @@ abbrev pub takes_no_byte : Outcome → Bool
 takes_no_byte Fails = false
 takes_no_byte (Takes end events) = end == 0
 
--- where it ends by a matcher's answer
-abbrev pub end_of_unit : UnitAnswer → Option ℕ
-end_of_unit (Took end begun) = Some end
-end_of_unit (Failed begun) = None
-end_of_unit Need = None
+-- where a success ends
+abbrev pub end_of_found : Found → Option ℕ
+end_of_found (Took end) = Some end
+end_of_found Failed = None

@@ -21,10 +21,3 @@ AreOnce vs = (i j : ℕ) (v : Visit) → slice_get vs i ≡ Some v → slice_get
 -- the nodes are there, and the positions are of the input or its end
 abbrev pub AreWithin : ℕ → ℕ → List Visit → Type 0
 AreWithin nodes length vs = (v : Visit) → ListsVisit vs v → (v.node < nodes) × (v.position ≤ length)
-
--- The evaluations of a set are added to a list, each once, after what it has.
-pub record AddsVisits (Added : ℕ → ℕ → Type 0) (old new : List Visit) : Type 0 where
-  pub kept : (k : ℕ) (v : Visit) → slice_get old k ≡ Some v → slice_get new k ≡ Some v
-  pub only : (v : Visit) → ListsVisit new v → ListsVisit old v ⊎ Added v.node v.position
-  pub all : (n p : ℕ) → Added n p → ListsVisit new (record { node = n; position = p })
-  pub once : AreOnce old → AreOnce new

@@ -1,13 +1,9 @@
 //! Finds where the comparisons of a unit fail outside of the operands of `!`: the farthest such position, and what was
 //! expected there.
 
-mod asked;
-mod evaluated;
 mod failures;
-mod greatest;
 mod laws;
 mod order;
-mod outside;
 mod reported;
 mod stop;
 mod visit;
@@ -18,4 +14,5 @@ pub use laws::{
     stops_fail,
 };
 pub use reported::{LastUnit, reported_unit};
+pub(crate) use stop::stop_of;
 pub use visit::Visit;

@@ -1,12 +1,10 @@
-//! Explains where a unit does not match: the plain packrat machine, the farthest failures, and the lines that report
-//! them.
+//! Explains where a unit does not match: the machine that finds the farthest failures, and the lines that report them.
 #![tactic(auto)]
 
-mod desk;
 mod explain;
 mod farthest;
+mod tasks;
 
-pub use desk::Desk;
 pub use explain::{
     FailureSearch, TextPosition, explain_long_unit, fails_so_in_input, one_no_match,
 };

@@ -1,20 +1,19 @@
 //! The farthest failure of a unit.
-ghost use Rattle.std.specs.Prelude.{false, IfOk};
+ghost use Rattle.std.specs.Prelude.{◌≡◌, ℕ, List, IfOk, length, slice_get, Some};
 ghost use Rattle.std.specs.Option.{MatchOption};
-ghost use Rattle.gramcheck.specs.Grammar.{IsNumbered, IsSoundGrammar};
+ghost use Rattle.gramcheck.specs.Grammar.{Grammar, IsNumbered, IsSoundGrammar};
+ghost use Rattle.memo.specs.declared.task.MatchTask.{MatchTask};
 ghost use Rattle.pegread.specs.PegViews.{rules_of};
 ghost use Rattle.pegnodes.specs.Nodes.{shapes_of};
-ghost use Rattle.matchfailure.specs.Desk.{IsDone};
+ghost use Rattle.matchfailure.specs.FailureStates.{AreFailures, IsCovered};
 ghost use Rattle.matchfailure.specs.Farthest.{IsFarthest, NoneFails};
-ghost use Rattle.matchfailure.specs.UnitEnds.{EndsSo};
+ghost use Rattle.matchfailure.specs.UnitEnds.{EndsSo, end_of_found};
 
-use crate::desk::Desk;
-use crate::farthest::evaluated::evaluate;
-use crate::farthest::greatest::{greatest_stop, stopped_at};
 use crate::farthest::order::put_in_order;
-use crate::farthest::outside::add_outside;
-use crate::farthest::visit::{Visit, VisitList};
+use crate::farthest::visit::Visit;
+use crate::tasks::{FailureMachine, KeptFailures};
 use gramcheck::SoundPeg;
+use memo::Found;
 use ruletable::Memory;
 use std::alloc::Global;
 
@@ -36,38 +35,43 @@ pub struct UnitSearch {
     pub farthest: Option<Farthest>,
 }
 
-// Finds the farthest failure by the cells of a machine that evaluated the unit.
-fn failure_by(
-    alloc: Global,
-    peg: &SoundPeg,
-    window: &[u8],
-    desk: &Desk,
-) -> Result<Option<Farthest>, Memory>
-    requires { IsDone peg.now window.now false desk.now }
-    ensures { IfOk result (λ found. MatchOption found
-        (NoneFails (rules_of peg.now.rules) (shapes_of peg.now.nodes) peg.now.bodies window.now peg.now.start)
-        (λ far. IsFarthest (rules_of peg.now.rules) (shapes_of peg.now.nodes) peg.now.bodies window.now peg.now.start
-        far.position far.expected.items)) }
+// Returns where a success ends.
+fn end_of(found: Found) -> Option<usize>
+    ensures { result ≡ end_of_found found }
 {
-    let mut seen = VisitList::new(alloc);
-    add_outside(peg, desk, &mut seen)?;
-    let visits = seen.as_slice();
-    let Some(position) = greatest_stop(peg, window, visits) else {
-        return Ok(None);
-    };
-    let mut expected = stopped_at(alloc, peg, window, visits, position)?;
-    put_in_order(&mut expected);
-    Ok(Some(Farthest { position, expected }))
+    match found {
+        Found::Took(end) => Some(end),
+        Found::Failed => None,
+    }
+}
+
+// Returns the failing comparisons that were kept of a unit, in order.
+fn farthest_of(kept: KeptFailures) -> Option<Farthest>
+    ensures { (g : Grammar) (window : List ℕ) (root : ℕ) → slice_get g.bodies g.start ≡ Some root →
+        AreFailures g window kept → IsCovered g window kept (MatchTask.Eval root 0) → MatchOption result
+        (NoneFails (rules_of g.rules) (shapes_of g.nodes) g.bodies window g.start)
+        (λ far. IsFarthest (rules_of g.rules) (shapes_of g.nodes) g.bodies window g.start
+        far.position far.expected.items) }
+{
+    match kept.position {
+        None => None,
+        Some(position) => {
+            let mut expected = kept.visits;
+            put_in_order(&mut expected);
+            Some(Farthest { position, expected })
+        }
+    }
 }
 
 /// Evaluates the start rule at the front of the window. Finds where it ends, and the farthest byte at which a
 /// comparison outside of `!` fails, with all leaves that were expected there. The window is taken as the whole rest of
 /// the input, whether the start rule succeeds on it or not.
 ///
-/// It evaluates each node at each position once. The clauses `sound` and `numbered` repeat those of `SoundPeg::start`.
+/// It stores the results of keys alone, and evaluates each at most twice. The clauses `sound` and `numbered` repeat
+/// those of `SoundPeg::start`.
 ///
 /// # Errors
-/// `Memory` if an allocation fails.
+/// `Memory` if an allocation fails, or after 2^64 - 1 steps.
 pub fn farthest_failure(alloc: Global, peg: &SoundPeg, window: &[u8]) -> Result<UnitSearch, Memory>
     ensures farthest { IfOk result (λ search. MatchOption search.farthest
         (NoneFails (rules_of peg.now.rules) (shapes_of peg.now.nodes) peg.now.bodies window.now peg.now.start)
@@ -77,8 +81,11 @@ pub fn farthest_failure(alloc: Global, peg: &SoundPeg, window: &[u8]) -> Result<
     ensures sound { IsSoundGrammar peg.now }
     ensures numbered { IsNumbered peg.now }
 {
-    let mut desk = Desk::new(alloc);
-    let end = evaluate(&mut desk, peg, window)?;
-    let farthest = failure_by(alloc, peg, window, &desk)?;
-    Ok(UnitSearch { end, farthest })
+    let root = peg.body_node(peg.start());
+    let mut machine = FailureMachine::new(alloc);
+    let found = machine.evaluate(peg, window, root)?;
+    Ok(UnitSearch {
+        end: end_of(found),
+        farthest: farthest_of(machine.kept),
+    })
 }

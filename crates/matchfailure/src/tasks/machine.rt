@@ -1,0 +1,263 @@
+//! The machine: it evaluates tasks by a loop over frames in place of recursion, and stores the keys alone.
+ghost use Rattle.std.specs.Prelude.{◌≡◌, ◌↔◌, ℕ, ◌∷◌, [], Bool, List, Option, true, slice_get, Some, IfOk, OnOk, IfSome, IfNone};
+ghost use Rattle.gramcheck.specs.Grammar.{Grammar, IsSoundGrammar};
+ghost use Rattle.memo.specs.Parts.{IsIn};
+ghost use Rattle.memo.specs.declared.key_log.Given.{Given};
+ghost use Rattle.memo.specs.declared.task.MatchTask.{MatchTask};
+ghost use Rattle.matchfailure.specs.FailureStates.{AreFailures, IsCovered, IsOwnTold, IsReady, Stands};
+ghost use Rattle.matchfailure.specs.FailureTasks.{IsOutside, IsWell, NodeFinds, is_key_task};
+ghost use Rattle.matchfailure.specs.KeptFailures.{StaysTold};
+ghost use Rattle.matchfailure.specs.declared.farthest.visit.Visit.{Visit};
+ghost use Rattle.matchfailure.specs.declared.tasks.machine.NextTask.TheVariants.{Ask, Answer};
+
+use crate::farthest::{Visit, stop_of};
+use crate::tasks::frames::{TaskFrame, TaskFrames};
+use crate::tasks::kept::KeptFailures;
+use crate::tasks::steps::{TaskStep, begin_task, go_on};
+use gramcheck::SoundPeg;
+use memo::{Found, Given, KeyLog, MatchTask};
+use ruletable::Memory;
+use std::alloc::Global;
+
+/// The next step: to evaluate a task, outside of `!` or not, or to return a task's result to its frame.
+#[derive(Clone, Copy)]
+pub(crate) enum NextTask {
+    Ask { task: MatchTask, outside: bool },
+    Answer(Found),
+}
+
+/// The machine. It evaluates a key at most twice, once in a `!` and once outside.
+#[derive(Drop)]
+pub(crate) struct FailureMachine {
+    /// The memo table. A result is marked by the number 1 if it was found outside of `!`.
+    log: KeyLog,
+    /// The tasks under way.
+    frames: TaskFrames,
+    /// The farthest failing comparisons outside of `!`.
+    pub(crate) kept: KeptFailures,
+}
+
+// Returns the mark of a result.
+fn mark_of(outside: bool) -> usize
+    ensures { (result ≡ 1) ↔ (outside ≡ true) }
+{
+    if outside { 1 } else { 0 }
+}
+
+// Returns the result of a task, if it is stored, and covers its failing comparisons where it stands outside of `!`.
+fn recall(log: &mut KeyLog, task: MatchTask, outside: bool) -> Result<Option<Found>, Memory>
+    ensures some { IfOk result (λ found. IfSome found (λ f. (given : Given) × (given.found ≡ f)
+        × IsIn (record { task = task; given = given }) log.old.stored × (outside ≡ true → given.events ≡ 1))) }
+    ensures same { log.new ≡ log.old }
+{
+    match log.get(task)? {
+        None => Ok(None),
+        Some(given) => {
+            if outside && given.events != 1 {
+                return Ok(None);
+            }
+            Ok(Some(given.found))
+        }
+    }
+}
+
+// Adds the failing comparison of a task's own node, where the task stands outside of `!`.
+fn note_stop(
+    kept: &mut KeptFailures,
+    peg: &SoundPeg,
+    window: &[u8],
+    task: MatchTask,
+    outside: bool,
+) -> Result<(), Memory>
+    requires { IsWell peg.now window.now task }
+    ensures stays { OnOk result (StaysTold kept.old kept.new) }
+    ensures own { OnOk result (outside ≡ true → IsOwnTold peg.now window.now kept.new task) }
+    ensures failures { OnOk result ((outside ≡ true → IsOutside peg.now window.now task)
+        → AreFailures peg.now window.now kept.old → AreFailures peg.now window.now kept.new) }
+{
+    if !outside {
+        return Ok(());
+    }
+    match task {
+        MatchTask::Eval { node, position } => match stop_of(peg.node(node), window, position) {
+            Some(stop) => {
+                kept.add(Visit { node, position }, stop)?;
+                Ok(())
+            }
+            None => Ok(()),
+        },
+        MatchTask::Tail { .. } => Ok(()),
+    }
+}
+
+fn is_key(peg: &SoundPeg, task: MatchTask) -> bool
+    ensures { result ≡ is_key_task peg.now.keys task }
+{
+    match task {
+        MatchTask::Eval { node, position: _ } => peg.is_key_node(node),
+        MatchTask::Tail {
+            node,
+            index,
+            position: _,
+        } => peg.is_key_tail(node, index),
+    }
+}
+
+impl FailureMachine {
+    /// Returns a machine that holds nothing; it takes no memory.
+    pub(crate) fn new(alloc: Global) -> FailureMachine
+        ensures frames { result.frames ≡ [] }
+        ensures position { result.kept.position ≡ None }
+        ensures visits { result.kept.visits.items ≡ [] }
+    {
+        FailureMachine {
+            log: KeyLog::new(alloc),
+            frames: TaskFrames::new(alloc),
+            kept: KeptFailures::new(alloc),
+        }
+    }
+
+    // Returns the stored result of a task. Else it pushes a frame that stores the result, if the task is a key.
+    fn enter(
+        &mut self,
+        peg: &SoundPeg,
+        task: MatchTask,
+        outside: bool,
+    ) -> Result<Option<Found>, Memory>
+        ensures kept { self.new.kept ≡ self.old.kept }
+        ensures some { (window : List ℕ) → Stands peg.now window self.old.log self.old.frames self.old.kept
+            (Ask task outside) → IfOk result (λ found. IfSome found (λ f. Stands peg.now window self.new.log
+            self.new.frames self.new.kept (Answer f))) }
+        ensures none { (window : List ℕ) → Stands peg.now window self.old.log self.old.frames self.old.kept
+            (Ask task outside) → IfOk result (λ found. IfNone found (Stands peg.now window self.new.log
+            self.new.frames self.new.kept (Ask task outside))) }
+    {
+        if !is_key(peg, task) {
+            return Ok(None);
+        }
+        match recall(&mut self.log, task, outside)? {
+            Some(found) => Ok(Some(found)),
+            None => {
+                self.frames.push(TaskFrame {
+                    task,
+                    outside,
+                    stores: true,
+                })?;
+                Ok(None)
+            }
+        }
+    }
+
+    // Follows the step of a task.
+    fn follow(&mut self, task: MatchTask, outside: bool, step: TaskStep) -> Result<NextTask, Memory>
+        ensures { (g : Grammar) (window : List ℕ) (asked : Option Visit) → IsSoundGrammar g →
+            IsReady g window self.old.log self.old.frames self.old.kept asked task outside step →
+            IfOk result (Stands g window self.new.log self.new.frames self.new.kept) }
+    {
+        match step {
+            TaskStep::Gives(found) => Ok(NextTask::Answer(found)),
+            TaskStep::Turns(task) => Ok(NextTask::Ask { task, outside }),
+            TaskStep::Asks {
+                node,
+                position,
+                denied,
+            } => {
+                self.frames.push(TaskFrame {
+                    task,
+                    outside,
+                    stores: false,
+                })?;
+                let task = MatchTask::Eval { node, position };
+                if denied {
+                    return Ok(NextTask::Ask {
+                        task,
+                        outside: false,
+                    });
+                }
+                Ok(NextTask::Ask { task, outside })
+            }
+        }
+    }
+
+    // Evaluates a task, or begins it and goes to a child.
+    fn ask(
+        &mut self,
+        peg: &SoundPeg,
+        window: &[u8],
+        task: MatchTask,
+        outside: bool,
+    ) -> Result<NextTask, Memory>
+        requires sound { IsSoundGrammar peg.now }
+        requires stands { Stands peg.now window.now self.old.log self.old.frames self.old.kept (Ask task outside) }
+        ensures { IfOk result (Stands peg.now window.now self.new.log self.new.frames self.new.kept) }
+    {
+        match self.enter(peg, task, outside)? {
+            Some(found) => Ok(NextTask::Answer(found)),
+            None => {
+                note_stop(&mut self.kept, peg, window, task, outside)?;
+                self.follow(task, outside, begin_task(peg, window, task))
+            }
+        }
+    }
+
+    // Returns a result to the frame that was the last one.
+    fn resume(&mut self, peg: &SoundPeg, frame: TaskFrame, found: Found) -> Result<NextTask, Memory>
+        requires sound { IsSoundGrammar peg.now }
+        requires stands { (window : List ℕ) × Stands peg.now window self.old.log (frame ∷ self.old.frames)
+            self.old.kept (Answer found) }
+        ensures { (window : List ℕ) → Stands peg.now window self.old.log (frame ∷ self.old.frames) self.old.kept
+            (Answer found) → IfOk result (Stands peg.now window self.new.log self.new.frames self.new.kept) }
+    {
+        if frame.stores {
+            let given = Given {
+                found,
+                events: mark_of(frame.outside),
+            };
+            self.log.put(frame.task, given)?;
+            return Ok(NextTask::Answer(found));
+        }
+        let step = go_on(peg, frame.task, found);
+        self.follow(frame.task, frame.outside, step)
+    }
+
+    /// Evaluates the start rule's body at the front of a window, which is taken as the whole rest of the input. Returns its
+    /// outcome, and keeps its farthest failing comparisons outside of `!`.
+    ///
+    /// # Errors
+    /// `Memory` if an allocation fails, or after 2^64 - 1 steps.
+    pub(crate) fn evaluate(
+        &mut self,
+        peg: &SoundPeg,
+        window: &[u8],
+        root: usize,
+    ) -> Result<Found, Memory>
+        requires sound { IsSoundGrammar peg.now }
+        requires root { slice_get peg.now.bodies peg.now.start ≡ Some root }
+        requires frames { self.old.frames ≡ [] }
+        requires position { self.old.kept.position ≡ None }
+        requires visits { self.old.kept.visits.items ≡ [] }
+        ensures found { IfOk result (NodeFinds peg.now window.now root 0) }
+        ensures covered { IfOk result (λ f. IsCovered peg.now window.now self.new.kept (MatchTask.Eval root 0)) }
+        ensures failures { IfOk result (λ f. AreFailures peg.now window.now self.new.kept) }
+    {
+        self.log.begin_unit(peg.nodes())?;
+        let mut next = NextTask::Ask {
+            task: MatchTask::Eval {
+                node: root,
+                position: 0,
+            },
+            outside: true,
+        };
+        // Each step asks for a task or ends one, so there are far fewer.
+        for _step in 0..u64::MAX {
+            next = match next {
+                NextTask::Ask { task, outside } => self.ask(peg, window, task, outside)?,
+                NextTask::Answer(found) => match self.frames.pop() {
+                    None => return Ok(found),
+                    Some(frame) => self.resume(peg, frame, found)?,
+                },
+            };
+        }
+        Err(Memory)
+    }
+}
