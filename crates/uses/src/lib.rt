@@ -29,7 +29,7 @@ pub use join_caller::grammar_in;
 pub use judge_caller::derives;
 pub use line_caller::{Comments, answer_comments};
 pub use open_caller::{answer_both, run_both};
-pub use packrat_caller::{print_once, same_cells};
+pub use packrat_caller::print_once;
 pub use point_caller::count_points;
 pub use print_caller::{canonical_text, read_again};
 pub use run_caller::{are_all_derived, are_both_taken, is_all_taken};
