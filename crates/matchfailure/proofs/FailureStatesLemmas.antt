@@ -42,10 +42,10 @@ module _ (g : Grammar) (x : List ℕ) where
 
   -- what holds of failures that are told holds while more are told
   module _ (old new : KeptFailures) (stays : StaysTold old new) where
-    covered_stays : {a : MatchTask} → IsCovered g x old a → IsCovered g x new a
+    pub covered_stays : {a : MatchTask} → IsCovered g x old a → IsCovered g x new a
     covered_stays c = λ k r f l s. stays k r f (c k r f l s)
 
-    own_stays : (a : MatchTask) → IsOwnTold g x old a → IsOwnTold g x new a
+    pub own_stays : (a : MatchTask) → IsOwnTold g x old a → IsOwnTold g x new a
     own_stays (Eval n p) own = λ f s. stays n p f (own f s)
     own_stays (Tail n i p) own = tt
 
@@ -71,7 +71,7 @@ module _ (g : Grammar) (x : List ℕ) where
       own = λ is. own_stays a (w.own is);
     }
 
-    stack_stays : {fs : List TaskFrame} {a : MatchTask} {outside : Bool} → IsStack g x old fs a outside
+    pub stack_stays : {fs : List TaskFrame} {a : MatchTask} {outside : Bool} → IsStack g x old fs a outside
         → IsStack g x new fs a outside
     stack_stays (stack_root at p) = stack_root at (passes_stay p)
     stack_stays (stack_on {frame = frame} {b = b} {inner = inner} on below) = stack_on (record {
@@ -80,7 +80,7 @@ module _ (g : Grammar) (x : List ℕ) where
       awaits = awaits_stay frame.stores frame.task frame.outside b inner on.awaits;
     }) (stack_stays below)
 
-    stored_stays : (log : LogView) → IsStored g x old log → IsStored g x new log
+    pub stored_stays : (log : LogView) → IsStored g x old log → IsStored g x new log
     stored_stays log s = record {
       rows = s.rows;
       right = λ t there. let is = s.right t there in (is.0, λ marked. covered_stays (is.1 marked));
@@ -156,7 +156,7 @@ module _ (g : Grammar) (x : List ℕ) where
 
     module _ (asked : Option Visit) (a : MatchTask) (own : IsOwnTold g x kept a)
         (covered : (m q : ℕ) → WasAsked asked m q → TaskAsks g x a m q → IsCovered g x kept (Eval m q)) where
-      turn_covers : (b : MatchTask) → TurnsTo g x asked a b → (k r f : ℕ) → TaskLeads g x a k r → Stops k r f
+      pub turn_covers : (b : MatchTask) → TurnsTo g x asked a b → (k r f : ℕ) → TaskLeads g x a k r → Stops k r f
           → IsTold kept k r f ⊎ TaskLeads g x b k r
       turn_covers b t k r f l s = elim (leads_split a k r f l s own) [
         | inl told ↦ inl told
@@ -167,7 +167,7 @@ module _ (g : Grammar) (x : List ℕ) where
         ]
       ]
 
-      gives_covers : ((m q : ℕ) → TaskAsks g x a m q → WasAsked asked m q) → IsCovered g x kept a
+      pub gives_covers : ((m q : ℕ) → TaskAsks g x a m q → WasAsked asked m q) → IsCovered g x kept a
       gives_covers was k r f l s = elim (leads_split a k r f l s own) [
         | inl told ↦ told
         | inr by ↦ covered by.node by.position (was by.node by.position by.asks) by.asks k r f
@@ -175,7 +175,7 @@ module _ (g : Grammar) (x : List ℕ) where
       ]
 
   -- what a task outside of `!` asks for is outside
-  asks_outside : (a : MatchTask) → IsOutside g x a → (m q : ℕ) → TaskAsks g x a m q
+  pub asks_outside : (a : MatchTask) → IsOutside g x a → (m q : ℕ) → TaskAsks g x a m q
       → Outside (rules_of g.rules) (shapes_of g.nodes) g.bodies x g.start m q
   asks_outside (Eval n p) out m q a = asked_outside (out n p (refl, refl)) a
   asks_outside (Tail n i p) out m q a = out m q a

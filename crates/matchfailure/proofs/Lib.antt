@@ -2,6 +2,7 @@ pub mod AddsVisitsLemmas
 pub mod TaskStepsLemmas
 pub mod FailureStatesLemmas
 pub mod KeptFailuresLemmas
+pub mod ByteRunsLemmas
 pub mod OutsideLemmas
 pub mod StoppedLemmas
 pub mod VisitOrderLemmas

@@ -135,7 +135,7 @@ module _ (g : Grammar) (x : List ℕ) (sound : IsSoundGrammar g) where
       record { events = h.events; looked = max t.looked h.looked; gives = first_fails (as_own s t.gives) h.gives }
 
   -- what a node gives by its expression
-  by_gives : {n p k : ℕ} {e : Pattern} (f : Found) (events : List Event) → Spells Rs Ns n e
+  pub by_gives : {n p k : ℕ} {e : Pattern} (f : Found) (events : List Event) → Spells Rs Ns n e
       → Gives Rs x e p (outcome_of f events) k → Finds n p f
   by_gives {k = k} {e = e} Failed events s d =
       record { looked = k; gives = record { expr = e; spelled = s; gives = d } }

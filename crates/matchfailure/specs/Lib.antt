@@ -6,6 +6,7 @@ pub mod FailureTasks
 pub mod TaskSteps
 pub mod KeptFailures
 pub mod FailureStates
+pub mod ByteRuns
 pub mod InputPositions
 pub mod NodeTexts
 pub mod NoMatchLines

@@ -4,6 +4,7 @@
 mod frames;
 mod kept;
 mod machine;
+mod runs;
 mod steps;
 
 pub(crate) use kept::KeptFailures;

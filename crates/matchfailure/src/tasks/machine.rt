@@ -1,10 +1,11 @@
 //! The machine: it evaluates tasks by a loop over frames in place of recursion, and stores the keys alone.
-ghost use Rattle.std.specs.Prelude.{◌≡◌, ◌↔◌, ℕ, ◌∷◌, [], Bool, List, Option, true, slice_get, Some, IfOk, OnOk, IfSome, IfNone};
+ghost use Rattle.std.specs.Prelude.{◌≡◌, ◌<◌, ◌↔◌, ℕ, ◌∷◌, [], Bool, List, Option, true, slice_get, Some, IfOk, OnOk, IfSome, IfNone};
 ghost use Rattle.gramcheck.specs.Grammar.{Grammar, IsSoundGrammar};
 ghost use Rattle.memo.specs.Parts.{IsIn};
 ghost use Rattle.memo.specs.declared.key_log.Given.{Given};
 ghost use Rattle.memo.specs.declared.task.MatchTask.{MatchTask};
 ghost use Rattle.matchfailure.specs.FailureStates.{AreFailures, IsCovered, IsOwnTold, IsReady, Stands};
+ghost use Rattle.matchfailure.specs.ByteRuns.{IsPassed};
 ghost use Rattle.matchfailure.specs.FailureTasks.{IsOutside, IsWell, NodeFinds, is_key_task};
 ghost use Rattle.matchfailure.specs.KeptFailures.{StaysTold};
 ghost use Rattle.matchfailure.specs.declared.farthest.visit.Visit.{Visit};
@@ -13,6 +14,7 @@ ghost use Rattle.matchfailure.specs.declared.tasks.machine.NextTask.TheVariants.
 use crate::farthest::{Visit, stop_of};
 use crate::tasks::frames::{TaskFrame, TaskFrames};
 use crate::tasks::kept::KeptFailures;
+use crate::tasks::runs::{ByteRun, run_at};
 use crate::tasks::steps::{TaskStep, begin_task, go_on};
 use gramcheck::SoundPeg;
 use memo::{Found, Given, KeyLog, MatchTask};
@@ -117,35 +119,57 @@ impl FailureMachine {
         }
     }
 
-    // Returns the stored result of a task. Else it pushes a frame that stores the result, if the task is a key.
-    fn enter(
+    // Returns the stored result of a task.
+    fn stored(
         &mut self,
         peg: &SoundPeg,
         task: MatchTask,
         outside: bool,
     ) -> Result<Option<Found>, Memory>
-        ensures kept { self.new.kept ≡ self.old.kept }
+        ensures same { (self.new.log ≡ self.old.log) × (self.new.frames ≡ self.old.frames)
+            × (self.new.kept ≡ self.old.kept) }
         ensures some { (window : List ℕ) → Stands peg.now window self.old.log self.old.frames self.old.kept
-            (Ask task outside) → IfOk result (λ found. IfSome found (λ f. Stands peg.now window self.new.log
-            self.new.frames self.new.kept (Answer f))) }
-        ensures none { (window : List ℕ) → Stands peg.now window self.old.log self.old.frames self.old.kept
-            (Ask task outside) → IfOk result (λ found. IfNone found (Stands peg.now window self.new.log
-            self.new.frames self.new.kept (Ask task outside))) }
+            (Ask task outside) → IfOk result (λ found. IfSome found (λ f. Stands peg.now window self.old.log
+            self.old.frames self.old.kept (Answer f))) }
     {
         if !is_key(peg, task) {
             return Ok(None);
         }
-        match recall(&mut self.log, task, outside)? {
-            Some(found) => Ok(Some(found)),
-            None => {
-                self.frames.push(TaskFrame {
-                    task,
-                    outside,
-                    stores: true,
-                })?;
-                Ok(None)
-            }
+        recall(&mut self.log, task, outside)
+    }
+
+    // Pushes a frame that stores the result of a task, if the task is a key.
+    fn enter(&mut self, peg: &SoundPeg, task: MatchTask, outside: bool) -> Result<(), Memory>
+        ensures kept { self.new.kept ≡ self.old.kept }
+        ensures entered { OnOk result ((window : List ℕ) → Stands peg.now window self.old.log self.old.frames
+            self.old.kept (Ask task outside) → Stands peg.now window self.new.log self.new.frames self.new.kept
+            (Ask task outside)) }
+    {
+        if is_key(peg, task) {
+            self.frames.push(TaskFrame {
+                task,
+                outside,
+                stores: true,
+            })?;
         }
+        Ok(())
+    }
+
+    // Stores the result of a run, which is that at each of its positions, if the repetition is a key.
+    fn store_run(&mut self, peg: &SoundPeg, run: ByteRun, outside: bool) -> Result<NextTask, Memory>
+        requires { run.star < self.old.log.rows }
+        ensures { (g : Grammar) (window : List ℕ) (task : MatchTask) → IsPassed g window self.old.log self.old.frames
+            self.old.kept task outside run → IfOk result (Stands g window self.new.log self.new.frames self.new.kept) }
+    {
+        let found = Found::Took(run.end);
+        if peg.is_key_node(run.star) {
+            let given = Given {
+                found,
+                events: mark_of(outside),
+            };
+            self.log.put_run(run.star, run.from, run.end, given)?;
+        }
+        Ok(NextTask::Answer(found))
     }
 
     // Follows the step of a task.
@@ -179,7 +203,36 @@ impl FailureMachine {
         }
     }
 
-    // Evaluates a task, or begins it and goes to a child.
+    // Begins a task that is not stored: passes it, or goes to a child.
+    fn begin(
+        &mut self,
+        peg: &SoundPeg,
+        window: &[u8],
+        task: MatchTask,
+        outside: bool,
+    ) -> Result<NextTask, Memory>
+        requires sound { IsSoundGrammar peg.now }
+        requires stands { Stands peg.now window.now self.old.log self.old.frames self.old.kept (Ask task outside) }
+        ensures { IfOk result (Stands peg.now window.now self.new.log self.new.frames self.new.kept) }
+    {
+        match run_at(peg, window, task) {
+            Some(run) => {
+                let last = MatchTask::Eval {
+                    node: run.operand,
+                    position: run.end,
+                };
+                note_stop(&mut self.kept, peg, window, last, outside)?;
+                self.store_run(peg, run, outside)
+            }
+            None => {
+                self.enter(peg, task, outside)?;
+                note_stop(&mut self.kept, peg, window, task, outside)?;
+                self.follow(task, outside, begin_task(peg, window, task))
+            }
+        }
+    }
+
+    // Returns the stored result of a task, or begins it.
     fn ask(
         &mut self,
         peg: &SoundPeg,
@@ -191,12 +244,9 @@ impl FailureMachine {
         requires stands { Stands peg.now window.now self.old.log self.old.frames self.old.kept (Ask task outside) }
         ensures { IfOk result (Stands peg.now window.now self.new.log self.new.frames self.new.kept) }
     {
-        match self.enter(peg, task, outside)? {
+        match self.stored(peg, task, outside)? {
             Some(found) => Ok(NextTask::Answer(found)),
-            None => {
-                note_stop(&mut self.kept, peg, window, task, outside)?;
-                self.follow(task, outside, begin_task(peg, window, task))
-            }
+            None => self.begin(peg, window, task, outside),
         }
     }
 
