@@ -1,10 +1,10 @@
 -- Repetitions of a set of bytes, which are passed at once.
 -- Serves: FailureMachine::begin.
-use Rattle.std.proofs.Common.{◌≡◌, ◌⊎◌, inl, inr, ℕ, zero, suc, ◌+◌, ◌-◌, ◌<◌, ◌≤◌, Bool, true, false, List, [], ◌∷◌}
-use Rattle.std.proofs.Common.{◌++◌, length, Option, Some, None, refl, sym, ◌∙◌, ap, subst, arith}
+use Rattle.std.proofs.Common.{◌≡◌, ◌⊎◌, inl, inr, ℕ, zero, suc, ◌+◌, ◌-◌, ◌<◌, ◌≤◌, Bool, true, List, [], ◌∷◌}
+use Rattle.std.proofs.Common.{◌++◌, Option, Some, None, refl, sym, ◌∙◌, subst, arith}
 use Rattle.std.specs.Prelude.{slice_get}
 use Rattle.gramcheck.specs.Grammar.{Grammar, IsSoundGrammar}
-use Rattle.gramcheck.specs.Outcome.{Gives, Fails, set_takes, set_fails, set_at_end}
+use Rattle.gramcheck.specs.Outcome.{set_takes, set_fails, set_at_end}
 use Rattle.memo.specs.KeyLog.{LogView, rising, run_of}
 use Rattle.memo.specs.Parts.{IsIn, in_here, in_later}
 use Rattle.memo.specs.declared.found.Found.TheVariants.{Failed, Took}
@@ -19,19 +19,19 @@ use Rattle.pegnodes.specs.Nodes as node
 use Rattle.pegnodes.specs.Nodes.{Shape, Spells, shapes_of}
 use Rattle.pegread.specs.Pattern as expr
 use Rattle.pegread.specs.PegViews.{rules_of}
-use Rattle.matchfailure.specs.ByteRuns.{IsByteRun, IsPassed}
-use Rattle.matchfailure.specs.FailureStates.{AreFailures, IsCovered, IsOwnTold, IsResult, Stands}
+use Rattle.matchfailure.specs.ByteRuns.{IsByteRun, IsRunPassed}
+use Rattle.matchfailure.specs.FailureStates.{AreFailures, IsCovered, IsOwnRecorded, IsResult, Stands}
 use Rattle.matchfailure.specs.FailureTasks.{IsOutside, IsWell, NodeFinds, TaskAsks, TaskFinds}
-use Rattle.matchfailure.specs.Farthest.{LeafStops, Outside, StopsBy}
-use Rattle.matchfailure.specs.KeptFailures.{StaysTold}
-use Rattle.matchfailure.specs.TaskSteps.{TurnsTo}
-use Rattle.matchfailure.specs.declared.farthest.visit.Visit.{Visit}
+use Rattle.matchfailure.specs.Farthest.{LeafStops, StopsBy}
+use Rattle.matchfailure.specs.KeptFailures.{StaysRecorded}
+use Rattle.matchfailure.specs.FailureSteps.{BecomesTask}
 use Rattle.matchfailure.specs.declared.tasks.frames.TaskFrame.{TaskFrame}
 use Rattle.matchfailure.specs.declared.tasks.kept.KeptFailures.{KeptFailures}
 use Rattle.matchfailure.specs.declared.tasks.machine.NextTask.TheVariants.{Ask, Answer}
 use Rattle.matchfailure.specs.declared.tasks.runs.ByteRun.{ByteRun}
-use Rattle.matchfailure.proofs.FailureStatesLemmas.{asks_outside, gives_covers, stack_stays, stored_stays, turn_covers}
-use Rattle.matchfailure.proofs.TaskStepsLemmas.{by_gives, first_asks, star_fails, star_takes}
+use Rattle.matchfailure.proofs.FailureStatesLemmas.{asks_outside, gives_covers, stack_stays, stored_stays}
+use Rattle.matchfailure.proofs.FailureStatesLemmas.{becoming_covers}
+use Rattle.matchfailure.proofs.FailureStepsLemmas.{by_gives, first_asks, star_fails, star_takes}
 
 -- one of a run, or one that was stored before
 record IsOfRun (node from to : ℕ) (given : Given) (t : Stored) : Type 0 where
@@ -82,7 +82,7 @@ module _ (g : Grammar) (x : List ℕ) where
 
     -- from each position on to the next
     goes_further : (r : ℕ) → run.from ≤ r → r < run.end
-        → TurnsTo g x (Some (record { node = run.operand; position = r })) (Eval run.star r) (Eval run.star (r + 1))
+        → BecomesTask g x (Some (record { node = run.operand; position = r })) (Eval run.star r) (Eval run.star (r + 1))
     goes_further r low high = let within = is.within in
         star_takes g x sound run.star r s (omega (arith, within, high)) run.operand (r + 1) is.star_at
         (operand_takes r low high)
@@ -102,9 +102,9 @@ module _ (g : Grammar) (x : List ℕ) where
         subst (λ v. StopsBy x v r f) same l.by
 
     -- the set fails at the end alone
-    operand_told : (kept : KeptFailures) (r : ℕ) → run.from ≤ r → r < run.end
-        → IsOwnTold g x kept (Eval run.operand r)
-    operand_told kept r low high = λ f l.
+    operand_recorded : (kept : KeptFailures) (r : ℕ) → run.from ≤ r → r < run.end
+        → IsOwnRecorded g x kept (Eval run.operand r)
+    operand_recorded kept r low high = λ f l.
         let same : l.shape ≡ node.Set is.members = cc (l.at, is.set_at) in
         let stops = subst (λ v. StopsBy x v r f) same l.by in
         let byte = is.taken r low high in
@@ -114,13 +114,13 @@ module _ (g : Grammar) (x : List ℕ) where
     operand_asks r m q asks = let same : asks.1.shape ≡ node.Set is.members = cc (asks.1.at, is.set_at) in
         subst (λ v. AsksBy (rules_of g.rules) (shapes_of g.nodes) g.bodies x v run.operand r m q) same asks.1.by
 
-    module _ (kept : KeptFailures) (own : IsOwnTold g x kept (Eval run.operand run.end)) where
-      operand_covered : (r : ℕ) → IsOwnTold g x kept (Eval run.operand r) → IsCovered g x kept (Eval run.operand r)
-      operand_covered r told = gives_covers g x kept None (Eval run.operand r) told (λ m q was asks. absurd was)
+    module _ (kept : KeptFailures) (own : IsOwnRecorded g x kept (Eval run.operand run.end)) where
+      operand_covered : (r : ℕ) → IsOwnRecorded g x kept (Eval run.operand r) → IsCovered g x kept (Eval run.operand r)
+      operand_covered r recorded = gives_covers g x kept None (Eval run.operand r) recorded (λ m q was asks. absurd was)
           (λ m q asks. absurd (operand_asks r m q asks))
 
-      no_star_told : (r : ℕ) → IsOwnTold g x kept (Eval run.star r)
-      no_star_told r = λ f l. absurd (no_star_stops r f l)
+      no_star_recorded : (r : ℕ) → IsOwnRecorded g x kept (Eval run.star r)
+      no_star_recorded r = λ f l. absurd (no_star_stops r f l)
 
       as_operand : (r : ℕ) → IsCovered g x kept (Eval run.operand r) → (m q : ℕ)
           → (m ≡ run.operand) × (q ≡ r) → TaskAsks g x (Eval run.star r) m q → IsCovered g x kept (Eval m q)
@@ -130,18 +130,20 @@ module _ (g : Grammar) (x : List ℕ) where
       star_covered zero r low there =
           let same : run.end ≡ r = omega (arith, there) in
           let within = is.within in
-          gives_covers g x kept (Some (record { node = run.operand; position = r })) (Eval run.star r) (no_star_told r)
+          gives_covers g x kept (Some (record { node = run.operand; position = r })) (Eval run.star r)
+          (no_star_recorded r)
           (as_operand r (subst (λ v. IsCovered g x kept (Eval run.operand v)) same (operand_covered run.end own)))
           (star_fails g x sound run.star r s (omega (arith, within, there)) run.operand is.star_at
           (subst (λ v. NodeFinds g x run.operand v Failed) same operand_fails)).1
       star_covered (suc k) r low there =
           let high : r < run.end = omega (arith, there) in
-          let covers = turn_covers g x kept (Some (record { node = run.operand; position = r })) (Eval run.star r)
-          (no_star_told r) (as_operand r (operand_covered r (operand_told kept r low high))) (Eval run.star (r + 1))
+          let covers = becoming_covers g x kept (Some (record { node = run.operand; position = r })) (Eval run.star r)
+          (no_star_recorded r) (as_operand r (operand_covered r (operand_recorded kept r low high))) (Eval run.star (r
+          + 1))
           (goes_further r low high) in
           let rest = star_covered k (r + 1) (omega (arith, low)) (omega (arith, there)) in
           λ m q f l stops. elim (covers m q f l stops) [
-            | inl told ↦ told
+            | inl recorded ↦ recorded
             | inr later ↦ rest m q f later stops
           ]
 
@@ -156,7 +158,8 @@ module _ (g : Grammar) (x : List ℕ) where
         let rest = star_outside out k (run.from + k) refl (omega (arith, before)) in
         let next : run.from + k + 1 ≡ r = omega (arith, there) in
         subst (λ v. IsOutside g x (Eval run.star v)) next
-        (λ m q h. asks_outside g x (Eval run.star (run.from + k)) rest m q ((goes_further (run.from + k) from before).only
+        (λ m q h. asks_outside g x (Eval run.star (run.from + k)) rest m q ((goes_further (run.from + k) from
+        before).only
         m q h))
 
     last_outside : IsOutside g x (Eval run.star run.from) → IsOutside g x (Eval run.operand run.end)
@@ -175,10 +178,11 @@ module _ (g : Grammar) (x : List ℕ) where
 
   module _ (log : LogView) (frames : List TaskFrame) (kept : KeptFailures) (a : MatchTask) (outside : Bool)
       (run : ByteRun) where
-    pub passes_run : (old : KeptFailures) → IsSoundGrammar g → IsByteRun g x a run → Stands g x log frames old (Ask a outside)
-        → StaysTold old kept → (outside ≡ true → IsOwnTold g x kept (Eval run.operand run.end))
+    pub passes_run : (old : KeptFailures) → IsSoundGrammar g → IsByteRun g x a run → Stands g x log frames old (Ask a
+        outside)
+        → StaysRecorded old kept → (outside ≡ true → IsOwnRecorded g x kept (Eval run.operand run.end))
         → ((outside ≡ true → IsOutside g x (Eval run.operand run.end)) → AreFailures g x old → AreFailures g x kept)
-        → IsPassed g x log frames kept a outside run
+        → IsRunPassed g x log frames kept a outside run
     passes_run old sound is s stays own failures =
         let here = subst (IsWell g x) is.task s.next.0 in
         record {
@@ -194,7 +198,7 @@ module _ (g : Grammar) (x : List ℕ) where
           );
         }
 
-    pub run_ends : IsPassed g x log frames kept a outside run → Stands g x log frames kept (Answer (Took run.end))
+    pub run_ends : IsRunPassed g x log frames kept a outside run → Stands g x log frames kept (Answer (Took run.end))
     run_ends passed =
         let low = passed.low in
         record {
@@ -209,7 +213,7 @@ module _ (g : Grammar) (x : List ℕ) where
           );
         }
 
-    pub run_stored : IsPassed g x log frames kept a outside run → (mark : ℕ) → (mark ≡ 1 → outside ≡ true)
+    pub run_stored : IsRunPassed g x log frames kept a outside run → (mark : ℕ) → (mark ≡ 1 → outside ≡ true)
         → (new : LogView)
         → new.stored ≡ run_of run.star run.from run.end (record { found = Took run.end; events = mark }) ++ log.stored
         → new.rows ≡ log.rows → Stands g x new frames kept (Answer (Took run.end))
@@ -220,7 +224,11 @@ module _ (g : Grammar) (x : List ℕ) where
             rows = rows ∙ passed.stored.rows;
             right = λ t there. elim (of_run run.star (record { found = Took run.end; events = mark })
                 (run.end + 1 - run.from) run.from t log.stored (subst (IsIn t) is there)) [
-                  | inl o ↦ own o.position o.low (let high = o.high in let low = passed.low in omega (arith, high, low)) t o.is
+                  | inl o ↦ own o.position o.low (let high = o.high in let low = passed.low in omega (
+                    arith,
+                    high,
+                    low,
+                  )) t o.is
                   | inr before ↦ passed.stored.right t before
                 ];
           };

@@ -1,8 +1,9 @@
 -- What a failure machine holds on its way.
 -- Serves: FailureMachine::evaluate.
 use Rattle.std.proofs.lemmas.List.{length-map}
-use Rattle.std.proofs.Common.{◌≡◌, ◌⊎◌, inl, inr, ◌↔◌, ℕ, ◌<◌, ◌≤◌, length, Bool, true, false, List, [], ◌∷◌, Option, Some, None}
-use Rattle.std.proofs.Common.{refl, sym, ◌∙◌, ap, subst, arith}
+use Rattle.std.proofs.Common.{◌≡◌, ◌⊎◌, inl, inr, ℕ, ◌<◌, length, Bool, true, false, List, [], ◌∷◌, Option}
+use Rattle.std.proofs.Common.{Some, None}
+use Rattle.std.proofs.Common.{refl, ◌∙◌, ap, subst, arith}
 use Rattle.std.specs.Prelude.{slice_get}
 use Rattle.gramcheck.specs.Grammar.{Grammar, IsSoundGrammar}
 use Rattle.memo.specs.KeyLog.{LogView, row_of}
@@ -15,20 +16,20 @@ use Rattle.memo.specs.declared.task.MatchTask.TheVariants.{Eval, Tail}
 use Rattle.pegnodes.proofs.NodeSpellsLemmas.{is_there}
 use Rattle.pegnodes.specs.Nodes.{shape_of, shapes_of}
 use Rattle.pegread.specs.PegViews.{rules_of}
-use Rattle.matchfailure.specs.FailureStates.{AreFailures, Awaits, AwaitsFirst, IsCovered, IsNext, IsOn, IsOwnTold}
+use Rattle.matchfailure.specs.FailureStates.{AreFailures, Awaits, AwaitsFirst, IsCovered, IsOn, IsOwnRecorded}
 use Rattle.matchfailure.specs.FailureStates.{IsReady, IsResult, IsStack, stack_root, stack_on, IsStored, LeadsOn}
 use Rattle.matchfailure.specs.FailureStates.{leads_here, leads_later, PassesOn, side_under, Stands, TaskLeads}
 use Rattle.matchfailure.specs.FailureTasks.{IsFirst, IsOutside, IsWell, NodeFinds, TaskAsks, TaskFinds, TaskHas}
-use Rattle.matchfailure.specs.Farthest.{AsksOutside, LeafStops, Outside, first_outside, asked_outside}
-use Rattle.matchfailure.specs.KeptFailures.{IsTold, StaysTold}
-use Rattle.matchfailure.specs.TaskSteps.{GoesOn, IsBegun, IsStepAfter, TurnsTo, WasAsked}
+use Rattle.matchfailure.specs.Farthest.{LeafStops, Outside, first_outside, asked_outside}
+use Rattle.matchfailure.specs.KeptFailures.{IsRecorded, StaysRecorded}
+use Rattle.matchfailure.specs.FailureSteps.{IsBegun, IsStepAfter, BecomesTask, WasAsked}
 use Rattle.matchfailure.specs.declared.farthest.visit.Visit.{Visit}
 use Rattle.matchfailure.specs.declared.tasks.frames.TaskFrame.{TaskFrame}
 use Rattle.matchfailure.specs.declared.tasks.kept.KeptFailures.{KeptFailures}
 use Rattle.matchfailure.specs.declared.tasks.machine.NextTask.TheVariants.{Ask, Answer}
 use Rattle.matchfailure.specs.declared.tasks.steps.TaskStep.{TaskStep}
 use Rattle.matchfailure.specs.declared.tasks.steps.TaskStep.TheVariants as step
-use Rattle.matchfailure.proofs.TaskStepsLemmas.{denied_asks, first_asks, first_well}
+use Rattle.matchfailure.proofs.FailureStepsLemmas.{denied_asks, first_asks, first_well}
 
 module _ (g : Grammar) (x : List ℕ) where
   abbrev Stops : ℕ → ℕ → ℕ → Type 0
@@ -40,12 +41,12 @@ module _ (g : Grammar) (x : List ℕ) where
   row_within (Tail n i p) well = rw (← length-map g.nodes shape_of)
       (is_there (rules_of g.rules) (shapes_of g.nodes) well.0.1)
 
-  -- what holds of failures that are told holds while more are told
-  module _ (old new : KeptFailures) (stays : StaysTold old new) where
+  -- what holds of failures that are recorded holds while more are recorded
+  module _ (old new : KeptFailures) (stays : StaysRecorded old new) where
     pub covered_stays : {a : MatchTask} → IsCovered g x old a → IsCovered g x new a
     covered_stays c = λ k r f l s. stays k r f (c k r f l s)
 
-    pub own_stays : (a : MatchTask) → IsOwnTold g x old a → IsOwnTold g x new a
+    pub own_stays : (a : MatchTask) → IsOwnRecorded g x old a → IsOwnRecorded g x new a
     own_stays (Eval n p) own = λ f s. stays n p f (own f s)
     own_stays (Tail n i p) own = tt
 
@@ -53,7 +54,7 @@ module _ (g : Grammar) (x : List ℕ) where
     passes_stay p = record {
       finds = p.finds;
       covers = λ is k r f l s. elim (p.covers is k r f l s) [
-        | inl told ↦ inl (stays k r f told)
+        | inl recorded ↦ inl (stays k r f recorded)
         | inr later ↦ inr later
       ];
     }
@@ -95,7 +96,7 @@ module _ (g : Grammar) (x : List ℕ) where
     passes_further p q = record {
       finds = λ f t. p.finds f (q.finds f t);
       covers = λ is k r f l s. elim (p.covers is k r f l s) [
-        | inl told ↦ inl told
+        | inl recorded ↦ inl recorded
         | inr later ↦ q.covers is k r f later s
       ];
     }
@@ -105,17 +106,17 @@ module _ (g : Grammar) (x : List ℕ) where
     passes_result f p result = (
       p.finds f result.0,
       λ is k r h l s. elim (p.covers is k r h l s) [
-        | inl told ↦ told
+        | inl recorded ↦ recorded
         | inr later ↦ result.1 is k r h later s
       ],
     )
 
-    awaits_turn : (stores : Bool) (a : MatchTask) (outside : Bool) (b c : MatchTask) (inner : Bool)
+    awaits_becoming : (stores : Bool) (a : MatchTask) (outside : Bool) (b c : MatchTask) (inner : Bool)
         → Awaits g x kept stores a outside b inner → PassesOn g x kept inner b c
         → Awaits g x kept stores a outside c inner
-    awaits_turn true a outside b c inner w p =
+    awaits_becoming true a outside b c inner w p =
         (passes_further w.0 (subst (λ v. PassesOn g x kept v b c) w.1 p), w.1)
-    awaits_turn false a outside b c inner w p = record {
+    awaits_becoming false a outside b c inner w p = record {
       node = w.node;
       position = w.position;
       denied = w.denied;
@@ -125,13 +126,13 @@ module _ (g : Grammar) (x : List ℕ) where
       own = w.own;
     }
 
-    stack_turns : {fs : List TaskFrame} {b c : MatchTask} {outside : Bool} → IsStack g x kept fs b outside
+    stack_becomes : {fs : List TaskFrame} {b c : MatchTask} {outside : Bool} → IsStack g x kept fs b outside
         → PassesOn g x kept outside b c → IsStack g x kept fs c outside
-    stack_turns (stack_root at p) q = stack_root at (passes_further p q)
-    stack_turns {c = c} (stack_on {frame = frame} {b = b} {inner = inner} on below) q = stack_on (record {
+    stack_becomes (stack_root at p) q = stack_root at (passes_further p q)
+    stack_becomes {c = c} (stack_on {frame = frame} {b = b} {inner = inner} on below) q = stack_on (record {
       well = on.well;
       outside = on.outside;
-      awaits = awaits_turn frame.stores frame.task frame.outside b c inner on.awaits q;
+      awaits = awaits_becoming frame.stores frame.task frame.outside b c inner on.awaits q;
     }) below
 
     -- what an evaluation leads to: itself, or what one leads to that it asks for
@@ -142,24 +143,25 @@ module _ (g : Grammar) (x : List ℕ) where
       pub leads : LeadsOn g x node position k r
 
     from_node : {n p k r : ℕ} → LeadsOn g x n p k r → (f : ℕ) → Stops k r f
-        → ((h : ℕ) → Stops n p h → IsTold kept n p h) → IsTold kept k r f ⊎ LeadsBy (Eval n p) k r
+        → ((h : ℕ) → Stops n p h → IsRecorded kept n p h) → IsRecorded kept k r f ⊎ LeadsBy (Eval n p) k r
     from_node leads_here f s own = inl (own f s)
     from_node (leads_later {m = m} {q = q} a l) f s own =
         inr (record { node = m; position = q; asks = a; leads = l })
 
-    leads_split : (a : MatchTask) (k r f : ℕ) → TaskLeads g x a k r → Stops k r f → IsOwnTold g x kept a
-        → IsTold kept k r f ⊎ LeadsBy a k r
+    leads_split : (a : MatchTask) (k r f : ℕ) → TaskLeads g x a k r → Stops k r f → IsOwnRecorded g x kept a
+        → IsRecorded kept k r f ⊎ LeadsBy a k r
     leads_split (Eval n p) k r f l s own = from_node (subst (λ v. LeadsOn g x n v k r) l.has.1
         (subst (λ v. LeadsOn g x v l.position k r) l.has.0 l.leads)) f s own
     leads_split (Tail n i p) k r f l s own =
         inr (record { node = l.node; position = l.position; asks = l.has; leads = l.leads })
 
-    module _ (asked : Option Visit) (a : MatchTask) (own : IsOwnTold g x kept a)
+    module _ (asked : Option Visit) (a : MatchTask) (own : IsOwnRecorded g x kept a)
         (covered : (m q : ℕ) → WasAsked asked m q → TaskAsks g x a m q → IsCovered g x kept (Eval m q)) where
-      pub turn_covers : (b : MatchTask) → TurnsTo g x asked a b → (k r f : ℕ) → TaskLeads g x a k r → Stops k r f
-          → IsTold kept k r f ⊎ TaskLeads g x b k r
-      turn_covers b t k r f l s = elim (leads_split a k r f l s own) [
-        | inl told ↦ inl told
+      pub becoming_covers : (b : MatchTask) → BecomesTask g x asked a b → (k r f : ℕ) → TaskLeads g x a k r → Stops k r
+          f
+          → IsRecorded kept k r f ⊎ TaskLeads g x b k r
+      becoming_covers b t k r f l s = elim (leads_split a k r f l s own) [
+        | inl recorded ↦ inl recorded
         | inr by ↦ elim (t.whole by.node by.position by.asks) [
           | inl was ↦ inl (covered by.node by.position was by.asks k r f
               (record { node = by.node; position = by.position; has = (refl, refl); leads = by.leads }) s)
@@ -169,7 +171,7 @@ module _ (g : Grammar) (x : List ℕ) where
 
       pub gives_covers : ((m q : ℕ) → TaskAsks g x a m q → WasAsked asked m q) → IsCovered g x kept a
       gives_covers was k r f l s = elim (leads_split a k r f l s own) [
-        | inl told ↦ told
+        | inl recorded ↦ recorded
         | inr by ↦ covered by.node by.position (was by.node by.position by.asks) by.asks k r f
             (record { node = by.node; position = by.position; has = (refl, refl); leads = by.leads }) s
       ]
@@ -194,17 +196,17 @@ module _ (g : Grammar) (x : List ℕ) where
       );
     }
 
-    pub ready_turns : (asked : Option Visit) (a : MatchTask) (outside : Bool) (b : MatchTask)
-        → IsReady g x log frames kept asked a outside (step.Turns b) → Stands g x log frames kept (Ask b outside)
-    ready_turns asked a outside b r = record {
+    pub ready_becomes : (asked : Option Visit) (a : MatchTask) (outside : Bool) (b : MatchTask)
+        → IsReady g x log frames kept asked a outside (step.Becomes b) → Stands g x log frames kept (Ask b outside)
+    ready_becomes asked a outside b r = record {
       stored = r.stored;
       failures = r.failures;
       next = (
         r.step.well,
         λ is m q h. asks_outside a (r.outer is) m q (r.step.only m q h),
-        stack_turns kept r.stack (record {
+        stack_becomes kept r.stack (record {
           finds = r.step.finds;
-          covers = λ is. turn_covers kept asked a (r.own is) (r.covered is) b r.step;
+          covers = λ is. becoming_covers kept asked a (r.own is) (r.covered is) b r.step;
         }),
       );
     }
@@ -276,8 +278,8 @@ module _ (g : Grammar) (x : List ℕ) where
     }
 
     pub ready_begins : (old : KeptFailures) (a : MatchTask) (outside : Bool) (t : TaskStep)
-        → Stands g x log frames old (Ask a outside) → StaysTold old kept
-        → (outside ≡ true → IsOwnTold g x kept a)
+        → Stands g x log frames old (Ask a outside) → StaysRecorded old kept
+        → (outside ≡ true → IsOwnRecorded g x kept a)
         → ((outside ≡ true → IsOutside g x a) → AreFailures g x old → AreFailures g x kept)
         → IsBegun g x a t → IsReady g x log frames kept None a outside t
     ready_begins old a outside t s stays own failures begun = record {
@@ -331,10 +333,11 @@ module _ (g : Grammar) (x : List ℕ) where
         pub finds : NodeFinds g x node position f
         pub ready : (t : TaskStep)
             → IsStepAfter g x (Some (record { node = node; position = position })) frame.task t
-            → IsReady g x log frames kept (Some (record { node = node; position = position })) frame.task frame.outside t
+            → IsReady g x log frames kept (Some (record { node = node; position = position })) frame.task frame.outside
+            t
 
-      pub resumed : IsSoundGrammar g → frame.stores ≡ false → IsResumed
-      resumed sound stores =
+      pub is_resumed : IsSoundGrammar g → frame.stores ≡ false → IsResumed
+      is_resumed sound stores =
           let top = stack_top s.next.2 in
           let w : AwaitsFirst g x kept frame.task frame.outside s.next.0 s.next.1 =
           subst (λ v. Awaits g x kept v frame.task frame.outside s.next.0 s.next.1) stores top.0.awaits in

@@ -1,7 +1,7 @@
 -- The farthest failing comparisons so far, and those of a unit.
 -- Serves: KeptFailures::add, note_stop, farthest_of.
-use Rattle.std.proofs.Common.{◌≡◌, ◌⊎◌, inl, inr, ◌↔◌, ℕ, zero, suc, ◌<◌, ◌≤◌, List, [], ◌∷◌, ◌++◌, length, Some, None}
-use Rattle.std.proofs.Common.{refl, sym, ◌∙◌, ap, subst, arith}
+use Rattle.std.proofs.Common.{◌≡◌, inl, inr, ◌↔◌, ℕ, zero, suc, ◌<◌, List, [], ◌∷◌, ◌++◌, length, Some, None}
+use Rattle.std.proofs.Common.{refl, sym, ◌∙◌, subst, arith}
 use Rattle.std.specs.Prelude.{slice_get}
 use Rattle.gramcheck.specs.Grammar.{Grammar, IsSoundGrammar}
 use Rattle.memo.specs.declared.found.Found.{Found}
@@ -15,7 +15,7 @@ use Rattle.matchfailure.specs.FailureStates.{AreFailures, IsCovered, LeadsOn, le
 use Rattle.matchfailure.specs.FailureTasks.{NodeFinds}
 use Rattle.matchfailure.specs.Farthest.{AsksOutside, FailsAt, IsFarthest, NoneFails, Outside, first_outside}
 use Rattle.matchfailure.specs.Farthest.{asked_outside}
-use Rattle.matchfailure.specs.KeptFailures.{AddsFailure, IsTold, IsToldBy}
+use Rattle.matchfailure.specs.KeptFailures.{AddsFailure, IsRecorded, IsRecordedBy}
 use Rattle.matchfailure.specs.UnitEnds.{EndsSo, end_of_found}
 use Rattle.matchfailure.specs.VisitLists.{Ascends, ListsVisit}
 use Rattle.matchfailure.specs.declared.farthest.visit.Visit.{Visit}
@@ -24,23 +24,23 @@ use Rattle.matchfailure.proofs.AddsVisitsLemmas.{get_kept, get_cases}
 
 module _ (v : Visit) (f : ℕ) (old : KeptFailures) where
   module _ (new : KeptFailures) (is : new.position ≡ Some f) where
-    one : (w : Visit) (k : ℕ) → slice_get (v ∷ []) k ≡ Some w → w ≡ v
-    one w zero h = sym (cc h)
-    one w (suc k) h = absurd (cc h)
+    one_listed : (w : Visit) (k : ℕ) → slice_get (v ∷ []) k ≡ Some w → w ≡ v
+    one_listed w zero h = sym (cc h)
+    one_listed w (suc k) h = absurd (cc h)
 
-    pub adds_alone : ((n p h : ℕ) → IsTold old n p h → h < f) → new.visits.items ≡ v ∷ [] → AddsFailure v f old new
+    pub adds_alone : ((n p h : ℕ) → IsRecorded old n p h → h < f) → new.visits.items ≡ v ∷ [] → AddsFailure v f old new
     adds_alone less items = record {
-      told = rw (is, items) (inr (refl, (0, refl)));
-      stays = λ n p h told. rw (is, items) (inl (less n p h told));
-      only = λ w h. inr (one w h.0 (subst (λ z. slice_get z h.0 ≡ Some w) items h.1), is);
+      recorded = rw (is, items) (inr (refl, (0, refl)));
+      stays = λ n p h recorded. rw (is, items) (inl (less n p h recorded));
+      only = λ w h. inr (one_listed w h.0 (subst (λ z. slice_get z h.0 ≡ Some w) items h.1), is);
       some = inl (rw items (0, refl));
     }
 
     pub adds_another : old.position ≡ Some f → new.visits.items ≡ old.visits.items ++ v ∷ [] → AddsFailure v f old new
     adds_another was items = record {
-      told = rw (is, items) (inr (refl, (length old.visits.items, get_new old.visits.items v)));
-      stays = λ n p h told. rw (is, items)
-          (elim (subst (λ z. IsToldBy z old.visits.items n p h) was told) [
+      recorded = rw (is, items) (inr (refl, (length old.visits.items, get_new old.visits.items v)));
+      stays = λ n p h recorded. rw (is, items)
+          (elim (subst (λ z. IsRecordedBy z old.visits.items n p h) was recorded) [
             | inl less ↦ inl less
             | inr there ↦ inr (
               there.0,
@@ -55,19 +55,19 @@ module _ (v : Visit) (f : ℕ) (old : KeptFailures) where
       some = inl (rw items (length old.visits.items, get_new old.visits.items v));
     }
 
-  pub none_less : old.position ≡ None → (n p h : ℕ) → IsTold old n p h → h < f
-  none_less is n p h told = absurd (subst (λ z. IsToldBy z old.visits.items n p h) is told)
+  pub none_less : old.position ≡ None → (n p h : ℕ) → IsRecorded old n p h → h < f
+  none_less is n p h recorded = absurd (subst (λ z. IsRecordedBy z old.visits.items n p h) is recorded)
 
-  pub far_less : (far : ℕ) → old.position ≡ Some far → far < f → (n p h : ℕ) → IsTold old n p h → h < f
-  far_less far is lt n p h told = elim (subst (λ z. IsToldBy z old.visits.items n p h) is told) [
+  pub far_less : (far : ℕ) → old.position ≡ Some far → far < f → (n p h : ℕ) → IsRecorded old n p h → h < f
+  far_less far is lt n p h recorded = elim (subst (λ z. IsRecordedBy z old.visits.items n p h) is recorded) [
     | inl less ↦ omega (arith, less)
     | inr there ↦ let same = there.0 in omega (arith, same)
   ]
 
   pub adds_none : (far : ℕ) → old.position ≡ Some far → f < far → AddsFailure v f old old
   adds_none far is lt = record {
-    told = rw is (inl lt);
-    stays = λ n p h told. told;
+    recorded = rw is (inl lt);
+    stays = λ n p h recorded. recorded;
     only = λ w h. inl (refl, h);
     some = inr (refl, refl);
   }
@@ -107,36 +107,36 @@ module _ (g : Grammar) (x : List ℕ) where
     outside_leads (asked_outside o a) = leads_further (outside_leads o) a
 
     module _ (kept : KeptFailures) (failures : AreFailures g x kept) (covered : IsCovered g x kept (Eval root 0)) where
-      all_told : (n p f : ℕ) → FailsAt (rules_of g.rules) (shapes_of g.nodes) g.bodies x g.start n p f
-          → IsTold kept n p f
-      all_told n p f h = covered n p f
+      all_recorded : (n p f : ℕ) → FailsAt (rules_of g.rules) (shapes_of g.nodes) g.bodies x g.start n p f
+          → IsRecorded kept n p f
+      all_recorded n p f h = covered n p f
           (record { node = root; position = 0; has = (refl, refl); leads = outside_leads h.0 }) h.1
 
       pub none_fails : kept.position ≡ None → NoneFails (rules_of g.rules) (shapes_of g.nodes) g.bodies x g.start
-      none_fails is n p f h = absurd (subst (λ z. IsToldBy z kept.visits.items n p f) is (all_told n p f h))
+      none_fails is n p f h = absurd (subst (λ z. IsRecordedBy z kept.visits.items n p f) is (all_recorded n p f h))
 
       pub is_farthest : (f : ℕ) (expected : List Visit) → kept.position ≡ Some f → Ascends expected
           → ((v : Visit) → ListsVisit expected v ↔ ListsVisit kept.visits.items v)
           → IsFarthest (rules_of g.rules) (shapes_of g.nodes) g.bodies x g.start f expected
       is_farthest f expected is ordered same = record {
         some = let v = failures.some f is in (v.0.node, v.0.position, fails_there v.0 v.1);
-        none_further = λ n p h fails. elim (told n p h fails) [
+        none_further = λ n p h fails. elim (recorded n p h fails) [
           | inl less ↦ omega (arith, less)
           | inr there ↦ let alike = there.0 in omega (arith, alike)
         ];
         ordered = ordered;
         exact = λ v. (
           λ h. fails_there v ((same v).0 h),
-          λ fails. (same v).1 (elim (told v.node v.position f fails) [
+          λ fails. (same v).1 (elim (recorded v.node v.position f fails) [
             | inl less ↦ absurd (omega (arith, less))
             | inr there ↦ there.1
           ]),
         );
       }
         where
-          told : (n p h : ℕ) → FailsAt (rules_of g.rules) (shapes_of g.nodes) g.bodies x g.start n p h
-              → IsToldBy (Some f) kept.visits.items n p h
-          told n p h fails = subst (λ z. IsToldBy z kept.visits.items n p h) is (all_told n p h fails)
+          recorded : (n p h : ℕ) → FailsAt (rules_of g.rules) (shapes_of g.nodes) g.bodies x g.start n p h
+              → IsRecordedBy (Some f) kept.visits.items n p h
+          recorded n p h fails = subst (λ z. IsRecordedBy z kept.visits.items n p h) is (all_recorded n p h fails)
 
           fails_there : (v : Visit) → ListsVisit kept.visits.items v
               → FailsAt (rules_of g.rules) (shapes_of g.nodes) g.bodies x g.start v.node v.position f

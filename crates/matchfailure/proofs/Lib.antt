@@ -1,5 +1,5 @@
 pub mod AddsVisitsLemmas
-pub mod TaskStepsLemmas
+pub mod FailureStepsLemmas
 pub mod FailureStatesLemmas
 pub mod KeptFailuresLemmas
 pub mod ByteRunsLemmas

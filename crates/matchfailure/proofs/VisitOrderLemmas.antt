@@ -1,6 +1,6 @@
 -- Evaluations that are sorted, each once.
 -- Serves: farthest_failure
-use Rattle.std.proofs.Common.{◌≡◌, ◌⊎◌, inl, inr, ℕ, zero, suc, ◌<◌, Bool, true, false, cond, ◌&&◌, ◌==◌}
+use Rattle.std.proofs.Common.{◌≡◌, inl, inr, ℕ, zero, suc, Bool, true, false, cond, ◌&&◌, ◌==◌}
 use Rattle.std.proofs.Common.{nat_lt, List, [], ◌∷◌, Some, refl, sym, ◌∙◌, ap, subst, arith}
 use Rattle.std.proofs.Common.{Contains, IsPermutation}
 use Rattle.std.specs.Prelude.{slice_get}
@@ -8,7 +8,7 @@ use Rattle.std.specs.Cmp.{IsEquivalence, IsTotalOrder}
 use Rattle.std.specs.List.{AllByRecursion, dedup}
 use Rattle.std.specs.List.Sorted.{IsSorted, IsStrictlySortedBy}
 use Rattle.std.specs.Ordering.{eq_by_cmp, is_eq, ordering_then, nat_cmp}
-use Rattle.std.proofs.lemmas.Bool.{eqb-true, eq-eqb, and_parts, ltb-true}
+use Rattle.std.proofs.lemmas.Bool.{eqb-true, and_parts, ltb-true}
 use Rattle.std.proofs.lemmas.Cmp.{eq_by_cmp_equiv, nat_cmp_total, on_total, then_total}
 use Rattle.std.proofs.lemmas.List.Kept.{Contains-dedup, Contains-from_dedup, IsStrictlySortedBy-dedup}
 use Rattle.std.proofs.lemmas.List.Sorted.{Contains-permutation, IsPermutation-sym}
@@ -48,7 +48,8 @@ less_stands : (v w : Visit) → visit_cmp v w ≡ Less → StandsBefore v w
 less_stands v w h = by (nat_lt v.node w.node) (v.node == w.node) (nat_lt v.position w.position) refl refl refl h
   where
     by : (a b c : Bool) → nat_lt v.node w.node ≡ a → (v.node == w.node) ≡ b → nat_lt v.position w.position ≡ c
-        → ordering_then (cond a Less (cond b Equal Greater)) (cond c Less (cond (v.position == w.position) Equal Greater))
+        → ordering_then (cond a Less (cond b Equal Greater)) (cond c Less (cond (v.position == w.position) Equal
+        Greater))
         ≡ Less → StandsBefore v w
     by true b c p q r h = inl (ltb-true v.node w.node p)
     by false true true p q r h = inr (eqb-true v.node w.node q, ltb-true v.position w.position r)
@@ -62,8 +63,8 @@ less_stands v w h = by (nat_lt v.node w.node) (v.node == w.node) (nat_lt v.posit
 visit_total : IsTotalOrder visit_cmp
 visit_total = then_total (on_total (λ v. v.node) nat_cmp_total) (on_total (λ v. v.position) nat_cmp_total)
 
-ties : (v w : Visit) → same_eval v w ≡ eq_by_cmp visit_cmp v w
-ties v w = by (nat_lt v.node w.node) (v.node == w.node) (nat_lt v.position w.position) (v.position == w.position)
+visit_ties : (v w : Visit) → same_eval v w ≡ eq_by_cmp visit_cmp v w
+visit_ties v w = by (nat_lt v.node w.node) (v.node == w.node) (nat_lt v.position w.position) (v.position == w.position)
     refl refl refl refl
   where
     by : (a b c d : Bool) → nat_lt v.node w.node ≡ a → (v.node == w.node) ≡ b → nat_lt v.position w.position ≡ c
@@ -80,7 +81,7 @@ ties v w = by (nat_lt v.node w.node) (v.node == w.node) (nat_lt v.position w.pos
     by false false c d p q r s = refl
 
 same_total : IsEquivalence same_eval
-same_total = subst IsEquivalence (λ i v w. sym (ties v w) i) (eq_by_cmp_equiv visit_total)
+same_total = subst IsEquivalence (λ i v w. sym (visit_ties v w) i) (eq_by_cmp_equiv visit_total)
 
 same_is : (v w : Visit) → same_eval v w ≡ true → v ≡ w
 same_is v w h =
@@ -97,7 +98,7 @@ strict_at (u ∷ vs) d zero (suc j) v w lt h g =
 strict_at (u ∷ vs) d (suc i) (suc j) v w lt h g = strict_at vs d.1 i j v w (omega arith) h g
 
 pub sorted_ascends : (vs : List Visit) → IsSorted visit_cmp vs → Ascends (dedup same_eval vs)
-sorted_ascends vs sorted = strict_at (dedup same_eval vs) (IsStrictlySortedBy-dedup visit_total ties vs sorted)
+sorted_ascends vs sorted = strict_at (dedup same_eval vs) (IsStrictlySortedBy-dedup visit_total visit_ties vs sorted)
 
 module _ (olds vs : List Visit) where
   pub sorted_lists : IsPermutation olds vs → (v : Visit) → ListsVisit olds v → ListsVisit (dedup same_eval vs) v

@@ -23,7 +23,7 @@ pub record IsByteRun (g : Grammar) (x : List ℕ) (a : MatchTask) (run : ByteRun
   pub stops : (b : ℕ) → slice_get x run.end ≡ Some b → members b ≡ false
 
 -- The state where a task is passed that is such a repetition: at each of its positions it ends there.
-pub record IsPassed (g : Grammar) (x : List ℕ) (log : LogView) (frames : List TaskFrame) (kept : KeptFailures)
+pub record IsRunPassed (g : Grammar) (x : List ℕ) (log : LogView) (frames : List TaskFrame) (kept : KeptFailures)
     (a : MatchTask) (outside : Bool) (run : ByteRun) : Type 0 where
   pub stored : IsStored g x kept log
   pub failures : AreFailures g x kept

@@ -11,8 +11,8 @@ use Rattle.pegnodes.specs.Nodes.{shapes_of}
 use Rattle.pegread.specs.PegViews.{rules_of}
 use Rattle.matchfailure.specs.FailureTasks.{IsFirst, IsOutside, IsWell, TaskAsks, TaskFinds, TaskHas}
 use Rattle.matchfailure.specs.Farthest.{AsksOutside, FailsAt, LeafStops}
-use Rattle.matchfailure.specs.KeptFailures.{IsTold}
-use Rattle.matchfailure.specs.TaskSteps.{IsStepAfter, WasAsked}
+use Rattle.matchfailure.specs.KeptFailures.{IsRecorded}
+use Rattle.matchfailure.specs.FailureSteps.{IsStepAfter, WasAsked}
 use Rattle.matchfailure.specs.VisitLists.{ListsVisit}
 use Rattle.matchfailure.specs.declared.farthest.visit.Visit.{Visit}
 use Rattle.matchfailure.specs.declared.tasks.frames.TaskFrame.{TaskFrame}
@@ -42,21 +42,21 @@ module _ (g : Grammar) (x : List ℕ) where
     pub has : TaskHas g x a node position
     pub leads : LeadsOn node position k r
 
-  -- the failing comparisons are told to which the task leads
+  -- the failing comparisons are recorded to which the task leads
   abbrev pub IsCovered : KeptFailures → MatchTask → Type 0
-  IsCovered kept a = (k r f : ℕ) → TaskLeads a k r → LeafStops (shapes_of g.nodes) x k r f → IsTold kept k r f
+  IsCovered kept a = (k r f : ℕ) → TaskLeads a k r → LeafStops (shapes_of g.nodes) x k r f → IsRecorded kept k r f
 
-  -- the failing comparison of a task's own node is told
-  abbrev pub IsOwnTold : KeptFailures → MatchTask → Type 0
-  IsOwnTold kept (Eval n p) = (f : ℕ) → LeafStops (shapes_of g.nodes) x n p f → IsTold kept n p f
-  IsOwnTold kept (Tail n i p) = Unit {0}
+  -- the failing comparison of a task's own node is recorded
+  abbrev pub IsOwnRecorded : KeptFailures → MatchTask → Type 0
+  IsOwnRecorded kept (Eval n p) = (f : ℕ) → LeafStops (shapes_of g.nodes) x n p f → IsRecorded kept n p f
+  IsOwnRecorded kept (Tail n i p) = Unit {0}
 
   module _ (kept : KeptFailures) where
-    -- task a gives what task b gives and, outside of `!`, leads to no more that is not told
+    -- task a gives what task b gives and, outside of `!`, leads to no more that is not recorded
     pub record PassesOn (outside : Bool) (a b : MatchTask) : Type 0 where
       pub finds : (f : Found) → TaskFinds g x b f → TaskFinds g x a f
       pub covers : outside ≡ true → (k r f : ℕ) → TaskLeads a k r → LeafStops (shapes_of g.nodes) x k r f
-          → IsTold kept k r f ⊎ TaskLeads b k r
+          → IsRecorded kept k r f ⊎ TaskLeads b k r
 
     -- the child that a task awaits first, for which task b is evaluated
     pub record AwaitsFirst (a : MatchTask) (outside : Bool) (b : MatchTask) (inner : Bool) : Type 0 where
@@ -66,7 +66,7 @@ module _ (g : Grammar) (x : List ℕ) where
       pub first : IsFirst g a node position denied
       pub passes : PassesOn inner (Eval node position) b
       pub side : inner ≡ side_under denied outside
-      pub own : outside ≡ true → IsOwnTold kept a
+      pub own : outside ≡ true → IsOwnRecorded kept a
 
     -- a task awaits the result of task b
     abbrev pub Awaits : (stores : Bool) → MatchTask → Bool → MatchTask → Bool → Type 0
@@ -122,6 +122,6 @@ module _ (g : Grammar) (x : List ℕ) where
     pub well : IsWell g x a
     pub outer : outside ≡ true → IsOutside g x a
     pub stack : IsStack kept frames a outside
-    pub own : outside ≡ true → IsOwnTold kept a
+    pub own : outside ≡ true → IsOwnRecorded kept a
     pub step : IsStepAfter g x asked a now
     pub covered : outside ≡ true → (m q : ℕ) → WasAsked asked m q → TaskAsks g x a m q → IsCovered kept (Eval m q)

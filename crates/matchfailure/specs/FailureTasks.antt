@@ -94,14 +94,14 @@ HasOperand (Not m) k denied = (k ≡ m) × (denied ≡ true)
 HasOperand _ k denied = ⊥
 
 -- member i of a node of this shape
-abbrev pub HasMember : Shape → ℕ → ℕ → Type 0
-HasMember (Seq ms) i k = slice_get ms i ≡ Some k
-HasMember (Choice ms) i k = slice_get ms i ≡ Some k
-HasMember _ i k = ⊥
+abbrev pub HasMemberAt : Shape → ℕ → ℕ → Type 0
+HasMemberAt (Seq ms) i k = slice_get ms i ≡ Some k
+HasMemberAt (Choice ms) i k = slice_get ms i ≡ Some k
+HasMemberAt _ i k = ⊥
 
 -- a task asks for node k at q first
 abbrev pub IsFirst : Grammar → MatchTask → ℕ → ℕ → Bool → Type 0
 IsFirst g (Eval n p) k q denied = (q ≡ p)
     × ((shape : Shape) × (slice_get (shapes_of g.nodes) n ≡ Some shape) × HasOperand shape k denied)
 IsFirst g (Tail n i p) k q denied = (q ≡ p) × (denied ≡ false)
-    × ((shape : Shape) × (slice_get (shapes_of g.nodes) n ≡ Some shape) × HasMember shape i k)
+    × ((shape : Shape) × (slice_get (shapes_of g.nodes) n ≡ Some shape) × HasMemberAt shape i k)

@@ -1,5 +1,5 @@
 -- The stored keys imply one list of cells.
--- Serves: one_view, same_cells
+-- Serves: one_view
 use Rattle.std.proofs.Common.{◌≡◌, inl, inr, ℕ, Bool, List}
 use Rattle.std.proofs.Common.{refl, sym, subst}
 use Rattle.pegread.specs.Pattern.{Rule}

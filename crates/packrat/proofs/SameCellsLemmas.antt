@@ -1,25 +1,16 @@
--- Lists of cells that are exactly those of the visited evaluations hold the same.
--- Serves: implied_cells, same_cells, steps_hold
+-- Lists of cells that are exactly those of the visited evaluations are equally long.
+-- Serves: implied_cells, steps_hold
 use Rattle.std.proofs.Common.{◌≡◌, ℕ, ◌+◌, ◌≤◌, Bool, true, false, if◌then◌else◌}
-use Rattle.std.proofs.Common.{List, [], ◌∷◌, length, Option, Some, None, refl, sym, ◌∙◌, ap, subst, arith}
+use Rattle.std.proofs.Common.{List, [], ◌∷◌, length, Some, refl, sym, subst, arith}
 use Rattle.pegread.specs.Pattern.{Rule}
 use Rattle.pegnodes.specs.Nodes.{Shape}
 use Rattle.gramcheck.specs.Sound.{IsRanked}
 use Rattle.memo.specs.Entries.{Entry, found_at, AreDifferent}
-use Rattle.memo.specs.declared.found.Found.{Found}
 use Rattle.memo.proofs.FoundAtLemmas.{is_of, is_own}
 use Rattle.pegmatch.specs.CellOutcomes.{HasCell}
 use Rattle.pegmatch.specs.Visits.{Visits}
 use Rattle.pegmatch.proofs.CodeLemmas.{In, now, on, at_most, code, cell_codes, length_cell_codes, cell_of, cells_differ}
 use Rattle.pegmatch.specs.VisitedCells.{AreVisitedCells}
-use Rattle.packrat.proofs.OneViewLemmas.{one_found}
-
--- what one has the other has too, and back
-same_option : {A : Type 0} (a b : Option A) → ((v : A) → a ≡ Some v → b ≡ Some v) → ((v : A) → b ≡ Some v → a ≡ Some v)
-    → a ≡ b
-same_option None None there back = refl
-same_option None (Some v) there back = back v refl
-same_option (Some v) b there back = sym (there v refl)
 
 -- an evaluation that has a cell is among the cells
 code_among : (w : ℕ) (cells : List Entry) (n p : ℕ) → HasCell cells n p → In (code w n p) (cell_codes w cells)
@@ -47,20 +38,6 @@ no_more cs ds k different low there =
 
 module _ (rules : List Rule) (start : ℕ) (nodes : List Shape) (bodies ranks x : List ℕ) (more : Bool)
     (sound : IsRanked rules start nodes bodies ranks) where
-  found_there : (cs ds : List Entry) → AreVisitedCells rules start nodes bodies x more cs
-      → AreVisitedCells rules start nodes bodies x more ds → (n p : ℕ) (f : Found) → found_at cs n p ≡ Some f
-      → found_at ds n p ≡ Some f
-  found_there cs ds a b n p f h =
-      let has = b.whole n p (a.visited n p f h) in
-      let one = one_found rules start nodes bodies ranks x more sound n p has.0 f (b.found n p has.0 has.1)
-      (a.found n p f h) in
-      has.1 ∙ ap Some one
-
-  pub same_found : (cs ds : List Entry) → AreVisitedCells rules start nodes bodies x more cs
-      → AreVisitedCells rules start nodes bodies x more ds → (n p : ℕ) → found_at cs n p ≡ found_at ds n p
-  same_found cs ds a b n p = same_option (found_at cs n p) (found_at ds n p) (found_there cs ds a b n p)
-      (found_there ds cs b a n p)
-
   cells_no_more : (k : ℕ) (cs ds : List Entry) → ((n p : ℕ) → Visits rules nodes bodies x start n p → p ≤ k)
       → AreVisitedCells rules start nodes bodies x more cs → AreVisitedCells rules start nodes bodies x more ds
       → length cs ≤ length ds

@@ -1,13 +1,14 @@
 //! The machine: it evaluates tasks by a loop over frames in place of recursion, and stores the keys alone.
-ghost use Rattle.std.specs.Prelude.{◌≡◌, ◌<◌, ◌↔◌, ℕ, ◌∷◌, [], Bool, List, Option, true, slice_get, Some, IfOk, OnOk, IfSome, IfNone};
+ghost use Rattle.std.specs.Prelude.{◌≡◌, ◌<◌, ◌↔◌, ℕ, ◌∷◌, [], Bool, List, Option, true, slice_get, Some, IfOk, OnOk};
+ghost use Rattle.std.specs.Prelude.{IfSome, IfNone};
 ghost use Rattle.gramcheck.specs.Grammar.{Grammar, IsSoundGrammar};
 ghost use Rattle.memo.specs.Parts.{IsIn};
 ghost use Rattle.memo.specs.declared.key_log.Given.{Given};
 ghost use Rattle.memo.specs.declared.task.MatchTask.{MatchTask};
-ghost use Rattle.matchfailure.specs.FailureStates.{AreFailures, IsCovered, IsOwnTold, IsReady, Stands};
-ghost use Rattle.matchfailure.specs.ByteRuns.{IsPassed};
+ghost use Rattle.matchfailure.specs.FailureStates.{AreFailures, IsCovered, IsOwnRecorded, IsReady, Stands};
+ghost use Rattle.matchfailure.specs.ByteRuns.{IsRunPassed};
 ghost use Rattle.matchfailure.specs.FailureTasks.{IsOutside, IsWell, NodeFinds, is_key_task};
-ghost use Rattle.matchfailure.specs.KeptFailures.{StaysTold};
+ghost use Rattle.matchfailure.specs.KeptFailures.{StaysRecorded};
 ghost use Rattle.matchfailure.specs.declared.farthest.visit.Visit.{Visit};
 ghost use Rattle.matchfailure.specs.declared.tasks.machine.NextTask.TheVariants.{Ask, Answer};
 
@@ -72,8 +73,8 @@ fn note_stop(
     outside: bool,
 ) -> Result<(), Memory>
     requires { IsWell peg.now window.now task }
-    ensures stays { OnOk result (StaysTold kept.old kept.new) }
-    ensures own { OnOk result (outside ≡ true → IsOwnTold peg.now window.now kept.new task) }
+    ensures stays { OnOk result (StaysRecorded kept.old kept.new) }
+    ensures own { OnOk result (outside ≡ true → IsOwnRecorded peg.now window.now kept.new task) }
     ensures failures { OnOk result ((outside ≡ true → IsOutside peg.now window.now task)
         → AreFailures peg.now window.now kept.old → AreFailures peg.now window.now kept.new) }
 {
@@ -158,7 +159,7 @@ impl FailureMachine {
     // Stores the result of a run, which is that at each of its positions, if the repetition is a key.
     fn store_run(&mut self, peg: &SoundPeg, run: ByteRun, outside: bool) -> Result<NextTask, Memory>
         requires { run.star < self.old.log.rows }
-        ensures { (g : Grammar) (window : List ℕ) (task : MatchTask) → IsPassed g window self.old.log self.old.frames
+        ensures { (g : Grammar) (window : List ℕ) (task : MatchTask) → IsRunPassed g window self.old.log self.old.frames
             self.old.kept task outside run → IfOk result (Stands g window self.new.log self.new.frames self.new.kept) }
     {
         let found = Found::Took(run.end);
@@ -180,7 +181,7 @@ impl FailureMachine {
     {
         match step {
             TaskStep::Gives(found) => Ok(NextTask::Answer(found)),
-            TaskStep::Turns(task) => Ok(NextTask::Ask { task, outside }),
+            TaskStep::Becomes(task) => Ok(NextTask::Ask { task, outside }),
             TaskStep::Asks {
                 node,
                 position,
@@ -270,8 +271,8 @@ impl FailureMachine {
         self.follow(frame.task, frame.outside, step)
     }
 
-    /// Evaluates the start rule's body at the front of a window, which is taken as the whole rest of the input. Returns its
-    /// outcome, and keeps its farthest failing comparisons outside of `!`.
+    /// Evaluates the start rule's body at the front of a window, which is taken as the whole rest of the input. Returns
+    /// its outcome, and keeps its farthest failing comparisons outside of `!`.
     ///
     /// # Errors
     /// `Memory` if an allocation fails, or after 2^64 - 1 steps.

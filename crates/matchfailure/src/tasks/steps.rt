@@ -3,7 +3,7 @@ ghost use Rattle.std.specs.Prelude.{◌≡◌, ℕ, Bool, false, List};
 ghost use Rattle.gramcheck.specs.Grammar.{IsSoundGrammar};
 ghost use Rattle.memo.specs.declared.task.MatchTask.{MatchTask};
 ghost use Rattle.matchfailure.specs.FailureTasks.{IsFirst, IsWell};
-ghost use Rattle.matchfailure.specs.TaskSteps.{IsBegun, GoesOn};
+ghost use Rattle.matchfailure.specs.FailureSteps.{IsBegun, GoesOn};
 
 use gramcheck::SoundPeg;
 use memo::{Found, MatchTask};
@@ -18,7 +18,7 @@ use pegnodes::Node;
 #[derive(Clone, Copy)]
 pub(crate) enum TaskStep {
     Gives(Found),
-    Turns(MatchTask),
+    Becomes(MatchTask),
     Asks {
         node: usize,
         position: usize,
@@ -37,9 +37,9 @@ fn asks(node: usize, position: usize) -> TaskStep
 }
 
 fn tail(node: usize, position: usize) -> TaskStep
-    ensures { result ≡ TaskStep.Turns (MatchTask.Tail node 0 position) }
+    ensures { result ≡ TaskStep.Becomes (MatchTask.Tail node 0 position) }
 {
-    TaskStep::Turns(MatchTask::Tail {
+    TaskStep::Becomes(MatchTask::Tail {
         node,
         index: 0,
         position,
@@ -56,7 +56,7 @@ fn begin_node(peg: &SoundPeg, window: &[u8], node: usize, position: usize) -> Ta
         Node::Any => TaskStep::Gives(match_any(window, position).found),
         Node::Bytes(bytes) => TaskStep::Gives(match_bytes(bytes, window, position).found),
         Node::Set(set) => TaskStep::Gives(match_set(set, window, position).found),
-        Node::Name(id) => TaskStep::Turns(MatchTask::Eval {
+        Node::Name(id) => TaskStep::Becomes(MatchTask::Eval {
             node: peg.body_node(*id),
             position,
         }),
@@ -129,14 +129,14 @@ fn go_on_node(peg: &SoundPeg, node: usize, position: usize, found: Found) -> Tas
     match peg.node(node) {
         Node::Star(_) => match found {
             Found::Failed => TaskStep::Gives(Found::Took(position)),
-            Found::Took(end) => TaskStep::Turns(MatchTask::Eval {
+            Found::Took(end) => TaskStep::Becomes(MatchTask::Eval {
                 node,
                 position: end,
             }),
         },
         Node::Plus { operand: _, star } => match found {
             Found::Failed => TaskStep::Gives(Found::Failed),
-            Found::Took(end) => TaskStep::Turns(MatchTask::Eval {
+            Found::Took(end) => TaskStep::Becomes(MatchTask::Eval {
                 node: *star,
                 position: end,
             }),
@@ -169,14 +169,14 @@ fn go_on_tail(peg: &SoundPeg, node: usize, index: usize, position: usize, found:
     match peg.node(node) {
         Node::Seq(_) => match found {
             Found::Failed => TaskStep::Gives(Found::Failed),
-            Found::Took(end) => TaskStep::Turns(MatchTask::Tail {
+            Found::Took(end) => TaskStep::Becomes(MatchTask::Tail {
                 node,
                 index: index + 1,
                 position: end,
             }),
         },
         Node::Choice(_) => match found {
-            Found::Failed => TaskStep::Turns(MatchTask::Tail {
+            Found::Failed => TaskStep::Becomes(MatchTask::Tail {
                 node,
                 index: index + 1,
                 position,

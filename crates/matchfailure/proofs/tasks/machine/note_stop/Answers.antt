@@ -1,8 +1,7 @@
 use Rattle.std.proofs.Common.{refl, sym, subst}
-use Rattle.std.proofs.lemmas.Bool.{both_ways}
-use Rattle.matchfailure.specs.FailureStates.{IsOwnTold}
+use Rattle.matchfailure.specs.FailureStates.{IsOwnRecorded}
 use Rattle.matchfailure.specs.FailureTasks.{IsOutside}
-use Rattle.matchfailure.specs.KeptFailures.{IsTold}
+use Rattle.matchfailure.specs.KeptFailures.{IsRecorded}
 use Rattle.matchfailure.proofs.KeptFailuresLemmas.{failures_grow}
 use Rattle.matchfailure.proofs.StoppedLemmas.{found_stops, none_stops, stops_once}
 use Rattle.matchfailure.proofs.tasks.machine.note_stop.Goals as goal
@@ -16,11 +15,11 @@ returns-in_ok-add-in-Some-clause-failures c = λ out failures.
 
 pub returns-in_ok-add-in-Some-clause-own : goal.returns-in_ok-add-in-Some-clause-own
 returns-in_ok-add-in-Some-clause-own c = λ out.
-    subst (IsOwnTold c.args.peg.now c.args.window.now c.add.new.self) (sym c.in-Eval.is)
-    (λ f s. subst (IsTold c.add.new.self c.in-Eval.node c.in-Eval.position)
-    (stops_once (found_stops _ _ _ _ _ c.node.ensures c.in-Some.ensures.some) s) c.in_ok-add-in-Some.ensures.told)
+    subst (IsOwnRecorded c.args.peg.now c.args.window.now c.add.new.self) (sym c.in-Eval.is)
+    (λ f s. subst (IsRecorded c.add.new.self c.in-Eval.node c.in-Eval.position)
+    (stops_once (found_stops _ _ _ _ _ c.node.ensures c.in-Some.ensures.some) s) c.in_ok-add-in-Some.ensures.recorded)
 
 pub returns-in-None-clause-own : goal.returns-in-None-clause-own
 returns-in-None-clause-own c = λ out.
-    subst (IsOwnTold c.args.peg.now c.args.window.now c.args.kept.now) (sym c.in-Eval.is)
+    subst (IsOwnRecorded c.args.peg.now c.args.window.now c.args.kept.now) (sym c.in-Eval.is)
     (λ f s. absurd (none_stops _ _ _ _ _ c.node.ensures c.in-None.ensures.none f s))

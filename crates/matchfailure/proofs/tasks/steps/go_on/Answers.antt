@@ -1,4 +1,4 @@
-use Rattle.std.proofs.Common.{ap, subst}
+use Rattle.std.proofs.Common.{subst}
 use Rattle.matchfailure.specs.FailureTasks.{IsFirst}
 use Rattle.matchfailure.proofs.tasks.steps.go_on.Goals as goal
 

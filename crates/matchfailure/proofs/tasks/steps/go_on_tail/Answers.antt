@@ -1,17 +1,14 @@
-use Rattle.std.proofs.Common.{◌≡◌, ◌∙◌, ◌+◌, ◌<◌, ◌≤◌, [], length, Some, refl, ap, subst, arith}
-use Rattle.std.proofs.lemmas.List.{length-map, drop_all}
+use Rattle.std.proofs.Common.{◌≡◌, ◌∙◌, ◌+◌, ◌<◌, Some, ap, subst, arith}
+use Rattle.std.proofs.lemmas.List.{length-map}
 use Rattle.std.proofs.lemmas.Option.{slice_get_within}
 use Rattle.memo.specs.declared.found.Found.TheVariants.{Failed, Took}
-use Rattle.memo.specs.declared.task.MatchTask.TheVariants.{Eval, Tail}
+use Rattle.memo.specs.declared.task.MatchTask.TheVariants.{Tail}
 use Rattle.pegmatch.proofs.NodeShapeLemmas.{shape_at}
-use Rattle.pegnodes.proofs.HasShapeLemmas.{has_shape}
 use Rattle.pegnodes.proofs.NodeSpellsLemmas.{is_there}
 use Rattle.pegnodes.specs.Nodes as shape
-use Rattle.pegread.specs.Pattern as expr
-use Rattle.gramcheck.specs.Outcome.{act, open_at, close_at}
-use Rattle.matchfailure.specs.FailureTasks.{HasMember, HasTails}
+use Rattle.matchfailure.specs.FailureTasks.{HasMemberAt, HasTails}
 use Rattle.matchfailure.specs.declared.tasks.steps.TaskStep.TheVariants as step
-use Rattle.matchfailure.proofs.TaskStepsLemmas as L
+use Rattle.matchfailure.proofs.FailureStepsLemmas as L
 use Rattle.matchfailure.proofs.tasks.steps.go_on_tail.Goals as goal
 
 pub node-requires : goal.node-requires
@@ -24,7 +21,7 @@ overflow_add-result c =
     let here = shape_at c.args.peg.now.nodes c.args.node _ (c.node.ensures ∙ ap Some c.in-Seq.is) in
     let same : first.0 ≡ shape.Seq c.in-Seq.field-0.items = cc (first.1, here) in
     let within = slice_get_within c.in-Seq.field-0.items c.args.index _
-    (subst (λ v. HasMember v c.args.index c.requires.asks.0) same first.2) in
+    (subst (λ v. HasMemberAt v c.args.index c.requires.asks.0) same first.2) in
     omega (arith, within)
 
 pub overflow_add-result-in-Failed-found : goal.overflow_add-result-in-Failed-found
@@ -33,35 +30,45 @@ overflow_add-result-in-Failed-found c =
     let here = shape_at c.args.peg.now.nodes c.args.node _ (c.node.ensures ∙ ap Some c.in-Choice.is) in
     let same : first.0 ≡ shape.Choice c.in-Choice.field-0.items = cc (first.1, here) in
     let within = slice_get_within c.in-Choice.field-0.items c.args.index _
-    (subst (λ v. HasMember v c.args.index c.requires.asks.0) same first.2) in
+    (subst (λ v. HasMemberAt v c.args.index c.requires.asks.0) same first.2) in
     omega (arith, within)
 
 pub returns-in-Failed : goal.returns-in-Failed
 returns-in-Failed c = λ window well.
     let here = shape_at c.args.peg.now.nodes c.args.node _ (c.node.ensures ∙ ap Some c.in-Seq.is) in
-    L.tail_goes_on c.args.peg.now window c.requires.sound c.args.node c.args.position well.0 well.1 c.args.index (shape.Seq c.in-Seq.field-0.items) c.args.found (step.Gives Failed) here
-    (λ k there finds. L.seq_fails c.args.peg.now window c.requires.sound c.args.node c.args.position well.0 well.1 c.args.index c.in-Seq.field-0.items here k there
+    L.tail_goes_on c.args.peg.now window c.requires.sound c.args.node c.args.position well.0 well.1 c.args.index
+    (shape.Seq c.in-Seq.field-0.items) c.args.found (step.Gives Failed) here
+    (λ k there finds. L.seq_fails c.args.peg.now window c.requires.sound c.args.node c.args.position well.0 well.1
+    c.args.index c.in-Seq.field-0.items here k there
     (subst (L.Finds c.args.peg.now window c.requires.sound k c.args.position) c.in-Failed.is finds))
 
 pub returns-in-Took : goal.returns-in-Took
 returns-in-Took c = λ window well.
     let here = shape_at c.args.peg.now.nodes c.args.node _ (c.node.ensures ∙ ap Some c.in-Seq.is) in
-    L.tail_goes_on c.args.peg.now window c.requires.sound c.args.node c.args.position well.0 well.1 c.args.index (shape.Seq c.in-Seq.field-0.items) c.args.found (step.Turns (Tail c.args.node (c.args.index + 1) c.in-Took.end)) here
-    (λ k there finds. L.seq_takes c.args.peg.now window c.requires.sound c.args.node c.args.position well.0 well.1 c.args.index c.in-Seq.field-0.items here k there c.in-Took.end
+    L.tail_goes_on c.args.peg.now window c.requires.sound c.args.node c.args.position well.0 well.1 c.args.index
+    (shape.Seq c.in-Seq.field-0.items) c.args.found (step.Becomes (Tail c.args.node (c.args.index + 1) c.in-Took.end))
+    here
+    (λ k there finds. L.seq_takes c.args.peg.now window c.requires.sound c.args.node c.args.position well.0 well.1
+    c.args.index c.in-Seq.field-0.items here k there c.in-Took.end
     (subst (L.Finds c.args.peg.now window c.requires.sound k c.args.position) c.in-Took.is finds))
 
 pub returns-in-Failed-found : goal.returns-in-Failed-found
 returns-in-Failed-found c = λ window well.
     let here = shape_at c.args.peg.now.nodes c.args.node _ (c.node.ensures ∙ ap Some c.in-Choice.is) in
-    L.tail_goes_on c.args.peg.now window c.requires.sound c.args.node c.args.position well.0 well.1 c.args.index (shape.Choice c.in-Choice.field-0.items) c.args.found (step.Turns (Tail c.args.node (c.args.index + 1) c.args.position)) here
-    (λ k there finds. L.choice_fails c.args.peg.now window c.requires.sound c.args.node c.args.position well.0 well.1 c.args.index c.in-Choice.field-0.items here k there
+    L.tail_goes_on c.args.peg.now window c.requires.sound c.args.node c.args.position well.0 well.1 c.args.index
+    (shape.Choice c.in-Choice.field-0.items) c.args.found (step.Becomes (Tail c.args.node (c.args.index + 1)
+    c.args.position)) here
+    (λ k there finds. L.choice_fails c.args.peg.now window c.requires.sound c.args.node c.args.position well.0 well.1
+    c.args.index c.in-Choice.field-0.items here k there
     (subst (L.Finds c.args.peg.now window c.requires.sound k c.args.position) c.in-Failed-found.is finds))
 
 pub returns-in-Took-found : goal.returns-in-Took-found
 returns-in-Took-found c = λ window well.
     let here = shape_at c.args.peg.now.nodes c.args.node _ (c.node.ensures ∙ ap Some c.in-Choice.is) in
-    L.tail_goes_on c.args.peg.now window c.requires.sound c.args.node c.args.position well.0 well.1 c.args.index (shape.Choice c.in-Choice.field-0.items) c.args.found (step.Gives (Took c.in-Took-found.end)) here
-    (λ k there finds. L.choice_takes c.args.peg.now window c.requires.sound c.args.node c.args.position well.0 well.1 c.args.index c.in-Choice.field-0.items here k there c.in-Took-found.end
+    L.tail_goes_on c.args.peg.now window c.requires.sound c.args.node c.args.position well.0 well.1 c.args.index
+    (shape.Choice c.in-Choice.field-0.items) c.args.found (step.Gives (Took c.in-Took-found.end)) here
+    (λ k there finds. L.choice_takes c.args.peg.now window c.requires.sound c.args.node c.args.position well.0 well.1
+    c.args.index c.in-Choice.field-0.items here k there c.in-Took-found.end
     (subst (L.Finds c.args.peg.now window c.requires.sound k c.args.position) c.in-Took-found.is finds))
 
 pub returns-in_default : goal.returns-in_default

@@ -1,6 +1,5 @@
 use Rattle.std.proofs.Common.{[], ◌∷◌, ◌∙◌, ap, subst}
 use Rattle.matchfailure.specs.FailureStates.{Stands}
-use Rattle.matchfailure.specs.declared.tasks.machine.NextTask.TheVariants.{Answer}
 use Rattle.matchfailure.proofs.FailureStatesLemmas.{stands_first, stands_last}
 use Rattle.matchfailure.proofs.tasks.machine.FailureMachine.evaluate.Goals as goal
 use Rattle.matchfailure.proofs.tasks.machine.FailureMachine.evaluate.Goals.{in-Ask+in_ok-next-in-Ask}

@@ -2,7 +2,7 @@ use Rattle.std.proofs.Common.{false, ◌∷◌, subst}
 use Rattle.memo.specs.declared.task.MatchTask.TheVariants.{Eval}
 use Rattle.matchfailure.specs.FailureStates.{IsReady, Stands, side_under}
 use Rattle.matchfailure.specs.declared.tasks.machine.NextTask.TheVariants.{Ask}
-use Rattle.matchfailure.proofs.FailureStatesLemmas.{ready_gives, ready_turns, ready_asks}
+use Rattle.matchfailure.proofs.FailureStatesLemmas.{ready_gives, ready_becomes, ready_asks}
 use Rattle.matchfailure.proofs.tasks.machine.FailureMachine.follow.Goals as goal
 
 pub returns-in-Gives : goal.returns-in-Gives
@@ -11,11 +11,11 @@ returns-in-Gives c = λ g window asked sound ready.
     (subst (IsReady g window c.args.self.now.log c.args.self.now.frames c.args.self.now.kept asked c.args.task
     c.args.outside) c.in-Gives.is ready)
 
-pub returns-in-Turns : goal.returns-in-Turns
-returns-in-Turns c = λ g window asked sound ready.
-    ready_turns g window _ _ _ asked _ _ _
+pub returns-in-Becomes : goal.returns-in-Becomes
+returns-in-Becomes c = λ g window asked sound ready.
+    ready_becomes g window _ _ _ asked _ _ _
     (subst (IsReady g window c.args.self.now.log c.args.self.now.frames c.args.self.now.kept asked c.args.task
-    c.args.outside) c.in-Turns.is ready)
+    c.args.outside) c.in-Becomes.is ready)
 
 pub returns-then-denied : goal.returns-then-denied
 returns-then-denied c = λ g window asked sound ready.

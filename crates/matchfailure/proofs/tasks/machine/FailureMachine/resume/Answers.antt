@@ -1,6 +1,6 @@
 use Rattle.std.proofs.Common.{◌<◌, Some, sym, subst}
 use Rattle.memo.specs.KeyLog.{row_of}
-use Rattle.matchfailure.proofs.FailureStatesLemmas.{resumed, resumes_stored, row_within, top_well}
+use Rattle.matchfailure.proofs.FailureStatesLemmas.{is_resumed, resumes_stored, row_within, top_well}
 use Rattle.matchfailure.proofs.tasks.machine.FailureMachine.resume.Goals as goal
 
 pub put-requires : goal.put-requires
@@ -18,7 +18,7 @@ returns-then-frame c = λ window s.
 
 pub returns : goal.returns
 returns c = λ window s.
-    let r = resumed c.args.peg.now window _ _ _ _ _ s c.requires.sound c.if-frame.false in
+    let r = is_resumed c.args.peg.now window _ _ _ _ _ s c.requires.sound c.if-frame.false in
     c.follow.ensures c.args.peg.now window (Some (record { node = r.node; position = r.position })) c.requires.sound
     (r.ready _ (c.go_on-step.ensures window (top_well c.args.peg.now window _ _ _ _ _ s) r.node r.position r.denied
     r.first r.finds))

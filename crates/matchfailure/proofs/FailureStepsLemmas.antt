@@ -1,12 +1,12 @@
 -- The steps of a task, form by form.
 -- Serves: begin_task, go_on.
-use Rattle.std.proofs.Common.{◌≡◌, ◌⊎◌, inl, inr, ℕ, zero, suc, ◌+◌, ◌<◌, ◌≤◌, Bool, true, false, List, [], ◌∷◌, ◌++◌}
-use Rattle.std.proofs.Common.{length, drop, get_or, Some, None, max, refl, sym, ◌∙◌, ap, subst, arith, Vec, Global}
+use Rattle.std.proofs.Common.{◌≡◌, ◌⊎◌, inl, inr, ℕ, zero, suc, ◌+◌, ◌≤◌, Bool, true, false, List, [], ◌∷◌, ◌++◌}
+use Rattle.std.proofs.Common.{length, drop, Some, max, refl, sym, ◌∙◌, ap, subst, arith, Vec, Global}
 use Rattle.std.specs.Prelude.{slice_get}
 use Rattle.std.proofs.lemmas.List.{drop_more}
 use Rattle.std.proofs.lemmas.Option.{slice_get_within, get_or_from_slice_get}
 use Rattle.gramcheck.specs.Grammar.{Grammar, IsSoundGrammar}
-use Rattle.gramcheck.specs.Outcome.{Event, Outcome, Takes, Fails, Gives, GivesAll, all_done, one_fails, rest_fails}
+use Rattle.gramcheck.specs.Outcome.{Event, Outcome, Takes, Gives, GivesAll, all_done, one_fails, rest_fails}
 use Rattle.gramcheck.specs.Outcome.{rest_takes, GivesFirst, all_failed, first_takes, first_fails, seq, choice}
 use Rattle.memo.specs.declared.found.Found.{Found}
 use Rattle.memo.specs.declared.found.Found.TheVariants.{Failed, Took}
@@ -17,7 +17,7 @@ use Rattle.pegmatch.proofs.GivesLemmas.{name_gives, opt_gives_takes, opt_gives_n
 use Rattle.pegmatch.proofs.GivesLemmas.{not_gives_takes, not_gives_fails, star_gives_none, star_gives_more}
 use Rattle.pegmatch.proofs.GivesLemmas.{star_never_fails, plus_gives_fails, plus_gives_takes, plus_star}
 use Rattle.pegmatch.proofs.NodeGivesLemmas.{gives_as, same_node}
-use Rattle.pegmatch.specs.KeptEvents.{SpellsSome, outcome_of, quiet_outcome}
+use Rattle.pegmatch.specs.KeptEvents.{SpellsSome, outcome_of}
 use Rattle.pegmatch.specs.Visits.{NodeGives, NodeTakes, NodeFails, AsksMember, member_here, member_later}
 use Rattle.pegmatch.specs.Visits.{AsksAlternative, alternative_here, alternative_later, AsksBy, Asks}
 use Rattle.pegnodes.proofs.HasShapeLemmas.{has_shape}
@@ -28,12 +28,12 @@ use Rattle.pegnodes.specs.Nodes.{Shape, Spells, SpellAll, spell_none, spell_more
 use Rattle.pegread.specs.Pattern as expr
 use Rattle.pegread.specs.Pattern.{Pattern, Patterns, Rule}
 use Rattle.pegread.specs.PegViews.{rules_of}
-use Rattle.matchfailure.specs.FailureTasks.{AlternativesFind, find_none, find_first, find_later, HasMember, HasOperand}
+use Rattle.matchfailure.specs.FailureTasks.{AlternativesFind, find_none, find_first, find_later, HasMemberAt}
+use Rattle.matchfailure.specs.FailureTasks.{HasOperand}
 use Rattle.matchfailure.specs.FailureTasks.{IsFirst, IsWell, MembersFind, find_end, find_fails, find_takes, NodeFinds}
-use Rattle.matchfailure.specs.FailureTasks.{TailAsks, TailFinds, TaskAsks, TaskFinds, TaskHas, HasTails}
+use Rattle.matchfailure.specs.FailureTasks.{TailAsks, TailFinds, TaskAsks, TaskHas, HasTails}
 use Rattle.matchfailure.specs.Farthest.{IsDenial}
-use Rattle.matchfailure.specs.TaskSteps.{GoesOn, IsBegun, IsStepAfter, TurnsTo}
-use Rattle.matchfailure.specs.declared.farthest.visit.Visit.{Visit}
+use Rattle.matchfailure.specs.FailureSteps.{GoesOn, IsBegun, IsStepAfter}
 use Rattle.matchfailure.specs.declared.tasks.steps.TaskStep.{TaskStep}
 use Rattle.matchfailure.specs.declared.tasks.steps.TaskStep.TheVariants as step
 
@@ -191,7 +191,7 @@ module _ (g : Grammar) (x : List ℕ) (sound : IsSoundGrammar g) where
         }
 
     pub name_begins : (id m : ℕ) → slice_get Ns n ≡ Some (node.Name id) → slice_get g.bodies id ≡ Some m
-        → IsBegun g x (Eval n p) (step.Turns (Eval m p))
+        → IsBegun g x (Eval n p) (step.Becomes (Eval m p))
     name_begins id m at body =
         let asks = asks_body Rs Ns g.bodies x n p id m at body in
         record {
@@ -202,7 +202,7 @@ module _ (g : Grammar) (x : List ℕ) (sound : IsSoundGrammar g) where
         }
 
     pub seq_begins : (ms : List ℕ) → slice_get Ns n ≡ Some (node.Seq ms)
-        → IsBegun g x (Eval n p) (step.Turns (Tail n 0 p))
+        → IsBegun g x (Eval n p) (step.Becomes (Tail n 0 p))
     seq_begins ms at = record {
       well = (s, le, (node.Seq ms, at, tt));
       finds = λ f t. let same : t.0 ≡ node.Seq ms = cc (t.1, at) in
@@ -216,7 +216,7 @@ module _ (g : Grammar) (x : List ℕ) (sound : IsSoundGrammar g) where
     }
 
     pub choice_begins : (ms : List ℕ) → slice_get Ns n ≡ Some (node.Choice ms)
-        → IsBegun g x (Eval n p) (step.Turns (Tail n 0 p))
+        → IsBegun g x (Eval n p) (step.Becomes (Tail n 0 p))
     choice_begins ms at = record {
       well = (s, le, (node.Choice ms, at, tt));
       finds = λ f t. let same : t.0 ≡ node.Choice ms = cc (t.1, at) in
@@ -269,7 +269,7 @@ module _ (g : Grammar) (x : List ℕ) (sound : IsSoundGrammar g) where
         }
 
     pub star_takes : (m q : ℕ) → slice_get Ns n ≡ Some (node.Star m) → Finds m p (Took q)
-        → After m (step.Turns (Eval n q))
+        → After m (step.Becomes (Eval n q))
     star_takes m q at t = record {
       well = (s, (goes_onward Rs g.start Ns g.bodies g.ranks x sound m p q le t).high);
       finds = λ f l. star_finds m q f at t l;
@@ -309,7 +309,7 @@ module _ (g : Grammar) (x : List ℕ) (sound : IsSoundGrammar g) where
         }
 
     pub plus_takes : (m i q : ℕ) → slice_get Ns n ≡ Some (node.Plus m i) → Finds m p (Took q)
-        → After m (step.Turns (Eval i q))
+        → After m (step.Becomes (Eval i q))
     plus_takes m i q at t = record {
       well = (
         (plus_star Rs g.start Ns g.bodies g.ranks x sound n m s i at).0,
@@ -390,11 +390,11 @@ module _ (g : Grammar) (x : List ℕ) (sound : IsSoundGrammar g) where
       AfterTail k t = IsStepAfter g x (Some (record { node = k; position = p })) (Tail n i p) t
 
       pub tail_goes_on : (shape : Shape) (found : Found) (t : TaskStep) → slice_get Ns n ≡ Some shape
-          → ((k : ℕ) → HasMember shape i k → Finds k p found → AfterTail k t) → GoesOn g x (Tail n i p) found t
+          → ((k : ℕ) → HasMemberAt shape i k → Finds k p found → AfterTail k t) → GoesOn g x (Tail n i p) found t
       tail_goes_on shape found t at after = λ k q denied first finds.
           let same : first.2.0 ≡ shape = cc (first.2.1, at) in
           subst (λ v. IsStepAfter g x (Some (record { node = k; position = v })) (Tail n i p) t) (sym first.0)
-          (after k (subst (λ v. HasMember v i k) same first.2.2) (subst (λ v. Finds k v found) first.0 finds))
+          (after k (subst (λ v. HasMemberAt v i k) same first.2.2) (subst (λ v. Finds k v found) first.0 finds))
 
       module _ (ms : List ℕ) (at : slice_get Ns n ≡ Some (node.Seq ms)) where
         seq_asks : (m q : ℕ) → TaskAsks g x (Tail n i p) m q → AsksMember Rs Ns g.bodies x (drop i ms) p m q
@@ -421,7 +421,7 @@ module _ (g : Grammar) (x : List ℕ) (sound : IsSoundGrammar g) where
               first_only member_here = (refl, refl)
               first_only (member_later {r = r} u a) = absurd (not_both k p r u t)
 
-          pub seq_takes : (q : ℕ) → Finds k p (Took q) → AfterTail k (step.Turns (Tail n (i + 1) q))
+          pub seq_takes : (q : ℕ) → Finds k p (Took q) → AfterTail k (step.Becomes (Tail n (i + 1) q))
           seq_takes q t = record {
             well = (
               s,
@@ -486,7 +486,7 @@ module _ (g : Grammar) (x : List ℕ) (sound : IsSoundGrammar g) where
               first_only alternative_here = refl
               first_only (alternative_later u a) = absurd (not_both k p q t u)
 
-          pub choice_fails : Finds k p Failed → AfterTail k (step.Turns (Tail n (i + 1) p))
+          pub choice_fails : Finds k p Failed → AfterTail k (step.Becomes (Tail n (i + 1) p))
           choice_fails t = record {
             well = (s, le, (node.Choice ms, at, tt));
             finds = λ f l. let same : l.0 ≡ node.Choice ms = cc (l.1, at) in (
@@ -575,7 +575,7 @@ module _ (g : Grammar) (x : List ℕ) (sound : IsSoundGrammar g) where
     subst (λ v. TailAsks g x first.2.0 i p k v) (sym first.0) (member_asked first.2.0 i first.2.2),
   )
     where
-      member_asked : (shape : Shape) (i : ℕ) → HasMember shape i k → TailAsks g x shape i p k p
+      member_asked : (shape : Shape) (i : ℕ) → HasMemberAt shape i k → TailAsks g x shape i p k p
       member_asked (node.Seq ms) i h = subst (λ v. AsksMember Rs Ns g.bodies x v p k p) (sym (member_drop ms i k h))
           member_here
       member_asked (node.Choice ms) i h = (
@@ -612,7 +612,7 @@ module _ (g : Grammar) (x : List ℕ) (sound : IsSoundGrammar g) where
     omega (arith, first.0, well.1),
   )
     where
-      by : (shape : Shape) → slice_get Ns n ≡ Some shape → HasMember shape i k → SpellsSome Rs Ns k
+      by : (shape : Shape) → slice_get Ns n ≡ Some shape → HasMemberAt shape i k → SpellsSome Rs Ns k
       by (node.Seq ms) at h = let like = has_shape Rs Ns well.0.1 (node.Seq ms) at in
           member_spelled i k like.0 like.2 h
       by (node.Choice ms) at h = let like = has_shape Rs Ns well.0.1 (node.Choice ms) at in

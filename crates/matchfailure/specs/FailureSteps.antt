@@ -6,7 +6,7 @@ use Rattle.memo.specs.declared.task.MatchTask.{MatchTask}
 use Rattle.matchfailure.specs.FailureTasks.{IsFirst, IsWell, NodeFinds, TaskAsks, TaskFinds, TaskHas}
 use Rattle.matchfailure.specs.declared.farthest.visit.Visit.{Visit}
 use Rattle.matchfailure.specs.declared.tasks.steps.TaskStep.{TaskStep}
-use Rattle.matchfailure.specs.declared.tasks.steps.TaskStep.TheVariants.{Gives, Turns, Asks}
+use Rattle.matchfailure.specs.declared.tasks.steps.TaskStep.TheVariants.{Gives, Becomes, Asks}
 
 -- the evaluation of node m at q was asked for
 abbrev pub WasAsked : Option Visit → ℕ → ℕ → Type 0
@@ -15,7 +15,7 @@ WasAsked (Some v) m q = (m ≡ v.node) × (q ≡ v.position)
 
 module _ (g : Grammar) (x : List ℕ) where
   -- task a gives what task b gives, and asks for no more than what was asked for and the evaluations of b
-  pub record TurnsTo (asked : Option Visit) (a b : MatchTask) : Type 0 where
+  pub record BecomesTask (asked : Option Visit) (a b : MatchTask) : Type 0 where
     pub well : IsWell g x b
     pub finds : (f : Found) → TaskFinds g x b f → TaskFinds g x a f
     pub whole : (m q : ℕ) → TaskAsks g x a m q → WasAsked asked m q ⊎ TaskHas g x b m q
@@ -24,7 +24,7 @@ module _ (g : Grammar) (x : List ℕ) where
   -- a step of a task that has asked for this
   abbrev pub IsStepAfter : Option Visit → MatchTask → TaskStep → Type 0
   IsStepAfter asked a (Gives f) = TaskFinds g x a f × ((m q : ℕ) → TaskAsks g x a m q → WasAsked asked m q)
-  IsStepAfter asked a (Turns b) = TurnsTo asked a b
+  IsStepAfter asked a (Becomes b) = BecomesTask asked a b
   IsStepAfter asked a (Asks k q denied) = IsFirst g a k q denied
 
   -- the first step of a task
