@@ -48,6 +48,7 @@ impl TaskFrames {
     ///
     /// # Errors
     /// `Memory` if an allocation fails.
+    #[inline(always)]
     pub(crate) fn push(&mut self, frame: TaskFrame) -> Result<(), Memory>
         ensures { OnOk result (self.new ≡ frame ∷ self.old) }
     {
@@ -56,6 +57,7 @@ impl TaskFrames {
     }
 
     /// Takes the last frame off.
+    #[inline(always)]
     pub(crate) fn pop(&mut self) -> Option<TaskFrame>
         ensures some { IfSome result (λ frame. self.old ≡ frame ∷ self.new) }
         ensures none { IfNone result (self.old ≡ []) }

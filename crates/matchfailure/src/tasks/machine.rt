@@ -41,6 +41,7 @@ pub(crate) struct FailureMachine {
 }
 
 // Returns the mark of a result.
+#[inline(always)]
 fn mark_of(outside: bool) -> usize
     ensures { (result ≡ 1) ↔ (outside ≡ true) }
 {
@@ -48,6 +49,7 @@ fn mark_of(outside: bool) -> usize
 }
 
 // Returns the result of a task, if it is stored, and covers its failing comparisons where it stands outside of `!`.
+#[inline(always)]
 fn recall(log: &mut KeyLog, task: MatchTask, outside: bool) -> Result<Option<Found>, Memory>
     ensures some { IfOk result (λ found. IfSome found (λ f. (given : Given) × (given.found ≡ f)
         × IsIn (record { task = task; given = given }) log.old.stored × (outside ≡ true → given.events ≡ 1))) }
@@ -65,6 +67,7 @@ fn recall(log: &mut KeyLog, task: MatchTask, outside: bool) -> Result<Option<Fou
 }
 
 // Adds the failing comparison of a task's own node, where the task stands outside of `!`.
+#[inline(always)]
 fn note_stop(
     kept: &mut KeptFailures,
     peg: &SoundPeg,
@@ -93,6 +96,7 @@ fn note_stop(
     }
 }
 
+#[inline(always)]
 fn is_key(peg: &SoundPeg, task: MatchTask) -> bool
     ensures { result ≡ is_key_task peg.now.keys task }
 {
@@ -121,6 +125,7 @@ impl FailureMachine {
     }
 
     // Returns the stored result of a task.
+    #[inline(always)]
     fn stored(
         &mut self,
         peg: &SoundPeg,
@@ -140,6 +145,7 @@ impl FailureMachine {
     }
 
     // Pushes a frame that stores the result of a task, if the task is a key.
+    #[inline(always)]
     fn enter(&mut self, peg: &SoundPeg, task: MatchTask, outside: bool) -> Result<(), Memory>
         ensures kept { self.new.kept ≡ self.old.kept }
         ensures entered { OnOk result ((window : List ℕ) → Stands peg.now window self.old.log self.old.frames
@@ -174,6 +180,7 @@ impl FailureMachine {
     }
 
     // Follows the step of a task.
+    #[inline(always)]
     fn follow(&mut self, task: MatchTask, outside: bool, step: TaskStep) -> Result<NextTask, Memory>
         ensures { (g : Grammar) (window : List ℕ) (asked : Option Visit) → IsSoundGrammar g →
             IsReady g window self.old.log self.old.frames self.old.kept asked task outside step →
@@ -205,6 +212,7 @@ impl FailureMachine {
     }
 
     // Begins a task that is not stored: passes it, or goes to a child.
+    #[inline(always)]
     fn begin(
         &mut self,
         peg: &SoundPeg,
@@ -234,6 +242,7 @@ impl FailureMachine {
     }
 
     // Returns the stored result of a task, or begins it.
+    #[inline(always)]
     fn ask(
         &mut self,
         peg: &SoundPeg,
@@ -252,6 +261,7 @@ impl FailureMachine {
     }
 
     // Returns a result to the frame that was the last one.
+    #[inline(always)]
     fn resume(&mut self, peg: &SoundPeg, frame: TaskFrame, found: Found) -> Result<NextTask, Memory>
         requires sound { IsSoundGrammar peg.now }
         requires stands { (window : List ℕ) × Stands peg.now window self.old.log (frame ∷ self.old.frames)

@@ -26,6 +26,7 @@ pub(crate) enum TaskStep {
     },
 }
 
+#[inline(always)]
 fn asks(node: usize, position: usize) -> TaskStep
     ensures { result ≡ TaskStep.Asks node position false }
 {
@@ -36,6 +37,7 @@ fn asks(node: usize, position: usize) -> TaskStep
     }
 }
 
+#[inline(always)]
 fn tail(node: usize, position: usize) -> TaskStep
     ensures { result ≡ TaskStep.Becomes (MatchTask.Tail node 0 position) }
 {
@@ -47,6 +49,7 @@ fn tail(node: usize, position: usize) -> TaskStep
 }
 
 // Returns the first step of a node at a position.
+#[inline(always)]
 fn begin_node(peg: &SoundPeg, window: &[u8], node: usize, position: usize) -> TaskStep
     requires sound { IsSoundGrammar peg.now }
     requires well { IsWell peg.now window.now (MatchTask.Eval node position) }
@@ -78,6 +81,7 @@ fn begin_node(peg: &SoundPeg, window: &[u8], node: usize, position: usize) -> Ta
 }
 
 // Returns the first step of a tail at a position.
+#[inline(always)]
 fn begin_tail(peg: &SoundPeg, node: usize, index: usize, position: usize) -> TaskStep
     requires sound { IsSoundGrammar peg.now }
     requires well { (window : List ℕ) × IsWell peg.now window (MatchTask.Tail node index position) }
@@ -104,6 +108,7 @@ fn begin_tail(peg: &SoundPeg, node: usize, index: usize, position: usize) -> Tas
 }
 
 /// Returns the first step of a task.
+#[inline(always)]
 pub(crate) fn begin_task(peg: &SoundPeg, window: &[u8], task: MatchTask) -> TaskStep
     requires sound { IsSoundGrammar peg.now }
     requires well { IsWell peg.now window.now task }
@@ -120,6 +125,7 @@ pub(crate) fn begin_task(peg: &SoundPeg, window: &[u8], task: MatchTask) -> Task
 }
 
 // Returns the step of a node at a position whose operand has this outcome.
+#[inline(always)]
 fn go_on_node(peg: &SoundPeg, node: usize, position: usize, found: Found) -> TaskStep
     requires sound { IsSoundGrammar peg.now }
     requires well { (window : List ℕ) × IsWell peg.now window (MatchTask.Eval node position) }
@@ -158,6 +164,7 @@ fn go_on_node(peg: &SoundPeg, node: usize, position: usize, found: Found) -> Tas
 }
 
 // Returns the step of a tail at a position whose first member has this outcome.
+#[inline(always)]
 fn go_on_tail(peg: &SoundPeg, node: usize, index: usize, position: usize, found: Found) -> TaskStep
     requires sound { IsSoundGrammar peg.now }
     requires well { (window : List ℕ) × IsWell peg.now window (MatchTask.Tail node index position) }
@@ -188,6 +195,7 @@ fn go_on_tail(peg: &SoundPeg, node: usize, index: usize, position: usize, found:
 }
 
 /// Returns the step of a task whose first child has this outcome.
+#[inline(always)]
 pub(crate) fn go_on(peg: &SoundPeg, task: MatchTask, found: Found) -> TaskStep
     requires sound { IsSoundGrammar peg.now }
     requires asks { (k : ℕ) × (q : ℕ) × (denied : Bool) × IsFirst peg.now task k q denied }
