@@ -403,8 +403,9 @@ def test_comparison():
 
 @pytest.mark.usefixtures("programs")
 def test_memory_of_the_programs_is_bounded():
-    nested = 'a = "(" *a ")" / "[" *a "]"\n'
-    changed = {"old": nested, "grammar": nested.replace("*a", "[1*a]")}
+    old = 'v = "x" / a / b\na = *" " "[" *v "]" *" "\nb = *" " "{" *v "}" *" "\n'
+    new = 'v = "x" / *" " a *" " / *" " b *" "\na = "[" *v "]"\nb = "{" *v "}"\n'
+    changed = {"old": old, "grammar": new}
     assert compared(playground.Limits(memory=32 << 20), **changed)["status"] == 5
     assert compared(playground.Limits(processor=60, clock=100.0), **changed)["answer"] == "not known"
 

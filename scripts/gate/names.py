@@ -78,9 +78,10 @@ PROGRAMS = {
 }
 # The most functions that a crate has, and the crates that have more: so many each. Tests count for nothing.
 LARGEST_CRATE = 105
-# lazydfa: `States`, `expected` and `prune` need what `Automaton` has, and a crate of their own would make it public.
+# lazydfa: `States`, its cuts, `expected` and `prune` need what `Automaton` has, and a crate of their own would make it
+# public.
 # abnftexts: its functions on values and on the list need what `Gathered` has.
-LARGER = {"lazydfa": 125, "abnftexts": 130}
+LARGER = {"lazydfa": 136, "abnftexts": 130}
 # The most entries that a folder has, and the folders that have more.
 LARGEST_FOLDER = 40
 WIDER = {"crates": MOST_CRATES, "docs/crates": MOST_CRATES, "must-fail": MOST_CRATES, "scripts/oracles/rfc_texts": 48}

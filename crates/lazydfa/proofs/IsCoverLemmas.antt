@@ -3,9 +3,9 @@
 use Rattle.std.proofs.Common.{◌≡◌, ℕ, ◌+◌, List, [], ◌∷◌, ◌++◌, refl, sym, ◌∙◌, ap, subst, ◌↔◌, ◌⊎◌, inl, inr}
 use Rattle.std.proofs.Common.{append_assoc}
 use Rattle.std.specs.Prelude.{Bool, true, false, slice_get, Some}
-use Rattle.flatgrammar.specs.Flat.{Flat, Dot, Reads, Set, Has}
-use Rattle.flatgrammar.specs.Stacks.{IsDoneAt, MarksLast, Moves, Led, led, moves, LedToEnd, ReadBy, reads, Reach}
-use Rattle.flatgrammar.specs.Stacks.{AreAlike, Accepts, IsReading, reading, Lifted, Empties, IsNext, IsResumed}
+use Rattle.flatgrammar.specs.Flat.{Flat, Dot, Reads}
+use Rattle.flatgrammar.specs.Stacks.{MarksLast, Led, led, moves, LedToEnd, ReadBy, reads, Reach}
+use Rattle.flatgrammar.specs.Stacks.{AreAlike, IsReading, reading, Lifted, Empties, IsNext, IsResumed}
 use Rattle.flatgrammar.specs.Stacks.{IsStackClosure}
 use Rattle.flatgrammar.proofs.LeadOnLemmas.{leads_on}
 use Rattle.flatgrammar.proofs.LiftLemmas.{over, from_over, ends_over, rests_empty, led_by, led_some, IsOver}

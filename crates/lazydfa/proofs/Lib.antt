@@ -19,3 +19,4 @@ pub mod TopDotLemmas
 pub mod ExpectedLemmas
 pub mod AreUncountedLemmas
 pub mod StateSetsLemmas
+mod StackCutsLemmas

@@ -179,11 +179,11 @@ reads_on_top tables a b s (reading {below = below} rd) is =
 -- it is one of stacks
 module _ (tables : code_flat.Tables) (targets : GiveTargets (flat_of tables) tables.targets.items) where
   module _ (from : List Dot → Type 0) where
-    to_led : {a : List Dot} → GoesOn tables from a → Led (flat_of tables) (last_of tables) from a
+    pub to_led : {a : List Dot} → GoesOn tables from a → Led (flat_of tables) (last_of tables) from a
     to_led (here h) = led h
     to_led (on {stack = stack} h g) = moves (to_led h) (from_goes tables targets stack g)
 
-    from_led : {a : List Dot} → Led (flat_of tables) (last_of tables) from a → GoesOn tables from a
+    pub from_led : {a : List Dot} → Led (flat_of tables) (last_of tables) from a → GoesOn tables from a
     from_led (led h) = here h
     from_led (moves h m) = on (from_led h) (to_goes tables targets m)
 

@@ -1,5 +1,5 @@
 -- States of ids as lists of stacks.
--- Serves: start, next, has_ended, is_dead.
+-- Serves: start, next, cut, has_ended, is_dead.
 use Rattle.std.proofs.Common.{◌≡◌, ℕ, zero, suc, ◌≤◌, Bool, List, [], ◌∷◌, ◌++◌, length, map, refl, sym, ◌∙◌}
 use Rattle.std.proofs.Common.{ap, subst, arith, ◌↔◌, ◌⊎◌, inl, inr, true, eqb}
 use Rattle.std.proofs.lemmas.Bool.{eqb-true}
@@ -13,7 +13,7 @@ use Rattle.flatgrammar.specs.NodeSteps.{flat_of}
 use Rattle.flatgrammar.specs.TableViews.{GiveTargets}
 use Rattle.flatgrammar.specs.declared.tables.Tables as code_flat
 use Rattle.flatgrammar.proofs.CallOfLemmas.{get_map, get_unmap}
-use Rattle.flatgrammar.specs.Stacks.{IsStackClosure, IsNext, IsReading, Led, led, moves, LedToEnd, Lifted, ReadBy}
+use Rattle.flatgrammar.specs.Stacks.{IsStackClosure, IsNext, Led, led, moves, LedToEnd, Lifted, ReadBy}
 use Rattle.lazydfa.specs.declared.conts.Cont.{Cont}
 use Rattle.lazydfa.specs.declared.cache.State.{State}
 use Rattle.lazydfa.specs.Conts.{stack_of, last_of, AreKept, IsStackOf, IsTransition}
@@ -55,13 +55,13 @@ pub got_at : {A : Type 0} (xs : List A) (x : A) (h : Contains xs x) → slice_ge
 got_at xs x h = slice_get-get_or xs h.0 x h.1 ∙ ap (λ v. Some v) h.2
 
 module _ (conts : List Cont) (ids : List ℕ) where
-  to_list : (s : List Dot) → IsStackOf conts ids s → Contains (map (stack_of conts) ids) s
+  pub to_list : (s : List Dot) → IsStackOf conts ids s → Contains (map (stack_of conts) ids) s
   to_list s h =
       subst (λ v. Contains (map (stack_of conts) ids) v) (sym h.is)
       (contained_at (map (stack_of conts) ids) h.stands.0 (stack_of conts h.id)
       (get_map (stack_of conts) ids h.stands.0 (got_at ids h.id h.stands)))
 
-  from_list : (s : List Dot) → Contains (map (stack_of conts) ids) s → IsStackOf conts ids s
+  pub from_list : (s : List Dot) → Contains (map (stack_of conts) ids) s → IsStackOf conts ids s
   from_list s h =
       let u = get_unmap (stack_of conts) ids h.0 s (got_at (map (stack_of conts) ids) s h) in
       record { id = u.from; stands = contained_at ids h.0 u.from u.at; is = sym u.is }

@@ -8,3 +8,4 @@ pub mod RunVerdicts
 pub mod Spines
 pub mod StackSuffixes
 pub mod StateSets
+pub mod StackCuts

@@ -116,7 +116,8 @@ pub(crate) fn any_reads(tables: &Tables, tops: &[usize], value: u32, conts: &Con
     false
 }
 
-fn is_same(state: &State, tops: &[usize], ended: bool) -> bool
+/// Returns whether a state has these tops, and has ended or not.
+pub(crate) fn is_same(state: &State, tops: &[usize], ended: bool) -> bool
     ensures { IsTrue result → (state.now.tops.items ≡ tops.now) × (state.now.ended ≡ ended) }
 {
     state.ended == ended && state.tops.as_slice() == tops

@@ -7,6 +7,7 @@ mod cache;
 mod chains;
 mod close;
 mod conts;
+mod cuts;
 mod expected;
 mod fill;
 mod glide;
@@ -20,5 +21,6 @@ mod transition;
 mod transitions;
 
 pub use automaton::Automaton;
+pub use cuts::StateCut;
 pub use expected::Expected;
 pub use states::States;

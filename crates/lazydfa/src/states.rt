@@ -2,10 +2,12 @@
 ghost use Rattle.std.specs.Prelude.{◌≡◌, ◌↔◌, [], IsTrue, IfOk, IfSome, slice_get, Some};
 ghost use Rattle.std.specs.List.Sorted.{IsPermutation};
 ghost use Rattle.lazydfa.specs.Cached.{IsCache, Grows};
+ghost use Rattle.lazydfa.specs.StackCuts.{IsCutState, IsStateWithin};
 ghost use Rattle.lazydfa.specs.StateSets.{AreMoreStates, AreStatesOf, IsLed, IsNextState, IsStartState, StateSet};
 
 use crate::automaton::{are_served, empty_memo};
-use crate::cache::{Cache, forget, has_ended, state_of};
+use crate::cache::{Cache, any_reads, forget, has_ended, state_of};
+use crate::cuts::{StateCut, are_among, cut_whole};
 use crate::fill::may_fill;
 use crate::run::begin;
 use crate::transition::{Closure, transition};
@@ -50,8 +52,8 @@ impl Model for States {
         [] s.cache) };
 }
 
-// Returns a closure with its ids in ascending order.
-fn in_order(closure: Closure) -> Closure
+/// Returns a closure with its ids in ascending order.
+pub(crate) fn in_order(closure: Closure) -> Closure
     ensures tops { IsPermutation closure.tops.items result.tops.items }
     ensures ended { result.ended ≡ closure.ended }
 {
@@ -136,6 +138,47 @@ impl States {
                 forget(&mut self.cache);
                 Err(fault)
             }
+        }
+    }
+
+    /// Cuts a state into its tops and what follows from their suffixes: its stacks are the tops, each on each of some
+    /// suffixes, in which a dotted rule stands twice. Of such cuts it takes the one with the least tops. `None` if none
+    /// is found, or there is no such state or no room for more. `Memory` if an allocation fails.
+    pub fn cut(&mut self, state: usize) -> Result<Option<StateCut>, Memory>
+        ensures more { IfOk result (λ reported. AreMoreStates self.old self.new) }
+        ensures is { IfOk result (λ reported. IfSome reported (λ cut. IsCutState self.new state cut.tops cut.below)) }
+    {
+        match cut_whole(self.alloc, &self.tables, &mut self.cache, state) {
+            Ok(reported) => Ok(reported),
+            Err(fault) => {
+                forget(&mut self.cache);
+                Err(fault)
+            }
+        }
+    }
+
+    /// Returns whether each stack of a state is one of another, and that one has ended if the state has.
+    pub fn is_within(&self, state: usize, other: usize) -> bool
+        ensures { (got more : StateSet) → slice_get self.now.states state ≡ Some got → slice_get self.now.states other
+            ≡ Some more → IsTrue result → IsStateWithin got more }
+    {
+        let Some(got) = self.cache.states.get(state) else {
+            return false;
+        };
+        let Some(more) = self.cache.states.get(other) else {
+            return false;
+        };
+        if got.ended && !more.ended {
+            return false;
+        }
+        are_among(&got.tops, &more.tops)
+    }
+
+    /// Returns whether a symbol is read on top of a stack of a state. No contract relies on it.
+    pub fn reads(&self, state: usize, value: u32) -> bool {
+        match self.cache.states.get(state) {
+            Some(got) => any_reads(&self.tables, &got.tops, value, &self.cache.conts),
+            None => false,
         }
     }
 

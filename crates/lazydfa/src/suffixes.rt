@@ -24,14 +24,14 @@ pub(crate) struct Split {
     pub(crate) suffix: usize,
 }
 
-// Returns the continuation of an id, if it is not that of nothing.
-fn entry(conts: &Conts, id: usize) -> Option<Cont> {
+/// Returns the continuation of an id, if it is not that of nothing.
+pub(crate) fn entry(conts: &Conts, id: usize) -> Option<Cont> {
     let k = id.checked_sub(1)?;
     conts.items.get(k).copied()
 }
 
-// Returns the id of what both continuations are or stand on, if it is not too deep. What stands below has a lower id.
-fn common(conts: &Conts, a: usize, b: usize) -> usize {
+/// Returns the id of what both continuations are or stand on, if it is not too deep. What stands below has a lower id.
+pub(crate) fn common(conts: &Conts, a: usize, b: usize) -> usize {
     let mut a = a;
     let mut b = b;
     for _ in 0..4 * DEPTH {
@@ -77,8 +77,8 @@ fn stands_again(conts: &Conts, cont: Cont) -> bool {
     false
 }
 
-// Returns whether some dotted rule stands twice in a suffix.
-fn repeats(conts: &Conts, suffix: usize) -> bool {
+/// Returns whether some dotted rule stands twice in a suffix.
+pub(crate) fn repeats(conts: &Conts, suffix: usize) -> bool {
     let mut id = suffix;
     for _ in 0..DEPTH {
         let Some(cont) = entry(conts, id) else {
@@ -92,8 +92,8 @@ fn repeats(conts: &Conts, suffix: usize) -> bool {
     false
 }
 
-// Returns whether something is read on top of each continuation.
-fn all_read(tables: &Tables, ids: &[usize], conts: &Conts) -> bool
+/// Returns whether something is read on top of each continuation.
+pub(crate) fn all_read(tables: &Tables, ids: &[usize], conts: &Conts) -> bool
     requires within { (id : ℕ) → Contains ids.now id → id ≤ length conts.now.items.items }
     requires older { AreOlder conts.now.items.items }
     ensures { IsTrue result → (id : ℕ) → Contains ids.now id → TopReads tables.now (stack_of conts.now.items.items id) }

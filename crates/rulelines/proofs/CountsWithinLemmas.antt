@@ -1,5 +1,5 @@
 -- A flat grammar without a count above its limit serves lines of any length.
--- Serves: any_length.
+-- Serves: lower_any.
 use Rattle.std.proofs.Common.{◌≡◌, ℕ, ◌+◌, ◌≤◌, Bool, true, leb, List, length, refl, ◌∙◌}
 use Rattle.std.proofs.Common.{arith, ◌↔◌, le-leb}
 use Rattle.std.specs.Prelude.{Option, Some, None}

@@ -1,5 +1,5 @@
 -- What a breadth-first search says of the lines of the old rule alone.
--- Serves: first_line, no_line_up_to, no_line.
+-- Serves: conclude.
 use Rattle.std.proofs.Common.{◌≡◌, ℕ, zero, suc, ◌+◌, ◌<◌, ◌≤◌, List, [], ◌∷◌, ◌++◌, length, refl, sym, ◌∙◌, ap, subst}
 use Rattle.std.proofs.Common.{arith, inl, inr, ◌⊎◌, length-append, take, drop, append_assoc, append-nil}
 use Rattle.std.specs.Prelude.{Bool, true, false, slice_get, Some, Contains}

@@ -2,7 +2,6 @@ pub mod ComesFirstLemmas
 mod StatePairsLemmas
 mod StackSetsLemmas
 mod FoundPairsLemmas
-mod SwappedLemmas
 mod CountsWithinLemmas
 mod SamplesLemmas
 mod SearchLemmas
@@ -25,3 +24,4 @@ mod WrongSymbolsLemmas
 mod ReportedWrongLemmas
 mod ReportedPrefixesLemmas
 pub mod MissLinesLemmas
+mod CutSearchLemmas

@@ -117,7 +117,7 @@ module _ (olds news : StateSets) (a b : ℕ) (old_start : IsStartState olds a) (
       none i j (inr h) = let lt = h.1 in omega (arith, lt)
 
 -- what stacks accept, the rule derives
-accepts_lines : (has : ℕ → Bool) (rules : List Rule) (rule : ℕ) (flat : Flat) (sets : StateSets)
+pub accepts_lines : (has : ℕ → Bool) (rules : List Rule) (rule : ℕ) (flat : Flat) (sets : StateSets)
     → AreOfGrammar flat sets
     → DerivesAsRule has rules rule flat → (most : ℕ)
     → AcceptsRule has rules rule (grammar_of sets) (last_in sets) most

@@ -1,5 +1,5 @@
 -- A step of a search of pairs.
--- Serves: search_all
+-- Serves: search_all, search_by_cuts
 use Rattle.std.proofs.Common.{◌≡◌, ℕ, zero, suc, ◌+◌, ◌<◌, ◌≤◌, Bool, true, false, List, [], ◌∷◌, ◌++◌, length}
 use Rattle.std.proofs.Common.{refl, sym, ◌∙◌}
 use Rattle.std.proofs.Common.{ap, subst, arith, ◌⊎◌, inl, inr, get_or, length-append, append-nil}
@@ -27,7 +27,7 @@ get_left [] ys k x h = absurd (cc h)
 get_left (y ∷ xs) ys zero x h = h
 get_left (y ∷ xs) ys (suc k) x h = get_left xs ys k x h
 
-get_end : {A : Type 0} (xs : List A) (x : A) → slice_get (xs ++ x ∷ []) (length xs) ≡ Some x
+pub get_end : {A : Type 0} (xs : List A) (x : A) → slice_get (xs ++ x ∷ []) (length xs) ≡ Some x
 get_end [] x = refl
 get_end (y ∷ xs) x = get_end xs x
 
@@ -48,20 +48,20 @@ state_is sets n state is = or_get sets.states n state is
     or_get (y ∷ xs) (suc k) x h = or_get xs k x h
 
 -- states were added
-state_kept : (old new : StateSets) → AreMoreStates old new → (n : ℕ) → n < length old.states
+pub state_kept : (old new : StateSets) → AreMoreStates old new → (n : ℕ) → n < length old.states
     → state_at new n ≡ state_at old n
 state_kept old new more n lt =
     ap (λ v. get_or v n (record { stacks = []; ended = false })) more.grown
     ∙ or_left old.states more.added n (record { stacks = []; ended = false }) lt
 
-more_length : (old new : StateSets) → AreMoreStates old new → length old.states ≤ length new.states
+pub more_length : (old new : StateSets) → AreMoreStates old new → length old.states ≤ length new.states
 more_length old new more =
     let l = length-append old.states more.added in
     let e = ap (λ v. length v) more.grown in
     omega (arith, l, e)
 
 module _ (old mid new more : StateSets) (old_more : AreMoreStates old mid) (new_more : AreMoreStates new more) where
-  pair_kept : (p : SearchedPair) → p.old < length old.states → p.new < length new.states
+  pub pair_kept : (p : SearchedPair) → p.old < length old.states → p.new < length new.states
       → found_pair mid more p ≡ found_pair old new p
   pair_kept p old_lt new_lt =
       ap (λ v. record {
@@ -130,6 +130,15 @@ module _ (old mid new more : StateSets) (old_more : AreMoreStates old mid) (new_
           (subst (λ v. LeadsToFound (grammar_of old) (last_in old) (flat_of v) (last_of v)
           (found_pairs old new pairs) i e c) (sym new_more.same) l)))
 
+-- a transition of states by their numbers
+pub side_next : (c : ℕ) (sets : StateSets) (s t : ℕ) → IsNextState sets c s t → IsNext (grammar_of sets) (last_in sets)
+    (Contains (state_at sets s).stacks) c (Contains (state_at sets t).stacks) (state_at sets t).ended
+side_next c sets s t next =
+    subst (λ v. IsNext (grammar_of sets) (last_in sets) (Contains v.stacks) c (Contains (state_at sets t).stacks)
+    (state_at sets t).ended) (sym (state_is sets s next.from next.from_is))
+    (subst (λ v. IsNext (grammar_of sets) (last_in sets) (Contains next.from.stacks) c (Contains v.stacks) v.ended)
+    (sym (state_is sets t next.to next.to_is)) next.next)
+
 -- one sample leads on from a pair
 module _ (has : ℕ → Bool) (samples : List ℕ) (in_order : AreInLineOrder has samples) (old new : StateSets)
     (pairs : List SearchedPair) (n k m : ℕ) (s : IsPairSearch has samples old new pairs n k m) (p : SearchedPair)
@@ -144,18 +153,9 @@ module _ (has : ℕ → Bool) (samples : List ℕ) (in_order : AreInLineOrder ha
   abbrev LeadsBy : ℕ → FoundPair → List FoundPair → ℕ → Type 0
   LeadsBy i e found d = LeadsToFound (grammar_of old) (last_in old) (grammar_of new) (last_in new) found i e d
 
-  side_next : (sets : StateSets) (s t : ℕ) (next : IsNextState sets c s t)
-      → IsNext (grammar_of sets) (last_in sets) (Contains (state_at sets s).stacks) c
-      (Contains (state_at sets t).stacks) (state_at sets t).ended
-  side_next sets s t next =
-      subst (λ v. IsNext (grammar_of sets) (last_in sets) (Contains v.stacks) c (Contains (state_at sets t).stacks)
-      (state_at sets t).ended) (sym (state_is sets s next.from next.from_is))
-      (subst (λ v. IsNext (grammar_of sets) (last_in sets) (Contains next.from.stacks) c (Contains v.stacks) v.ended)
-      (sym (state_is sets t next.to next.to_is)) next.next)
-
   pair_leads : PairLeads (grammar_of old) (last_in old) (grammar_of new) (last_in new) c (found_pair old new p).pair
       (found_pair old new Entry).pair
-  pair_leads = record { old_next = side_next old p.old a old_next; new_next = side_next new p.new b new_next }
+  pair_leads = record { old_next = side_next c old p.old a old_next; new_next = side_next c new p.new b new_next }
 
   same_states : (q : SearchedPair) → q.old ≡ a → q.new ≡ b
       → (found_pair old new Entry).pair ≡ (found_pair old new q).pair

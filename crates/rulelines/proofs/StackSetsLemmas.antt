@@ -1,17 +1,19 @@
 -- What tops on suffixes accept, and what states accept.
--- Serves: suffixes_include.
-use Rattle.std.proofs.Common.{◌≡◌, ℕ, zero, suc, ◌+◌, ◌<◌, ◌≤◌, List, [], ◌∷◌, ◌++◌, length, refl, sym, ◌∙◌, ap}
-use Rattle.std.proofs.Common.{subst, arith, length-append, drop}
+-- Serves: is_included.
+use Rattle.std.proofs.Common.{◌≡◌, ◌⊎◌, inl, inr, ℕ, zero, suc, ◌+◌, ◌<◌, ◌≤◌, List, [], ◌∷◌, ◌++◌, length, refl}
+use Rattle.std.proofs.Common.{sym, ◌∙◌, ap, subst, arith, length-append, append-nil, drop}
 use Rattle.std.specs.Prelude.{Bool, true, false, Contains, slice_get, Some}
 use Rattle.abnfcheck.specs.Derivable.{AreLetters}
 use Rattle.flatgrammar.specs.Flat.{Calls, calls, Calling, Flat, Has, Node, Dot, Reading, Reads}
 use Rattle.flatgrammar.specs.Flat as f
-use Rattle.flatgrammar.specs.Stacks.{Accepts, AreAlike, IsDoneAt, is_done, IsNext, IsReading, reading, Led, led}
-use Rattle.flatgrammar.specs.Stacks.{Moves, call, tail_call, return, Reach, ReadBy}
-use Rattle.rulelines.specs.StatePairs.{AreSamples, StatePair}
-use Rattle.rulelines.specs.StackSets.{AreAllJoined, AreClosedBySuffixes, AreFull, by_stack, cut, done, Drains, ends}
-use Rattle.rulelines.specs.StackSets.{FollowsFrom, IsStartStack, is_start, IsStateFrom, more, moves, one, reads}
-use Rattle.rulelines.specs.StackSets.{SomeDrains, StateAccepts}
+use Rattle.flatgrammar.specs.Stacks.{Accepts, AreAlike, IsDoneAt, is_done, IsNext, IsReading, reading, IsStackClosure}
+use Rattle.flatgrammar.specs.Stacks.{Led, led, Lifted, Moves, call, tail_call, return, Reach, ReadBy}
+use Rattle.lazydfa.specs.StackCuts.{AreAllJoined, AreFull, IsStateFrom}
+use Rattle.lazydfa.proofs.StateSetsLemmas.{contained_at, got_at}
+use Rattle.rulelines.specs.StatePairs.{AreSamples, LeadsInto, StatePair}
+use Rattle.rulelines.specs.StackSets.{AreClosedByCuts, by_stack, cut, dead, done, Drains, ends, IsCutInto, IsFollowed}
+use Rattle.rulelines.specs.StackSets.{IsStartStack, is_start, leads, more, moves, reads, SomeDrains, StateAccepts}
+use Rattle.rulelines.proofs.TakesLemmas.{no_led_none}
 
 module _ (flat : Flat) (last : Dot → Bool) where
   abbrev Drain : List Dot → List ℕ → Type 0
@@ -255,7 +257,7 @@ symbols_in has (c ∷ u) v all = let g = symbols_in has u v all.1 in ((all.0, g.
 
 module _ (has : ℕ → Bool) (old : Flat) (old_last : Dot → Bool) (new : Flat) (new_last : Dot → Bool)
     (samples : List ℕ) (each : AreSamples old new has samples) (pairs : List StatePair)
-    (closed : AreClosedBySuffixes old old_last new new_last samples pairs) where
+    (closed : AreClosedByCuts old old_last new new_last samples pairs) where
   abbrev Old : StatePair → List ℕ → Type 0
   Old p = StateAccepts old old_last p.old p.old_ended
 
@@ -274,61 +276,151 @@ module _ (has : ℕ → Bool) (old : Flat) (old_last : Dot → Bool) (new : Flat
   wider_accepts are on (ends e) = ends (on e)
   wider_accepts are on (by_stack h) = by_stack (record { stack = h.stack; is = are h.stack h.is; drains = h.drains })
 
+  -- what is drained from a stack whose top reads is not empty
+  none_drained : {s : List Dot} {w : List ℕ} → IsReading old s → Drains old old_last s w → w ≡ [] → ⊥
+  none_drained read (done d) same = ends_reading read d
+    where
+      ends_reading : {q : Dot} → IsReading old (q ∷ []) → IsDoneAt old q → ⊥
+      ends_reading (reading rd) d = not_done old old_last rd d
+  none_drained read (moves m d) same = no_move old old_last read m
+  none_drained read (reads rd lies d) same = cc same
+
+  not_empty : (p : StatePair) → Contains pairs p → p.old_ended ≡ false → (w : List ℕ) → Old p w → w ≡ [] → ⊥
+  not_empty p is runs w h same =
+      let o = of_top runs h in none_drained (closed.reading p is o.stack o.is) o.drains same
+
+  some_length : (w : List ℕ) → (w ≡ [] → ⊥) → 0 < length w
+  some_length [] full = absurd (full refl)
+  some_length (c ∷ w) full = omega arith
+
   -- the pairs include all lists of at most n symbols
   abbrev UpTo : ℕ → Type 0
-  UpTo n = (p : StatePair) → Contains pairs p → (w : List ℕ) → AreLetters has w → length w ≤ n → Old p w → New p w
+  UpTo n = (i : ℕ) (p : StatePair) → slice_get pairs i ≡ Some p → (w : List ℕ) → AreLetters has w → length w ≤ n
+      → Old p w → New p w
 
-  follows_too : (n : ℕ) → UpTo n → {p : StatePair} → FollowsFrom old old_last new new_last pairs p → (w : List ℕ)
-      → AreLetters has w → length w ≤ n → Old p w → New p w
-  follows_too n up {p = p} (one is) w all le h = up p is w all le h
-  follows_too n up (more asks follows) w all le h =
-      wider_accepts asks.new_are asks.new_ends
-      (follows_too n up follows w all le (wider_accepts asks.old_are asks.old_ends h))
-  follows_too n up {p = p} (cut {tops = tops} {below = below} c on_tops on_below) w all le h =
+  from_pairs : (n : ℕ) → UpTo n → (p : StatePair) → Contains pairs p → (w : List ℕ) → AreLetters has w → length w ≤ n
+      → Old p w → New p w
+  from_pairs n up p is w all le h = up is.0 p (got_at pairs p is) w all le h
+
+  -- a cut pair, where both parts are shorter
+  through_cut : (n : ℕ) → UpTo n → (p tops below : StatePair) → IsCutInto old old_last new new_last p tops below
+      → Contains pairs tops → Contains pairs below → (w : List ℕ) → AreLetters has w → length w ≤ suc n
+      → Old p w → New p w
+  through_cut n up p tops below c on_tops on_below w all le h =
       let o = of_top c.runs h in
-      let g = c.cut o.stack o.is in
-      let s = split_some old old_last g.top g.suffix w (c.full g.top g.is_top) (c.old_full g.suffix g.is_suffix)
+      let g = c.split o.stack o.is in
+      let top_reads = closed.reading tops on_tops g.top g.is_top in
+      let s = split_some old old_last g.top g.suffix w (not_nil top_reads) (c.old_full g.suffix g.is_suffix)
       (subst (λ v. Drains old old_last v w) g.is o.drains) in
       let size : length w ≡ length s.first + length s.rest = ap length s.word ∙ length-append s.first s.rest in
       let each = symbols_in has s.first s.rest (subst (λ v. AreLetters has v) s.word all) in
-      let t = of_top c.new_tops_run (follows_too n up on_tops s.first each.0 (omega (arith, le, size))
-      (by_stack (record { stack = g.top; is = g.is_top; drains = s.top_drains }))) in
       let old_rest = into_state old old_last (Contains c.old_suffixes) below.old below.old_ended c.old_below
       (led g.is_suffix) s.suffix_drains in
+      let first_some = some_length s.first (λ none. none_drained top_reads s.top_drains none) in
+      let rest_some = some_length s.rest (λ none. not_empty below on_below c.below_runs s.rest old_rest none) in
+      let t = of_top c.new_tops_run (from_pairs n up tops on_tops s.first each.0 (omega (arith, le, size, rest_some))
+      (by_stack (record { stack = g.top; is = g.is_top; drains = s.top_drains }))) in
       let r = out_of_state new new_last (Contains c.new_suffixes) below.new below.new_ended c.new_below
-      (follows_too n up on_below s.rest each.1 (omega (arith, le, size)) old_rest) in
+      (from_pairs n up below on_below s.rest each.1 (omega (arith, le, size, first_some)) old_rest) in
       by_stack (rejoin_some new new_last tops.new c.new_suffixes p.new c.joined c.new_full t r s.word)
-
-  up_to : (n : ℕ) → UpTo n
-  up_to n p is [] all le (ends e) = ends (closed.ends p is e)
-  up_to n p is [] all le (by_stack h) = absurd (none h.stack h.is h.drains refl)
     where
-      none : (s : List Dot) → Contains p.old s → {w : List ℕ} → Drains old old_last s w → w ≡ [] → ⊥
-      none s at (done d) same = ends_reading (closed.reading p is _ at) d
-        where
-          ends_reading : {q : Dot} → IsReading old (q ∷ []) → IsDoneAt old q → ⊥
-          ends_reading (reading rd) d = not_done old old_last rd d
-      none s at (moves m d) same = no_move old old_last (closed.reading p is _ at) m
-      none s at (reads rd lies d) same = cc same
-  up_to zero p is (c ∷ w) all le h = absurd (omega (arith, le))
-  up_to (suc n) p is (c ∷ w) all le h =
+      not_nil : {s : List Dot} → IsReading old s → s ≡ [] → ⊥
+      not_nil (reading rd) same = cc same
+
+  through_symbol : (n : ℕ) → UpTo n → (p : StatePair)
+      → ((top : List Dot) → Contains p.old top → IsReading old top)
+      → ((c : ℕ) → Contains samples c → LeadsInto old old_last new new_last pairs c p) → (c : ℕ) (w : List ℕ)
+      → AreLetters has (c ∷ w) → length w ≤ n → Old p (c ∷ w) → New p (c ∷ w)
+  through_symbol n up p all_read on c w all le h =
       let a = each c all.0 in
-      let l = closed.leads p is a.sample a.is in
+      let l = on a.sample a.is in
       let o = some_symbol h in
       by_stack (before_symbol new new_last p.new l.next.new l.next.new_ended c a.sample a.new_alike l.leads.new_next
-      (follows_too n (up_to n) l.follows w all.1 (omega (arith, le))
+      (from_pairs n up l.next l.is w all.1 le
       (after_symbol old old_last p.old l.next.old l.next.old_ended c a.sample a.old_alike l.leads.old_next
-      (closed.reading p is) o.is o.drains w refl)))
+      all_read o.is o.drains w refl)))
     where
       some_symbol : {v : List ℕ} {b : ℕ} → Old p (b ∷ v) → SomeDrains old old_last (Contains p.old) (b ∷ v)
       some_symbol (by_stack g) = g
 
-  pub accepted_by_suffixes : (first : StatePair) → Contains pairs first
+  -- a list that is not empty; k bounds the index
+  on_symbols : (n : ℕ) → UpTo n → (k i : ℕ) → i < k → (p : StatePair) → slice_get pairs i ≡ Some p → (c : ℕ)
+      (w : List ℕ) → AreLetters has (c ∷ w) → length w ≤ n → Old p (c ∷ w) → New p (c ∷ w)
+  on_symbols n up zero i lt p is c w all le h = absurd (omega (arith, lt))
+  on_symbols n up (suc k) i lt p is c w all le h =
+      by (λ j less other at g. on_symbols n up k j less other at c w all le g) (closed.followed i p is)
+    where
+      no_stack : (none : p.old ≡ []) → {v : List ℕ} → Old p v → v ≡ c ∷ w → ⊥
+      no_stack none (ends e) same = cc same
+      no_stack none (by_stack g) same =
+          let at = g.is.1 in let e = ap (λ v. length v) none in omega (arith, at, e)
+
+      by : ((j : ℕ) → j < k → (other : StatePair) → slice_get pairs j ≡ Some other → Old other (c ∷ w)
+          → New other (c ∷ w)) → IsFollowed old old_last new new_last samples pairs i p → New p (c ∷ w)
+      by earlier (dead none) = absurd (no_stack none h refl)
+      by earlier (leads on) = through_symbol n up p (closed.reading p (contained_at pairs i p is)) on c w all le h
+      by earlier (cut {tops = tops} {below = below} into on_tops on_below) =
+          through_cut n up p tops below into on_tops on_below (c ∷ w) all (omega (arith, le)) h
+      by earlier (more {j = j} {other = other} before at asks) =
+          wider_accepts asks.new_are asks.new_ends
+          (earlier j (omega (arith, before, lt)) other at (wider_accepts asks.old_are asks.old_ends h))
+
+  up_to : (n : ℕ) → UpTo n
+  up_to n i p is [] all le (ends e) = ends (closed.ends p (contained_at pairs i p is) e)
+  up_to n i p is [] all le (by_stack h) =
+      absurd (none_drained (closed.reading p (contained_at pairs i p is) h.stack h.is) h.drains refl)
+  up_to zero i p is (c ∷ w) all le h = absurd (omega (arith, le))
+  up_to (suc n) i p is (c ∷ w) all le h =
+      on_symbols n (up_to n) (suc i) i (omega arith) p is c w all (omega (arith, le)) h
+
+  pub accepted_by_cuts : (first : StatePair) → Contains pairs first
       → IsStateFrom old old_last (IsStartStack old) first.old first.old_ended
       → IsStateFrom new new_last (IsStartStack new) first.new first.new_ended → (x : List ℕ) → AreLetters has x
       → Accepts old old_last x (length x) → Accepts new new_last x (length x)
-  accepted_by_suffixes first is old_first new_first x all a =
+  accepted_by_cuts first is old_first new_first x all a =
       let d = accepted_drains old old_last x a in
       let o = into_state old old_last (IsStartStack old) first.old first.old_ended old_first (led d.is) d.drains in
       drains_accepted new new_last x (out_of_state new new_last (IsStartStack new) first.new first.new_ended new_first
-      (up_to (length x) first is x all (omega arith) o))
+      (from_pairs (length x) (up_to (length x)) first is x all (omega arith) o))
+
+-- the start state as a state of stacks
+module _ (flat : Flat) (last : Dot → Bool) (tops : List (List Dot)) (ended : Bool)
+    (closure : (x : List ℕ) → IsStackClosure flat last x 0 (Contains tops) ended []) where
+  reach_led : {j : ℕ} {s : List Dot} → Reach flat last [] j s → j ≡ 0 → Led flat last (IsStartStack flat) s
+  reach_led (Reach.begins st) same = led (is_start st)
+  reach_led (Reach.moved h m) same = Led.moves (reach_led h same) m
+  reach_led (Reach.has_read h rd at lies) same = absurd (omega (arith, same))
+
+  led_reach : {s : List Dot} → Led flat last (IsStartStack flat) s → Reach flat last [] 0 s
+  led_reach (led (is_start st)) = Reach.begins st
+  led_reach (Led.moves h m) = Reach.moved (led_reach h) m
+
+  pub starts_from : IsStateFrom flat last (IsStartStack flat) tops ended
+  starts_from = record {
+    tops_are = λ top. (
+      λ h. let r = (closure []).all_read top h in (
+        r,
+        reach_led (((closure []).reading top r).1
+            (inl (record { top = top; is = h; stack_is = sym (append-nil top) }))) refl,
+      ),
+      λ h. back top h.0 (((closure []).reading top h.0).0 (led_reach h.1)),
+    );
+    ended_is = (
+      λ e. let a = (closure []).accepts.1 (e, inl refl) in
+          record { position = a.position; led_to = reach_led a.reached refl; done = a.done },
+      λ e. ((closure []).accepts.0
+          (record { position = e.position; reached = led_reach e.led_to; done = e.done })).0,
+    );
+  }
+    where
+      not_none : IsReading flat [] → ⊥
+      not_none r = by r refl
+        where
+          by : {s : List Dot} → IsReading flat s → s ≡ [] → ⊥
+          by (reading rd) same = cc same
+
+      back : (top : List Dot) → IsReading flat top
+          → Lifted (Contains tops) [] top ⊎ ((ended ≡ true) × Led flat last (λ v. [] ≡ v) top) → Contains tops top
+      back top r (inl l) = subst (λ v. Contains tops v) (sym (l.stack_is ∙ append-nil l.top)) l.is
+      back top r (inr g) = absurd (no_led_none flat last top g.1
+          (λ same. not_none (subst (λ v. IsReading flat v) same r)))

@@ -1,6 +1,6 @@
 -- Pairs of states from symbol to symbol.
--- Serves: closed_pairs_include, included_lines, first_line, no_line_up_to, no_line, suffixes_include.
-use Rattle.std.proofs.Common.{◌≡◌, ℕ, zero, suc, ◌+◌, ◌<◌, ◌≤◌, List, [], ◌∷◌, length, refl, subst, arith, inl}
+-- Serves: conclude, is_included.
+use Rattle.std.proofs.Common.{◌≡◌, ℕ, zero, suc, ◌+◌, ◌<◌, ◌≤◌, List, [], ◌∷◌, length, refl, subst, arith}
 use Rattle.std.specs.Prelude.{Bool, true, slice_get, Some, Contains}
 use Rattle.abnfread.specs.Element.{Rule}
 use Rattle.abnfcheck.specs.Derivable.{AreLetters, RuleDerives}
@@ -8,8 +8,7 @@ use Rattle.flatgrammar.specs.Flat.{Flat, Dot}
 use Rattle.flatgrammar.specs.Stacks.{Accepts, AreAlike, IsStackClosure, IsNext}
 use Rattle.flatgrammar.proofs.StackClosureLemmas.{next_closure, nothing_below}
 use Rattle.flatgrammar.proofs.StacksLemmas.{accepted_holds, holds_accepted}
-use Rattle.rulelines.specs.StatePairs.{AcceptsRule, AreClosed, AreSamples, IsStartPair, PairLeads}
-use Rattle.rulelines.specs.StatePairs.{StatePair}
+use Rattle.rulelines.specs.StatePairs.{AcceptsRule, IsStartPair, PairLeads, StatePair}
 
 -- each number below the length has an element
 pub element_at : {A : Type 0} (xs : List A) (k : ℕ) → k < length xs → (a : A) × (slice_get xs k ≡ Some a)
@@ -47,45 +46,6 @@ module _ (old : Flat) (old_last : Dot → Bool) (new : Flat) (new_last : Dot →
     new_closure = closure_on new new_last x j c d is new_alike p.new q.new p.new_ended q.new_ended here.new_closure
         l.new_next;
   }
-
-module _ (has : ℕ → Bool) (old : Flat) (old_last : Dot → Bool) (new : Flat) (new_last : Dot → Bool)
-    (samples : List ℕ) (each : AreSamples old new has samples) (pairs : List StatePair) (first : StatePair)
-    (closed : AreClosed old old_last new new_last samples pairs) (is_one : Contains pairs first)
-    (starts : IsStartPair old old_last new new_last first) (x : List ℕ)
-    (symbols : AreLetters has x) where
-  -- one of the pairs does so
-  record AtPair (j : ℕ) : Type 0 where
-    pub pair : StatePair
-    pub among : Contains pairs pair
-    pub closures : ArePairClosures old old_last new new_last x j pair
-
-  at_next : (j c : ℕ) → slice_get x j ≡ Some c → AtPair j → AtPair (j + 1)
-  at_next j c is here =
-      let s = each c (symbol_at has x j c symbols is) in
-      let on = closed.leads here.pair here.among s.sample s.is in
-      record {
-        pair = on.next;
-        among = on.is;
-        closures = next_closures old old_last new new_last x j c s.sample is s.old_alike s.new_alike here.pair on.next
-            on.leads here.closures;
-      }
-
-  at_each : (j : ℕ) → j ≤ length x → AtPair j
-  at_each zero le = record {
-    pair = first;
-    among = is_one;
-    closures = start_closures old old_last new new_last x first starts;
-  }
-  at_each (suc j) le =
-      let g = element_at x j (omega (arith, le)) in
-      let same : j + 1 ≡ suc j = omega arith in
-      subst AtPair same (at_next j g.0 g.1 (at_each j (omega (arith, le))))
-
-  pub accepted_too : Accepts old old_last x (length x) → Accepts new new_last x (length x)
-  accepted_too a =
-      let here = at_each (length x) (omega arith) in
-      here.closures.new_closure.accepts.1
-      (closed.ends here.pair here.among (here.closures.old_closure.accepts.0 a).0, inl refl)
 
 -- what the rule derives, stacks accept
 module _ (has : ℕ → Bool) (rules : List Rule) (id : ℕ) (flat : Flat) (last : Dot → Bool) (most : ℕ)

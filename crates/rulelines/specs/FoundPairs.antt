@@ -2,16 +2,13 @@
 use Rattle.std.specs.Prelude.{◌≡◌, ◌⊎◌, ℕ, ◌<◌, ◌≤◌, Bool, true, List, [], ◌∷◌, ◌++◌, slice_get, Some, Contains}
 use Rattle.flatgrammar.specs.Flat.{Flat, Dot}
 use Rattle.rulelines.specs.FirstLines.{sort_key}
-use Rattle.rulelines.specs.StatePairs.{IsStartPair, PairLeads, StatePair, swapped}
+use Rattle.rulelines.specs.StatePairs.{IsStartPair, PairLeads, StatePair}
 
 -- a pair of states, the index of the pair that it was found from, and the symbol that leads from there
 pub record FoundPair : Type 0 where
   pub pair : StatePair
   pub parent : ℕ
   pub symbol : ℕ
-
-abbrev pub swapped_found : FoundPair → FoundPair
-swapped_found e = record { pair = swapped e.pair; parent = e.parent; symbol = e.symbol }
 
 -- the symbols that lead to the pair of that index: none to the first one, else those to its parent and its own
 pub data IsWordOf (found : List FoundPair) : ℕ → List ℕ → Type 0 where
@@ -26,9 +23,6 @@ IsFoundBefore e f = (e.parent < f.parent) ⊎ ((e.parent ≡ f.parent) × (sort_
 -- no stack of the old state is left
 abbrev pub IsOldDead : StatePair → Type 0
 IsOldDead p = p.old ≡ []
-
-abbrev pub IsNewDead : StatePair → Type 0
-IsNewDead p = p.new ≡ []
 
 -- in the first n pairs the new whole is done where the old one is
 abbrev pub EndWithNew : List FoundPair → ℕ → Type 0

@@ -16,3 +16,4 @@ pub mod Misses
 pub mod MissSearch
 pub mod MissLists
 pub mod Seeds
+pub mod CutSearch

@@ -1,8 +1,10 @@
 -- What states accept, and pairs of states that are cut into tops and suffixes below them.
-use Rattle.std.specs.Prelude.{◌≡◌, ◌↔◌, ℕ, Bool, true, false, List, [], ◌∷◌, ◌++◌, Contains}
+use Rattle.std.specs.Prelude.{◌≡◌, ℕ, ◌<◌, Bool, true, false, List, [], ◌∷◌, slice_get, Some, Contains}
 use Rattle.flatgrammar.specs.Flat.{Flat, Dot, Set, Has, Reads, Starts}
-use Rattle.flatgrammar.specs.Stacks.{IsDoneAt, IsReading, Led, LedToEnd, Moves}
-use Rattle.rulelines.specs.StatePairs.{PairLeads, StatePair}
+use Rattle.flatgrammar.specs.Stacks.{IsDoneAt, IsReading, Moves}
+use Rattle.lazydfa.specs.StackCuts.{AreAllJoined, AreFull, IsStateFrom, IsTopOnSuffix}
+use Rattle.rulelines.specs.FoundPairs.{IsOldDead}
+use Rattle.rulelines.specs.StatePairs.{LeadsInto, StatePair}
 
 module _ (flat : Flat) (last : Dot → Bool) where
   -- a stack comes to its end by these symbols
@@ -23,27 +25,6 @@ module _ (flat : Flat) (last : Dot → Bool) where
     ends : ended ≡ true → StateAccepts tops ended []
     by_stack : {w : List ℕ} → SomeDrains (Contains tops) w → StateAccepts tops ended w
 
-  -- the state of some stacks: what they lead to without a symbol
-  pub record IsStateFrom (from : List Dot → Type 0) (tops : List (List Dot)) (ended : Bool) : Type 0 where
-    pub tops_are : (top : List Dot) → Contains tops top ↔ (IsReading flat top × Led flat last from top)
-    pub ended_is : (ended ≡ true) ↔ LedToEnd flat last from
-
--- the stack is a top on a suffix
-pub record IsTopOnSuffix (tops suffixes : List (List Dot)) (stack : List Dot) : Type 0 where
-  pub top : List Dot
-  pub suffix : List Dot
-  pub is : stack ≡ top ++ suffix
-  pub is_top : Contains tops top
-  pub is_suffix : Contains suffixes suffix
-
--- each top on each suffix is one of the stacks
-abbrev pub AreAllJoined : List (List Dot) → List (List Dot) → List (List Dot) → Type 0
-AreAllJoined tops suffixes stacks = (top suffix : List Dot) → Contains tops top → Contains suffixes suffix
-    → Contains stacks (top ++ suffix)
-
-abbrev pub AreFull : List (List Dot) → Type 0
-AreFull stacks = (stack : List Dot) → Contains stacks stack → stack ≡ [] → ⊥
-
 -- the old state of the other pair has all stacks of this one's, and its new state has no more than this one's
 pub record AsksMore (other pair : StatePair) : Type 0 where
   pub old_are : (stack : List Dot) → Contains pair.old stack → Contains other.old stack
@@ -52,41 +33,38 @@ pub record AsksMore (other pair : StatePair) : Type 0 where
   pub new_ends : other.new_ended ≡ true → pair.new_ended ≡ true
 
 module _ (old : Flat) (old_last : Dot → Bool) (new : Flat) (new_last : Dot → Bool) where
-  -- A pair of states is cut into a pair of tops and a pair of suffixes: each old stack is an old top on an old suffix,
-  -- and each new top on each new suffix is a new stack.
+  -- A pair of states is cut into a pair of tops and a pair of what follows from their suffixes. Each old stack is an
+  -- old top on an old suffix, and each new top on each new suffix is a new stack. No old suffix comes to its end
+  -- without a symbol.
   pub record IsCutInto (pair tops below : StatePair) : Type 0 where
     pub old_suffixes : List (List Dot)
     pub new_suffixes : List (List Dot)
     pub runs : pair.old_ended ≡ false
-    pub tops_run : tops.old_ended ≡ false
     pub new_tops_run : tops.new_ended ≡ false
-    pub cut : (stack : List Dot) → Contains pair.old stack → IsTopOnSuffix tops.old old_suffixes stack
-    pub full : AreFull tops.old
+    pub below_runs : below.old_ended ≡ false
+    pub split : (stack : List Dot) → Contains pair.old stack → IsTopOnSuffix tops.old old_suffixes stack
     pub old_full : AreFull old_suffixes
     pub new_full : AreFull new_suffixes
     pub joined : AreAllJoined tops.new new_suffixes pair.new
     pub old_below : IsStateFrom old old_last (Contains old_suffixes) below.old below.old_ended
     pub new_below : IsStateFrom new new_last (Contains new_suffixes) below.new below.new_ended
 
-  module _ (pairs : List StatePair) where
-    -- a pair follows from pairs: it is one of them; both pairs that it is cut into do; or one that asks more does
-    pub data FollowsFrom : StatePair → Type 0 where
-      one : {p : StatePair} → Contains pairs p → FollowsFrom p
-      cut : {p tops below : StatePair} → IsCutInto p tops below → FollowsFrom tops → FollowsFrom below
-          → FollowsFrom p
-      more : {p other : StatePair} → AsksMore other p → FollowsFrom other → FollowsFrom p
+  module _ (samples : List ℕ) (pairs : List StatePair) where
+    -- the pair of an index follows from pairs: no old stack is left, or each sample leads to one of them, or both pairs
+    -- that it is cut into are among them, or an earlier one asks more
+    pub data IsFollowed (i : ℕ) (p : StatePair) : Type 0 where
+      dead : IsOldDead p → IsFollowed i p
+      leads : ((c : ℕ) → Contains samples c → LeadsInto old old_last new new_last pairs c p) → IsFollowed i p
+      cut : {tops below : StatePair} → IsCutInto p tops below → Contains pairs tops → Contains pairs below
+          → IsFollowed i p
+      more : {j : ℕ} {other : StatePair} → j < i → slice_get pairs j ≡ Some other → AsksMore other p
+          → IsFollowed i p
 
-    -- a symbol leads from a pair to one that follows from pairs
-    pub record LeadsOnto (c : ℕ) (p : StatePair) : Type 0 where
-      pub next : StatePair
-      pub follows : FollowsFrom next
-      pub leads : PairLeads old old_last new new_last c p next
-
-  -- the new whole is done where the old one is, and each sample leads from each pair to one that follows from them
-  pub record AreClosedBySuffixes (samples : List ℕ) (pairs : List StatePair) : Type 0 where
-    pub ends : (p : StatePair) → Contains pairs p → p.old_ended ≡ true → p.new_ended ≡ true
-    pub reading : (p : StatePair) → Contains pairs p → (top : List Dot) → Contains p.old top → IsReading old top
-    pub leads : (p : StatePair) → Contains pairs p → (c : ℕ) → Contains samples c → LeadsOnto pairs c p
+    -- the new whole is done where the old one is, and each pair follows from them
+    pub record AreClosedByCuts : Type 0 where
+      pub ends : (p : StatePair) → Contains pairs p → p.old_ended ≡ true → p.new_ended ≡ true
+      pub reading : (p : StatePair) → Contains pairs p → (top : List Dot) → Contains p.old top → IsReading old top
+      pub followed : (i : ℕ) (p : StatePair) → slice_get pairs i ≡ Some p → IsFollowed i p
 
 -- a stack where a whole begins
 pub data IsStartStack (flat : Flat) : List Dot → Type 0 where

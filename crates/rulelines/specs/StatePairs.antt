@@ -14,10 +14,6 @@ pub record StatePair : Type 0 where
   pub new : List (List Dot)
   pub new_ended : Bool
 
--- the same two states in the other order
-abbrev pub swapped : StatePair → StatePair
-swapped p = record { old = p.new; old_ended = p.new_ended; new = p.old; new_ended = p.old_ended }
-
 module _ (old new : Flat) where
   -- one of the samples is in exactly the sets that have the symbol, and comes no later
   pub record HasSample (samples : List ℕ) (c : ℕ) : Type 0 where
@@ -47,11 +43,6 @@ module _ (old : Flat) (old_last : Dot → Bool) (new : Flat) (new_last : Dot →
     pub next : StatePair
     pub is : Contains pairs next
     pub leads : PairLeads c p next
-
-  -- the new whole is done where the old one is, and each sample leads from each pair to one of them
-  pub record AreClosed (samples : List ℕ) (pairs : List StatePair) : Type 0 where
-    pub ends : (p : StatePair) → Contains pairs p → p.old_ended ≡ true → p.new_ended ≡ true
-    pub leads : (p : StatePair) → Contains pairs p → (c : ℕ) → Contains samples c → LeadsInto pairs c p
 
 -- what a flat grammar needs so that its stacks accept exactly the lines, of at most so many symbols, which the rule of
 -- that id derives

@@ -1,14 +1,17 @@
 //! The first line that the old one of two grammars alone derives.
-ghost use Rattle.std.specs.Prelude.{◌≡◌, ℕ, Bool, List, IfOk, IfSome};
+ghost use Rattle.std.specs.Prelude.{◌≡◌, ℕ, Bool, List, IsTrue, IfOk, IfSome};
 ghost use Rattle.abnfread.specs.Element.{Rule};
 ghost use Rattle.flatgrammar.specs.Flat.{Flat};
 ghost use Rattle.letters.specs.Letters.{has};
 ghost use Rattle.lazydfa.specs.StateSets.{StateSets};
 ghost use Rattle.rulelines.specs.Alone.{DerivesAsRule, IsBegun, IsKnownOf, IsSearchOf};
-ghost use Rattle.rulelines.specs.FirstLines.{IsOfOldAlone};
+ghost use Rattle.rulelines.specs.FirstLines.{HasNoLine, IsOfOldAlone};
 ghost use Rattle.rulelines.specs.FoundPairs.{IsWordOf};
+ghost use Rattle.rulelines.specs.Samples.{AreInLineOrder};
 ghost use Rattle.rulelines.specs.Search.{found_pairs};
+ghost use Rattle.rulelines.specs.StatePairs.{AreSamples};
 
+use crate::cuts::search_by_cuts;
 use crate::pairs::{SearchedPair, add_pair, no_pairs};
 use crate::samples::common_samples;
 use crate::search::{PairSearch, SearchEnd, search_all};
@@ -17,6 +20,12 @@ use lazydfa::States;
 use letters::Alphabet;
 use ruletable::Memory;
 use std::alloc::Global;
+
+/// How many pairs are searched before pairs are cut.
+const FIRST_PAIRS: usize = 4_096;
+
+/// How many pairs are searched that are cut.
+const CUT_PAIRS: usize = 8_192;
 
 /// A result on the lines that the old grammar alone derives. `First`: the first of them, shorter lines first, and
 /// else by the first symbol that differs: %x21-7E, then the space, then others by number. `Never`: there is none.
@@ -117,9 +126,62 @@ fn conclude(alloc: Global, search: &PairSearch, outcome: SearchEnd) -> Result<Al
     }
 }
 
+// Returns whether a result says which line is the first, or that there is none.
+fn is_decided(alone: &Alone) -> bool {
+    match alone {
+        Alone::First(_) | Alone::Never => true,
+        Alone::NeverUpTo(_) | Alone::Unknown => false,
+    }
+}
+
+// Searches at most `most` pairs for a line that the old one of two flat grammars alone derives, by samples of all
+// symbols. `Memory` if an allocation fails.
+fn search_lines(
+    alloc: Global,
+    old: &Flat,
+    new: &Flat,
+    samples: &[u32],
+    room: usize,
+    most: usize,
+) -> Result<Alone, Memory>
+    ensures { IfOk result (λ alone. (has : ℕ → Bool) (old_rules new_rules : List Rule) (old_rule new_rule : ℕ) →
+        AreInLineOrder has samples.now → AreSamples old.now new.now has samples.now →
+        DerivesAsRule has old_rules old_rule old.now → DerivesAsRule has new_rules new_rule new.now → IsKnownOf
+        (IsOfOldAlone has old_rules old_rule new_rules new_rule) alone) }
+{
+    let Some(mut search) = begin_search(alloc, old, new, room)? else {
+        return Ok(Alone::Unknown);
+    };
+    let outcome = search_all(&mut search, samples, most)?;
+    conclude(alloc, &search, outcome)
+}
+
+// Returns whether a search of pairs that are cut, or have a strict cut, shows that the new one of two flat grammars
+// derives each line that the old one derives. `Memory` if an allocation fails.
+fn is_included(
+    alloc: Global,
+    old: &Flat,
+    new: &Flat,
+    samples: &[u32],
+    room: usize,
+    is_strict: bool,
+) -> Result<bool, Memory>
+    ensures { IfOk result (λ included. (has : ℕ → Bool) (old_rules new_rules : List Rule) (old_rule new_rule : ℕ) →
+        IsTrue included → AreSamples old.now new.now has samples.now → DerivesAsRule has old_rules old_rule old.now →
+        DerivesAsRule has new_rules new_rule new.now → HasNoLine (IsOfOldAlone has old_rules old_rule new_rules
+        new_rule)) }
+{
+    let Some(mut search) = begin_search(alloc, old, new, room)? else {
+        return Ok(false);
+    };
+    let included = search_by_cuts(&mut search, samples, room.min(CUT_PAIRS), is_strict)?;
+    Ok(included)
+}
+
 /// Searches for a line over an alphabet that the old one of two flat grammars alone derives. The search
-/// goes over at most `room` pairs, with room for `room` entries of each grammar's states. `Unknown` also if a grammar
-/// counts how often something nullable is repeated. `Memory` if an allocation fails.
+/// goes over at most `room` pairs, with room for `room` entries of each grammar's states. Where it finds none in its
+/// first pairs, it looks for a proof by cut pairs that there is none. `Unknown` also if a grammar counts how often
+/// something nullable is repeated. `Memory` if an allocation fails.
 pub(crate) fn old_alone(
     alloc: Global,
     alphabet: Alphabet,
@@ -132,9 +194,15 @@ pub(crate) fn old_alone(
         (IsOfOldAlone (has alphabet) old_rules old_rule new_rules new_rule) alone) }
 {
     let samples = common_samples(alloc, alphabet, old, new)?;
-    let Some(mut search) = begin_search(alloc, old, new, room)? else {
-        return Ok(Alone::Unknown);
-    };
-    let outcome = search_all(&mut search, &samples, room)?;
-    conclude(alloc, &search, outcome)
+    let first = search_lines(alloc, old, new, &samples, room, room.min(FIRST_PAIRS))?;
+    if is_decided(&first) {
+        return Ok(first);
+    }
+    if is_included(alloc, old, new, &samples, room, false)? {
+        return Ok(Alone::Never);
+    }
+    if is_included(alloc, old, new, &samples, room, true)? {
+        return Ok(Alone::Never);
+    }
+    search_lines(alloc, old, new, &samples, room, room)
 }

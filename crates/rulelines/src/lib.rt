@@ -4,7 +4,7 @@
 mod alone;
 mod comparison;
 mod counts;
-mod laws;
+mod cuts;
 mod list;
 mod miss;
 mod pairs;
@@ -14,10 +14,6 @@ mod text;
 
 pub use alone::Alone;
 pub use comparison::{Comparison, compare};
-pub use laws::{
-    any_length, closed_pairs_include, first_line, included_lines, no_line, no_line_up_to,
-    suffixes_include, swapped_pairs,
-};
 pub use list::{Lines, Lots, NextLine};
 pub use miss::{MissSet, Misses};
 pub use text::line_bytes;

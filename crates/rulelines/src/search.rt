@@ -1,5 +1,8 @@
 //! A breadth-first search of pairs of states, for the first line that the old grammar alone derives.
 ghost use Rattle.std.specs.Prelude.{◌≡◌, ◌+◌, ℕ, Bool, false, List, IsTrue, IfOk, slice_get, Some};
+ghost use Rattle.std.specs.Prelude.{Contains};
+ghost use Rattle.rulelines.specs.CutSearch.{AreMorePairs, AreSoundIn, LeadsIn};
+ghost use Rattle.rulelines.specs.declared.pairs.SearchedPair.{SearchedPair as a_pair};
 ghost use Rattle.rulelines.specs.Samples.{AreInLineOrder};
 ghost use Rattle.rulelines.specs.Search.{AreSameGrammars, IsExpanded, IsSearchOutcome, Searches};
 
@@ -36,6 +39,9 @@ fn lead(search: &mut PairSearch, at: usize, symbol: u32) -> Result<bool, Memory>
         search.new at (k + 1) m) }
     ensures over { IfOk result (λ done. (has : ℕ → Bool) (samples : List ℕ) (k m : ℕ) → Searches has samples search.old
         at k m → (done ≡ false) → Searches has samples search.new at k m) }
+    ensures more { IfOk result (λ done. AreMorePairs search.old search.new) }
+    ensures leads { IfOk result (λ done. IsTrue done → (p : a_pair) → slice_get search.old.pairs.items.items at ≡ Some p
+        → AreSoundIn search.old → LeadsIn search.new symbol p) }
 {
     let Some(found) = search.pairs.items.get(at) else {
         return Ok(false);
@@ -57,12 +63,15 @@ fn lead(search: &mut PairSearch, at: usize, symbol: u32) -> Result<bool, Memory>
     Ok(true)
 }
 
-// Finds the pairs that samples lead to from another. Returns whether there is room for their states. `Memory` if an
-// allocation fails.
-fn expand(search: &mut PairSearch, at: usize, samples: &[u32]) -> Result<bool, Memory>
+/// Finds the pairs that samples lead to from another. Returns whether there is room for their states. `Memory` if an
+/// allocation fails.
+pub(crate) fn expand(search: &mut PairSearch, at: usize, samples: &[u32]) -> Result<bool, Memory>
     ensures same { IfOk result (λ done. AreSameGrammars search.old search.new) }
     ensures expanded { IfOk result (λ done. (has : ℕ → Bool) (m : ℕ) → AreInLineOrder has samples.now → Searches has
         samples.now search.old at 0 m → IsExpanded done has samples.now search.new at m) }
+    ensures more { IfOk result (λ done. AreMorePairs search.old search.new) }
+    ensures leads { IfOk result (λ done. IsTrue done → (p : a_pair) → slice_get search.old.pairs.items.items at ≡ Some p
+        → AreSoundIn search.old → (c : ℕ) → Contains samples.now c → LeadsIn search.new c p) }
 {
     for symbol in samples {
         if !lead(search, at, *symbol)? {

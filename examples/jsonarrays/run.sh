@@ -1,0 +1,1 @@
+abnfd ../rfc8259/rfc8259.abnf rewritten.abnf
