@@ -83,6 +83,7 @@ ABNF = {
     "a long reversed range": halves('s = %d9', '8', '-', '8', '\n'),
     "a long reversed repetition": halves('s = 9', '8', '*', '8', '"a"\n'),
     "prose": Shape('s = "x"', ' / <p>', '\n'),
+    "prose that does not stand": halves('r = "a"\n', 'r = <p>\n', '', 'r =/ "b"\n', 'r =/ <q>\n'),
     "prose down a chain": Shape('', numbered('r# = r@ <p>\n'), numbered('r# = <p>\n')),
     "a long prose": Shape('s = <', 'p', '>\n'),
     "options": Shape('s = "x"', ' ["a"]', '\n'),
