@@ -23,9 +23,8 @@ MOST, LEAST, PLAIN, AGAIN = 3.0, 0.1, 0.5, 4
 BOUNDED = ["sh", "-c", 'ulimit -v 4000000; ulimit -t 4; exec "$@"', "sh"]
 CHECKS = (("-m", "check"), ("-m", "print"), ("-x", "-m", "check"))
 RUNS = (("pegi", CHECKS, PEG), ("abnfi", CHECKS, ABNF), ("abnfx", ((), ("-c",)), RFC))
-# Runs that are quadratic today: notes of which each says by which rules it is reached.
-REACHED = ("undefined names down a chain", "prose down a chain")
-KNOWN = {f"abnfi -x -m check: {name}" for name in REACHED}
+# Runs that are quadratic today.
+KNOWN = set()
 
 
 def seconds(words, times=1):

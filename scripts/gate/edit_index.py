@@ -58,8 +58,8 @@ EXEMPT = (
     "gramcheck: analysis.left_recursive_rules",
     # It passes on what `Chains::way_back` returns, which has an edit.
     "pegexplain: ways.left_way",
-    # They pass on what `shortestpaths::chains_from` and `Chains::chain_to` return, which have their edits.
-    "abnfcheck: reached_names.name_chains", "abnfcheck: NameChains.chain_to",
+    # It passes on what `fixpoint::chains_from` returns, which has its edit.
+    "abnfcheck: reached_names.name_chains",
     # It passes on what `conclude` does, which has its edit.
     "toolrun: finish.finish",
     # Another function of the crate has such a body, and its edit shows the same mistake.

@@ -2,6 +2,7 @@ pub mod AbnfNotesLemmas
 pub mod AimLemmas
 mod BeginsMemberLemmas
 mod BrokenNeedsLemmas
+mod ChainEndsLemmas
 mod DerivesDecidedLemmas
 mod ElementNeedsLemmas
 mod FiniteLeastLemmas

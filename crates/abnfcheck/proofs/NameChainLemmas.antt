@@ -1,7 +1,7 @@
 -- The chain of names from the judged rule is one.
--- Serves: chain_to, name_chains, one_name_chain
+-- Serves: chain_ends, name_chains, one_name_chain
 use Rattle.std.proofs.Common.{◌≡◌, ℕ, suc, ◌<◌, List, [], ◌∷◌, ◌++◌, length, position, Option, Some, MatchOption}
-use Rattle.std.proofs.Common.{None, refl, sym, ◌∙◌, ap, subst, arith, Vec, Global}
+use Rattle.std.proofs.Common.{None, refl, sym, ◌∙◌, ap, subst, arith}
 use Rattle.std.specs.Prelude.{option_map}
 use Rattle.fixpoint.specs.StepRows.{Step}
 use Rattle.ruletable.specs.Rules.{Rules, find_in, names_of, same_name}
@@ -12,7 +12,8 @@ use Rattle.fixpoint.specs.Distances.{Distance, Steps, no_step, one_more}
 use Rattle.fixpoint.specs.ShortChains.{Back, ChainTo, IsChainIfReached, at_start, after}
 use Rattle.abnfread.specs.Element.{Rule}
 use Rattle.abnfcheck.specs.NameChains.{IsChainAt, IsFirstUser, IsNameChain, ReachesBy, UseChain, UseDistance, names_at}
-use Rattle.abnfcheck.specs.NameChains.{after_user, judged_alone, no_use, one_use}
+use Rattle.abnfcheck.specs.NameChains.{AreEnds, after_user, judged_alone, no_use, one_use}
+use Rattle.abnfcheck.specs.declared.reached_names.ChainEnds.{ChainEnds}
 use Rattle.abnfcheck.specs.NameIds.{IsGraph, IsJudged, UsesNameAt, all_names}
 use Rattle.abnfcheck.proofs.GraphLemmas.{position_is_one, step_use, use_step}
 
@@ -132,24 +133,36 @@ pub chain_of_none : (rules : List Rule) (names : List (List ℕ)) (judged : ℕ)
 chain_of_none rules names judged None is = refl
 chain_of_none rules names judged (Some id) is = absurd (cc is)
 
-items_map : (names : List (List ℕ)) (chain : Option (Vec ℕ Global)) → option_map (λ ids. names_at names ids.items) chain
-    ≡ option_map (names_at names) (option_map (λ v. v.items) chain)
-items_map names None = refl
-items_map names (Some v) = refl
-
 pub chain_of_id : (rules : List Rule) (given : Option (List ℕ)) (names rows : List (List ℕ)) (judged p : ℕ)
-    (id : Option ℕ) (chain : Option (Vec ℕ Global)) → IsGraph rules given names rows judged → id ≡ Some p
-    → IsChainIfReached rows judged p (option_map (λ v. v.items) chain)
-    → IsChainAt rules names judged id (option_map (λ ids. names_at names ids.items) chain)
+    (id : Option ℕ) (chain : Option (List ℕ)) → IsGraph rules given names rows judged → id ≡ Some p
+    → IsChainIfReached rows judged p chain → IsChainAt rules names judged id (option_map (names_at names) chain)
 chain_of_id rules given names rows judged p None chain graph is c = absurd (cc is)
 chain_of_id rules given names rows judged p (Some id) chain graph is c =
     let e : id ≡ p = cc is in (
-      option_map (λ v. v.items) chain,
+      chain,
       chain_if_reached rules names rows judged (step_use rules given names rows judged graph)
-          (use_step rules given names rows judged graph) id (option_map (λ v. v.items) chain)
-          (subst (λ z. IsChainIfReached rows judged z (option_map (λ v. v.items) chain)) (sym e) c),
-      items_map names chain,
+          (use_step rules given names rows judged graph) id chain
+          (subst (λ z. IsChainIfReached rows judged z chain) (sym e) c),
+      refl,
     )
+
+-- the ends of a chain of ids are those of a chain of names
+pub named_ends : (rules : List Rule) (given : Option (List ℕ)) (name : List ℕ) (names rows : List (List ℕ))
+    (judged p last : ℕ) (ends : Option ChainEnds) → IsGraph rules given names rows judged
+    → position (same_name Fold name) names ≡ Some p
+    → MatchOption ends (IsChainIfReached rows judged p None)
+    (λ e. (ids : List ℕ) × ChainTo rows judged p ids × AreEnds last ids e)
+    → MatchOption ends (IsNameChain rules given name None)
+    (λ e. (ids : List ℕ) × IsNameChain rules given name (Some (names_at names ids)) × AreEnds last ids e)
+named_ends rules given name names rows judged p last None graph is h =
+    chain_by_rows rules given name names rows judged None graph
+    (chain_of_id rules given names rows judged p _ None graph is h)
+named_ends rules given name names rows judged p last (Some e) graph is h = (
+  h.0,
+  chain_by_rows rules given name names rows judged (Some (names_at names h.0)) graph
+      (chain_of_id rules given names rows judged p _ (Some h.0) graph is h.1),
+  h.2,
+)
 
 -- where there is a name the judged number has a row
 pub judged_below : (rules : List Rule) (given : Option (List ℕ)) (names rows : List (List ℕ)) (judged p : ℕ)

@@ -1,11 +1,12 @@
 -- By which rules the judged one reaches a name. Own.
-use Rattle.std.specs.Prelude.{◌≡◌, ℕ, suc, ◌≤◌, List, [], ◌∷◌, ◌++◌, length, map, position, slice_index_or, Option}
-use Rattle.std.specs.Prelude.{Some, None, MatchOption, option_map}
+use Rattle.std.specs.Prelude.{◌≡◌, ℕ, suc, ◌+◌, ◌-◌, ◌≤◌, List, [], ◌∷◌, ◌++◌, length, map, take, drop, position}
+use Rattle.std.specs.Prelude.{slice_index_or, Option, Some, None, MatchOption, option_map}
 use Rattle.ruletable.specs.Rules.{names_of, same_name}
 use Rattle.ruletable.specs.declared.table.NameCase.TheVariants.{Fold}
 use Rattle.fixpoint.specs.ShortChains.{AreChains}
 use Rattle.abnfread.specs.Element.{Rule}
 use Rattle.abnfcheck.specs.NameIds.{IsGraph, IsJudged, UsesNameAt, all_names}
+use Rattle.abnfcheck.specs.declared.reached_names.ChainEnds.{ChainEnds}
 use Rattle.abnfcheck.specs.declared.reached_names.NameChains.{NameChains as Found}
 
 -- the names with these ids
@@ -56,6 +57,12 @@ pub record IsNameChain (rules : List Rule) (given : Option (List ℕ)) (name : L
 pub record AreNameChains (rules : List Rule) (given : Option (List ℕ)) (found : Found) : Type 0 where
   pub rows : List (List ℕ)
   pub judged : ℕ
+  pub is_judged : found.judged ≡ judged
   pub folds : found.names.names ≡ Fold
   pub graph : IsGraph rules given (names_of found.names) rows judged
   pub chains : MatchOption found.chains (length rows ≤ judged) (AreChains rows judged)
+
+-- the code has the first id of a chain, at most so many of the last ones, and how many stand between them
+pub record AreEnds (last : ℕ) (ids : List ℕ) (ends : ChainEnds) : Type 0 where
+  pub left : ends.left ≡ length ids - (last + 1)
+  pub is : ends.ids.items ≡ take 1 ids ++ drop (length ids - (last + 1) + 1) ids

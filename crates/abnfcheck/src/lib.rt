@@ -23,6 +23,6 @@ pub use joined::AllRules;
 pub use notes_law::one_list_of_abnf_notes;
 pub use nullable_marks::nullable_rules;
 pub use productive_marks::productive;
-pub use reached_names::{NameChains, name_chains, one_name_chain};
+pub use reached_names::{ChainEnds, NameChains, name_chains, one_name_chain};
 pub use sound_abnf::SoundAbnf;
 pub use table_marks::{productive_rules, sound_rules};

@@ -1,5 +1,6 @@
 -- The line that reports by which rules a name is reached.
-use Rattle.std.specs.Prelude.{ℕ, zero, suc, ◌-◌, List, [], ◌∷◌, ◌++◌, Option, Some, None, length, drop, codes, decimal}
+use Rattle.std.specs.Prelude.{ℕ, zero, suc, ◌+◌, ◌-◌, List, [], ◌∷◌, ◌++◌, Option, Some, None, length, take, drop}
+use Rattle.std.specs.Prelude.{codes, decimal}
 use Rattle.std.specs.List.{flat_map}
 use Rattle.diagnostics.specs.ShownBytes.{cut}
 
@@ -16,16 +17,16 @@ left_out (suc n) = codes " > " ++ (decimal (suc n) ++ codes " more")
 abbrev pub names_after : List (List ℕ) → List ℕ
 names_after names = flat_map (λ name. codes " > " ++ in_quotes name) names
 
--- how many are left out, and the last seven
-abbrev pub last_reported : List (List ℕ) → List ℕ
-last_reported names = left_out (length names - 7) ++ names_after (drop (length names - 7) names)
+-- the line of a chain by its first name and its last ones, with so many between them
+abbrev pub ends_line : ℕ → List (List ℕ) → List ℕ
+ends_line left [] = []
+ends_line left (name ∷ []) = []
+ends_line left (name ∷ next ∷ names) = codes "  reached by " ++ (in_quotes name
+    ++ (left_out left ++ (names_after (next ∷ names) ++ codes "\n")))
 
--- a chain of at least two names
+-- the line of a chain of at least two names: of more than eight the first one and the last seven
 abbrev pub chain_line : List (List ℕ) → List ℕ
-chain_line [] = []
-chain_line (name ∷ []) = []
-chain_line (name ∷ next ∷ names) = codes "  reached by " ++ (in_quotes name
-    ++ (last_reported (next ∷ names) ++ codes "\n"))
+chain_line names = ends_line (length names - 8) (take 1 names ++ drop (length names - 8 + 1) names)
 
 -- the line of a chain, if there is one
 abbrev pub chain_reported : Option (List (List ℕ)) → List ℕ

@@ -1,7 +1,7 @@
 //! The line that reports by which rules a name is reached.
 ghost use Rattle.std.specs.Prelude.{◌≡◌, ◌++◌, [], map, slice_index_or, OnOk};
 ghost use Rattle.ruletable.specs.Rules.{names_of};
-ghost use Rattle.abnfexplain.specs.ChainLines.{chain_line, last_reported, left_out, names_after, in_quotes};
+ghost use Rattle.abnfexplain.specs.ChainLines.{ends_line, left_out, names_after, in_quotes};
 
 use diagnostics::{push_cut, push_number};
 use ruletable::{Memory, RuleTable};
@@ -53,32 +53,27 @@ fn push_after(out: &mut Vec<u8>, names: &RuleTable<()>, ids: &[usize]) -> Result
     Ok(())
 }
 
-// Adds how many of the names with these ids are left out, and the last ones.
-fn push_last(out: &mut Vec<u8>, names: &RuleTable<()>, ids: &[usize]) -> Result<(), Memory>
-    ensures { OnOk result (out.new.items ≡ out.old.items
-        ++ last_reported (map (λ id. slice_index_or (names_of names.now) id []) ids.now)) }
-{
-    let count = ids.len().saturating_sub(MAX_LAST);
-    push_left_out(out, count)?;
-    push_after(out, names, &ids[count..])?;
-    Ok(())
-}
-
-/// Adds the line that reports by which rules a name is reached: the names with these ids, in order, if there are at
-/// least two. Of more than 8 the first is reported, how many are left out, and the last 7.
+/// Adds the line that reports by which rules a name is reached, if a chain has at least two names. The ids are those of
+/// its first name and of its last ones, in order, and so many names stand between them.
 ///
 /// # Errors
 /// `Memory` if an allocation fails.
-pub fn push_chain(out: &mut Vec<u8>, names: &RuleTable<()>, ids: &[usize]) -> Result<(), Memory>
+pub fn push_chain(
+    out: &mut Vec<u8>,
+    names: &RuleTable<()>,
+    ids: &[usize],
+    left: usize,
+) -> Result<(), Memory>
     ensures { OnOk result (out.new.items ≡ out.old.items
-        ++ chain_line (map (λ id. slice_index_or (names_of names.now) id []) ids.now)) }
+        ++ ends_line left (map (λ id. slice_index_or (names_of names.now) id []) ids.now)) }
 {
     if ids.len() < 2 {
         return Ok(());
     }
     out.extend_from_slice(b"  reached by ")?;
     push_quoted(out, name_with(names, ids[0]))?;
-    push_last(out, names, &ids[1..])?;
+    push_left_out(out, left)?;
+    push_after(out, names, &ids[1..])?;
     out.extend_from_slice(b"\n")?;
     Ok(())
 }

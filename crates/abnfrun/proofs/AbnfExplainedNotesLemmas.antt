@@ -1,9 +1,9 @@
 -- What explains a note is one text.
 -- Serves: one_statement_of_abnf, run_abnf (right)
-use Rattle.std.proofs.Common.{◌≡◌, ℕ, Bool, true, false, List, [], ◌∷◌, ◌++◌, length, take, Option}
-use Rattle.std.proofs.Common.{refl, sym, ◌∙◌, ap, subst}
+use Rattle.std.proofs.Common.{◌≡◌, ℕ, ◌+◌, ◌-◌, Bool, true, false, List, [], ◌∷◌, ◌++◌, length, take, drop, Option}
+use Rattle.std.proofs.Common.{map, refl, sym, ◌∙◌, ap, subst}
 use Rattle.std.specs.Prelude.{position}
-use Rattle.std.proofs.lemmas.List.{length-map}
+use Rattle.std.proofs.lemmas.List.{drop-map, length-map, map-append, take-map}
 use Rattle.ruletable.proofs.TableLemmas.{position-map}
 use Rattle.ruletable.specs.Notes.{Said}
 use Rattle.ruletable.specs.declared.note.NoteKind.{NoteKind}
@@ -19,12 +19,13 @@ use Rattle.abnfread.specs.AbnfViews.{rule_of, rules_of}
 use Rattle.abnfread.specs.declared.elem.Elem.{Elem}
 use Rattle.abnfread.specs.Element.{Definition, Rule}
 use Rattle.abnfcheck.specs.AbnfUses.{rule_names}
-use Rattle.abnfcheck.specs.NameChains.{AreNameChains, IsNameChain}
+use Rattle.abnfcheck.specs.NameChains.{AreEnds, AreNameChains, IsNameChain}
 use Rattle.abnfcheck.specs.NameIds.{all_names}
 use Rattle.abnfcheck.specs.WithCore.{with_core}
+use Rattle.abnfcheck.specs.declared.reached_names.ChainEnds.{ChainEnds}
 use Rattle.abnfcheck.specs.declared.reached_names.NameChains.{NameChains}
 use Rattle.abnfexplain.specs.AbnfNoteLines.{ExplainsNote}
-use Rattle.abnfexplain.specs.ChainLines.{chain_reported}
+use Rattle.abnfexplain.specs.ChainLines.{chain_line, chain_reported, ends_line}
 use Rattle.diagnostics.proofs.NearNamesLemmas.{meant-line-one}
 use Rattle.diagnostics.specs.NearNames.{IsMeant, IsMeantIf, is_before_limit, meant_reported}
 use Rattle.abnfrun.specs.AbnfNoted.{all_rules}
@@ -142,3 +143,16 @@ module _ (rules : List Rule) (given : Option (List ℕ)) (found : NameChains) (n
             (rules_first rules given (names_of found.names) count are.graph.all many) meant,
         refl,
       )
+
+-- the line of a chain is that of its ends
+pub line_of_ends : (name : ℕ → List ℕ) (ids : List ℕ) (ends : ChainEnds) → AreEnds 7 ids ends
+    → ends_line ends.left (map name ends.ids.items) ≡ chain_line (map name ids)
+line_of_ends name ids ends are = rw (
+  length-map ids name,
+  are.left,
+  are.is,
+  map-append name (take 1 ids) (drop (length ids - 8 + 1) ids),
+  take-map name 1 ids,
+  drop-map name (length ids - 8 + 1) ids,
+)
+    refl

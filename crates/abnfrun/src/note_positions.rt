@@ -18,7 +18,7 @@ ghost use Rattle.abnfrun.specs.AbnfNoted.{all_rules};
 
 use crate::abnf_positions::AbnfPositions;
 use abnfcheck::{AllRules, NameChains, name_chains};
-use abnfexplain::push_chain;
+use abnfexplain::{MAX_LAST, push_chain};
 use diagnostics::{Positions, explain_note, is_early, push_meant};
 use ruletable::{Memory, Note, NoteKind};
 use std::alloc::Global;
@@ -57,8 +57,8 @@ fn push_reached(
         → (chain : Option (List (List ℕ))) × IsNameChain rules given name.now chain
         × (out.new.items ≡ out.old.items ++ chain_reported chain)) }
 {
-    if let Some(ids) = chains.chain_to(alloc, name)? {
-        push_chain(out, &chains.names, &ids)?;
+    if let Some(ends) = chains.chain_ends(alloc, name, MAX_LAST)? {
+        push_chain(out, &chains.names, &ends.ids, ends.left)?;
     }
     Ok(())
 }

@@ -14,4 +14,5 @@ mod FirstMentionLemmas
 pub mod NumberListsLemmas
 mod RisingStartsLemmas
 mod MentionsUnderLemmas
+mod StandingProseLemmas
 pub mod NearNamesLemmas

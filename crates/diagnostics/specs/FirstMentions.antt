@@ -1,5 +1,5 @@
 -- Which mention a note is reported of.
-use Rattle.std.specs.Prelude.{◌≡◌, ◌⊎◌, ℕ, ◌<◌, ◌≤◌, ◌==◌, ◌||◌, List, [], ◌∷◌, Option, Some, None}
+use Rattle.std.specs.Prelude.{◌≡◌, ◌⊎◌, ℕ, ◌<◌, ◌≤◌, ◌==◌, ◌||◌, Bool, false, List, [], ◌∷◌, Option, Some, None}
 use Rattle.std.specs.Prelude.{◌&&◌, if◌then◌else◌, slice_get, MatchOption}
 use Rattle.std.specs.List.{filter, find, list_any}
 use Rattle.ruletable.specs.Rules.{same_name}
@@ -61,6 +61,15 @@ uses_of names name mentions = filter (λ m. is_kind Use m.kind && same_name name
 abbrev pub standing_definitions : List DefinedAt → List DefinedAt
 standing_definitions [] = []
 standing_definitions (d ∷ ds) = d ∷ filter (λ e. e.adds) ds
+
+-- whether a definition adds to a rule or begins it
+abbrev pub stands_by : DefinedAt → Option DefinedAt → Bool
+stands_by rule None = false
+stands_by rule (Some d) = d.adds || (d.start == rule.start)
+
+-- whether the definition at a position does
+abbrev pub is_standing : List DefinedAt → DefinedAt → ℕ → Bool
+is_standing definitions rule position = stands_by rule (find (λ d. d.start == position) definitions)
 
 -- the first prose in the bodies of definitions
 abbrev pub first_prose : List DefinedAt → List MentionedAt → Option MentionedAt

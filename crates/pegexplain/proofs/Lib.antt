@@ -1,6 +1,7 @@
 mod NullTestsLemmas
 mod SureNodesLemmas
 mod SureTestsLemmas
+mod HiddenBeforeLemmas
 pub mod ExplainedLoopLemmas
 mod RepeatsLemmas
 mod NamesInLemmas

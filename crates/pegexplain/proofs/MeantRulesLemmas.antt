@@ -1,7 +1,7 @@
 -- The names that a text mentions, and the line of the rule that is perhaps meant.
 -- Serves: peg_positions, explain_peg_note
-use Rattle.std.proofs.Common.{◌≡◌, ◌+◌, ◌<◌, ◌||◌, ℕ, suc, Bool, true, false, List, [], ◌∷◌, ◌++◌, length, map, take}
-use Rattle.std.proofs.Common.{Option, Some, None, refl, sym, ap, ◌∙◌, subst, get_or, add-one, append_assoc, append-nil}
+use Rattle.std.proofs.Common.{◌≡◌, ◌+◌, ◌<◌, ◌||◌, ℕ, Bool, true, false, List, [], ◌∷◌, ◌++◌, length, map, take}
+use Rattle.std.proofs.Common.{Option, refl, sym, ap, ◌∙◌, subst, get_or, add-one, append_assoc, append-nil}
 use Rattle.std.proofs.Common.{arith, ◌≤◌}
 use Rattle.std.specs.List.{filter}
 use Rattle.std.specs.Prelude.{position}
@@ -21,7 +21,7 @@ use Rattle.rulenames.proofs.IsAddedLemmas.{found_in}
 use Rattle.rulenames.proofs.IsScannedLemmas.{news_append}
 use Rattle.rulenames.specs.FirstUses.{news}
 use Rattle.rulenames.specs.NameUses.{IsAdded}
-use Rattle.ruletable.specs.Rules.{Rules, find_in, names_of, same_name}
+use Rattle.ruletable.specs.Rules.{Rules, names_of, same_name}
 use Rattle.ruletable.specs.declared.note.NoteKind.{NoteKind}
 use Rattle.ruletable.specs.declared.note.NoteKind.TheVariants.{Undefined}
 use Rattle.ruletable.specs.declared.table.NameCase.{NameCase}

@@ -1,14 +1,20 @@
 -- What the code found. It serves private helpers alone.
-use Rattle.std.specs.Prelude.{ℕ, Bool, List, Option, Some, None, map, option_map, slice_get}
+use Rattle.std.specs.Prelude.{◌≡◌, ℕ, ◌==◌, Bool, true, false, List, [], ◌∷◌, length, min, Option, Some, None, map}
+use Rattle.std.specs.Prelude.{option_map, slice_get}
+use Rattle.std.specs.List.{list_any}
+use Rattle.std.specs.Option.{is_some}
+use Rattle.diagnostics.specs.NumberLists.{numbers_for, positions_from}
 use Rattle.pegread.specs.PegViews.{pattern_of}
 use Rattle.pegread.specs.Pattern.{Pattern}
 use Rattle.pegread.specs.declared.expr.Expr.{Expr}
 use Rattle.ruletable.specs.Rules as table
-use Rattle.ruletable.specs.Rules.{bodies_of, find_in}
-use Rattle.pegexplain.specs.HiddenAlternatives.{AlternativeAt, HiddenBy, HintAt, literal_if}
+use Rattle.ruletable.specs.Rules.{bodies_of, find_in, same_name}
+use Rattle.ruletable.specs.declared.table.NameCase.TheVariants.{Exact}
+use Rattle.pegexplain.specs.HiddenAlternatives.{AlternativeAt, HiddenBy, HintAt, is_any, literal_if, why_by}
 use Rattle.pegexplain.specs.NullTests.{null_mark_of, nullable_by}
 use Rattle.pegexplain.specs.SureNodes.{sure_by}
 use Rattle.pegexplain.specs.declared.hints.alternatives.Alternative.{Alternative}
+use Rattle.pegexplain.specs.declared.hints.alternatives.Before.{Before}
 use Rattle.pegexplain.specs.declared.hints.alternatives.Hidden.{Hidden}
 use Rattle.pegexplain.specs.declared.hints.hints.Hint.{Hint}
 use Rattle.pegexplain.specs.declared.hints.known.KnownRules.{KnownRules}
@@ -52,3 +58,47 @@ hint_found h = record {
   position = h.position;
   hidden = hidden_found h.hidden;
 }
+
+-- where the first alternative stands that passes
+abbrev pub first_at : (AlternativeAt → Bool) → List AlternativeAt → Option ℕ
+first_at passes alternatives = slice_get (positions_from 0 passes alternatives) 0
+
+-- the earlier of two positions
+abbrev pub earlier_position : Option ℕ → Option ℕ → Option ℕ
+earlier_position None b = b
+earlier_position (Some a) None = Some a
+earlier_position (Some a) (Some b) = Some (min a b)
+
+-- whether an alternative hides one that may take nothing or not, and begins with a literal
+abbrev pub hides : Bool → Option (List ℕ) → AlternativeAt → Bool
+hides null whole a = is_some (why_by a.sure (is_any a.e) a.literal null whole)
+
+-- whether a literal has these bytes
+abbrev pub is_literal : List ℕ → Option (List ℕ) → Bool
+is_literal bytes None = false
+is_literal bytes (Some literal) = same_name Exact bytes literal
+
+-- whether the size of a literal is among some
+abbrev pub is_sized : List ℕ → Option (List ℕ) → Bool
+is_sized sizes None = true
+is_sized sizes (Some literal) = list_any (λ n. n == length literal) sizes
+
+-- the sizes of before and that of a literal are among the new ones
+pub record IsSized (old new : List ℕ) (literal : Option (List ℕ)) : Type 0 where
+  pub kept : (other : Option (List ℕ)) → is_sized old other ≡ true → is_sized new other ≡ true
+  pub sized : is_sized new literal ≡ true
+
+-- the sizes of all literals are among these
+abbrev pub AreSized : List ℕ → List AlternativeAt → Type 0
+AreSized sizes [] = Unit {0}
+AreSized sizes (x ∷ xs) = (is_sized sizes x.literal ≡ true) × AreSized sizes xs
+
+-- Of alternatives the code has where the first ones stand that fail nowhere and that are dots, where those of each
+-- literal stand, and the sizes of the literals.
+pub record AreIndexed (before : Before) : Type 0 where
+  pub sure : before.sure ≡ first_at (λ a. a.sure) (alternatives_found before.all.items)
+  pub dot : before.dot ≡ first_at (λ a. is_any a.e) (alternatives_found before.all.items)
+  pub exact : before.literals.names ≡ Exact
+  pub literals : (bytes : List ℕ) → numbers_for before.literals bytes
+      ≡ positions_from 0 (λ a. is_literal bytes a.literal) (alternatives_found before.all.items)
+  pub sizes : AreSized before.sizes.items (alternatives_found before.all.items)

@@ -1,74 +1,45 @@
 //! The first prose of a rule.
-ghost use Rattle.std.specs.Prelude.{◌≡◌, ◌++◌, ◌==◌, ◌&&◌, map, option_map, IfOk, OnOk};
-ghost use Rattle.std.specs.List.{filter, list_any};
+ghost use Rattle.std.specs.Prelude.{◌≡◌, ◌++◌, ◌&&◌, None, map, option_map, OnOk};
+ghost use Rattle.std.specs.List.{find};
 ghost use Rattle.diagnostics.specs.BodyMentions.{is_kind as same_kind, mentioned_at};
 ghost use Rattle.diagnostics.specs.DefinitionHeads.{defined_at};
-ghost use Rattle.diagnostics.specs.FirstMentions.{first_prose as first_of, standing_definitions};
+ghost use Rattle.diagnostics.specs.FirstMentions.{is_standing};
+ghost use Rattle.diagnostics.specs.NameIndexes.{Rises, starts_of};
 ghost use Rattle.diagnostics.specs.UseLines.{prose_line, prose_lines};
 
 use crate::noteplaces::heads::Head;
-use crate::noteplaces::lines::heads_named;
 use crate::noteplaces::mentions::{Mention, MentionKind, is_kind};
+use crate::noteplaces::name_index::head_at;
 use crate::noteplaces::positions::Positions;
-use crate::noteplaces::uses::mentions_under;
+use crate::noteplaces::uses::{mentions_under, rule_of_name};
 use crate::picture::{push_cut, push_number};
 use ruletable::Memory;
 use std::alloc::Global;
 
-// Adds those of the definitions that add to a rule.
-fn push_adding<'a>(found: &mut Vec<&'a Head>, heads: &[&'a Head]) -> Result<(), Memory>
-    ensures { OnOk result (map (λ h. defined_at h.now) found.new.items
-        ≡ map (λ h. defined_at h.now) found.old.items
-        ++ filter (λ d. d.adds) (map (λ h. defined_at h.now) heads.now)) }
-{
-    for head in heads {
-        if head.adds {
-            found.push(*head)?;
-        }
-    }
-    Ok(())
-}
-
-// Of the definitions of a rule those that stand: the first one, and those after it that add to it.
-fn standing_heads<'a>(alloc: Global, heads: &[&'a Head]) -> Result<Vec<&'a Head>, Memory>
-    ensures { IfOk result (λ v. map (λ h. defined_at h.now) v.items
-        ≡ standing_definitions (map (λ h. defined_at h.now) heads.now)) }
-{
-    let mut found = Vec::new(alloc);
-    if let Some((first, rest)) = heads.split_first() {
-        found.push(*first)?;
-        push_adding(&mut found, rest)?;
-    }
-    Ok(found)
-}
-
-// Whether one of the definitions starts at a position.
-fn is_among(heads: &[&Head], start: usize) -> bool
-    ensures { result ≡ list_any (λ d. d.start == start) (map (λ h. defined_at h.now) heads.now) }
-{
-    for head in heads {
-        if head.start == start {
-            return true;
-        }
-    }
-    false
-}
-
-// Whether a mention is prose in one of the definitions.
-fn is_prose_within(heads: &[&Head], mention: &Mention) -> bool
+// Whether a mention is prose in a definition that begins the rule or adds to it.
+fn is_standing_prose(heads: &[Head], rule: &Head, mention: &Mention) -> bool
+    requires { Rises 0 (starts_of heads.now) }
     ensures { result ≡ (same_kind MentionKind.Prose mention.now.kind
-        && list_any (λ d. d.start == mention.now.within) (map (λ h. defined_at h.now) heads.now)) }
+        && is_standing (map defined_at heads.now) (defined_at rule.now) mention.now.within) }
 {
-    is_kind(MentionKind::Prose, mention) && is_among(heads, mention.within)
+    if !is_kind(MentionKind::Prose, mention) {
+        return false;
+    }
+    match head_at(heads, mention.within) {
+        Some(head) => head.adds || head.start == rule.start,
+        None => false,
+    }
 }
 
-// The first prose in the definitions.
-fn first_prose<'a>(mentions: &[&'a Mention], heads: &[&Head]) -> Option<&'a Mention>
-    ensures { option_map (λ m. mentioned_at m.now) result
-        ≡ first_of (map (λ h. defined_at h.now) heads.now) (map (λ m. mentioned_at m.now) mentions.now) }
+// The first of the mentions that is prose in a definition that begins the rule or adds to it.
+fn first_prose<'a>(heads: &[Head], rule: &Head, mentions: &[&'a Mention]) -> Option<&'a Mention>
+    requires { Rises 0 (starts_of heads.now) }
+    ensures { option_map (λ m. mentioned_at m.now) result ≡ find (λ m. same_kind MentionKind.Prose m.kind
+        && is_standing (map defined_at heads.now) (defined_at rule.now) m.within)
+        (map (λ m. mentioned_at m.now) mentions.now) }
 {
     for mention in mentions {
-        if is_prose_within(heads, mention) {
+        if is_standing_prose(heads, rule, mention) {
             return Some(*mention);
         }
     }
@@ -100,8 +71,9 @@ pub(crate) fn push_first_prose(
     ensures { OnOk result (out.new.items ≡ out.old.items ++ prose_lines positions.now.names
         (map defined_at positions.now.heads.items) (map mentioned_at positions.now.mentions.items) None name.now) }
 {
-    let heads = heads_named(alloc, positions, name)?;
-    let standing = standing_heads(alloc, &heads)?;
+    let Some(rule) = rule_of_name(positions, name)? else {
+        return Ok(());
+    };
     let mentions = mentions_under(alloc, positions, name)?;
-    push_prose(out, first_prose(&mentions, &standing))
+    push_prose(out, first_prose(&positions.heads, rule, &mentions))
 }

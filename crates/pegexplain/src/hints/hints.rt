@@ -1,7 +1,8 @@
 //! The hints on a grammar's rules.
 ghost use Rattle.std.specs.Prelude.{◌≡◌, ◌++◌, [], map, IfOk, OnOk};
 ghost use Rattle.pegread.specs.PegViews.{pattern_of, patterns_of, rules_of};
-ghost use Rattle.pegexplain.specs.CodeHints.{alternatives_found, hint_found, known_literal, null_in, sure_in};
+ghost use Rattle.pegexplain.specs.CodeHints.{AreIndexed, alternatives_found, hint_found, known_literal, null_in};
+ghost use Rattle.pegexplain.specs.CodeHints.{sure_in};
 ghost use Rattle.pegexplain.specs.HiddenAlternatives.{
   alternative_hints,
   hiding,
@@ -13,12 +14,12 @@ ghost use Rattle.pegexplain.specs.HiddenAlternatives.{
 };
 ghost use Rattle.pegexplain.specs.PegHints.{hints_of};
 
-use crate::hints::alternatives::{Alternative, Hidden, alternative_of, hiding_of};
+use crate::hints::alternatives::{Before, Hidden, alternative_of, hiding_of, push_alternative};
 use crate::hints::known::KnownRules;
 use crate::hints::marks::add_marks;
 use diagnostics::MentionKind;
 use pegread::Expr;
-use ruletable::Memory;
+use ruletable::{Memory, NameCase, RuleTable};
 use std::alloc::Global;
 
 /// A hint on an alternative that is never taken.
@@ -49,15 +50,16 @@ struct Within<'a> {
 fn push_hint<'a>(
     alloc: Global,
     within: &Within<'a>,
-    before: &[Alternative<'a>],
+    before: &Before<'a>,
     e: &'a Expr,
     position: usize,
     found: &mut Vec<Hint<'a>>,
 ) -> Result<(), Memory>
+    requires { AreIndexed before.now }
     ensures { OnOk result (map hint_found found.new.items ≡ map hint_found found.old.items
         ++ hint_if within.now.rule.now (pattern_of within.now.body.now) position (marks_in (pattern_of e.now))
         (hiding (known_literal within.now.known) (sure_in within.now.known) (null_in within.now.known)
-        (alternatives_found before.now) (pattern_of e.now))) }
+        (alternatives_found before.now.all.items) (pattern_of e.now))) }
 {
     let mut marks = Vec::new(alloc);
     add_marks(e, &mut marks)?;
@@ -143,11 +145,18 @@ fn add_alternative_hints<'a>(
         ++ alternative_hints (known_literal within.now.known) (sure_in within.now.known) (null_in within.now.known)
         within.now.rule.now (pattern_of within.now.body.now) marks.old.items [] (patterns_of alternatives.now)) }
 {
-    let mut before: Vec<Alternative<'a>> = Vec::new(alloc);
+    let mut before = Before {
+        all: Vec::new(alloc),
+        sure: None,
+        dot: None,
+        literals: RuleTable::new(alloc, NameCase::Exact),
+        sizes: Vec::new(alloc),
+    };
     for alternative in alternatives {
         push_hint(alloc, within, &before, alternative, marks.len(), found)?;
         add_hints(alloc, within, alternative, marks, found)?;
-        before.push(alternative_of(&within.known, alternative)?)?;
+        let described = alternative_of(&within.known, alternative)?;
+        push_alternative(alloc, &mut before, described)?;
     }
     Ok(())
 }

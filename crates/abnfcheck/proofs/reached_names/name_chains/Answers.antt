@@ -1,4 +1,5 @@
 -- The rows are those of the graph of names.
+use Rattle.std.proofs.Common.{refl}
 use Rattle.fixpoint.specs.StepRows.{rows_of}
 use Rattle.abnfread.specs.AbnfViews.{rules_of}
 use Rattle.abnfcheck.proofs.GraphLemmas.{steps_within}
@@ -12,6 +13,7 @@ pub returns : goal.returns
 returns c = record {
   rows = rows_of c.in_ok-ids.ids.rows.items;
   judged = c.in_ok-ids.ids.judged;
+  is_judged = refl;
   folds = c.in_ok-ids.ensures.folds;
   graph = c.in_ok-ids.ensures.graph;
   chains = rw c.deref.ensures.value at c.in_ok-chains.ensures;

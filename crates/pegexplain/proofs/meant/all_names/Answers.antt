@@ -1,6 +1,6 @@
 -- The names of the rules are there first, and each mention adds its name if it is used.
-use Rattle.std.proofs.Common.{◌≡◌, ◌++◌, [], ap, append-nil, length, map, sym, ◌∙◌, true, false}
-use Rattle.diagnostics.specs.BodyMentions.{is_kind, mentioned_at}
+use Rattle.std.proofs.Common.{◌≡◌, ap, append-nil, sym, ◌∙◌, true, false}
+use Rattle.diagnostics.specs.BodyMentions.{is_kind}
 use Rattle.diagnostics.specs.declared.noteplaces.mentions.Mention.{Mention}
 use Rattle.diagnostics.specs.declared.noteplaces.mentions.MentionKind.TheVariants.{Use}
 use Rattle.ruletable.specs.Rules.{names_of}

@@ -1,7 +1,6 @@
 use Rattle.std.proofs.Common.{◌≡◌, [], true, false, arith, sym, ◌∙◌, append-nil, option_copied}
 use Rattle.std.proofs.lemmas.Grind.{common_steps}
 use Rattle.diagnostics.specs.NearNames.{meant_reported}
-use Rattle.pegexplain.specs.PegNotes.{is_early_by}
 use Rattle.pegexplain.proofs.MeantRulesLemmas.{late-reported, near-reported}
 use Rattle.pegexplain.proofs.meant.push_near.Goals as goal
 

@@ -1,23 +1,34 @@
-use Rattle.std.proofs.Common.{◌++◌, ◌∙◌, ap, map, Option}
+use Rattle.std.proofs.Common.{◌≡◌, ◌++◌, ◌∙◌, Some, None, append-nil, ap, map, sym, Option}
+use Rattle.std.specs.Prelude.{option_map}
 use Rattle.std.proofs.lemmas.Result.{IfOk-equal}
 use Rattle.diagnostics.specs.BodyMentions.{MentionedAt, mentioned_at}
 use Rattle.diagnostics.specs.DefinitionHeads.{defined_at}
+use Rattle.diagnostics.specs.FirstMentions.{rule_named}
 use Rattle.diagnostics.specs.UseLines.{prose_line}
-use Rattle.diagnostics.proofs.MentionsUnderLemmas.{prose-under}
+use Rattle.diagnostics.proofs.StandingProseLemmas.{prose_found, prose_nowhere, starts_rise_too}
 use Rattle.diagnostics.proofs.noteplaces.prose.push_first_prose.Goals as goal
+
+pub first_prose-requires : goal.first_prose-requires
+first_prose-requires c = rw c.deref.ensures.value c.args.positions.now.rise
+
+pub returns-in_default : goal.returns-in_default
+returns-in_default c =
+    let positions = c.args.positions.now in
+    let definitions = map defined_at positions.heads.items in
+    let none : rule_named positions.names definitions c.args.name.now ≡ None =
+    sym c.in_ok-rule.ensures ∙ ap (option_map (λ h. defined_at h.now)) c.in_default.is in
+    rw (prose_nowhere positions.names c.args.name.now definitions (map mentioned_at positions.mentions.items) none)
+    (sym (append-nil c.args.out.now.items))
 
 pub returns : goal.returns
 returns c =
     let positions = c.args.positions.now in
-    let found = (let k = c.first_prose.ensures in rw (
-      c.deref-3.ensures.value,
-      c.in_ok-standing.ensures,
-      c.deref.ensures.value,
-      c.in_ok-heads.ensures,
-      c.deref-2.ensures.value,
-      c.in_ok-mentions.ensures,
-    ) at k) in
+    let definitions = map defined_at positions.heads.items in
+    let own : rule_named positions.names definitions c.args.name.now ≡ Some (defined_at c.in-Some.rule.now) =
+    sym c.in_ok-rule.ensures ∙ ap (option_map (λ h. defined_at h.now)) c.in-Some.is in
+    let found = (let k = c.first_prose.ensures in
+    rw (c.deref.ensures.value, c.deref-2.ensures.value, c.in_ok-mentions.ensures) at k) in
     IfOk-equal c.push_prose.result _ _ _ c.push_prose.ensures
     (ap (λ (o : Option MentionedAt). c.args.out.now.items ++ prose_line o)
-    (found ∙ prose-under positions.names (map defined_at positions.heads.items) c.args.name.now
-    (map mentioned_at positions.mentions.items)))
+    (found ∙ prose_found positions.names c.args.name.now definitions (defined_at c.in-Some.rule.now)
+    (map mentioned_at positions.mentions.items) (starts_rise_too 0 positions.heads.items positions.rise) own))

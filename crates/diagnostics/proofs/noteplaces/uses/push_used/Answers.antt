@@ -1,5 +1,5 @@
 -- The name that is given, or else the first use.
-use Rattle.std.proofs.Common.{map, ap, ◌∙◌, sym}
+use Rattle.std.proofs.Common.{map, ◌∙◌, sym}
 use Rattle.diagnostics.specs.BodyMentions.{mentioned_at}
 use Rattle.diagnostics.specs.DefinitionHeads.{defined_at}
 use Rattle.diagnostics.specs.FirstMentions.{uses_of}
