@@ -20,7 +20,8 @@ use Rattle.letters.specs.declared.point.CodePoint.{CodePoint}
 use Rattle.refusedlines.specs.declared.letterruns.run.LetterRun.{LetterRun}
 use Rattle.ruletable.specs.Rules as table
 use Rattle.refusedlines.specs.Following.{AreFollowing}
-use Rattle.refusedlines.specs.RefusedText.{at_record, at_text, column_after, expected_text, line_in_record, line_picture}
+use Rattle.refusedlines.specs.RefusedText.{at_record, at_text, column_after, expected_text, line_in_record}
+use Rattle.refusedlines.specs.RefusedText.{line_picture}
 use Rattle.refusedlines.specs.RefusedText.{record_end, record_expected, refused_at, reported_expected, unit_text}
 use Rattle.ruletable.specs.declared.lines.LineRule.TheVariants.{Lf}
 use Rattle.diagnostics.specs.LinesAround.{bytes_before}
