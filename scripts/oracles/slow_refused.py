@@ -167,7 +167,7 @@ def refusal(following, name, line, number, unit="line"):
     at = f"{place}: expected "
     if after == len(letters):
         at = f"{ended} ends too early: expected " if is_text else f"{place}: not UTF-8, expected "
-    return at + expected + "\n" + slow_stops.picture(line, before)
+    return at + expected + "\n" + (slow_stops.picture(line, before) if line else "")
 
 
 def after_notes(grammar, given, limit, judged, is_utf8, end, is_kept=False):

@@ -20,9 +20,9 @@ use Rattle.letters.specs.declared.point.CodePoint.{CodePoint}
 use Rattle.refusedlines.specs.declared.letterruns.run.LetterRun.{LetterRun}
 use Rattle.ruletable.specs.Rules as table
 use Rattle.refusedlines.specs.Following.{AreFollowing}
-use Rattle.diagnostics.specs.Pictures.{picture}
-use Rattle.refusedlines.specs.RefusedText.{at_record, at_text, column_after, expected_text, line_in_record, record_end}
-use Rattle.refusedlines.specs.RefusedText.{record_expected, refused_at, reported_expected, unit_text}
+use Rattle.refusedlines.specs.RefusedText.{at_record, at_text, column_after, expected_text, line_in_record}
+use Rattle.refusedlines.specs.RefusedText.{line_picture}
+use Rattle.refusedlines.specs.RefusedText.{record_end, record_expected, refused_at, reported_expected, unit_text}
 use Rattle.ruletable.specs.declared.lines.LineRule.TheVariants.{Lf}
 use Rattle.diagnostics.specs.LinesAround.{bytes_before}
 use Rattle.refusedlines.specs.declared.refusal.LineUnit.{LineUnit}
@@ -32,13 +32,13 @@ use Rattle.refusedlines.specs.declared.refusal.RefusedAt.{RefusedAt}
 -- the lines, put one after another
 pub lines_pushed : (alphabet : Alphabet) (number : ℕ) (line : List ℕ) (at : RefusedAt) (position : ℕ)
     (shown runs : List LetterRun) (ends : Bool) (old a b c new : List ℕ) → shown ≡ runs → a ≡ old ++ at_text number at
-    → b ≡ a ++ expected_text alphabet shown ends → c ≡ b ++ codes "\n" → new ≡ c ++ picture line position
+    → b ≡ a ++ expected_text alphabet shown ends → c ≡ b ++ codes "\n" → new ≡ c ++ line_picture line position
     → new ≡ old ++ reported_expected alphabet number line at position runs ends
 lines_pushed alphabet number line at position shown runs ends old a b c new same e f g h =
     let x = at_text number at in
     let y = expected_text alphabet runs ends in
     let z = codes "\n" in
-    let w = picture line position in
+    let w = line_picture line position in
     let expected : b ≡ a ++ y = f ∙ ap (λ v. a ++ expected_text alphabet v ends) same in
     h ∙ ap (λ v. v ++ w) (g ∙ ap (λ v. v ++ z) (expected ∙ ap (λ v. v ++ y) e))
     ∙ append_assoc ((old ++ x) ++ y) z w ∙ append_assoc (old ++ x) y (z ++ w) ∙ append_assoc old x (y ++ (z ++ w))
@@ -74,14 +74,14 @@ pub record_pushed : (alphabet : Alphabet) (number : ℕ) (line : List ℕ) (at :
     (shown runs : List LetterRun) (ends : Bool) (old a b c d new words : List ℕ) → shown ≡ runs
     → words ≡ record_end shown ends → a ≡ old ++ at_record number (take position line) column at
     → b ≡ a ++ expected_text alphabet shown false → c ≡ b ++ words → d ≡ c ++ codes "\n"
-    → new ≡ d ++ picture (line_in_record line position) (bytes_before Lf (take position line))
+    → new ≡ d ++ line_picture (line_in_record line position) (bytes_before Lf (take position line))
     → new ≡ old ++ record_expected alphabet number line at position column runs ends
 record_pushed alphabet number line at position column shown runs ends old a b c d new words same said e f g h i =
     let x = at_record number (take position line) column at in
     let y = expected_text alphabet runs false in
     let z = record_end runs ends in
     let w = codes "\n" in
-    let v = picture (line_in_record line position) (bytes_before Lf (take position line)) in
+    let v = line_picture (line_in_record line position) (bytes_before Lf (take position line)) in
     let expected : b ≡ a ++ y = f ∙ ap (λ u. a ++ expected_text alphabet u false) same in
     let ended : c ≡ b ++ z = g ∙ ap (λ u. b ++ u) (said ∙ ap (λ (u : List LetterRun). record_end u ends) same) in
     five_pushed old x y z w v a b c d new e expected ended h i

@@ -84,15 +84,15 @@ abbrev pub is_none : List LetterRun → Bool → Bool
 is_none [] ends = if ends then false else true
 is_none (run ∷ runs) ends = false
 
--- the rule derives nothing
-abbrev pub nothing_text : ℕ → List ℕ → List ℕ
-nothing_text number name = codes "line " ++ (decimal number ++ (codes ": rule '" ++ (cut name
-    ++ codes "' derives nothing\n")))
+-- a picture of a position of a line; of an empty line there is none
+abbrev pub line_picture : List ℕ → ℕ → List ℕ
+line_picture [] position = []
+line_picture (b ∷ line) position = picture (b ∷ line) position
 
 -- what is expected at a position of a line of bytes, and a picture of the position
 abbrev pub reported_expected : Alphabet → ℕ → List ℕ → RefusedAt → ℕ → List LetterRun → Bool → List ℕ
 reported_expected alphabet number line at position runs ends = at_text number at ++ (expected_text alphabet runs ends
-    ++ (codes "\n" ++ picture line position))
+    ++ (codes "\n" ++ line_picture line position))
 
 -- that a record may end, after the symbols that can follow
 abbrev pub record_end : List LetterRun → Bool → List ℕ
@@ -104,17 +104,17 @@ record_end (run ∷ runs) true = codes " or the end of the record"
 abbrev pub record_expected : Alphabet → ℕ → List ℕ → RefusedAt → ℕ → ℕ → List LetterRun → Bool → List ℕ
 record_expected alphabet number line at position column runs ends =
     at_record number (take position line) column at ++ (expected_text alphabet runs false ++ (record_end runs ends
-    ++ (codes "\n" ++ picture (line_in_record line position) (bytes_before Lf (take position line)))))
+    ++ (codes "\n" ++ line_picture (line_in_record line position) (bytes_before Lf (take position line)))))
+
+-- what is rejected
+abbrev pub unit_word : LineUnit → List ℕ
+unit_word Line = codes "line "
+unit_word Record = codes "record "
 
 -- the rule derives nothing
-abbrev pub nothing_of_record : ℕ → List ℕ → List ℕ
-nothing_of_record number name = codes "record " ++ (decimal number ++ (codes ": rule '" ++ (cut name
-    ++ codes "' derives nothing\n")))
-
--- that the rule derives nothing, for a line or a record
 abbrev pub none_of : LineUnit → ℕ → List ℕ → List ℕ
-none_of Line number name = nothing_text number name
-none_of Record number name = nothing_of_record number name
+none_of unit number name = unit_word unit ++ (decimal number ++ (codes ": rule '" ++ (cut name
+    ++ codes "' derives nothing\n")))
 
 -- what is expected, in a line or a record
 abbrev pub expected_of : LineUnit → Alphabet → ℕ → List ℕ → RefusedAt → ℕ → ℕ → List LetterRun → Bool → List ℕ

@@ -200,9 +200,11 @@ fn explain_points(
 }
 
 /// Adds the lines that explain a rejected line or record: where it is rejected, what can follow there, and a picture of
-/// that position, in a record of the line there; or that the judged rule derives nothing. The flat grammar must be that
-/// of `lower_viable` for the grammar and its symbols, the automaton, if there is one, that of it, and the line must
-/// have fewer bytes than `flat.limit()`. The chart is filled anew where the automaton gives no answer.
+/// that position, in a record of the line there, if that line is not empty; or that the judged rule derives nothing.
+///
+/// The flat grammar must be that of `lower_viable` for the grammar and its symbols, the automaton, if there is one,
+/// that of it, and the line must have fewer bytes than `flat.limit()`. The chart is filled anew where the automaton
+/// gives no answer.
 ///
 /// # Errors
 /// `Memory` if an allocation fails, or sets have more items than the explainer's budget; a part of the lines may be

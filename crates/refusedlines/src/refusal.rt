@@ -2,21 +2,20 @@
 ghost use Rattle.std.specs.Prelude.{◌≡◌, ◌==◌, ◌+◌, ◌<◌, ◌≤◌, ◌^◌, ◌++◌, codes, decimal, drop, length, take, OnOk};
 ghost use Rattle.std.specs.List.{position_or_len};
 ghost use Rattle.diagnostics.specs.LinesAround.{bytes_before};
-ghost use Rattle.diagnostics.specs.Pictures.{picture};
 ghost use Rattle.refusedlines.specs.RefusedText.{
   at_record,
   at_text,
   expected_text,
   line_in_record,
-  nothing_of_record,
+  line_picture,
   none_of,
-  nothing_text,
   record_end,
   record_expected,
   record_fault,
   refused_at as the_position,
   reported_expected,
   unit_text,
+  unit_word as the_word,
 };
 
 use crate::following::Following;
@@ -111,16 +110,15 @@ fn push_at(number: usize, at: RefusedAt, out: &mut Vec<u8>) -> Result<(), Memory
     Ok(())
 }
 
-// Adds that the rule of that name derives nothing.
-fn push_nothing(number: usize, name: &[u8], out: &mut Vec<u8>) -> Result<(), Memory>
-    ensures { OnOk result (out.new.items ≡ out.old.items ++ nothing_text number name.now) }
+// Adds a picture of a position of a line, if the line is not empty.
+fn push_line_picture(line: &[u8], before: usize, out: &mut Vec<u8>) -> Result<(), Memory>
+    requires { before ≤ length line.now }
+    ensures { OnOk result (out.new.items ≡ out.old.items ++ line_picture line.now before) }
 {
-    out.extend_from_slice(b"line ")?;
-    push_number(out, number)?;
-    out.extend_from_slice(b": rule '")?;
-    push_cut(out, name)?;
-    out.extend_from_slice(b"' derives nothing\n")?;
-    Ok(())
+    if line.is_empty() {
+        return Ok(());
+    }
+    push_picture(out, LineAround { line, before })
 }
 
 // Adds what is expected at a position of a line, and a picture of the position.
@@ -144,13 +142,7 @@ fn push_lines(
         out,
     )?;
     out.extend_from_slice(b"\n")?;
-    push_picture(
-        out,
-        LineAround {
-            line: line.bytes,
-            before: refusal.position,
-        },
-    )
+    push_line_picture(line.bytes, refusal.position, out)
 }
 
 // Returns what is reported of a record after the position where it is rejected.
@@ -231,33 +223,15 @@ fn count_to_lf(bytes: &[u8]) -> usize
     size
 }
 
-// Adds a picture of a position of a record: of the line there.
+// Adds a picture of a position of a record: of the line there, if it is not empty.
 fn push_record_picture(bytes: &[u8], position: usize, out: &mut Vec<u8>) -> Result<(), Memory>
     requires { position ≤ length bytes.now }
-    ensures { OnOk result (out.new.items ≡ out.old.items ++ picture (line_in_record bytes.now position)
+    ensures { OnOk result (out.new.items ≡ out.old.items ++ line_picture (line_in_record bytes.now position)
         (bytes_before LineRule.Lf (take position bytes.now))) }
 {
     let before = count_after_lf(&bytes[..position]);
     let after = count_to_lf(&bytes[position..]);
-    push_picture(
-        out,
-        LineAround {
-            line: &bytes[position - before..position + after],
-            before,
-        },
-    )
-}
-
-// Adds that the rule of that name derives nothing.
-fn push_nothing_of_record(number: usize, name: &[u8], out: &mut Vec<u8>) -> Result<(), Memory>
-    ensures { OnOk result (out.new.items ≡ out.old.items ++ nothing_of_record number name.now) }
-{
-    out.extend_from_slice(b"record ")?;
-    push_number(out, number)?;
-    out.extend_from_slice(b": rule '")?;
-    push_cut(out, name)?;
-    out.extend_from_slice(b"' derives nothing\n")?;
-    Ok(())
+    push_line_picture(&bytes[position - before..position + after], before, out)
 }
 
 // Adds what is expected at a position of a record, and a picture of the position.
@@ -281,19 +255,31 @@ fn push_record(
     push_record_picture(line.bytes, refusal.position, out)
 }
 
+// Returns the word for what is rejected, and a space.
+fn unit_word(unit: LineUnit) -> &'static [u8]
+    ensures { result.now ≡ the_word unit }
+{
+    match unit {
+        LineUnit::Line => b"line ",
+        LineUnit::Record => b"record ",
+    }
+}
+
 // Adds that the rule of that name derives nothing, for what is rejected.
 fn push_none(name: &[u8], line: RefusedLine<'_>, out: &mut Vec<u8>) -> Result<(), Memory>
     ensures { OnOk result (out.new.items ≡ out.old.items ++ none_of line.entry.unit line.entry.number name.now) }
 {
-    match line.unit {
-        LineUnit::Line => push_nothing(line.number, name, out),
-        LineUnit::Record => push_nothing_of_record(line.number, name, out),
-    }
+    out.extend_from_slice(unit_word(line.unit))?;
+    push_number(out, line.number)?;
+    out.extend_from_slice(b": rule '")?;
+    push_cut(out, name)?;
+    out.extend_from_slice(b"' derives nothing\n")?;
+    Ok(())
 }
 
 /// Adds the lines that explain a rejected line or record: the symbols that are expected where it is rejected, and a
-/// picture of that position. If nothing can follow there, they report that the rule of that name derives nothing. The
-/// position must be within the line.
+/// picture of that position, if the line there is not empty. If nothing can follow there, they report that the rule of
+/// that name derives nothing. The position must be within the line.
 pub(crate) fn push_refusal(
     alloc: Global,
     name: &[u8],

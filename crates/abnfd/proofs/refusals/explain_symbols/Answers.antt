@@ -7,7 +7,7 @@ use Rattle.abnfread.specs.AbnfViews.{rules_of}
 use Rattle.abnfread.specs.Element.{Rule}
 use Rattle.diagnostics.specs.ShownBytes.{cut}
 use Rattle.letters.specs.declared.alphabet.Alphabet.{Alphabet}
-use Rattle.refusedlines.specs.RefusedText.{column_after, is_none, nothing_text, refused_at, reported_expected}
+use Rattle.refusedlines.specs.RefusedText.{column_after, is_none, none_of, refused_at, reported_expected}
 use Rattle.refusedlines.specs.RefusedText.{unit_text}
 use Rattle.refusedlines.specs.Refusals.{IsRefusalReported, name_at, octet_count}
 use Rattle.refusedlines.specs.declared.letterruns.run.LetterRun.{LetterRun}
@@ -18,7 +18,7 @@ use Rattle.abnfd.proofs.refusals.explain_symbols.Goals as goal
 abbrev IsOfFirst : List ℕ → Type 0
 IsOfFirst text = text ≡ codes "line 1" ++ drop 6 text
 
-nothing_of_first : (name : List ℕ) → IsOfFirst (nothing_text 1 name)
+nothing_of_first : (name : List ℕ) → IsOfFirst (none_of Line 1 name)
 nothing_of_first name = subst
     (λ (d : List ℕ). IsOfFirst (codes "line " ++ (d ++ (codes ": rule '" ++ (cut name
     ++ codes "' derives nothing\n")))))
@@ -46,7 +46,7 @@ text_of_first : (alphabet : Alphabet) (name line : List ℕ) (n count : ℕ) (to
     (runs : List LetterRun) (ends : Bool)
     → IsOfFirst (unit_text Line alphabet name 1 line (refused_at n count torn) position column runs ends)
 text_of_first alphabet name line n count torn position column runs ends =
-    either_case IsOfFirst (is_none runs ends) (nothing_text 1 name)
+    either_case IsOfFirst (is_none runs ends) (none_of Line 1 name)
     (reported_expected alphabet 1 line (refused_at n count torn) position runs ends)
     (nothing_of_first name) (expected_of_first alphabet line n count torn position runs ends)
 

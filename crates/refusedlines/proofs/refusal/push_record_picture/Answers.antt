@@ -2,8 +2,8 @@ use Rattle.std.proofs.Common.{◌++◌, ◌==◌, ◌∙◌, ◌≤◌, ℕ, Lis
 use Rattle.std.proofs.lemmas.List.{length-take-le, take_rest}
 use Rattle.std.specs.List.{position_or_len}
 use Rattle.std.proofs.lemmas.Result.{IfOk-weaker}
-use Rattle.diagnostics.specs.Pictures.{picture}
 use Rattle.refusedlines.proofs.RefusalLemmas.{line_shown}
+use Rattle.refusedlines.specs.RefusedText.{line_picture}
 use Rattle.refusedlines.proofs.refusal.push_record_picture.Goals as goal
 
 pub returns : goal.returns
@@ -17,5 +17,5 @@ returns c =
     ∙ ap (λ (xs : List ℕ). position_or_len (λ b. b == 10) xs) (take_rest bytes position) in
     let line = line_shown bytes position c.count_after_lf-before.result c.count_to_lf-after.result front.before rest
     within in
-    IfOk-weaker c.push_picture.result _ _
-    (λ _ put. put ∙ (λ i. c.args.out.now.items ++ picture (line i) (front.before i))) c.push_picture.ensures
+    IfOk-weaker c.push_line_picture.result _ _
+    (λ _ put. put ∙ (λ i. c.args.out.now.items ++ line_picture (line i) (front.before i))) c.push_line_picture.ensures
