@@ -27,7 +27,7 @@ use abnfcheck::{JudgedAbnf, SoundAbnf, judge_abnf, sound_rules};
 use abnfread::{Abnf, Elem, read_abnf};
 use cli::greater_status;
 use rulelines::compare;
-use rulenames::names_of_rules;
+use fixpoint::names_of_rules;
 use ruletable::{Memory, NameCase, ReadFault, RuleTable};
 use std::alloc::Global;
 use toolrun::Status;

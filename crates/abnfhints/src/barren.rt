@@ -10,7 +10,7 @@ ghost use Rattle.letters.specs.Letters.{has};
 ghost use Rattle.letters.specs.declared.alphabet.Alphabet.{Alphabet};
 ghost use Rattle.diagnostics.specs.DefinitionHeads.{defined_at};
 ghost use Rattle.diagnostics.specs.NoteLines.{defined_line};
-ghost use Rattle.rulenames.specs.IdMarks.{AreMarks};
+ghost use Rattle.fixpoint.specs.IdMarks.{AreMarks};
 
 use crate::hinted::Hinted;
 use crate::hints::MAX_HINTS;

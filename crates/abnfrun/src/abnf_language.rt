@@ -28,7 +28,7 @@ use abnfread::{Abnf, read_abnf};
 use diagnostics::Positions;
 use feed::Source;
 use linejudge::run_lines;
-use rulenames::{marks_at, note_marked};
+use fixpoint::{marks_at, note_marked};
 use ruletable::{Memory, Note, NoteKind, ReadFault, Sink, WriteFault};
 use std::alloc::Global;
 use toolrun::{Checked, Ending, Language, ReadText, Stop};

@@ -5,7 +5,7 @@ ghost use Rattle.gramcheck.specs.GrammarNotes.{start_of};
 ghost use Rattle.gramcheck.specs.Uses.{AreUses, names_in, names_in_all, names_used};
 
 use pegread::Expr;
-use rulenames::add_name;
+use fixpoint::add_name;
 use ruletable::{Memory, NameCase, RuleTable};
 use std::alloc::Global;
 
