@@ -15,8 +15,7 @@ use crate::prose::rules_with_prose;
 use crate::rule_marks::rule_marks;
 use abnfread::Elem;
 use fixpoint::{Need, least, opposites};
-use letters::Alphabet;
-use ruletable::{Memory, NameCase, RuleTable};
+use ruletable::{Alphabet, Memory, NameCase, RuleTable};
 use std::alloc::Global;
 
 // Returns whether a name has no rule, or its rule holds prose.

@@ -7,7 +7,7 @@ ghost use Rattle.linejudge.specs.InputLines.{IsNoAnswer};
 use earley::{Chart, judge, judge_few, viable, viable_few};
 use flatgrammar::{Flat, Verdict};
 use lazydfa::Automaton;
-use letters::Letter;
+use ruletable::Letter;
 use linejudge::NoAnswer;
 
 /// The two judges of a flat grammar. The automaton is fast, but may give no answer; then the chart answers.

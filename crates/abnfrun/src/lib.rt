@@ -18,7 +18,7 @@ pub use abnf_positions::AbnfPositions;
 pub use abnf_run::run_abnf;
 pub use feed::{Broken, Source, SourceOf};
 pub use laws::{explanations_change_no_answer, one_reply_of_abnf, one_statement_of_abnf};
-pub use letters::Alphabet;
+pub use ruletable::Alphabet;
 pub use linejudge::{Answer, NoAnswer, Printed};
 pub use open_law::answers_as_a_run;
 pub use opened::{AbnfJudge, OpenedAbnf, open_abnf};

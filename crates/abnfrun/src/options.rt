@@ -1,6 +1,6 @@
 //! The settings of a run of the ABNF tool.
 
-use letters::Alphabet;
+use ruletable::Alphabet;
 use linejudge::Printed;
 use toolrun::Settings;
 

@@ -1,5 +1,6 @@
-//! Least sets over numbers: what comes in by needs, what steps reach, and which numbers are on cycles. And
-//! distances by steps, and shortest chains of steps from one number.
+//! Names by id, and sets of ids. The names of a grammar get ids, ids get marks, and marked ids give notes. Least sets
+//! over numbers: what comes in by needs, what steps reach, and which numbers are on cycles. And distances by steps, and
+//! shortest chains of steps from one number.
 //!
 //! A table of rows gives each number the numbers that its steps lead to. Of the shortest chains to a number the library
 //! returns one: before each number of it stands the least one that is a step nearer.

@@ -1,7 +1,7 @@
 use Rattle.std.proofs.Common.{subst, sym}
 use Rattle.std.proofs.lemmas.Result.{IfOk-weaker}
 use Rattle.std.specs.Prelude.{IfSome}
-use Rattle.letters.specs.Letters.{has}
+use Rattle.ruletable.specs.Letters.{has}
 use Rattle.lazydfa.specs.StateSets.{grammar_of}
 use Rattle.rulelines.specs.Alone.{IsBegun, IsSearchOf}
 use Rattle.rulelines.specs.Samples.{AreInLineOrder}

@@ -1,9 +1,9 @@
 //! Code points.
 ghost use Rattle.std.specs.Prelude.{◌≡◌, Some, None, IfSome, IfNone};
 ghost use Rattle.std.proofs.Common.{ap};
-ghost use Rattle.letters.specs.declared.alphabet.Alphabet.TheVariants.{Utf8};
-ghost use Rattle.letters.specs.Letters.{IsPoint};
-ghost use Rattle.letters.specs.Utf8Text.{number};
+ghost use Rattle.ruletable.specs.declared.alphabet.Alphabet.TheVariants.{Utf8};
+ghost use Rattle.ruletable.specs.Letters.{IsPoint};
+ghost use Rattle.ruletable.specs.Utf8Text.{number};
 
 use crate::alphabet::Alphabet;
 use crate::letter::Letter;

@@ -1,8 +1,8 @@
 //! Symbols of a line.
 ghost use Rattle.std.specs.Prelude.{◌≡◌, ◌≤◌, ℕ, true};
-ghost use Rattle.letters.specs.declared.alphabet.Alphabet.{Alphabet};
-ghost use Rattle.letters.specs.declared.alphabet.Alphabet.TheVariants.{Bytes};
-ghost use Rattle.letters.specs.Letters.{has};
+ghost use Rattle.ruletable.specs.declared.alphabet.Alphabet.{Alphabet};
+ghost use Rattle.ruletable.specs.declared.alphabet.Alphabet.TheVariants.{Bytes};
+ghost use Rattle.ruletable.specs.Letters.{has};
 
 use crate::alphabet::Alphabet;
 

@@ -1,7 +1,7 @@
 use Rattle.std.proofs.Common.{sym, ◌∙◌, map-id}
 use Rattle.std.proofs.lemmas.Iterator.{YieldsList-from_chars}
 use Rattle.std.proofs.lemmas.Iterator.Consumers.{YieldsList-end}
-use Rattle.letters.proofs.utf8.push_points.Goals as goal
+use Rattle.ruletable.proofs.utf8.push_points.Goals as goal
 
 pub returns : goal.returns
 returns c =

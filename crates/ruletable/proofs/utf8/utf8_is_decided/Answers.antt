@@ -1,5 +1,5 @@
-use Rattle.letters.proofs.SpellsLemmas.{spells_one, text_or_not}
-use Rattle.letters.proofs.utf8.utf8_is_decided.Goals as goal
+use Rattle.ruletable.proofs.SpellsLemmas.{spells_one, text_or_not}
+use Rattle.ruletable.proofs.utf8.utf8_is_decided.Goals as goal
 
 pub returns-clause-decided : goal.returns-clause-decided
 returns-clause-decided c = text_or_not

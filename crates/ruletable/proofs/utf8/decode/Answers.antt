@@ -1,5 +1,5 @@
-use Rattle.letters.proofs.SpellsLemmas as w
-use Rattle.letters.proofs.utf8.decode.Goals as goal
+use Rattle.ruletable.proofs.SpellsLemmas as w
+use Rattle.ruletable.proofs.utf8.decode.Goals as goal
 
 pub returns-in_default-clause-none : goal.returns-in_default-clause-none
 returns-in_default-clause-none c _ = (c.clear.ensures.items, λ t. c.in_default.ensures.cases.0 (w.is_utf8 _ t))

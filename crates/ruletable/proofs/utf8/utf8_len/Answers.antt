@@ -1,5 +1,5 @@
-use Rattle.letters.proofs.SpellsLemmas as w
-use Rattle.letters.proofs.utf8.utf8_len.Goals as goal
+use Rattle.ruletable.proofs.SpellsLemmas as w
+use Rattle.ruletable.proofs.utf8.utf8_len.Goals as goal
 
 pub returns-in-Ok : goal.returns-in-Ok
 returns-in-Ok c = w.longest_all _ c.in-Ok.ensures.cases.1

@@ -1,6 +1,6 @@
 //! Alphabets of lines.
 ghost use Rattle.std.specs.Prelude.{◌≡◌, ◌↔◌, IsTrue};
-ghost use Rattle.letters.specs.Letters.{has, HasLetter};
+ghost use Rattle.ruletable.specs.Letters.{has, HasLetter};
 
 /// The alphabet of a line.
 #[derive(Clone, Copy, Debug, PartialEq, Eq)]

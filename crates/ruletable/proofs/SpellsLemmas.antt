@@ -9,8 +9,8 @@ use Rattle.std.specs.Str.{IsUtf8, chars, IsValidUpTo}
 use Rattle.std.proofs.lemmas.Str.{chars-encodes, encodes-chars, encodes_same, scalars-chars}
 use Rattle.std.proofs.lemmas.List.{take_all}
 use lib.Utf8.{scalar_cases, scalar, scalars, encode, encodes, next as tail}
-use Rattle.letters.specs.Letters.{IsPoint}
-use Rattle.letters.specs.Utf8Text.{Writes, one, two, three, four, Spells, end, next, IsText, IsLongestText}
+use Rattle.ruletable.specs.Letters.{IsPoint}
+use Rattle.ruletable.specs.Utf8Text.{Writes, one, two, three, four, Spells, end, next, IsText, IsLongestText}
 
 abbrev below : {A : Type 0} (a b : ℕ) (x y : A) → a < b → cond (ltb a b) x y ≡ x
 below a b x y lt = cond-true (ltb a b) x y (lt-ltb a b lt)

@@ -1,7 +1,7 @@
 -- Lines of bytes as UTF-8 (RFC 3629, section 3).
 use Rattle.std.specs.Prelude.{◌≡◌, ℕ, ◌+◌, ◌*◌, ◌<◌, ◌≤◌, List, [], ◌∷◌, ◌++◌, map, take, length}
-use Rattle.letters.specs.declared.point.CodePoint.{CodePoint}
-use Rattle.letters.specs.Letters.{IsPoint}
+use Rattle.ruletable.specs.declared.point.CodePoint.{CodePoint}
+use Rattle.ruletable.specs.Letters.{IsPoint}
 
 -- the number of a code point
 abbrev pub number : CodePoint → ℕ

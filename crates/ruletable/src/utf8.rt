@@ -1,9 +1,9 @@
 //! Lines of bytes as lines of code points.
 ghost use Rattle.std.specs.Prelude.{◌≡◌, ◌⊎◌, ℕ, List, true, false, [], chars, IfOk, OnErr};
-ghost use Rattle.letters.specs.Utf8Text.{numbers, Spells, IsText, IsLongestText};
+ghost use Rattle.ruletable.specs.Utf8Text.{numbers, Spells, IsText, IsLongestText};
 
 use crate::point::CodePoint;
-use ruletable::Memory;
+use crate::memory::Memory;
 use std::str;
 
 // Adds the code points of a text.
