@@ -83,7 +83,10 @@ LARGEST_CRATE = 105
 LARGER = {"lazydfa": 125, "abnftexts": 130}
 # The most entries that a folder has, and the folders that have more.
 LARGEST_FOLDER = 40
-WIDER = {"crates": MOST_CRATES, "docs/crates": MOST_CRATES, "must-fail": MOST_CRATES, "scripts/oracles/rfc_texts": 48}
+WIDER = {
+    "crates": MOST_CRATES, "docs/crates": MOST_CRATES, "must-fail": MOST_CRATES, "crates/fixpoint/proofs": 44,
+    "scripts/oracles/rfc_texts": 48,
+}
 # Folders that hold no sources.
 BUILT = {".git", "__pycache__", "bin", "out"}
 TEXTS = {".antt", ".edit", ".md", ".py", ".rt", ".sh"}
