@@ -33,8 +33,8 @@ SOURCES = """
     abnfblocks abnfcheck abnfd abnfexplain abnfg abnfhints abnfi abnfprint abnfread abnfrun abnftexts abnfx capi cli
     coverlines diagnostics earley earleyitems fanquber fanquber_c feed findings fixpoint flatgrammar gramcheck lazydfa
     lexer linejudge lowering matchfailure memo memoryrun packrat pegexplain pegi pegmatch pegnodes
-    pegprint pegread pegrun refusedlines rfcforms rfcvalues rulelines ruletable tests_answers
-    tests_calls toolrun uses
+    pegprint pegread pegrun refusedlines rfcforms rfcvalues rulelines ruletable tests_calls
+    toolrun uses
     """.split()
 # The files whose words are clean. A file that is rewritten joins them.
 CHECKED = (
