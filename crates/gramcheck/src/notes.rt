@@ -13,8 +13,8 @@ ghost use Rattle.gramcheck.specs.GrammarNotes.{AreMarks, AreNotes, AreRedefiniti
 ghost use Rattle.gramcheck.specs.Uses.{names_used, rule_names};
 
 use crate::uses::uses_of;
-use pegread::{Expr, Peg};
 use fixpoint::{marks_at, note_marked, note_undefined, opposites};
+use pegread::{Expr, Peg};
 use ruletable::{Memory, NameCase, Note, NoteKind, RuleTable};
 use std::alloc::Global;
 

@@ -2,8 +2,8 @@
 ghost use Rattle.std.specs.Prelude.{◌≡◌, ◌⊎◌, ℕ, List, true, false, [], chars, IfOk, OnErr};
 ghost use Rattle.ruletable.specs.Utf8Text.{numbers, Spells, IsText, IsLongestText};
 
-use crate::point::CodePoint;
 use crate::memory::Memory;
+use crate::point::CodePoint;
 use std::str;
 
 // Adds the code points of a text.
