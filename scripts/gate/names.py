@@ -33,7 +33,7 @@ TYPE = re.compile(r"^(?:pub(?:\([a-z]+\))? )?(?:struct|enum|trait|type) (\w+)", 
 LANGUAGES = (
     {"abnfread", "abnfprint", "abnfexplain", "abnfcheck", "abnfrun", "flatgrammar", "lowering"},
     {"pegread", "pegprint", "pegexplain", "pegnodes", "gramcheck", "pegrun", "pegmatch"},
-    {"diagnostics", "lexer", "rulenames", "ruletable", "toolrun"},
+    {"diagnostics", "fixpoint", "lexer", "ruletable", "toolrun"},
 )
 # Names that stand in crates of one language, or in crates that speak of something else each; agreed, and not to grow.
 TWINS = set(
@@ -66,7 +66,7 @@ NO_CODE = re.compile(r"""b?'(?:\\.|[^'\\\n])'|(?://|--)[^\n]*|["](?:\\.|[^"\\])*
 # the functions of `rfcvalues` would be 124 with its own, and `abnfblocks` would wait for `abnfexplain`. In `rulelines`
 # those of `coverlines` would be 174 with its own; each library below `abnfg` with room is proved for `abnfi` too. In
 # `cli` the functions of `findings` would be 125 with its own.
-MOST_CRATES = 51
+MOST_CRATES = 48
 LONGEST_CHAIN = 10
 # The programs, each with the parts of crates.txt of which it uses nothing, and the most crates below it.
 PROGRAMS = {
@@ -84,7 +84,10 @@ LARGEST_CRATE = 105
 LARGER = {"lazydfa": 136, "abnftexts": 130}
 # The most entries that a folder has, and the folders that have more.
 LARGEST_FOLDER = 40
-WIDER = {"crates": MOST_CRATES, "docs/crates": MOST_CRATES, "must-fail": MOST_CRATES, "scripts/oracles/rfc_texts": 48}
+WIDER = {
+    "crates": MOST_CRATES, "docs/crates": MOST_CRATES, "must-fail": MOST_CRATES, "crates/fixpoint/proofs": 44,
+    "scripts/oracles/rfc_texts": 48,
+}
 # Folders that hold no sources.
 BUILT = {".git", "__pycache__", "bin", "out"}
 TEXTS = {".antt", ".edit", ".md", ".py", ".rt", ".sh"}

@@ -32,9 +32,9 @@ TOP = pathlib.Path(__file__).resolve().parents[2]
 SOURCES = """
     abnfblocks abnfcheck abnfd abnfexplain abnfg abnfhints abnfi abnfprint abnfread abnfrun abnftexts abnfx capi cli
     coverlines diagnostics earley earleyitems fanquber fanquber_c feed findings fixpoint flatgrammar gramcheck lazydfa
-    letters lexer linejudge lowering matchfailure memo memoryrun packrat pegexplain pegi pegmatch pegnodes
-    pegprint pegread pegrun refusedlines rfcforms rfcvalues rulelines rulenames ruletable tests_answers
-    tests_calls toolrun uses
+    lexer linejudge lowering matchfailure memo memoryrun packrat pegexplain pegi pegmatch pegnodes
+    pegprint pegread pegrun refusedlines rfcforms rfcvalues rulelines ruletable tests_calls
+    toolrun uses
     """.split()
 # The files whose words are clean. A file that is rewritten joins them.
 CHECKED = (

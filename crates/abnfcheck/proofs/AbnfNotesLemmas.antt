@@ -11,10 +11,10 @@ use Rattle.fixpoint.specs.NumberMarks.{IsMarked}
 use Rattle.fixpoint.proofs.IsMarkedLemmas.{marked_lt}
 use Rattle.ruletable.specs.Rules.{same_name}
 use Rattle.ruletable.specs.declared.table.NameCase.TheVariants.{Fold}
-use Rattle.rulenames.specs.FirstUses.{news}
-use Rattle.rulenames.specs.IdMarks.{chosen, AreMarks}
-use Rattle.rulenames.proofs.AreMarksLemmas.{marks-opposite}
-use Rattle.rulenames.proofs.ChosenLemmas.{chosen_none}
+use Rattle.fixpoint.specs.FirstUses.{news}
+use Rattle.fixpoint.specs.IdMarks.{chosen, AreMarks}
+use Rattle.fixpoint.proofs.AreMarksLemmas.{marks-opposite}
+use Rattle.fixpoint.proofs.ChosenLemmas.{chosen_none}
 use Rattle.abnfread.specs.Element.{Rule, id_of}
 use Rattle.abnfcheck.specs.AbnfGrammar.{Reachable, judged_rule, by_name, IsSound}
 use Rattle.abnfcheck.specs.AbnfNotes as n

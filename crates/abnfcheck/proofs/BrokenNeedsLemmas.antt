@@ -12,8 +12,8 @@ use Rattle.fixpoint.specs.Reach.{Reaches, here as start, further}
 use Rattle.fixpoint.specs.StepRows.{Step, row_at, AreStepsWithin}
 use Rattle.fixpoint.proofs.AtLemmas.{at_append_left, at_push}
 use Rattle.fixpoint.proofs.ContainsLemmas.{none_of}
-use Rattle.rulenames.specs.IdMarks.{AreMarks}
-use Rattle.rulenames.proofs.AreMarksLemmas.{marks-opposite}
+use Rattle.fixpoint.specs.IdMarks.{AreMarks}
+use Rattle.fixpoint.proofs.AreMarksLemmas.{marks-opposite}
 use Rattle.abnfread.specs.Element.{Rule, id_of}
 use Rattle.abnfcheck.specs.AbnfGrammar.{Reachable, judged_rule, by_name, IsSound}
 use Rattle.abnfcheck.specs.AbnfNotes.{AreOthersRefused, IsRefused, by_prose}

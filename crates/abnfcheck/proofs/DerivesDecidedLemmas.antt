@@ -10,7 +10,7 @@ use Rattle.ruletable.specs.declared.table.NameCase.TheVariants.{Fold}
 use Rattle.abnfread.specs.Element as e
 use Rattle.abnfread.specs.Element.{Element, Elements, Rule, bodies, body_of}
 use Rattle.abnfcheck.specs.Derivable as der
-use Rattle.letters.specs.Letters.{small}
+use Rattle.ruletable.specs.Letters.{small}
 use Rattle.abnfcheck.specs.Derivable.{StandsFor, Spelled, AreLetters, Derives, DerivesAll, DerivesSome}
 use Rattle.abnfcheck.specs.Derivable.{DerivesTimes, all_done, then, this, later, no_more, one_more, RuleDerives}
 use Rattle.abnfcheck.specs.Decided.{Says}

@@ -15,7 +15,7 @@ use Rattle.abnfread.specs.AbnfViews.{elements, element_of, elements_of}
 use Rattle.abnfread.specs.declared.elem.Elem.{Elem}
 use Rattle.abnfcheck.specs.declared.aim.Aim.{Aim}
 use Rattle.abnfcheck.specs.declared.aim.Aim.TheVariants.{Empty, Letters}
-use Rattle.letters.specs.Letters.{has as in_alphabet}
+use Rattle.ruletable.specs.Letters.{has as in_alphabet}
 use Rattle.abnfcheck.specs.RuleMarks.{Asks, asks, IsNeedOf, of_met, of_unmet, of_concat, of_alt, of_rep, of_name}
 use Rattle.abnfcheck.specs.RuleMarks.{AskAll, ask_none, ask_more, HaveBodyNeeds, IsNumbered, IsTestOf, AreNumbered}
 

@@ -9,9 +9,9 @@ use Rattle.fixpoint.specs.Reach.{Reaches, here as start, further}
 use Rattle.fixpoint.specs.StepRows.{Step, AreStepsWithin}
 use Rattle.fixpoint.proofs.ContainsLemmas.{none_of, in_first, in_later, cons_cases}
 use Rattle.ruletable.specs.declared.table.NameCase.TheVariants.{Fold}
-use Rattle.rulenames.specs.FirstUses.{news}
-use Rattle.rulenames.specs.NameUses.{IsPosition, here, there, AreIdsOf, no_uses, one_use}
-use Rattle.rulenames.proofs.IsPositionLemmas.{position_below}
+use Rattle.fixpoint.specs.FirstUses.{news}
+use Rattle.fixpoint.specs.NameUses.{IsPosition, here, there, AreIdsOf, no_uses, one_use}
+use Rattle.fixpoint.proofs.IsPositionLemmas.{position_below}
 use Rattle.abnfread.specs.Element as e
 use Rattle.abnfread.specs.Element.{Element, Elements, Rule, bodies, id_of}
 use Rattle.abnfcheck.specs.AbnfGrammar.{Within, WithinSome, itself, of_concat, of_alt, of_rep, of_opt, of_first}

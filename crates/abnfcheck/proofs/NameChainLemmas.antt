@@ -6,8 +6,8 @@ use Rattle.std.specs.Prelude.{option_map}
 use Rattle.fixpoint.specs.StepRows.{Step}
 use Rattle.ruletable.specs.Rules.{Rules, find_in, names_of, same_name}
 use Rattle.ruletable.specs.declared.table.NameCase.TheVariants.{Fold}
-use Rattle.rulenames.proofs.IsAddedLemmas.{found_in}
-use Rattle.rulenames.proofs.IsPositionLemmas.{position_below, position_of}
+use Rattle.fixpoint.proofs.IsAddedLemmas.{found_in}
+use Rattle.fixpoint.proofs.IsPositionLemmas.{position_below, position_of}
 use Rattle.fixpoint.specs.Distances.{Distance, Steps, no_step, one_more}
 use Rattle.fixpoint.specs.ShortChains.{Back, ChainTo, IsChainIfReached, at_start, after}
 use Rattle.abnfread.specs.Element.{Rule}

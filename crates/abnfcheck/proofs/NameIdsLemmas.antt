@@ -14,10 +14,10 @@ use Rattle.ruletable.specs.Rules.{Rules}
 use Rattle.ruletable.specs.Rules as table
 use Rattle.ruletable.specs.declared.table.NameCase.TheVariants.{Fold}
 use Rattle.fixpoint.specs.StepRows.{row_at}
-use Rattle.rulenames.specs.FirstUses.{news}
-use Rattle.rulenames.specs.NameUses.{IsPosition, here, there, AreIdsOf, IsScanned}
-use Rattle.rulenames.proofs.IsPositionLemmas.{position_append}
-use Rattle.rulenames.proofs.IsScannedLemmas.{ids_more, scan_grows, used_next as next_uses}
+use Rattle.fixpoint.specs.FirstUses.{news}
+use Rattle.fixpoint.specs.NameUses.{IsPosition, here, there, AreIdsOf, IsScanned}
+use Rattle.fixpoint.proofs.IsPositionLemmas.{position_append}
+use Rattle.fixpoint.proofs.IsScannedLemmas.{ids_more, scan_grows, used_next as next_uses}
 use Rattle.abnfread.specs.declared.elem.Elem.{Elem}
 use Rattle.abnfread.specs.Element.{Element, Rule, bodies, id_of}
 use Rattle.abnfread.specs.AbnfViews.{elements, element_of, elements_of, rule_of}

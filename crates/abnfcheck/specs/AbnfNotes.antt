@@ -7,7 +7,7 @@ use Rattle.ruletable.specs.Rules as table
 use Rattle.ruletable.specs.declared.note.NoteKind.TheVariants as kind
 use Rattle.ruletable.specs.declared.table.NameCase.TheVariants.{Fold}
 use Rattle.fixpoint.specs.NumberMarks.{IsMarked}
-use Rattle.rulenames.specs.FirstUses.{news}
+use Rattle.fixpoint.specs.FirstUses.{news}
 use Rattle.abnfread.specs.AbnfViews.{rules_of}
 use Rattle.abnfread.specs.Element.{Rule, id_of}
 use Rattle.abnfread.specs.declared.elem.Elem.{Elem}

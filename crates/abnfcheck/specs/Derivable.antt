@@ -3,7 +3,7 @@ use Rattle.std.specs.Prelude.{◌≡◌, ℕ, suc, ◌≤◌, Bool, true, false,
 use Rattle.std.specs.Prelude.{Some, None}
 use Rattle.abnfread.specs.Element.{Element, Elements, Text, Values, Range, Concat, Alt, Rep, Opt, Name, none, more}
 use Rattle.abnfread.specs.Element.{Rule, bodies, body_of}
-use Rattle.letters.specs.Letters.{small}
+use Rattle.ruletable.specs.Letters.{small}
 
 -- a symbol of a text and one that may stand for it
 abbrev pub StandsFor : Bool → ℕ → ℕ → Type 0

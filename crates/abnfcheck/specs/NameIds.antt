@@ -3,8 +3,8 @@ use Rattle.std.specs.Prelude.{◌≡◌, ◌⊎◌, ℕ, ◌<◌, ◌≤◌, Lis
 use Rattle.std.specs.Prelude.{option_to_list}
 use Rattle.fixpoint.specs.StepRows.{row_at}
 use Rattle.ruletable.specs.declared.table.NameCase.TheVariants.{Fold}
-use Rattle.rulenames.specs.FirstUses.{news}
-use Rattle.rulenames.specs.NameUses.{IsPosition, AreIdsOf}
+use Rattle.fixpoint.specs.FirstUses.{news}
+use Rattle.fixpoint.specs.NameUses.{IsPosition, AreIdsOf}
 use Rattle.abnfread.specs.Element.{Element, Name, Rule, bodies}
 use Rattle.abnfcheck.specs.AbnfGrammar.{Within}
 use Rattle.abnfcheck.specs.AbnfUses.{names_in, names_used, rule_names}

@@ -3,7 +3,7 @@ use Rattle.std.specs.Prelude.{◌≡◌, ◌⊎◌, ℕ, Bool, true, List, slice
 use Rattle.fixpoint.specs.NumberMarks.{IsMarked}
 use Rattle.fixpoint.specs.Reach.{Reaches}
 use Rattle.fixpoint.specs.StepRows.{Step}
-use Rattle.rulenames.specs.IdMarks.{AreMarks}
+use Rattle.fixpoint.specs.IdMarks.{AreMarks}
 use Rattle.abnfread.specs.Element.{Rule}
 use Rattle.abnfcheck.specs.AbnfUses.{HoldsProse}
 use Rattle.abnfcheck.specs.AbnfNotes.{IsUnused}

@@ -4,8 +4,8 @@ use Rattle.std.specs.Prelude.{◌≡◌, ◌↔◌, ℕ, ◌<◌, ◌≤◌, Boo
 use Rattle.std.specs.Prelude.{Some, None, if◌then◌else◌}
 use Rattle.fixpoint.specs.Demands.{Demand, All, One, AreNeedsWithin}
 use Rattle.fixpoint.specs.NumberMarks.{IsMarked}
-use Rattle.letters.specs.Letters.{has as in_alphabet}
-use Rattle.letters.specs.declared.alphabet.Alphabet.{Alphabet}
+use Rattle.ruletable.specs.Letters.{has as in_alphabet}
+use Rattle.ruletable.specs.declared.alphabet.Alphabet.{Alphabet}
 use Rattle.abnfread.specs.Element.{Element, Elements, Concat, Alt, Rep, Name, none, more, Rule, bodies, id_of}
 use Rattle.abnfcheck.specs.Derivable.{AreLetters, Derives, RuleDerives, AtMost}
 use Rattle.abnfcheck.specs.declared.aim.Aim.{Aim}

@@ -2,7 +2,7 @@
 ghost use Rattle.std.specs.Prelude.{◌≡◌, ◌↔◌, ◌≤◌, ◌++◌, ℕ, Bool, List, length, map, drop, Option, Contains, IfOk};
 ghost use Rattle.fixpoint.specs.StepRows.{rows_of, AreStepsWithin};
 ghost use Rattle.ruletable.specs.Rules.{names_of};
-ghost use Rattle.rulenames.specs.IdMarks.{chosen, AreMarks};
+ghost use Rattle.fixpoint.specs.IdMarks.{chosen, AreMarks};
 ghost use Rattle.abnfread.specs.Element.{Rule};
 ghost use Rattle.ruletable.specs.Notes.{said, said_of};
 ghost use Rattle.abnfcheck.specs.AbnfNotes.{judged_in, IsRefused};
@@ -13,7 +13,7 @@ ghost use Rattle.abnfcheck.specs.ProseIn.{prose_marks};
 use crate::name_ids::NameIds;
 use crate::name_marks::{reaches_broken, some_set, used_marks};
 use abnfread::Elem;
-use rulenames::{marks_at, note_marked, note_undefined, opposites};
+use fixpoint::{marks_at, note_marked, note_undefined, opposites};
 use ruletable::{Memory, Note, NoteKind, RuleTable};
 use std::alloc::Global;
 

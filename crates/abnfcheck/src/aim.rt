@@ -1,6 +1,6 @@
 //! Properties that are asked of rules.
 
-use letters::Alphabet;
+use ruletable::Alphabet;
 
 /// A property that is asked of a rule.
 #[derive(Clone, Copy)]

@@ -3,14 +3,14 @@ ghost use Rattle.std.specs.Prelude.{◌≡◌, ◌≤◌, ℕ, List, [], ◌++�
 ghost use Rattle.fixpoint.specs.StepRows.{rows_of, row_at};
 ghost use Rattle.ruletable.specs.Rules.{names_of};
 ghost use Rattle.ruletable.specs.declared.table.NameCase.TheVariants.{Fold};
-ghost use Rattle.rulenames.specs.FirstUses.{news};
-ghost use Rattle.rulenames.specs.NameUses.{IsScanned};
+ghost use Rattle.fixpoint.specs.FirstUses.{news};
+ghost use Rattle.fixpoint.specs.NameUses.{IsScanned};
 ghost use Rattle.abnfread.specs.AbnfViews.{element_of, elements_of, rules_of};
 ghost use Rattle.abnfcheck.specs.AbnfUses.{names_in, names_in_all, names_used};
 ghost use Rattle.abnfcheck.specs.NameIds.{AreRowsTo, IsGraph, IsJudged};
 
 use abnfread::Elem;
-use rulenames::{add_name, add_use, names_of_rules};
+use fixpoint::{add_name, add_use, names_of_rules};
 use ruletable::{Memory, NameCase, RuleTable};
 use std::alloc::Global;
 

@@ -6,8 +6,7 @@ ghost use Rattle.abnfcheck.specs.RuleMarks.{AreProductive};
 use crate::aim::Aim;
 use crate::rule_marks::rule_marks;
 use crate::sound_abnf::SoundAbnf;
-use letters::Alphabet;
-use ruletable::Memory;
+use ruletable::{Alphabet, Memory};
 use std::alloc::Global;
 
 /// Returns a mark for each rule of a grammar, by id: whether the rule derives some line over the alphabet. The

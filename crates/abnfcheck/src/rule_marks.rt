@@ -4,15 +4,14 @@ ghost use Rattle.fixpoint.specs.Demands.{All, One, AreNeedsWithin, owned_demand_
 ghost use Rattle.abnfread.specs.Element.{Rule, Text, Values, Range, id_of};
 ghost use Rattle.abnfread.specs.AbnfViews.{element_of, elements_of, rules_of};
 ghost use Rattle.abnfcheck.specs.Derivable.{AreLetters};
-ghost use Rattle.letters.specs.Letters.{has};
+ghost use Rattle.ruletable.specs.Letters.{has};
 ghost use Rattle.abnfcheck.specs.RuleMarks.{AreMarksFor, AreNumbered, HaveBodyNeeds, IsNumbered};
 ghost use Rattle.abnfcheck.specs.RuleMarks.{IsTestOf, Yields, need_if, need_of_id, need_of_repeat};
 
 use crate::aim::Aim;
 use abnfread::Elem;
 use fixpoint::{OwnedNeed, borrowed_needs, least};
-use letters::Alphabet;
-use ruletable::{Memory, NameCase, RuleTable};
+use ruletable::{Alphabet, Memory, NameCase, RuleTable};
 use std::alloc::Global;
 
 // Returns the need of all these numbers.

@@ -2,7 +2,7 @@
 ghost use Rattle.std.specs.Prelude.{◌≡◌, Bool, length, slice_index_or, IfOk};
 ghost use Rattle.fixpoint.specs.Demands.{demand_of, demands_of};
 ghost use Rattle.fixpoint.specs.StepRows.{rows_of};
-ghost use Rattle.rulenames.specs.IdMarks.{AreMarks};
+ghost use Rattle.fixpoint.specs.IdMarks.{AreMarks};
 ghost use Rattle.abnfread.specs.AbnfViews.{rules_of};
 ghost use Rattle.abnfcheck.specs.AbnfGrammar.{IsSound};
 ghost use Rattle.abnfcheck.specs.AbnfNotes.{AreOthersRefused};
@@ -14,10 +14,8 @@ use crate::name_ids::name_ids;
 use crate::prose::rules_with_prose;
 use crate::rule_marks::rule_marks;
 use abnfread::Elem;
-use fixpoint::{Need, least};
-use letters::Alphabet;
-use rulenames::opposites;
-use ruletable::{Memory, NameCase, RuleTable};
+use fixpoint::{Need, least, opposites};
+use ruletable::{Alphabet, Memory, NameCase, RuleTable};
 use std::alloc::Global;
 
 // Returns whether a name has no rule, or its rule holds prose.

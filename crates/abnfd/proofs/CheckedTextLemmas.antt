@@ -24,7 +24,7 @@ use Rattle.abnfrun.proofs.AllRulesLemmas.{all_same}
 use Rattle.abnfrun.specs.AbnfNoted.{again_in, all_rules}
 use Rattle.fixpoint.proofs.IsMarkedLemmas.{marked_lt}
 use Rattle.fixpoint.specs.NumberMarks.{IsMarked}
-use Rattle.rulenames.specs.IdMarks.{AreMarks}
+use Rattle.fixpoint.specs.IdMarks.{AreMarks}
 use Rattle.ruletable.specs.Rules as table
 use Rattle.ruletable.specs.Rules.{names_of}
 use Rattle.ruletable.specs.declared.table.NameCase.TheVariants.{Fold}

@@ -11,7 +11,7 @@ use Rattle.abnfread.specs.AbnfMachine.{snoc}
 use Rattle.abnfread.specs.AbnfViews.{element_of, elements_of, rule_of, rules_of}
 use Rattle.abnfread.specs.Element.{Rule}
 use Rattle.abnfread.specs.declared.elem.Elem.{Elem}
-use Rattle.rulenames.proofs.IsAddedLemmas.{name_next}
+use Rattle.fixpoint.proofs.IsAddedLemmas.{name_next}
 use Rattle.ruletable.specs.Rules as table
 use Rattle.ruletable.specs.Rules.{Defines, HasUniqueNames, Rules, bodies_of, names_of, spans_of}
 use Rattle.ruletable.specs.declared.span.Span.{Span}

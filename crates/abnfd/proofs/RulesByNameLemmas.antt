@@ -11,8 +11,8 @@ use Rattle.std.specs.Prelude.{Some, codes, is_some, max, slice_get}
 use Rattle.std.specs.List.{filter, list_any}
 use Rattle.abnfcheck.proofs.JoinLemmas.{position_found}
 use Rattle.abnfd.specs.RulesByName.{EndsAs, HasRows, RuleRow, greatest_code, is_named, names_text, row_text}
-use Rattle.letters.specs.declared.alphabet.Alphabet.{Alphabet}
-use Rattle.rulenames.proofs.IsAddedLemmas.{found_in}
+use Rattle.ruletable.specs.declared.alphabet.Alphabet.{Alphabet}
+use Rattle.fixpoint.proofs.IsAddedLemmas.{found_in}
 use Rattle.ruletable.specs.Rules.{Rules, find_in, names_of, same_name}
 use Rattle.ruletable.specs.declared.table.NameCase.{NameCase}
 use Rattle.ruletable.specs.declared.table.NameCase.TheVariants.{Fold}

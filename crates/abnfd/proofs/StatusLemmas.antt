@@ -15,7 +15,7 @@ use Rattle.abnfread.specs.AbnfViews.{rules_of}
 use Rattle.abnfread.specs.Element.{Rule, id_of}
 use Rattle.abnfrun.specs.AbnfNoted.{IsRefusedFor, again_in, all_rules, judged_of}
 use Rattle.fixpoint.specs.NumberMarks.{IsMarked}
-use Rattle.letters.specs.declared.alphabet.Alphabet.{Alphabet}
+use Rattle.ruletable.specs.declared.alphabet.Alphabet.{Alphabet}
 use Rattle.rulelines.specs.declared.alone.Alone.TheVariants.{Never}
 use Rattle.rulelines.specs.declared.comparison.Comparison.{Comparison}
 use Rattle.toolrun.specs.declared.status.Status.{Status}

@@ -7,8 +7,8 @@ use Rattle.std.specs.Prelude.{map, option_map, slice_get}
 use Rattle.abnfcheck.proofs.RuleIdLemmas.{body_at_id}
 use Rattle.abnfcheck.specs.Derivable.{Derives, DerivesAll, DerivesSome, DerivesTimes, RuleDerives}
 use Rattle.abnfcheck.specs.Derivable as d
-use Rattle.letters.specs.Letters.{has as symbols}
-use Rattle.letters.specs.declared.alphabet.Alphabet.{Alphabet}
+use Rattle.ruletable.specs.Letters.{has as symbols}
+use Rattle.ruletable.specs.declared.alphabet.Alphabet.{Alphabet}
 use Rattle.rulelines.specs.declared.alone.Alone.TheVariants.{Never}
 use Rattle.rulelines.specs.declared.comparison.Comparison.{Comparison}
 use Rattle.ruletable.specs.Rules as table

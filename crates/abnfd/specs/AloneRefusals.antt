@@ -2,7 +2,7 @@
 use Rattle.std.specs.Prelude.{◌≡◌, ℕ, List, [], ◌++◌, Bool, true, false, codes}
 use Rattle.abnfcheck.specs.AbnfGrammar.{Grammar}
 use Rattle.abnfread.specs.AbnfViews.{rules_of}
-use Rattle.letters.specs.declared.alphabet.Alphabet.{Alphabet}
+use Rattle.ruletable.specs.declared.alphabet.Alphabet.{Alphabet}
 use Rattle.refusedlines.specs.Refusals.{IsRefusalReported}
 use Rattle.refusedlines.specs.declared.refusal.LineUnit.TheVariants.{Line}
 use Rattle.rulelines.specs.LineBytes.{line_bytes}

@@ -6,7 +6,7 @@ use Rattle.abnfd.specs.RulesByName.{IsAskedReport}
 use Rattle.abnfd.specs.declared.files.UnreadFile.{UnreadFile}
 use Rattle.abnfd.specs.declared.files.UnreadFile.TheVariants.{New, NoMemory, Old}
 use Rattle.clap.specs.Words.{Row}
-use Rattle.letters.specs.declared.alphabet.Alphabet.{Alphabet}
+use Rattle.ruletable.specs.declared.alphabet.Alphabet.{Alphabet}
 use Rattle.toolrun.specs.Input.{Input}
 use Rattle.toolrun.specs.Plan.{stopped}
 use Rattle.toolrun.specs.Reply.{Reply}

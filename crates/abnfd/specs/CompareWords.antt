@@ -6,7 +6,7 @@ use Rattle.cli.specs.Asked.{alphabet_named, is_flagged}
 use Rattle.cli.specs.Command.{AreAlphabets, Names, flag_rule, letters_rule, number_rule, operand_rule, program_app}
 use Rattle.cli.specs.Command.{rule_rule, value_rule}
 use Rattle.cli.specs.Inputs.{is_standard}
-use Rattle.letters.specs.declared.alphabet.Alphabet.{Alphabet}
+use Rattle.ruletable.specs.declared.alphabet.Alphabet.{Alphabet}
 
 -- `abnfd [-s RULE] [-t RULE] [-a] [-b N] OLD NEW [-u MODE] [-x]`
 abbrev pub abnfd_app : Names → App

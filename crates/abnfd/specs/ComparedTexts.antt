@@ -6,8 +6,8 @@ use Rattle.abnfd.specs.ComparedSides.{IsSideOf}
 use Rattle.abnfd.specs.ComparisonText.{comparison_text, verdict_between, verdict_status}
 use Rattle.abnfread.specs.AbnfViews.{rules_of}
 use Rattle.abnfread.specs.Element.{Rule}
-use Rattle.letters.specs.Letters.{has}
-use Rattle.letters.specs.declared.alphabet.Alphabet.{Alphabet}
+use Rattle.ruletable.specs.Letters.{has}
+use Rattle.ruletable.specs.declared.alphabet.Alphabet.{Alphabet}
 use Rattle.rulelines.specs.Alone.{IsKnownOf}
 use Rattle.rulelines.specs.FirstLines.{IsOfOldAlone}
 use Rattle.rulelines.specs.declared.comparison.Comparison.{Comparison}

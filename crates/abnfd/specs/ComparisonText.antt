@@ -3,7 +3,7 @@ use Rattle.std.specs.Prelude.{ℕ, List, ◌++◌, codes, decimal}
 use Rattle.abnfd.specs.QuotedLines.{quoted_line}
 use Rattle.abnfd.specs.declared.answer.LinesVerdict.{LinesVerdict}
 use Rattle.abnfd.specs.declared.answer.LinesVerdict.TheVariants.{Same, Differ, NotKnown}
-use Rattle.letters.specs.declared.alphabet.Alphabet.{Alphabet}
+use Rattle.ruletable.specs.declared.alphabet.Alphabet.{Alphabet}
 use Rattle.rulelines.specs.declared.alone.Alone.{Alone}
 use Rattle.rulelines.specs.declared.alone.Alone.TheVariants.{First, Never, NeverUpTo, Unknown}
 use Rattle.rulelines.specs.declared.comparison.Comparison.{Comparison}

@@ -18,9 +18,9 @@ use Rattle.abnfread.specs.AbnfViews.{rules_of}
 use Rattle.abnfread.specs.Element.{Definition, Rule}
 use Rattle.abnfrun.specs.AbnfNoted.{IsRefusedFor, all_rules, judged_of}
 use Rattle.fixpoint.specs.NumberMarks.{IsMarked}
-use Rattle.letters.specs.declared.alphabet.Alphabet.{Alphabet}
+use Rattle.ruletable.specs.declared.alphabet.Alphabet.{Alphabet}
 use Rattle.rulelines.specs.declared.comparison.Comparison.{Comparison}
-use Rattle.rulenames.specs.IdMarks.{AreMarks}
+use Rattle.fixpoint.specs.IdMarks.{AreMarks}
 use Rattle.ruletable.specs.Rules as table
 use Rattle.ruletable.specs.Rules.{same_name}
 use Rattle.ruletable.specs.declared.fault.ReadFault.{ReadFault}

@@ -5,9 +5,8 @@ ghost use Rattle.abnfd.specs.ComparisonText.{verdict_status as the_status};
 
 use crate::quoted::push_quoted;
 use diagnostics::push_number;
-use letters::Alphabet;
 use rulelines::{Alone, Comparison};
-use ruletable::Memory;
+use ruletable::{Alphabet, Memory};
 use std::alloc::Global;
 use toolrun::Status;
 

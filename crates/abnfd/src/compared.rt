@@ -7,9 +7,8 @@ use crate::answer::{comparison_status, comparison_text};
 use crate::refusals::asked_refusals;
 use crate::side::{Side, open_side};
 use abnfcheck::SoundAbnf;
-use letters::Alphabet;
 use rulelines::{Alone, Comparison, compare};
-use ruletable::Memory;
+use ruletable::{Alphabet, Memory};
 use std::alloc::Global;
 use toolrun::Status;
 

@@ -3,9 +3,8 @@ ghost use Rattle.std.specs.Prelude.{◌≡◌, ◌<◌, ◌++◌, OnOk};
 ghost use Rattle.abnfd.specs.QuotedLines.{quoted_byte, quoted_bytes, quoted_line};
 ghost use Rattle.diagnostics.specs.ShownBytes.{hex_digit as the_digit};
 
-use letters::Alphabet;
 use rulelines::line_bytes;
-use ruletable::Memory;
+use ruletable::{Alphabet, Memory};
 use std::alloc::Global;
 
 // Returns the digit of a number below 16.

@@ -2,7 +2,7 @@
 ghost use Rattle.std.specs.Prelude.{◌≡◌, ◌+◌, ◌≤◌, [], IfOk, length};
 ghost use Rattle.abnfd.specs.AloneRefusals.{AreAskedRefusals, AreRefusals, IsRefusalBy, IsRefusalOfAlone};
 ghost use Rattle.abnfread.specs.AbnfViews.{rules_of};
-ghost use Rattle.letters.specs.Letters.{has};
+ghost use Rattle.ruletable.specs.Letters.{has};
 ghost use Rattle.lowering.specs.GivenPrefixes.{GivesPrefixes};
 ghost use Rattle.refusedlines.specs.Refusals.{IsRefusalReported};
 
@@ -10,11 +10,10 @@ use crate::compared::CompareSettings;
 use abnfcheck::SoundAbnf;
 use earley::Chart;
 use lazydfa::Automaton;
-use letters::Alphabet;
 use lowering::lower_viable;
 use refusedlines::{Explainer, LineUnit, RefusedLine, explain_refused};
 use rulelines::{Alone, Comparison, line_bytes};
-use ruletable::Memory;
+use ruletable::{Alphabet, Memory};
 use std::alloc::Global;
 
 /// What an explanation of the first line of an input begins with.

@@ -7,7 +7,7 @@ use Rattle.std.proofs.lemmas.List.Elements.{All-push, All-weaker}
 use Rattle.std.specs.List.{All}
 use Rattle.abnfg.specs.ListRefusals.{AreRefusalsFrom}
 use Rattle.abnfread.specs.Element.{Rule}
-use Rattle.letters.specs.declared.alphabet.Alphabet.{Alphabet}
+use Rattle.ruletable.specs.declared.alphabet.Alphabet.{Alphabet}
 use Rattle.refusedlines.specs.Refusals.{IsExplained, IsRefusalReported}
 use Rattle.refusedlines.specs.declared.refusal.LineUnit.{LineUnit}
 use Rattle.rulelines.specs.MissLists.{item_lines}

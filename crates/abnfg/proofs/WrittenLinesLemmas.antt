@@ -11,7 +11,7 @@ use Rattle.std.proofs.lemmas.List.{map-append}
 use Rattle.abnfg.specs.ListModes.{AreLinesKept, explained_asked}
 use Rattle.abnfg.specs.ListRefusals.{explained_lines, explains_by}
 use Rattle.abnfg.specs.declared.lines.ListSettings.{ListSettings}
-use Rattle.letters.specs.declared.alphabet.Alphabet.{Alphabet}
+use Rattle.ruletable.specs.declared.alphabet.Alphabet.{Alphabet}
 use Rattle.rulelines.specs.LineBytes.{line_bytes}
 use Rattle.rulelines.specs.MissLists.{item_lines}
 use Rattle.rulelines.proofs.MissLinesLemmas.{lines_more}

@@ -10,7 +10,7 @@ use Rattle.coverlines.specs.MissedGoals.{AreMissed}
 use Rattle.coverlines.specs.declared.bounds.LineBounds.{LineBounds}
 use Rattle.coverlines.specs.declared.way.CoverGoal.{CoverGoal}
 use Rattle.coverlines.specs.declared.cover.CoverLine.{CoverLine}
-use Rattle.letters.specs.declared.alphabet.Alphabet.{Alphabet}
+use Rattle.ruletable.specs.declared.alphabet.Alphabet.{Alphabet}
 use Rattle.ruletable.specs.Writing.{AppendsPart}
 use Rattle.ruletable.specs.declared.sink.WriteFault.{WriteFault}
 use Rattle.toolrun.specs.declared.status.Status.{Status}

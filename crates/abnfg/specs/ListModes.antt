@@ -13,7 +13,7 @@ use Rattle.abnfg.specs.declared.source.LineSource.{LineSource}
 use Rattle.abnfg.specs.declared.source.LineSource.TheVariants.{Derived, Drawn, Missed}
 use Rattle.abnfread.specs.Element.{Rule}
 use Rattle.abnfrun.specs.AbnfReply.{unit_for}
-use Rattle.letters.specs.declared.alphabet.Alphabet.{Alphabet}
+use Rattle.ruletable.specs.declared.alphabet.Alphabet.{Alphabet}
 use Rattle.rulelines.specs.LineSets.{AreRuleLines, IsLineIn, IsRuleLine, LineSet}
 use Rattle.rulelines.specs.MissLists.{AreAllMisses, AreFirstMisses, AreLinesReported, AreOfRule, MissList}
 use Rattle.rulelines.specs.MissLists.{item_lines}

@@ -3,7 +3,7 @@ use Rattle.std.specs.Prelude.{◌≡◌, ℕ, ◌+◌, Bool, true, false, List, 
 use Rattle.abnfg.specs.declared.lines.ListMode.{ListMode}
 use Rattle.abnfg.specs.declared.lines.ListMode.TheVariants.{All as InOrder, Cover, Miss, Random}
 use Rattle.abnfread.specs.Element.{Rule}
-use Rattle.letters.specs.declared.alphabet.Alphabet.{Alphabet}
+use Rattle.ruletable.specs.declared.alphabet.Alphabet.{Alphabet}
 use Rattle.refusedlines.specs.Refusals.{IsRefusalReported}
 use Rattle.refusedlines.specs.declared.refusal.LineUnit.{LineUnit}
 use Rattle.rulelines.specs.LineBytes.{line_bytes}

@@ -9,7 +9,7 @@ use Rattle.abnfg.specs.declared.lines.Halt.TheVariants.{NoMemory as HaltsUnroome
 use Rattle.abnfg.specs.declared.lines.Halt.TheVariants.{All as Finished}
 use Rattle.rulelines.specs.declared.list.lines.NextLine.{NextLine}
 use Rattle.rulelines.specs.declared.list.lines.NextLine.TheVariants.{Line, Done as End}
-use Rattle.letters.specs.declared.alphabet.Alphabet.{Alphabet}
+use Rattle.ruletable.specs.declared.alphabet.Alphabet.{Alphabet}
 use Rattle.ruletable.specs.Writing.{AppendsPart}
 use Rattle.ruletable.specs.declared.sink.WriteFault.{WriteFault}
 use Rattle.rulelines.specs.FirstLines.{ComesFirst, IsShortlexBefore}

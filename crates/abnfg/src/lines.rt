@@ -18,10 +18,9 @@ use crate::covered::list_cover;
 use crate::refusals::explain_lines;
 use crate::source::LineSource;
 use abnfcheck::SoundAbnf;
-use letters::Alphabet;
 use refusedlines::LineUnit;
 use rulelines::{NextLine, line_bytes};
-use ruletable::{Memory, Sink, WriteFault, write_whole};
+use ruletable::{Alphabet, Memory, Sink, WriteFault, write_whole};
 use std::alloc::Global;
 use toolrun::{Ending, ReportedRefusals, Status, Stop};
 

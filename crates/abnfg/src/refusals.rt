@@ -3,17 +3,16 @@ ghost use Rattle.std.specs.Prelude.{◌≡◌, ◌+◌, ◌≤◌, IfOk, length}
 ghost use Rattle.std.specs.List.{All};
 ghost use Rattle.abnfg.specs.ListRefusals.{AreRefusalsFrom};
 ghost use Rattle.abnfread.specs.AbnfViews.{rules_of};
-ghost use Rattle.letters.specs.Letters.{has};
+ghost use Rattle.ruletable.specs.Letters.{has};
 ghost use Rattle.lowering.specs.GivenPrefixes.{GivesPrefixes};
 ghost use Rattle.rulelines.specs.MissLists.{item_lines};
 
 use abnfcheck::SoundAbnf;
 use earley::Chart;
 use lazydfa::Automaton;
-use letters::Alphabet;
 use lowering::lower_viable;
 use refusedlines::{Explainer, LineUnit, RefusedLine, explain_refused};
-use ruletable::Memory;
+use ruletable::{Alphabet, Memory};
 use std::alloc::Global;
 
 // Returns a number that is greater than the length of each line.

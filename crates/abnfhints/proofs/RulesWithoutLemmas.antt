@@ -10,7 +10,7 @@ use Rattle.ruletable.specs.Rules.{names_of, bodies_of, HasUniqueNames, Defines}
 use Rattle.ruletable.specs.declared.table.Defined.{Defined}
 use Rattle.ruletable.specs.declared.table.Defined.TheVariants.{Added, Duplicate}
 use Rattle.ruletable.specs.declared.table.NameCase.TheVariants.{Fold}
-use Rattle.rulenames.proofs.IsAddedLemmas.{name_next}
+use Rattle.fixpoint.proofs.IsAddedLemmas.{name_next}
 use Rattle.abnfread.specs.AbnfViews.{element_of, rule_of, rules_of}
 use Rattle.abnfread.specs.declared.elem.Elem.{Elem}
 use Rattle.abnfhints.specs.WithoutLetter.{IsWithout, AreRulesWithout, no_rules, one_rule}

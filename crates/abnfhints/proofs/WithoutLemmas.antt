@@ -11,8 +11,8 @@ use Rattle.std.proofs.lemmas.List.Elements.{Contains-append_left, Contains-appen
 use Rattle.std.proofs.Math.Seq.{take-suc}
 use Rattle.fixpoint.proofs.ContainsLemmas.{none_of, only_one, in_first, in_later, cons_cases}
 use Rattle.fixpoint.specs.NumberMarks.{IsMarked}
-use Rattle.letters.specs.Letters.{has as in_alphabet}
-use Rattle.letters.specs.declared.alphabet.Alphabet.{Alphabet}
+use Rattle.ruletable.specs.Letters.{has as in_alphabet}
+use Rattle.ruletable.specs.declared.alphabet.Alphabet.{Alphabet}
 use Rattle.ruletable.specs.Rules.{same_name}
 use Rattle.ruletable.specs.declared.table.NameCase.TheVariants.{Fold}
 use Rattle.abnfread.specs.Element as e
@@ -22,7 +22,7 @@ use Rattle.abnfread.specs.declared.elem.Elem.{Elem}
 use Rattle.abnfcheck.specs.Derivable as der
 use Rattle.abnfcheck.specs.Derivable.{AreLetters, AtMost, Derives, DerivesAll, DerivesSome, DerivesTimes, all_done}
 use Rattle.abnfcheck.specs.Derivable.{then, this, later, no_more, one_more, Spelled, StandsFor, RuleDerives}
-use Rattle.letters.specs.Letters.{small}
+use Rattle.ruletable.specs.Letters.{small}
 use Rattle.abnfcheck.specs.RuleMarks.{AreProductive}
 use Rattle.abnfhints.specs.WithoutLetter.{IsWithout, keeps_text, drops_text, keeps_values, drops_values, keeps_range}
 use Rattle.abnfhints.specs.WithoutLetter.{cuts_range, splits_range, in_concat, in_alt, in_rep, in_opt, keeps_name}

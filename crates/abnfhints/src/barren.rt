@@ -6,11 +6,11 @@ ghost use Rattle.abnfcheck.specs.AbnfGrammar.{IsSound};
 ghost use Rattle.abnfcheck.specs.AbnfNotes.{Those};
 ghost use Rattle.abnfcheck.specs.RuleMarks.{AreProductive};
 ghost use Rattle.abnfhints.specs.AbnfHints.{DerivesNothing, barren_reported, reported_first};
-ghost use Rattle.letters.specs.Letters.{has};
-ghost use Rattle.letters.specs.declared.alphabet.Alphabet.{Alphabet};
+ghost use Rattle.ruletable.specs.Letters.{has};
+ghost use Rattle.ruletable.specs.declared.alphabet.Alphabet.{Alphabet};
 ghost use Rattle.diagnostics.specs.DefinitionHeads.{defined_at};
 ghost use Rattle.diagnostics.specs.NoteLines.{defined_line};
-ghost use Rattle.rulenames.specs.IdMarks.{AreMarks};
+ghost use Rattle.fixpoint.specs.IdMarks.{AreMarks};
 
 use crate::hinted::Hinted;
 use crate::hints::MAX_HINTS;

@@ -3,8 +3,7 @@
 use crate::line_end::LineEnd;
 use abnfread::Elem;
 use diagnostics::Positions;
-use letters::Alphabet;
-use ruletable::RuleTable;
+use ruletable::{Alphabet, RuleTable};
 
 /// A grammar, and all that its hints depend on.
 #[derive(Clone, Copy)]

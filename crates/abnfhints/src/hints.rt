@@ -5,7 +5,7 @@ ghost use Rattle.abnfhints.specs.AbnfHints.{AreAbnfHints};
 ghost use Rattle.abnfhints.specs.declared.line_end.LineEnd.{LineEnd};
 ghost use Rattle.abnfread.specs.AbnfViews.{rules_of};
 ghost use Rattle.abnfread.specs.Element.{Rule};
-ghost use Rattle.letters.specs.Letters.{has};
+ghost use Rattle.ruletable.specs.Letters.{has};
 
 use crate::barren::{barren_names, push_all_barren};
 use crate::hinted::Hinted;

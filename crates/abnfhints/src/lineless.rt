@@ -6,8 +6,8 @@ ghost use Rattle.abnfcheck.specs.AbnfUses.{rule_names};
 ghost use Rattle.abnfcheck.specs.RuleMarks.{AreProductive};
 ghost use Rattle.abnfhints.specs.AbnfHints.{DerivesOnlyWith, IsReportedOfJudged, end_reported, lineless_reported};
 ghost use Rattle.abnfhints.specs.LineEnds.{end_byte};
-ghost use Rattle.letters.specs.Letters.{has};
-ghost use Rattle.rulenames.specs.IdMarks.{AreMarks};
+ghost use Rattle.ruletable.specs.Letters.{has};
+ghost use Rattle.fixpoint.specs.IdMarks.{AreMarks};
 
 use crate::hinted::Hinted;
 use crate::line_end::LineEnd;

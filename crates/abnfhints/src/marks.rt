@@ -4,7 +4,7 @@ ghost use Rattle.abnfcheck.specs.AbnfGrammar.{IsSound};
 ghost use Rattle.abnfcheck.specs.RuleMarks.{AreProductive};
 ghost use Rattle.abnfread.specs.AbnfViews.{rules_of};
 ghost use Rattle.fixpoint.specs.NumberMarks.{IsMarked};
-ghost use Rattle.rulenames.specs.IdMarks.{AreMarks};
+ghost use Rattle.fixpoint.specs.IdMarks.{AreMarks};
 
 use crate::hinted::Hinted;
 use abnfcheck::{productive_rules, sound_rules};

@@ -8,7 +8,7 @@ use Rattle.std.proofs.lemmas.Bool.Decides.{nat_tests}
 use Rattle.std.proofs.lemmas.List.Recursion.{is_position_or_len}
 use Rattle.ruletable.proofs.TableLemmas.{position-map}
 use Rattle.ruletable.specs.declared.memory.Memory.{Memory}
-use Rattle.letters.specs.Letters.{has}
+use Rattle.ruletable.specs.Letters.{has}
 use Rattle.ruletable.specs.Rules as table
 use Rattle.ruletable.specs.Rules.{find_in, same_name}
 use Rattle.ruletable.specs.declared.table.NameCase.TheVariants.{Fold}

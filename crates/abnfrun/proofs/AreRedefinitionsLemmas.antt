@@ -9,7 +9,7 @@ use Rattle.ruletable.specs.Notes.{Said, said}
 use Rattle.ruletable.specs.Rules as table
 use Rattle.ruletable.specs.Rules.{names_of}
 use Rattle.ruletable.specs.declared.note.NoteKind.TheVariants.{Redefined}
-use Rattle.rulenames.specs.IdMarks.{chosen, AreMarks}
+use Rattle.fixpoint.specs.IdMarks.{chosen, AreMarks}
 use Rattle.abnfread.specs.Element.{Rule}
 use Rattle.abnfread.specs.AbnfViews.{rule_of, rules_of}
 use Rattle.abnfread.specs.declared.elem.Elem.{Elem}

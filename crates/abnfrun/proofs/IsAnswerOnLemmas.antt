@@ -13,8 +13,8 @@ use Rattle.abnfcheck.specs.Derivable.{AreLetters, RuleDerives}
 use Rattle.abnfrun.specs.AbnfReply.{AnswersBy, HaveMoreThan}
 use Rattle.abnfrun.specs.LetterAnswers.{IsAnswerOn}
 use Rattle.earleyitems.specs.ChartSets.{HaveMoreItems}
-use Rattle.letters.specs.Letters.{has}
-use Rattle.letters.specs.declared.alphabet.Alphabet.{Alphabet}
+use Rattle.ruletable.specs.Letters.{has}
+use Rattle.ruletable.specs.declared.alphabet.Alphabet.{Alphabet}
 use Rattle.lowering.specs.Verdicts.{IsVerdict}
 use Rattle.flatgrammar.specs.declared.verdict.Verdict.{Verdict}
 use Rattle.flatgrammar.specs.declared.verdict.Verdict.TheVariants as verdict

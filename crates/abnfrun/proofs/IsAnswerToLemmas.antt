@@ -10,11 +10,11 @@ use Rattle.abnfcheck.specs.Derivable.{RuleDerives}
 use Rattle.abnfrun.specs.AbnfReply.{AreLettersOf, HaveMoreThan, IsAnswerTo, IsMember, NeedsMoreItems, Reaches}
 use Rattle.abnfrun.specs.LetterAnswers.{IsAnswerOn, torn}
 use Rattle.abnfrun.proofs.IsAnswerOnLemmas.{DerivationIsDecided, FurthestIsFound, FurthestIsOne, letters_answered}
-use Rattle.letters.specs.Letters.{has}
-use Rattle.letters.specs.Utf8Text.{IsLongestText, IsText, Spells, end}
-use Rattle.letters.specs.declared.alphabet.Alphabet.{Alphabet}
+use Rattle.ruletable.specs.Letters.{has}
+use Rattle.ruletable.specs.Utf8Text.{IsLongestText, IsText, Spells, end}
+use Rattle.ruletable.specs.declared.alphabet.Alphabet.{Alphabet}
 use Rattle.refusedlines.proofs.CanFollowLemmas.{derived_is_furthest}
-use Rattle.letters.specs.declared.alphabet.Alphabet.TheVariants.{Bytes, Utf8}
+use Rattle.ruletable.specs.declared.alphabet.Alphabet.TheVariants.{Bytes, Utf8}
 use Rattle.linejudge.specs.declared.answers.Answer.{Answer}
 use Rattle.linejudge.specs.declared.answers.Answer.TheVariants.{Yes, No, NoAfter}
 use Rattle.linejudge.specs.InputLines.{IsNoAnswer}

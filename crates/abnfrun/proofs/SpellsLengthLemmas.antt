@@ -3,9 +3,9 @@
 use Rattle.std.proofs.Common.{ℕ, suc, ◌<◌, ◌≤◌, List, [], ◌∷◌, length, arith, length-append, inl}
 use Rattle.std.specs.Str.{IsAscii}
 use Rattle.abnfcheck.specs.Derivable.{AreLetters}
-use Rattle.letters.specs.Letters.{has}
-use Rattle.letters.specs.Utf8Text.{Spells, end, next, Writes}
-use Rattle.letters.specs.declared.alphabet.Alphabet.TheVariants.{Utf8}
+use Rattle.ruletable.specs.Letters.{has}
+use Rattle.ruletable.specs.Utf8Text.{Spells, end, next, Writes}
+use Rattle.ruletable.specs.declared.alphabet.Alphabet.TheVariants.{Utf8}
 
 writes_some : {c : ℕ} {bytes : List ℕ} → Writes c bytes → 0 < length bytes
 writes_some (Writes.one below) = omega arith

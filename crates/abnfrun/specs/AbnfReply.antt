@@ -7,10 +7,10 @@ use Rattle.abnfcheck.specs.Derivable.{RuleDerives}
 use Rattle.abnfprint.specs.CanonicalAbnf.{grammar_text}
 use Rattle.earleyitems.specs.ChartSets.{HaveMoreItems}
 use Rattle.flatgrammar.specs.Flat.{Flat}
-use Rattle.letters.specs.Letters.{has}
-use Rattle.letters.specs.Utf8Text.{IsLongestText, Spells}
-use Rattle.letters.specs.declared.alphabet.Alphabet.{Alphabet}
-use Rattle.letters.specs.declared.alphabet.Alphabet.TheVariants.{Bytes, Utf8}
+use Rattle.ruletable.specs.Letters.{has}
+use Rattle.ruletable.specs.Utf8Text.{IsLongestText, Spells}
+use Rattle.ruletable.specs.declared.alphabet.Alphabet.{Alphabet}
+use Rattle.ruletable.specs.declared.alphabet.Alphabet.TheVariants.{Bytes, Utf8}
 use Rattle.linejudge.specs.InputLines.{kept_size}
 use Rattle.linejudge.specs.LineRefusals.{LinesReply, LinesStates}
 use Rattle.linejudge.specs.declared.answers.Answer.{Answer}

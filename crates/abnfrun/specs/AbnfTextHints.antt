@@ -1,6 +1,6 @@
 -- The hints on the grammar of a text, as settings ask for them.
 use Rattle.std.specs.Prelude.{ℕ, Bool, cond, if◌then◌else◌, nat_lt, List, length, Option, Some, None}
-use Rattle.letters.specs.Letters.{has}
+use Rattle.ruletable.specs.Letters.{has}
 use Rattle.abnfread.specs.AbnfReading.{Reads}
 use Rattle.abnfread.specs.Element.{Definition, Rule}
 use Rattle.abnfhints.specs.AbnfHints.{AreAbnfHints}

@@ -6,8 +6,8 @@ use Rattle.abnfcheck.specs.AbnfGrammar.{Grammar}
 use Rattle.flatgrammar.specs.Flat.{Flat}
 use Rattle.lowering.specs.Lowered.{IsLowered}
 use Rattle.lowering.specs.GivenPrefixes.{GivesPrefixes}
-use Rattle.letters.specs.Letters.{has}
-use Rattle.letters.specs.declared.alphabet.Alphabet.{Alphabet}
+use Rattle.ruletable.specs.Letters.{has}
+use Rattle.ruletable.specs.declared.alphabet.Alphabet.{Alphabet}
 
 -- a grammar, what the symbols of a line are, whether the longest viable prefix is asked for, how many items the sets of
 -- a line may have, and how many bytes a line may have

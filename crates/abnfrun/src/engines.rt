@@ -7,8 +7,8 @@ ghost use Rattle.linejudge.specs.InputLines.{IsNoAnswer};
 use earley::{Chart, judge, judge_few, viable, viable_few};
 use flatgrammar::{Flat, Verdict};
 use lazydfa::Automaton;
-use letters::Letter;
 use linejudge::NoAnswer;
+use ruletable::Letter;
 
 /// The two judges of a flat grammar. The automaton is fast, but may give no answer; then the chart answers.
 #[derive(Drop)]

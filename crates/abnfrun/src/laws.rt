@@ -15,8 +15,8 @@ use abnfcheck::{furthest_is_found, one_name_chain};
 use abnfexplain::{one_explanation_of_abnf, one_note_explanation_of_abnf};
 use abnfhints::one_text_of_abnf_hints;
 use abnfread::one_reading;
-use letters::utf8_is_decided;
 use refusedlines::refusal_is_one;
+use ruletable::utf8_is_decided;
 
 /// States that a list of rules, a judged rule and settings without a budget have at most one reply to an input.
 pub fn one_reply_of_abnf()

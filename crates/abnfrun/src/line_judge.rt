@@ -10,8 +10,8 @@ ghost use Rattle.abnfrun.specs.OpenJudge.{ExplainsLines};
 ghost use Rattle.abnfrun.specs.LetterAnswers.{IsAnswerOn, torn};
 ghost use Rattle.lowering.specs.Lowered.{IsLowered};
 ghost use Rattle.lowering.specs.GivenPrefixes.{GivesPrefixes};
-ghost use Rattle.letters.specs.Letters.{has};
-ghost use Rattle.letters.specs.Utf8Text.{IsText};
+ghost use Rattle.ruletable.specs.Letters.{has};
+ghost use Rattle.ruletable.specs.Utf8Text.{IsText};
 ghost use Rattle.linejudge.specs.InputLines.{IsNoAnswer};
 ghost use Rattle.linejudge.specs.declared.answers.Answer.{Answer};
 ghost use Rattle.refusedlines.specs.Refusals.{IsRefusalReported};
@@ -22,11 +22,10 @@ use abnfcheck::{SoundAbnf, derivation_is_decided, furthest_is_found};
 use earley::Chart;
 use flatgrammar::{Flat, Verdict};
 use lazydfa::Automaton;
-use letters::{Alphabet, CodePoint, Letter, decode, utf8_is_decided, utf8_len};
 use linejudge::{Answer, Judge, LineForm, NoAnswer, Printed};
 use lowering::{items_decide, lower, lower_viable, values_are_letters};
 use refusedlines::{Explainer, LineUnit, RefusedLine, explain_refused};
-use ruletable::Memory;
+use ruletable::{Alphabet, CodePoint, Letter, Memory, decode, utf8_is_decided, utf8_len};
 use std::alloc::Global;
 
 /// With a smaller budget an automaton keeps so many entries, which take some 2 MB: common grammars need no more.

@@ -1,7 +1,7 @@
 //! The settings of a run of the ABNF tool.
 
-use letters::Alphabet;
 use linejudge::Printed;
+use ruletable::Alphabet;
 use toolrun::Settings;
 
 /// The settings of grammars in ABNF alone.

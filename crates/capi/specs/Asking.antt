@@ -4,8 +4,8 @@ use Rattle.std.specs.Prelude.{if◌then◌else◌, IsSome}
 use Rattle.std.specs.Str.{IsUtf8}
 use Rattle.abnfrun.specs.declared.options.AbnfOptions.{AbnfOptions}
 use Rattle.capi.specs.declared.asked.CSettings.{CSettings}
-use Rattle.letters.specs.declared.alphabet.Alphabet.{Alphabet}
-use Rattle.letters.specs.declared.alphabet.Alphabet.TheVariants.{Bytes, Utf8}
+use Rattle.ruletable.specs.declared.alphabet.Alphabet.{Alphabet}
+use Rattle.ruletable.specs.declared.alphabet.Alphabet.TheVariants.{Bytes, Utf8}
 use Rattle.linejudge.specs.declared.printed.Printed.TheVariants.{Answers}
 use Rattle.pegrun.specs.declared.options.PegOptions.{PegOptions}
 use Rattle.toolrun.specs.declared.settings.Mode.{Mode}

@@ -8,7 +8,7 @@ use Rattle.capi.specs.GrammarsCompared.{AreFoundBetween, IsGrammarOpening, opene
 use Rattle.capi.specs.declared.alone.CAlone.{CAlone}
 use Rattle.capi.specs.declared.asked.CSettings.{CSettings}
 use Rattle.capi.specs.declared.compare_call.CComparison.{CComparison}
-use Rattle.letters.specs.declared.alphabet.Alphabet.{Alphabet}
+use Rattle.ruletable.specs.declared.alphabet.Alphabet.{Alphabet}
 use Rattle.rulelines.specs.LineBytes.{line_bytes}
 use Rattle.rulelines.specs.declared.alone.Alone.{Alone}
 use Rattle.rulelines.specs.declared.alone.Alone.TheVariants.{First, Never, NeverUpTo, Unknown}

@@ -5,7 +5,7 @@ use Rattle.abnfrun.specs.AbnfSettings.{AbnfSettings}
 use Rattle.capi.specs.CompareCall.{c_alone, first_line_bytes}
 use Rattle.capi.specs.GrammarsCompared.{AreFoundBetween, IsGrammarOpening, opened_code}
 use Rattle.capi.specs.declared.compared.CompareReport.{CompareReport}
-use Rattle.letters.specs.declared.alphabet.Alphabet.{Alphabet}
+use Rattle.ruletable.specs.declared.alphabet.Alphabet.{Alphabet}
 use Rattle.rulelines.specs.declared.comparison.Comparison.{Comparison}
 use Rattle.toolrun.specs.declared.status.Status.{Status}
 

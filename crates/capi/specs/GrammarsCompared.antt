@@ -11,8 +11,8 @@ use Rattle.abnfrun.specs.AbnfNoted.{all_rules, judged_of, AreNotesOn, IsRefusedF
 use Rattle.abnfrun.specs.AbnfSettings.{AbnfSettings}
 use Rattle.abnfrun.specs.AbnfTextHints.{AreTextHints}
 use Rattle.capi.specs.OpenCall.{IsOpening}
-use Rattle.letters.specs.Letters.{has}
-use Rattle.letters.specs.declared.alphabet.Alphabet.{Alphabet}
+use Rattle.ruletable.specs.Letters.{has}
+use Rattle.ruletable.specs.declared.alphabet.Alphabet.{Alphabet}
 use Rattle.rulelines.specs.Alone.{IsKnownOf}
 use Rattle.rulelines.specs.FirstLines.{IsOfOldAlone}
 use Rattle.rulelines.specs.declared.alone.Alone.{Alone}

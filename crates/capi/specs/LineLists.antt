@@ -16,7 +16,7 @@ use Rattle.capi.specs.declared.listing.LineList.TheVariants.{Derived, Missed, Dr
 use Rattle.capi.specs.declared.listing.Listing.{Listing}
 use Rattle.capi.specs.declared.listing.ListKind.{ListKind}
 use Rattle.capi.specs.declared.listing.ListKind.TheVariants as kind
-use Rattle.letters.specs.declared.alphabet.Alphabet.{Alphabet}
+use Rattle.ruletable.specs.declared.alphabet.Alphabet.{Alphabet}
 use Rattle.rulelines.specs.LineSets.{AreRuleLines, IsFirstStep, IsLineAfter, IsLineIn, IsSomeLine}
 use Rattle.rulelines.specs.MissLists.{AreMissesOf, AreOfRule, IsMissStep}
 use Rattle.rulelines.specs.Seeds.{seed_of}

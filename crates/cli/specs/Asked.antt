@@ -9,8 +9,8 @@ use Rattle.cli.specs.declared.settings.Asked.{Asked}
 use Rattle.cli.specs.declared.settings.Format.{Format}
 use Rattle.cli.specs.declared.settings.Format.TheVariants as format
 use Rattle.findings.specs.declared.form.FindingForm.TheVariants.{Gcc, Json}
-use Rattle.letters.specs.declared.alphabet.Alphabet.{Alphabet}
-use Rattle.letters.specs.declared.alphabet.Alphabet.TheVariants.{Bytes, Utf8}
+use Rattle.ruletable.specs.declared.alphabet.Alphabet.{Alphabet}
+use Rattle.ruletable.specs.declared.alphabet.Alphabet.TheVariants.{Bytes, Utf8}
 use Rattle.toolrun.specs.declared.settings.Mode.{Mode}
 use Rattle.toolrun.specs.declared.settings.Mode.TheVariants.{Run, Check, Print}
 

@@ -4,7 +4,7 @@ ghost use Rattle.clap.specs.Words.{first_of, found_of, one_of, rows_of};
 ghost use Rattle.cli.specs.Asked.{IsBudgetOf, IsNumberOf, alphabet_named, is_flagged};
 
 use clap::ArgMatches;
-use letters::Alphabet;
+use ruletable::Alphabet;
 
 /// Returns whether the words give a flag.
 pub fn is_given(matches: &ArgMatches<'_>, id: &str) -> bool

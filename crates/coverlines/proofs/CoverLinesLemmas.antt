@@ -15,7 +15,7 @@ use Rattle.std.proofs.lemmas.List.Sorted.{Contains-permutation, IsPermutation-in
 use Rattle.abnfread.specs.Element.{Element, Rule, bodies}
 use Rattle.abnfcheck.specs.Derivable.{AreLetters}
 use Rattle.abnfcheck.proofs.YieldsLemmas.{letters_both, letters_parts}
-use Rattle.letters.specs.Letters.{has}
+use Rattle.ruletable.specs.Letters.{has}
 use Rattle.coverlines.specs.CoverLines.{AddsFitting, AddsLines, AddsMadeLines, AddsSome, AreGoalLines}
 use Rattle.coverlines.specs.CoverLines.{Falls, HasLineOf, HasLinesOf, IsGoalLine, IsLineAt}
 use Rattle.coverlines.specs.CoverLines.{IsLineOf, IsLineOfOne, IsRight, MayAddLines, Reaches, line_around}

@@ -8,7 +8,7 @@ use Rattle.abnfcheck.specs.Derivable as der
 use Rattle.abnfcheck.specs.Derivable.{Derives, DerivesAll, DerivesSome, DerivesTimes, RuleDerives, Spelled}
 use Rattle.abnfcheck.specs.Derivable.{StandsFor}
 use Rattle.abnfcheck.proofs.RuleIdLemmas.{body_at_id}
-use Rattle.letters.specs.Letters.{has}
+use Rattle.ruletable.specs.Letters.{has}
 use Rattle.coverlines.specs.Goals as g
 use Rattle.coverlines.specs.Goals.{Around, Beside, Does, Goal, Inside, Makes, member_at, swapped_case}
 use Rattle.coverlines.specs.Shortest.{may}

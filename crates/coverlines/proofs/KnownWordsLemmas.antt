@@ -19,7 +19,7 @@ use Rattle.abnfcheck.specs.Derivable as der
 use Rattle.abnfcheck.specs.Derivable.{AreLetters, Derives, DerivesAll, DerivesSome, DerivesTimes, Spelled}
 use Rattle.abnfcheck.proofs.RuleIdLemmas.{body_at_id}
 use Rattle.abnfcheck.proofs.YieldsLemmas.{letters_both, letters_parts}
-use Rattle.letters.specs.Letters.{has}
+use Rattle.ruletable.specs.Letters.{has}
 use Rattle.coverlines.specs.KnownWords.{AreFound, AreKnownOf, ArePassed, AreShortestWords, IsFound, IsSettled, IsStep}
 use Rattle.coverlines.specs.KnownWords.{known_cost, fixed_body, fixed_rules, known_at, total}
 use Rattle.coverlines.specs.Shortest.{IsShortest, IsShortestOf, may, Spells}

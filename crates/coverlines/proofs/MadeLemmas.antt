@@ -10,7 +10,7 @@ use Rattle.std.proofs.lemmas.List.Elements.{Contains-append_left, Contains-appen
 use Rattle.abnfread.specs.Element as e
 use Rattle.abnfread.specs.Element.{Element, Elements, Rule}
 use Rattle.abnfcheck.specs.Derivable.{AreLetters, AtMost, Derives, DerivesTimes}
-use Rattle.letters.specs.Letters.{has}
+use Rattle.ruletable.specs.Letters.{has}
 use Rattle.coverlines.specs.Goals as g
 use Rattle.coverlines.specs.Goals.{HasNoneIn, IsFirstIn, IsLastIn, IsRoundGoal, Makes, member_at, swapped_case}
 use Rattle.coverlines.specs.MadeWords.{AddsMade, AreMade, AreMadeIn, HasMade, MakesSo, made_of}

@@ -11,7 +11,7 @@ use Rattle.abnfread.specs.Element as e
 use Rattle.abnfread.specs.Element.{Element, Rule, bodies}
 use Rattle.abnfread.specs.declared.elem.Elem.{Elem}
 use Rattle.abnfcheck.specs.AbnfGrammar.{Reachable}
-use Rattle.letters.specs.Letters.{has}
+use Rattle.ruletable.specs.Letters.{has}
 use Rattle.coverlines.specs.CoverLines.{line_around}
 use Rattle.coverlines.specs.Goals as g
 use Rattle.coverlines.specs.Goals.{Inside, member_at}

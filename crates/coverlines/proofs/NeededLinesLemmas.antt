@@ -8,7 +8,7 @@ use Rattle.std.proofs.lemmas.List.{append_cancel_left, append_cancel_right}
 use Rattle.std.proofs.lemmas.List.Elements.{Contains-get_or}
 use Rattle.abnfread.specs.AbnfViews.{rules_of}
 use Rattle.abnfread.specs.Element.{Element, Name, Rule, bodies, id_of}
-use Rattle.letters.specs.Letters.{has}
+use Rattle.ruletable.specs.Letters.{has}
 use Rattle.coverlines.specs.CoverLines.{AreGoalLines, ComesLater, IsCover, IsLine, IsReached, IsRight, Reaches}
 use Rattle.coverlines.specs.CoverLines.{line_around}
 use Rattle.coverlines.specs.Goals as g

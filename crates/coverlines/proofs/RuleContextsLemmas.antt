@@ -19,7 +19,7 @@ use Rattle.abnfread.specs.Element as e
 use Rattle.abnfread.specs.Element.{Element, Rule, bodies, id_of}
 use Rattle.abnfcheck.specs.Derivable.{AreLetters}
 use Rattle.abnfcheck.proofs.YieldsLemmas.{letters_both, letters_parts}
-use Rattle.letters.specs.Letters.{has}
+use Rattle.ruletable.specs.Letters.{has}
 use Rattle.coverlines.specs.Goals as g
 use Rattle.coverlines.specs.Goals.{Around, Inside}
 use Rattle.coverlines.specs.Sites.{AreSites, Stood, room_of, stood_of}

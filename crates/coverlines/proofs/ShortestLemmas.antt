@@ -8,7 +8,7 @@ use Rattle.abnfread.specs.Element.{Element, Elements, Rep, Rule, none, more, app
 use Rattle.abnfcheck.specs.Derivable as der
 use Rattle.abnfcheck.specs.Derivable.{AreLetters, Derives, DerivesAll, DerivesSome, DerivesTimes}
 use Rattle.abnfcheck.proofs.YieldsLemmas.{letters_both, letters_parts}
-use Rattle.letters.specs.Letters.{has}
+use Rattle.ruletable.specs.Letters.{has}
 use Rattle.coverlines.specs.Shortest.{IsShortest, IsShortestOf, Joined, may, Spells, SpellsAll, SpellsSome}
 use Rattle.coverlines.specs.Shortest.{SpellsTimes}
 use Rattle.coverlines.specs.declared.bounds.LineBounds.{LineBounds}

@@ -15,7 +15,7 @@ use Rattle.abnfread.specs.declared.elem.Elem.{Elem}
 use Rattle.abnfcheck.specs.Derivable as der
 use Rattle.abnfcheck.specs.Derivable.{AreLetters, AtMost, DerivesAll}
 use Rattle.abnfcheck.proofs.YieldsLemmas.{letters_both, letters_parts}
-use Rattle.letters.specs.Letters.{has}
+use Rattle.ruletable.specs.Letters.{has}
 use Rattle.coverlines.specs.Goals as g
 use Rattle.coverlines.specs.Goals.{Beside, Inside, member_at}
 use Rattle.coverlines.specs.Sites.{AddsSites, AreSites, AreSitesTo, HasShorter, IsLeastAt, IsSiteBelow, MayAddSites}

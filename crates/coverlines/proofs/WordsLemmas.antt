@@ -13,7 +13,7 @@ use Rattle.abnfread.specs.Element.{Element, Elements, Rule, none, more, append, 
 use Rattle.abnfread.specs.declared.elem.Elem.{Elem}
 use Rattle.abnfcheck.specs.Derivable as der
 use Rattle.abnfcheck.specs.Derivable.{AreLetters, AtMost, Derives, Spelled, StandsFor}
-use Rattle.letters.specs.Letters.{has}
+use Rattle.ruletable.specs.Letters.{has}
 use Rattle.coverlines.specs.Goals.{HasNoneIn, IsFirstIn}
 use Rattle.coverlines.specs.KnownWords.{AreKnownOf, IsCopy, known_at}
 use Rattle.coverlines.specs.Shortest.{Admitted, IsShortest, IsShortestOf, may, Spells, SpellsAll, SpellsSome}

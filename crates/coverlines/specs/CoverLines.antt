@@ -4,7 +4,7 @@ use Rattle.std.specs.List.{All, AllPairs}
 use Rattle.std.proofs.Common.{Vec, Global}
 use Rattle.abnfread.specs.Element.{Rule}
 use Rattle.abnfcheck.specs.Derivable.{AreLetters, RuleDerives}
-use Rattle.letters.specs.Letters.{has}
+use Rattle.ruletable.specs.Letters.{has}
 use Rattle.coverlines.specs.Goals.{Goal, Does}
 use Rattle.coverlines.specs.MadeWords.{AreMade}
 use Rattle.coverlines.specs.RuleContexts.{context_at, sites_at}

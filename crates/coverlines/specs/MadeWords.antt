@@ -2,7 +2,7 @@
 use Rattle.std.specs.Prelude.{◌≡◌, ℕ, ◌≤◌, List, [], ◌∷◌, ◌++◌, length, Contains, Option, Some, None}
 use Rattle.std.proofs.Common.{Vec, Global}
 use Rattle.abnfread.specs.Element.{Element, Rule}
-use Rattle.letters.specs.Letters.{has}
+use Rattle.ruletable.specs.Letters.{has}
 use Rattle.coverlines.specs.Goals.{Makes}
 use Rattle.coverlines.specs.Shortest.{Admitted, IsShortestOf, may}
 use Rattle.coverlines.specs.declared.bounds.LineBounds.{LineBounds}

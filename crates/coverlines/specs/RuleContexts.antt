@@ -5,7 +5,7 @@ use Rattle.std.specs.Prelude.{slice_get, Contains, Option, Some, None}
 use Rattle.std.proofs.Common.{Vec, Global, set}
 use Rattle.abnfread.specs.Element.{Element, Name, Rule, bodies, id_of}
 use Rattle.abnfcheck.specs.Derivable.{AreLetters}
-use Rattle.letters.specs.Letters.{has}
+use Rattle.ruletable.specs.Letters.{has}
 use Rattle.coverlines.specs.Goals.{Around}
 use Rattle.coverlines.specs.Sites.{AreSites, StandsAt, Stood, room_of, stood_of}
 use Rattle.coverlines.specs.Shortest.{may}

@@ -5,7 +5,7 @@ use Rattle.std.proofs.Common.{Vec, Global}
 use Rattle.abnfread.specs.Element.{Element, Rule}
 use Rattle.abnfread.specs.AbnfViews.{element_of}
 use Rattle.abnfcheck.specs.Derivable.{AreLetters, AtMost}
-use Rattle.letters.specs.Letters.{has}
+use Rattle.ruletable.specs.Letters.{has}
 use Rattle.coverlines.specs.Goals.{Inside}
 use Rattle.coverlines.specs.Shortest.{SpellsTimes, may}
 use Rattle.coverlines.specs.declared.bounds.LineBounds.{LineBounds}

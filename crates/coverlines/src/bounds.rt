@@ -4,7 +4,7 @@ ghost use Rattle.abnfcheck.specs.Derivable.{AreLetters};
 ghost use Rattle.coverlines.specs.Goals.{HasNoneIn, IsFirstIn, IsLastIn};
 ghost use Rattle.coverlines.specs.Shortest.{may};
 
-use letters::Alphabet;
+use ruletable::Alphabet;
 
 /// Which lists of symbols may be lines.
 #[derive(Clone, Copy)]

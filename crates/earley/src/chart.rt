@@ -10,8 +10,7 @@ use crate::row_dots::row_dots;
 use crate::row_sets::RowChart;
 use earleyitems::judge_within;
 use flatgrammar::{DottedRule, Flat};
-use letters::Letter;
-use ruletable::Memory;
+use ruletable::{Letter, Memory};
 use std::alloc::Global;
 use std::marker::Model;
 

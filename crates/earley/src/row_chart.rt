@@ -22,8 +22,7 @@ use crate::row_sets::{KeptRows, RowChart, kept_rows};
 use crate::row_step::{advance_call, predict_target};
 use crate::{BitRow, RowSet};
 use flatgrammar::{DottedRule, Flat, Item, reads, start_target};
-use letters::Letter;
-use ruletable::Memory;
+use ruletable::{Letter, Memory};
 use std::alloc::Global;
 
 // A longer line is not judged by rows.

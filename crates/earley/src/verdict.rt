@@ -8,8 +8,7 @@ ghost use Rattle.flatgrammar.specs.Positions.{positions};
 
 use crate::chart::{Chart, judge, judge_few};
 use flatgrammar::{Flat, Verdict};
-use letters::Letter;
-use ruletable::Memory;
+use ruletable::{Letter, Memory};
 
 // Returns the number of the last set up to that number that is not empty, 0 if there is none.
 fn furthest(chart: &Chart, end: usize) -> usize

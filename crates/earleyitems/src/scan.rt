@@ -19,8 +19,7 @@ use crate::items::Items;
 use crate::postdot::OwnedItem;
 use crate::sets::Record;
 use flatgrammar::{DottedRule, Item, Tables, readers, reads};
-use letters::Letter;
-use ruletable::Memory;
+use ruletable::{Letter, Memory};
 
 /// Scans a symbol for an item.
 fn scan_item(

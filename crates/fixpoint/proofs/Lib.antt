@@ -22,3 +22,8 @@ pub mod TallyLemmas
 pub mod TimesLemmas
 pub mod ReportedLemmas
 pub mod IterationsLemmas
+pub mod AreMarksLemmas
+pub mod ChosenLemmas
+pub mod IsAddedLemmas
+pub mod IsPositionLemmas
+pub mod IsScannedLemmas

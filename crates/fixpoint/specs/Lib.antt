@@ -10,3 +10,6 @@ pub mod ShortChains
 pub mod StepRows
 pub mod UserLists
 pub mod Way
+pub mod FirstUses
+pub mod IdMarks
+pub mod NameUses

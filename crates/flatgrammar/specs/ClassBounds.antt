@@ -1,7 +1,7 @@
 -- Numbers where classes of letters begin, and the classes between them.
 use Rattle.std.specs.Prelude.{◌≡◌, ◌↔◌, ◌⊎◌, ℕ, ◌+◌, ◌<◌, ◌≤◌, ◌^◌, List, length, slice_get, Some, Contains}
 use Rattle.std.specs.List.Sorted.{IsNonDecreasing}
-use Rattle.letters.specs.Letters.{small}
+use Rattle.ruletable.specs.Letters.{small}
 use Rattle.flatgrammar.specs.Flat.{Flat, Node, Letters, Set, Has}
 use Rattle.flatgrammar.specs.Stacks.{AreAlike}
 

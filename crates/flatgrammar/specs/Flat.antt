@@ -1,6 +1,6 @@
 -- A grammar as numbered nodes, its dotted rules, and the relations between them.
 use Rattle.std.specs.Prelude.{◌≡◌, ℕ, ◌+◌, ◌<◌, ◌≤◌, min, List, length, slice_get, Option, Some, None}
-use Rattle.letters.specs.Letters.{small}
+use Rattle.ruletable.specs.Letters.{small}
 
 -- a set of letters
 pub data Set : Type 0 where

@@ -1,6 +1,6 @@
 //! Numbered nodes.
 ghost use Rattle.std.specs.Prelude.{◌≡◌, ◌≢◌, ◌↔◌, ◌+◌, ◌^◌, ◌<◌, ◌≤◌, ℕ, None, IsTrue};
-ghost use Rattle.letters.specs.Letters.{small};
+ghost use Rattle.ruletable.specs.Letters.{small};
 ghost use Rattle.flatgrammar.specs.Flat.{Has, Rep, Iterations};
 ghost use Rattle.flatgrammar.specs.FlatViews.{set_of, node_of};
 ghost use Rattle.flatgrammar.specs.NodeSteps.{begin_count, is_done, callee, call_count, turned, takes, read_at};

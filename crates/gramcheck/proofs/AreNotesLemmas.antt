@@ -17,17 +17,17 @@ use Rattle.std.proofs.lemmas.List.Folds.{list_any-append, list_any_at}
 use Rattle.ruletable.specs.Notes.{Said, said}
 use Rattle.ruletable.specs.declared.note.NoteKind.TheVariants.{Redefined, Undefined, Unused, LeftRecursion, Loop}
 use Rattle.ruletable.specs.declared.table.NameCase.TheVariants.{Exact}
-use Rattle.rulenames.specs.FirstUses.{is_among, news}
-use Rattle.rulenames.specs.IdMarks.{chosen}
-use Rattle.rulenames.proofs.AreMarksLemmas.{mark_tests, marks-opposite}
-use Rattle.rulenames.proofs.ChosenLemmas.{chosen-map}
+use Rattle.fixpoint.specs.FirstUses.{is_among, news}
+use Rattle.fixpoint.specs.IdMarks.{chosen}
+use Rattle.fixpoint.proofs.AreMarksLemmas.{mark_tests, marks-opposite}
+use Rattle.fixpoint.proofs.ChosenLemmas.{chosen-map}
 use Rattle.pegread.specs.Pattern.{Rule}
 use Rattle.gramcheck.specs.Left.{IsLeftRecursive, Loops}
 use Rattle.gramcheck.specs.GrammarNotes.{start_of, IsUnused, names_at, AreNotes, AreRedefinitions, AreMarks, Those}
 use Rattle.gramcheck.specs.GrammarNotes.{no_more, this_one, not_this}
 use Rattle.gramcheck.specs.Uses.{names_used, rule_names, AreUses}
 use Rattle.gramcheck.proofs.RuleNameLemmas.{same-name, own-name, other-name}
-use Rattle.rulenames.specs.IdMarks as ids
+use Rattle.fixpoint.specs.IdMarks as ids
 
 -- at most one list is those of which something holds, and exact marks choose it
 -- at most one list is those of which P holds

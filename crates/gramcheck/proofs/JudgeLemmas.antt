@@ -13,7 +13,7 @@ use Rattle.ruletable.specs.Notes.{Said, said}
 use Rattle.ruletable.specs.declared.note.NoteKind.TheVariants.{Redefined, Undefined, Unused, LeftRecursion, Loop}
 use Rattle.ruletable.specs.Rules.{find_in, HasUniqueNames}
 use Rattle.ruletable.specs.declared.table.NameCase.TheVariants.{Exact}
-use Rattle.rulenames.specs.FirstUses.{is_among, news}
+use Rattle.fixpoint.specs.FirstUses.{is_among, news}
 use Rattle.pegread.specs.Pattern.{Pattern, Patterns, Rule, body_of}
 use Rattle.pegread.specs.PegViews.{rule_of, rules_of}
 use Rattle.std.specs.Option.{option_map}

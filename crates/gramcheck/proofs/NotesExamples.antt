@@ -10,7 +10,7 @@ use Rattle.ruletable.specs.declared.table.NameCase.TheVariants.{Exact}
 use Rattle.pegread.specs.Pattern.{Pattern, Any, Bytes, Name, Seq, Choice, Star, And, none, more, Rule}
 use Rattle.gramcheck.specs.Left.{LeftChain, one_step, more_steps}
 use Rattle.gramcheck.specs.GrammarNotes.{AreNotes, no_more, this_one, not_this}
-use Rattle.rulenames.specs.FirstUses.{news}
+use Rattle.fixpoint.specs.FirstUses.{news}
 use Rattle.gramcheck.specs.Uses.{names_used}
 
 -- `S <- &B / 'a' (C S)*` and then `C <- B` use B, C, S and B

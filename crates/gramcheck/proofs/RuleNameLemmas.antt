@@ -7,7 +7,7 @@ use Rattle.std.proofs.lemmas.Slice.Eq.{bytes_eq-Decides}
 use Rattle.std.specs.Str.{bytes_eq}
 use Rattle.ruletable.specs.Rules.{Rules, HasUniqueNames, names_of}
 use Rattle.ruletable.specs.declared.table.NameCase.TheVariants.{Exact}
-use Rattle.rulenames.proofs.IsAddedLemmas.{own_position}
+use Rattle.fixpoint.proofs.IsAddedLemmas.{own_position}
 use Rattle.pegread.specs.Pattern.{Rule}
 use Rattle.pegread.specs.PegViews.{rule_of, rules_of}
 use Rattle.pegread.specs.declared.expr.Expr.{Expr}

@@ -17,12 +17,12 @@ use Rattle.ruletable.specs.Rules as table
 use Rattle.ruletable.specs.Rules.{Rules, find_in, names_of, same_name}
 use Rattle.ruletable.specs.declared.table.NameCase.{NameCase}
 use Rattle.ruletable.specs.declared.table.NameCase.TheVariants.{Exact}
-use Rattle.rulenames.specs.FirstUses.{is_among, news}
-use Rattle.rulenames.specs.NameUses.{IsAdded}
-use Rattle.rulenames.proofs.IsAddedLemmas.{found_in}
-use Rattle.rulenames.proofs.IsPositionLemmas.{position_among, position_append, position_of, position-none}
-use Rattle.rulenames.proofs.IsPositionLemmas.{same_position}
-use Rattle.rulenames.proofs.IsScannedLemmas.{news_append, used_next}
+use Rattle.fixpoint.specs.FirstUses.{is_among, news}
+use Rattle.fixpoint.specs.NameUses.{IsAdded}
+use Rattle.fixpoint.proofs.IsAddedLemmas.{found_in}
+use Rattle.fixpoint.proofs.IsPositionLemmas.{position_among, position_append, position_of, position-none}
+use Rattle.fixpoint.proofs.IsPositionLemmas.{same_position}
+use Rattle.fixpoint.proofs.IsScannedLemmas.{news_append, used_next}
 use Rattle.pegread.specs.Pattern.{Pattern, Rule}
 use Rattle.pegread.specs.PegViews.{patterns, patterns_of, pattern_of, rule_of, rules_of}
 use Rattle.pegread.specs.declared.expr.Expr.{Expr}

@@ -10,7 +10,7 @@ use Rattle.ruletable.specs.declared.note.NoteKind.{NoteKind}
 use Rattle.ruletable.specs.declared.table.NameCase.TheVariants.{Exact}
 use Rattle.pegread.specs.Pattern.{Rule}
 use Rattle.gramcheck.specs.Left.{IsLeftRecursive, Loops}
-use Rattle.rulenames.specs.FirstUses.{news}
+use Rattle.fixpoint.specs.FirstUses.{news}
 use Rattle.gramcheck.specs.Uses.{names_used, rule_names}
 
 -- those of a list of which P holds, in the list's order

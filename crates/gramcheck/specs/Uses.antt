@@ -5,7 +5,7 @@ use Rattle.ruletable.specs.Rules.{Rules, names_of}
 use Rattle.ruletable.specs.declared.table.NameCase.TheVariants.{Exact}
 use Rattle.pegread.specs.Pattern.{Pattern, Patterns, Any, Bytes, Set, Name, Seq, Choice, Star, Plus, Opt, And, Not, Act}
 use Rattle.pegread.specs.Pattern.{Open, Close, none, more, Rule}
-use Rattle.rulenames.specs.FirstUses.{is_among, news}
+use Rattle.fixpoint.specs.FirstUses.{is_among, news}
 
 -- the names in an expression, from left to right
 abbrev mutual

@@ -4,8 +4,8 @@ ghost use Rattle.std.specs.Prelude.{option_copied, option_to_list};
 ghost use Rattle.std.specs.List.{list_any};
 ghost use Rattle.ruletable.specs.Notes.{Said, said, said_of};
 ghost use Rattle.ruletable.specs.Rules.{names_of};
-ghost use Rattle.rulenames.specs.FirstUses.{news};
-ghost use Rattle.rulenames.specs.IdMarks.{chosen};
+ghost use Rattle.fixpoint.specs.FirstUses.{news};
+ghost use Rattle.fixpoint.specs.IdMarks.{chosen};
 ghost use Rattle.pegread.specs.Pattern.{Rule};
 ghost use Rattle.pegread.specs.PegViews.{rules_of};
 ghost use Rattle.gramcheck.specs.Left.{IsLeftRecursive, Loops};
@@ -13,8 +13,8 @@ ghost use Rattle.gramcheck.specs.GrammarNotes.{AreMarks, AreNotes, AreRedefiniti
 ghost use Rattle.gramcheck.specs.Uses.{names_used, rule_names};
 
 use crate::uses::uses_of;
+use fixpoint::{marks_at, note_marked, note_undefined, opposites};
 use pegread::{Expr, Peg};
-use rulenames::{marks_at, note_marked, note_undefined, opposites};
 use ruletable::{Memory, NameCase, Note, NoteKind, RuleTable};
 use std::alloc::Global;
 

@@ -4,8 +4,8 @@ ghost use Rattle.pegread.specs.PegViews.{pattern_of, patterns_of, rules_of};
 ghost use Rattle.gramcheck.specs.GrammarNotes.{start_of};
 ghost use Rattle.gramcheck.specs.Uses.{AreUses, names_in, names_in_all, names_used};
 
+use fixpoint::add_name;
 use pegread::Expr;
-use rulenames::add_name;
 use ruletable::{Memory, NameCase, RuleTable};
 use std::alloc::Global;
 

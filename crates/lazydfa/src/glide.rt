@@ -6,7 +6,7 @@ ghost use Rattle.lazydfa.specs.Transitions.{StaysBy, StaysOver};
 use crate::memo::Memo;
 use crate::transitions::{leads_back, next_row};
 use flatgrammar::class_of;
-use letters::Letter;
+use ruletable::Letter;
 
 /// In lines of at least this many symbols, the loop tries whether a state stays over four symbols.
 const LONG: usize = 256;

@@ -21,8 +21,7 @@ use crate::memo::{Memo, forget_all, resumed};
 use crate::transition::{Closure, readers};
 use crate::transitions::{end_of, next_row, note_transition};
 use flatgrammar::{Tables, Verdict, class_of, start_target};
-use letters::Letter;
-use ruletable::Memory;
+use ruletable::{Letter, Memory};
 use std::alloc::Global;
 
 /// Returns the closure of the augmented start; `None` if that visits more ids than it may. `Memory` if an allocation

@@ -7,8 +7,8 @@ use Rattle.std.specs.Prelude.{slice_get}
 use Rattle.std.proofs.lemmas.Bool.{eqb-true}
 use Rattle.std.proofs.lemmas.List.{append-nil, length-map, map-append, nil_from_length, take_all}
 use Rattle.std.proofs.Math.Seq.{take-suc}
-use Rattle.letters.specs.Letters.{has as in_alphabet, HasLetter}
-use Rattle.letters.specs.declared.alphabet.Alphabet.{Alphabet}
+use Rattle.ruletable.specs.Letters.{has as in_alphabet, HasLetter}
+use Rattle.ruletable.specs.declared.alphabet.Alphabet.{Alphabet}
 use Rattle.abnfread.specs.Element as e
 use Rattle.abnfread.specs.Element.{Element, Elements, none, more, Rule, bodies, body_of, id_of}
 use Rattle.abnfread.specs.AbnfViews.{element_of, elements, elements_of}

@@ -12,7 +12,7 @@ use Rattle.ruletable.specs.declared.table.NameCase.TheVariants.{Fold}
 use Rattle.abnfread.specs.Element.{Element, bodies, id_of}
 use Rattle.abnfread.specs.AbnfViews.{element_of, rule_of, rules_of}
 use Rattle.abnfread.specs.declared.elem.Elem.{Elem}
-use Rattle.rulenames.proofs.IsAddedLemmas.{name_next}
+use Rattle.fixpoint.proofs.IsAddedLemmas.{name_next}
 use Rattle.flatgrammar.proofs.SliceGetLemmas.{get_below}
 use Rattle.flatgrammar.proofs.SliceGetLemmas.{push_cases}
 use Rattle.lowering.specs.Pruned.{IsLeftBody, ArePruned}

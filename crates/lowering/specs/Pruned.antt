@@ -9,7 +9,7 @@ use Rattle.flatgrammar.specs.Flat.{Flat}
 use Rattle.lowering.specs.Lowered.{IsLowered}
 use Rattle.flatgrammar.specs.Positions.{positions}
 use Rattle.lowering.specs.Sizes.{sizes}
-use Rattle.letters.specs.Letters.{HasLetter}
+use Rattle.ruletable.specs.Letters.{HasLetter}
 
 -- `has` marks the symbols of the alphabet
 module _ (has : ℕ → Bool) (rules : List Rule) where

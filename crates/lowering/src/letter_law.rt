@@ -1,9 +1,9 @@
 //! A law of symbols.
 ghost use Rattle.std.specs.Prelude.{map};
 ghost use Rattle.abnfcheck.specs.Derivable.{AreLetters};
-ghost use Rattle.letters.specs.Letters.{has};
+ghost use Rattle.ruletable.specs.Letters.{has};
 
-use letters::Letter;
+use ruletable::Letter;
 
 /// Returns nothing. Its contract is a law: the alphabet of a line's symbols has each of their values.
 pub fn values_are_letters<L: Letter>(line: &[L])

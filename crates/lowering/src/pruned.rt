@@ -6,13 +6,12 @@ ghost use Rattle.abnfread.specs.AbnfViews.{element_of, elements_of, rules_of};
 ghost use Rattle.abnfcheck.specs.Derivable.{AtMost};
 ghost use Rattle.abnfcheck.specs.RuleMarks.{AreProductive};
 ghost use Rattle.fixpoint.specs.NumberMarks.{IsMarked};
-ghost use Rattle.letters.specs.Letters.{has};
-ghost use Rattle.letters.specs.declared.alphabet.Alphabet.{Alphabet};
+ghost use Rattle.ruletable.specs.Letters.{has};
+ghost use Rattle.ruletable.specs.declared.alphabet.Alphabet.{Alphabet};
 ghost use Rattle.lowering.specs.Pruned.{KeepsSome, IsLeft, IsLeftBody, ArePruned, some_element};
 
 use abnfread::Elem;
-use letters::Alphabet;
-use ruletable::{Memory, NameCase, RuleTable};
+use ruletable::{Alphabet, Memory, NameCase, RuleTable};
 use std::alloc::Global;
 
 // Returns the productive part of a text: the text, since bytes are symbols of each alphabet.

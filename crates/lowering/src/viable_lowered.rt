@@ -5,15 +5,14 @@ ghost use Rattle.abnfread.specs.AbnfViews.{rules_of};
 ghost use Rattle.flatgrammar.specs.Positions.{positions};
 ghost use Rattle.lowering.specs.Sizes.{sizes};
 ghost use Rattle.lowering.specs.GivenPrefixes.{GivesPrefixes};
-ghost use Rattle.letters.specs.Letters.{has};
+ghost use Rattle.ruletable.specs.Letters.{has};
 ghost use Rattle.lowering.specs.Pruned.{SpellsProductive};
 
 use crate::lowered::lower_rules;
 use crate::pruned::prune_rules;
 use abnfcheck::{SoundAbnf, productive};
 use flatgrammar::Flat;
-use letters::Alphabet;
-use ruletable::Memory;
+use ruletable::{Alphabet, Memory};
 use std::alloc::Global;
 
 /// Lowers the productive parts of a grammar to numbered nodes, for lines of at most `limit` symbols: those that derive

@@ -17,10 +17,10 @@ use Rattle.gramcheck.proofs.RuleNameLemmas.{names-same}
 use Rattle.gramcheck.specs.Uses.{rule_names}
 use Rattle.pegread.specs.Pattern.{Rule}
 use Rattle.pegread.specs.PegViews.{rules_of}
-use Rattle.rulenames.proofs.IsAddedLemmas.{found_in}
-use Rattle.rulenames.proofs.IsScannedLemmas.{news_append}
-use Rattle.rulenames.specs.FirstUses.{news}
-use Rattle.rulenames.specs.NameUses.{IsAdded}
+use Rattle.fixpoint.proofs.IsAddedLemmas.{found_in}
+use Rattle.fixpoint.proofs.IsScannedLemmas.{news_append}
+use Rattle.fixpoint.specs.FirstUses.{news}
+use Rattle.fixpoint.specs.NameUses.{IsAdded}
 use Rattle.ruletable.specs.Rules.{Rules, names_of, same_name}
 use Rattle.ruletable.specs.declared.note.NoteKind.{NoteKind}
 use Rattle.ruletable.specs.declared.note.NoteKind.TheVariants.{Undefined}

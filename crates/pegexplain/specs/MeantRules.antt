@@ -5,7 +5,7 @@ use Rattle.diagnostics.specs.BodyMentions.{MentionedAt, is_kind}
 use Rattle.diagnostics.specs.NearNames.{is_before_limit}
 use Rattle.diagnostics.specs.UseLines.{is_given}
 use Rattle.diagnostics.specs.declared.noteplaces.mentions.MentionKind.TheVariants.{Use}
-use Rattle.rulenames.specs.FirstUses.{news}
+use Rattle.fixpoint.specs.FirstUses.{news}
 use Rattle.ruletable.specs.Rules.{same_name}
 use Rattle.ruletable.specs.declared.table.NameCase.TheVariants.{Exact}
 

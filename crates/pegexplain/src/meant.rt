@@ -8,8 +8,8 @@ ghost use Rattle.pegexplain.specs.PegNotes.{ArePegPositions, IsMeantReported, is
 
 use crate::positions::PegPositions;
 use diagnostics::{Mention, MentionKind, is_early, push_meant};
+use fixpoint::{add_name, names_of_rules};
 use pegread::Expr;
-use rulenames::{add_name, names_of_rules};
 use ruletable::{Memory, NameCase, RuleTable};
 use std::alloc::Global;
 

@@ -8,10 +8,10 @@ use Rattle.std.proofs.lemmas.List.{append-nil, length-take-le}
 use Rattle.abnfread.specs.Element.{Rule}
 use Rattle.abnfcheck.specs.Prefixes.{IsFurthest}
 use Rattle.abnfcheck.specs.Derivable.{AreLetters, RuleDerives}
-use Rattle.letters.specs.Letters.{has}
-use Rattle.letters.specs.Utf8Text.{IsLongestText, Spells}
-use Rattle.letters.specs.declared.alphabet.Alphabet.{Alphabet}
-use Rattle.letters.specs.declared.alphabet.Alphabet.TheVariants.{Bytes, Utf8}
+use Rattle.ruletable.specs.Letters.{has}
+use Rattle.ruletable.specs.Utf8Text.{IsLongestText, Spells}
+use Rattle.ruletable.specs.declared.alphabet.Alphabet.{Alphabet}
+use Rattle.ruletable.specs.declared.alphabet.Alphabet.TheVariants.{Bytes, Utf8}
 use Rattle.refusedlines.specs.declared.letterruns.run.LetterRun.{LetterRun}
 use Rattle.refusedlines.specs.Following.{AreFollowing, DerivesNothing}
 use Rattle.refusedlines.specs.RefusedText.{column_after, refused_at, unit_text}

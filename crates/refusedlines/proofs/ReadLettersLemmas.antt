@@ -8,8 +8,8 @@ use Rattle.flatgrammar.proofs.InLemmas.{among_more, at_end, from_front, in_front
 use Rattle.flatgrammar.specs.Flat.{Flat}
 use Rattle.flatgrammar.specs.Positions.{In}
 use Rattle.flatgrammar.specs.declared.closure.DottedRule.{DottedRule}
-use Rattle.letters.specs.Letters.{has}
-use Rattle.letters.specs.declared.alphabet.Alphabet.{Alphabet}
+use Rattle.ruletable.specs.Letters.{has}
+use Rattle.ruletable.specs.declared.alphabet.Alphabet.{Alphabet}
 use Rattle.refusedlines.specs.LetterRuns.{RunsHave}
 use Rattle.refusedlines.specs.declared.letterruns.run.LetterRun.{LetterRun}
 use Rattle.refusedlines.specs.ReadLetters.{GainLetters, DotReads, DotsRead}

@@ -12,11 +12,11 @@ use Rattle.abnfread.specs.AbnfViews.{rule_of, rules_of}
 use Rattle.abnfread.specs.Element.{Rule}
 use Rattle.abnfread.specs.declared.elem.Elem.{Elem}
 use Rattle.abnfcheck.specs.Prefixes.{IsFurthest}
-use Rattle.letters.specs.Letters.{has}
-use Rattle.letters.specs.Utf8Text.{IsLongestText, Spells, end, next, Writes, number, numbers}
-use Rattle.letters.specs.declared.alphabet.Alphabet.{Alphabet}
-use Rattle.letters.specs.declared.alphabet.Alphabet.TheVariants.{Bytes, Utf8}
-use Rattle.letters.specs.declared.point.CodePoint.{CodePoint}
+use Rattle.ruletable.specs.Letters.{has}
+use Rattle.ruletable.specs.Utf8Text.{IsLongestText, Spells, end, next, Writes, number, numbers}
+use Rattle.ruletable.specs.declared.alphabet.Alphabet.{Alphabet}
+use Rattle.ruletable.specs.declared.alphabet.Alphabet.TheVariants.{Bytes, Utf8}
+use Rattle.ruletable.specs.declared.point.CodePoint.{CodePoint}
 use Rattle.refusedlines.specs.declared.letterruns.run.LetterRun.{LetterRun}
 use Rattle.ruletable.specs.Rules as table
 use Rattle.refusedlines.specs.Following.{AreFollowing}

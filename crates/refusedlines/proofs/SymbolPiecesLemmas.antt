@@ -2,7 +2,7 @@
 -- Serves: symbol_pieces
 use Rattle.std.proofs.Common.{◌≡◌, ℕ, ◌+◌, ◌<◌, List, [], ◌∷◌, ◌++◌, Some, None, length, drop, get_or, refl, sym}
 use Rattle.std.proofs.Common.{ap, ◌∙◌, add-one, append_assoc, drop-cons}
-use Rattle.letters.specs.declared.alphabet.Alphabet.{Alphabet}
+use Rattle.ruletable.specs.declared.alphabet.Alphabet.{Alphabet}
 use Rattle.refusedlines.specs.SymbolPieces.{pieces_by, pieces_with, rest_without}
 use Rattle.refusedlines.specs.declared.letterruns.core_rule.CoreRule.{CoreRule}
 use Rattle.refusedlines.specs.declared.letterruns.run.LetterRun.{LetterRun}

@@ -3,7 +3,7 @@ use Prim.Native.Char.{code}
 use Rattle.std.specs.Prelude.{ℕ, ◌+◌, nat_lt, Bool, true, false, if◌then◌else◌, List, [], ◌∷◌, ◌++◌, codes, decimal}
 use Rattle.std.specs.Prelude.{zero, suc, map, take, drop, length, not, ◌-◌, ◌==◌}
 use Rattle.std.specs.List.{flat_map, position_or_len, suffix_len}
-use Rattle.letters.specs.declared.alphabet.Alphabet.{Alphabet}
+use Rattle.ruletable.specs.declared.alphabet.Alphabet.{Alphabet}
 use Rattle.refusedlines.specs.SymbolPieces.{pieces}
 use Rattle.refusedlines.specs.ReportedLetters.{reported_text}
 use Rattle.refusedlines.specs.declared.letterruns.reported.ReportedLetters.{ReportedLetters}

@@ -6,8 +6,8 @@ use Rattle.std.specs.Prelude.{Option, Some, None, codes, option_to_list}
 use Rattle.std.specs.Char.{encode_utf8}
 use Rattle.std.specs.List.{flat_map, list_any}
 use Rattle.abnfprint.specs.CanonicalAbnf.{hexadecimal}
-use Rattle.letters.specs.declared.alphabet.Alphabet.{Alphabet}
-use Rattle.letters.specs.declared.alphabet.Alphabet.TheVariants.{Bytes, Utf8}
+use Rattle.ruletable.specs.declared.alphabet.Alphabet.{Alphabet}
+use Rattle.ruletable.specs.declared.alphabet.Alphabet.TheVariants.{Bytes, Utf8}
 use Rattle.refusedlines.specs.CoreSymbols.{core_name, core_of, letter_run}
 use Rattle.refusedlines.specs.declared.letterruns.core_rule.CoreRule.{CoreRule}
 use Rattle.refusedlines.specs.declared.letterruns.run.LetterRun.{LetterRun}

@@ -2,7 +2,7 @@
 use Rattle.std.specs.Prelude.{ℕ, ◌+◌, ◌-◌, ◌==◌, ◌&&◌, ◌++◌, max, min, nat_le, nat_lt, Bool, true, false, if◌then◌else◌}
 use Rattle.std.specs.Prelude.{List, [], ◌∷◌, Option, Some, None, length, count_by}
 use Rattle.std.specs.List.{flat_map, list_all, list_any}
-use Rattle.letters.specs.declared.alphabet.Alphabet.{Alphabet}
+use Rattle.ruletable.specs.declared.alphabet.Alphabet.{Alphabet}
 use Rattle.refusedlines.specs.CoreSymbols.{core_runs, core_sets}
 use Rattle.refusedlines.specs.ReportedLetters.{reported_letters}
 use Rattle.refusedlines.specs.declared.letterruns.core_rule.CoreRule.{CoreRule}

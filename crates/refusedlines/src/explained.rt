@@ -2,12 +2,12 @@
 ghost use Rattle.std.specs.Prelude.{◌≡◌, ◌+◌, ◌<◌, ◌≤◌, ◌^◌, ℕ, Bool, false, List, [], length, map, take, IfOk, IfSome};
 ghost use Rattle.abnfcheck.specs.Prefixes.{IsFurthest};
 ghost use Rattle.abnfread.specs.Element.{Rule};
-ghost use Rattle.letters.specs.declared.alphabet.Alphabet.{Alphabet as the_alphabet};
+ghost use Rattle.ruletable.specs.declared.alphabet.Alphabet.{Alphabet as the_alphabet};
 ghost use Rattle.refusedlines.specs.Following.{AreFollowing, DerivesNothing};
 ghost use Rattle.abnfread.specs.AbnfViews.{rules_of};
 ghost use Rattle.lowering.specs.GivenPrefixes.{GivesPrefixes};
-ghost use Rattle.letters.specs.Letters.{has};
-ghost use Rattle.letters.specs.Utf8Text.{IsLongestText, Spells, numbers};
+ghost use Rattle.ruletable.specs.Letters.{has};
+ghost use Rattle.ruletable.specs.Utf8Text.{IsLongestText, Spells, numbers};
 ghost use Rattle.refusedlines.specs.RefusedText.{column_after as the_column};
 ghost use Rattle.refusedlines.specs.declared.refusal.LineUnit.{LineUnit as the_unit};
 ghost use Rattle.refusedlines.specs.Refusals.{
@@ -24,8 +24,7 @@ use abnfcheck::{SoundAbnf, furthest_is_found};
 use earley::Chart;
 use flatgrammar::Flat;
 use lazydfa::Automaton;
-use letters::{Alphabet, CodePoint, Letter, decode, utf8_is_decided, utf8_len};
-use ruletable::Memory;
+use ruletable::{Alphabet, CodePoint, Letter, Memory, decode, utf8_is_decided, utf8_len};
 use std::alloc::Global;
 
 /// An explainer of the lines that a grammar rejects.

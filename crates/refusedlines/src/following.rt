@@ -5,7 +5,7 @@ ghost use Rattle.abnfcheck.specs.Prefixes.{IsFurthest};
 ghost use Rattle.earleyitems.specs.ChartSets.{IsSet, set_at};
 ghost use Rattle.flatgrammar.specs.FlatVerdicts.{DerivesLine, IsFlatVerdict};
 ghost use Rattle.lowering.specs.GivenPrefixes.{GivesPrefixes};
-ghost use Rattle.letters.specs.Letters.{has};
+ghost use Rattle.ruletable.specs.Letters.{has};
 ghost use Rattle.refusedlines.specs.declared.letterruns.run.LetterRun.{LetterRun as the_run};
 ghost use Rattle.refusedlines.specs.Following.{AreFollowing};
 
@@ -14,9 +14,8 @@ use crate::read_letters::letters_read;
 use earley::{Chart, judge, judge_few, viable, viable_few};
 use flatgrammar::{Flat, Verdict};
 use lazydfa::Automaton;
-use letters::Letter;
 use lowering::{items_decide, values_are_letters};
-use ruletable::Memory;
+use ruletable::{Letter, Memory};
 use std::alloc::Global;
 
 /// The symbols that can follow the longest viable prefix of a line.

@@ -3,14 +3,13 @@ ghost use Rattle.std.specs.Prelude.{◌≡◌, ◌↔◌, ◌⊎◌, ◌≤◌, 
 ghost use Rattle.flatgrammar.specs.Flat.{EitherCase, Has};
 ghost use Rattle.flatgrammar.specs.FlatViews.{node_of, set_of};
 ghost use Rattle.flatgrammar.specs.NodeSteps.{IfSomeSet, read_at};
-ghost use Rattle.letters.specs.Letters.{has};
+ghost use Rattle.ruletable.specs.Letters.{has};
 ghost use Rattle.refusedlines.specs.LetterRuns.{AreApartFrom, IsSomeRun, RunsHave};
 ghost use Rattle.refusedlines.specs.ReadLetters.{GainLetters, DotReads, DotsRead};
 
 use crate::letterruns::{LetterRun, merge_runs};
 use flatgrammar::{DottedRule, Flat, Node, Set};
-use letters::Alphabet;
-use ruletable::Memory;
+use ruletable::{Alphabet, Memory};
 use std::alloc::Global;
 
 // Adds the numbers from `low` to `high`, if there are any.

@@ -21,8 +21,7 @@ ghost use Rattle.refusedlines.specs.RefusedText.{
 use crate::following::Following;
 use crate::letterruns::{LetterRun, push_expected};
 use diagnostics::{LineAround, push_cut, push_number, push_picture};
-use letters::Alphabet;
-use ruletable::{LineRule, Memory, line_of};
+use ruletable::{Alphabet, LineRule, Memory, line_of};
 use std::alloc::Global;
 
 /// What is rejected.

@@ -11,8 +11,8 @@ use Rattle.std.specs.Prelude.{Bool, true, false, map, reverse, Contains}
 use Rattle.abnfread.specs.Element.{Rule}
 use Rattle.abnfcheck.specs.Derivable.{RuleDerives}
 use Rattle.abnfcheck.specs.Prefixes.{BeginsMember}
-use Rattle.letters.specs.Letters.{has as has_letter}
-use Rattle.letters.specs.declared.alphabet.Alphabet.{Alphabet}
+use Rattle.ruletable.specs.Letters.{has as has_letter}
+use Rattle.ruletable.specs.declared.alphabet.Alphabet.{Alphabet}
 use Rattle.rulelines.specs.declared.miss.prefixes.StatePrefix.{StatePrefix}
 use Rattle.rulelines.specs.LineSets.{is_line_symbol}
 use Rattle.rulelines.specs.Misses.{AreAllPrefixes, AreFirstPrefixes, IsMiss, IsReportedWrong}

@@ -15,8 +15,8 @@ use Rattle.abnfcheck.specs.Derivable.{AreLetters, RuleDerives}
 use Rattle.flatgrammar.specs.Flat.{Flat, Dot}
 use Rattle.flatgrammar.proofs.CallOfLemmas.{get_unmap}
 use Rattle.lazydfa.specs.StateSets.{AreMoreStates, grammar_of, last_in, StateSet}
-use Rattle.letters.specs.Letters.{has as has_letter}
-use Rattle.letters.specs.declared.alphabet.Alphabet.{Alphabet}
+use Rattle.ruletable.specs.Letters.{has as has_letter}
+use Rattle.ruletable.specs.declared.alphabet.Alphabet.{Alphabet}
 use Rattle.lazydfa.proofs.StateSetsLemmas.{got_at}
 use Rattle.rulelines.specs.declared.list.keys.LineSymbols.{LineSymbols}
 use Rattle.rulelines.specs.declared.miss.prefixes.NextPrefix.{NextPrefix}

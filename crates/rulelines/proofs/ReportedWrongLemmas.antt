@@ -6,7 +6,7 @@ use Rattle.std.proofs.lemmas.Option.{slice_get_within}
 use Rattle.std.specs.Prelude.{Bool, true, false, Some, slice_get, Contains}
 use Rattle.abnfread.specs.Element.{Rule}
 use Rattle.flatgrammar.specs.Flat.{Flat, Dot}
-use Rattle.letters.specs.declared.alphabet.Alphabet.{Alphabet}
+use Rattle.ruletable.specs.declared.alphabet.Alphabet.{Alphabet}
 use Rattle.flatgrammar.specs.Stacks.{AreAlike}
 use Rattle.lazydfa.specs.StateSets.{StateSet}
 use Rattle.lazydfa.proofs.StateSetsLemmas.{contained_at, got_at}

@@ -15,9 +15,9 @@ use Rattle.std.specs.List.Retain.{IsFiltered, DiffersFromLast}
 use Rattle.std.specs.List.Sorted.{IsNonDecreasing, IsPartitionPoint, IsPermutation}
 use Rattle.std.specs.Option.{SomeIff}
 use Rattle.std.specs.Prelude.{slice_get, Option, None, Some, Contains, IfSome}
-use Rattle.letters.specs.Letters.{has}
-use Rattle.letters.specs.declared.alphabet.Alphabet.{Alphabet}
-use Rattle.letters.specs.declared.alphabet.Alphabet.TheVariants.{Bytes, Utf8}
+use Rattle.ruletable.specs.Letters.{has}
+use Rattle.ruletable.specs.declared.alphabet.Alphabet.{Alphabet}
+use Rattle.ruletable.specs.declared.alphabet.Alphabet.TheVariants.{Bytes, Utf8}
 use Rattle.flatgrammar.specs.Flat.{Flat}
 use Rattle.flatgrammar.specs.ClassBounds.{AreNodesSplit, IsFree}
 use Rattle.flatgrammar.specs.Stacks.{AreAlike}

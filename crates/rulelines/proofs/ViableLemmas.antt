@@ -7,8 +7,8 @@ use Rattle.abnfread.specs.Element.{Rule}
 use Rattle.abnfcheck.specs.Derivable.{AreLetters, RuleDerives}
 use Rattle.abnfcheck.specs.Prefixes.{BeginsMember}
 use Rattle.flatgrammar.specs.Flat.{Flat, Dot}
-use Rattle.letters.specs.Letters.{has as has_letter}
-use Rattle.letters.specs.declared.alphabet.Alphabet.{Alphabet}
+use Rattle.ruletable.specs.Letters.{has as has_letter}
+use Rattle.ruletable.specs.declared.alphabet.Alphabet.{Alphabet}
 use Rattle.flatgrammar.specs.Stacks.{AreUncounted, MarksLast, Reach}
 use Rattle.flatgrammar.proofs.StacksLemmas.{item_reached, reached_item}
 use Rattle.lazydfa.specs.RunVerdicts.{IsOne}

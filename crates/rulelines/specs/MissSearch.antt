@@ -3,8 +3,8 @@ use Rattle.std.specs.Prelude.{◌≡◌, ◌⊎◌, ℕ, ◌+◌, ◌<◌, ◌�
 use Rattle.std.specs.Prelude.{Contains, Option, None, Some}
 use Rattle.abnfread.specs.Element.{Rule}
 use Rattle.flatgrammar.specs.Flat.{Flat, Dot}
-use Rattle.letters.specs.Letters.{has as has_letter}
-use Rattle.letters.specs.declared.alphabet.Alphabet.{Alphabet}
+use Rattle.ruletable.specs.Letters.{has as has_letter}
+use Rattle.ruletable.specs.declared.alphabet.Alphabet.{Alphabet}
 use Rattle.flatgrammar.specs.Stacks.{IsNext}
 use Rattle.lazydfa.specs.StateSets.{AreMoreStates, grammar_of, last_in, StateSet, StateSets}
 use Rattle.lowering.specs.GivenPrefixes.{GivesPrefixes}

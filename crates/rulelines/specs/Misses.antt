@@ -5,8 +5,8 @@ use Rattle.std.specs.List.{All, AllPairs}
 use Rattle.abnfread.specs.Element.{Rule}
 use Rattle.abnfcheck.specs.Derivable.{AreLetters, RuleDerives}
 use Rattle.abnfcheck.specs.Prefixes.{BeginsMember, IsFurthest}
-use Rattle.letters.specs.Letters.{has}
-use Rattle.letters.specs.declared.alphabet.Alphabet.{Alphabet}
+use Rattle.ruletable.specs.Letters.{has}
+use Rattle.ruletable.specs.declared.alphabet.Alphabet.{Alphabet}
 use Rattle.rulelines.specs.declared.miss.prefixes.StatePrefix.{StatePrefix}
 use Rattle.rulelines.specs.FirstLines.{ComesFirst, IsShortlexBefore, sort_key}
 use Rattle.rulelines.specs.LineSets.{is_line_symbol}

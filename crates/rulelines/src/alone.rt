@@ -2,7 +2,7 @@
 ghost use Rattle.std.specs.Prelude.{◌≡◌, ℕ, Bool, List, IsTrue, IfOk, IfSome};
 ghost use Rattle.abnfread.specs.Element.{Rule};
 ghost use Rattle.flatgrammar.specs.Flat.{Flat};
-ghost use Rattle.letters.specs.Letters.{has};
+ghost use Rattle.ruletable.specs.Letters.{has};
 ghost use Rattle.lazydfa.specs.StateSets.{StateSets};
 ghost use Rattle.rulelines.specs.Alone.{DerivesAsRule, IsBegun, IsKnownOf, IsSearchOf};
 ghost use Rattle.rulelines.specs.FirstLines.{HasNoLine, IsOfOldAlone};
@@ -17,8 +17,7 @@ use crate::samples::common_samples;
 use crate::search::{PairSearch, SearchEnd, search_all};
 use flatgrammar::Flat;
 use lazydfa::States;
-use letters::Alphabet;
-use ruletable::Memory;
+use ruletable::{Alphabet, Memory};
 use std::alloc::Global;
 
 /// How many pairs are searched before pairs are cut.

@@ -1,7 +1,7 @@
 //! Which lines one of two rules derives alone.
 ghost use Rattle.std.specs.Prelude.{◌≡◌, ℕ, Bool, IfOk, IfSome};
 ghost use Rattle.abnfread.specs.AbnfViews.{rules_of};
-ghost use Rattle.letters.specs.Letters.{has as symbols_of};
+ghost use Rattle.ruletable.specs.Letters.{has as symbols_of};
 ghost use Rattle.rulelines.specs.Alone.{DerivesAsRule, IsKnownOf};
 ghost use Rattle.rulelines.specs.FirstLines.{IsOfOldAlone};
 
@@ -9,9 +9,8 @@ use crate::alone::{Alone, old_alone};
 use crate::counts::are_rules_within;
 use abnfcheck::SoundAbnf;
 use flatgrammar::Flat;
-use letters::Alphabet;
 use lowering::lower;
-use ruletable::Memory;
+use ruletable::{Alphabet, Memory};
 use std::alloc::Global;
 
 /// The greatest repeat count. A grammar that is lowered with this limit has each of its counts, and serves lines of any

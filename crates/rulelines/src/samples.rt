@@ -1,13 +1,12 @@
 //! Symbols that stand for all symbols of their class, in the order of lines.
 ghost use Rattle.std.specs.Prelude.{◌≡◌, ◌<◌, ◌^◌, IfOk, map};
-ghost use Rattle.letters.specs.Letters.{has};
+ghost use Rattle.ruletable.specs.Letters.{has};
 ghost use Rattle.rulelines.specs.FirstLines.{sort_key};
 ghost use Rattle.rulelines.specs.Samples.{AreCommonBounds, AreInLineOrder, AreKeysOf, IsKeyAdded, symbol_of};
 ghost use Rattle.rulelines.specs.StatePairs.{AreSamples};
 
 use flatgrammar::{Flat, find_classes};
-use letters::Alphabet;
-use ruletable::Memory;
+use ruletable::{Alphabet, Memory};
 use std::alloc::Global;
 
 // Returns where classes of both grammars begin, with the cuts in the order of symbols and in the alphabets. `Memory` if

@@ -2,8 +2,7 @@
 ghost use Rattle.std.specs.Prelude.{◌≡◌, ◌++◌, IfOk, OnOk};
 ghost use Rattle.rulelines.specs.LineBytes.{line_bytes as the_bytes, symbol_bytes};
 
-use letters::Alphabet;
-use ruletable::Memory;
+use ruletable::{Alphabet, Memory};
 use std::alloc::Global;
 
 // Adds the bytes of a symbol. `Memory` if an allocation fails.

@@ -7,3 +7,5 @@ pub mod RuleRows
 pub mod Rules
 pub mod Runs
 pub mod Writing
+pub mod Letters
+pub mod Utf8Text

@@ -3,6 +3,7 @@
 #![tactic(auto)]
 
 mod abnf;
+mod ends;
 mod fields;
 mod peg;
 mod program;
@@ -36,6 +37,7 @@ impl Calls for LibraryCalls {
             "items" => abnf::judges::items_of(alloc, fields, out),
             "automaton" => abnf::judges::answers_of(alloc, fields, out),
             "utf8" => abnf::symbols::points_of(alloc, fields, out),
+            "end" => Some(ends::end_of(alloc, fields, out)),
             "abnf_laws" => Some(abnf::grammars::laws()),
             _ => None,
         }

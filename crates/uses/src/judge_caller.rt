@@ -2,13 +2,12 @@
 ghost use Rattle.std.specs.Prelude.{◌↔◌, IfOk, IsTrue};
 ghost use Rattle.abnfcheck.specs.Derivable.{RuleDerives};
 ghost use Rattle.abnfread.specs.AbnfViews.{rules_of};
-ghost use Rattle.letters.specs.Letters.{has};
+ghost use Rattle.ruletable.specs.Letters.{has};
 
 use abnfcheck::SoundAbnf;
 use earley::{Chart, judge};
-use letters::Alphabet;
 use lowering::{lower, values_are_letters};
-use ruletable::Memory;
+use ruletable::{Alphabet, Memory};
 use std::alloc::Global;
 
 /// Returns whether the judged rule of a grammar derives a line of bytes.

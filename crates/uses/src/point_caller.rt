@@ -1,9 +1,8 @@
 //! A caller of `letters`.
 ghost use Rattle.std.specs.Prelude.{◌≡◌, ℕ, List, length, IfOk, MatchOption};
-ghost use Rattle.letters.specs.Utf8Text.{IsText, Spells};
+ghost use Rattle.ruletable.specs.Utf8Text.{IsText, Spells};
 
-use letters::decode;
-use ruletable::Memory;
+use ruletable::{Memory, decode};
 use std::alloc::Global;
 
 /// Returns how many code points a line has; none if the line is not UTF-8.

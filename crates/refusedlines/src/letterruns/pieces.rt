@@ -9,8 +9,7 @@ use crate::letterruns::core_rule::{CoreRule, core_runs};
 use crate::letterruns::joined::joined;
 use crate::letterruns::reported::{ReportedLetters, reported_letters};
 use crate::letterruns::run::LetterRun;
-use letters::Alphabet;
-use ruletable::Memory;
+use ruletable::{Alphabet, Memory};
 use std::alloc::Global;
 
 static CORE_SETS: [CoreRule; 8] = [

@@ -13,8 +13,7 @@ ghost use Rattle.refusedlines.specs.ReportedLetters.{reported_letters, reported_
 
 use crate::letterruns::core_rule::{CoreRule, core_of};
 use crate::letterruns::run::LetterRun;
-use letters::Alphabet;
-use ruletable::Memory;
+use ruletable::{Alphabet, Memory};
 use std::alloc::Global;
 
 /// A term of ABNF for symbols.

@@ -11,8 +11,7 @@ use crate::letterruns::pieces::symbol_pieces;
 use crate::letterruns::reported::ReportedLetters;
 use crate::letterruns::run::LetterRun;
 use diagnostics::push_number;
-use letters::Alphabet;
-use ruletable::Memory;
+use ruletable::{Alphabet, Memory};
 use std::alloc::Global;
 
 // How many pieces are reported in full.

@@ -2,7 +2,7 @@
 ghost use Rattle.std.specs.Prelude.{◌≡◌};
 ghost use Rattle.rulelines.specs.LineSets.{is_line_symbol};
 
-use letters::Alphabet;
+use ruletable::Alphabet;
 
 /// The symbols of a line: those of an alphabet but for the one that ends a line.
 #[derive(Clone, Copy)]

@@ -13,9 +13,8 @@ use crate::list::table::Table;
 use abnfcheck::SoundAbnf;
 use flatgrammar::Flat;
 use lazydfa::States;
-use letters::Alphabet;
 use lowering::lower;
-use ruletable::Memory;
+use ruletable::{Alphabet, Memory};
 use std::alloc::Global;
 use std::marker::Model;
 

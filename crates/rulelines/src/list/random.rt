@@ -10,8 +10,7 @@ use crate::list::lots::{Lots, NO_CHOICE, offer};
 use crate::list::search::line_from;
 use crate::list::table::{Table, add_levels, can_end, step, takes_key};
 use crate::samples::{key_of, symbol_at};
-use letters::Alphabet;
-use ruletable::Memory;
+use ruletable::{Alphabet, Memory};
 use std::alloc::Global;
 
 // Returns by lot one of the lengths, at most `limit`, of which the table shows lines. `None` if there is none.

@@ -18,9 +18,8 @@ use crate::pairs::{SearchedPair, add_pair, no_pairs};
 use abnfcheck::SoundAbnf;
 use flatgrammar::Flat;
 use lazydfa::States;
-use letters::Alphabet;
 use lowering::lower_viable;
-use ruletable::Memory;
+use ruletable::{Alphabet, Memory};
 use std::alloc::Global;
 use std::marker::Model;
 

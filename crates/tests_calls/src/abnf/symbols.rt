@@ -1,7 +1,7 @@
 //! Texts as code points, on the boundaries of UTF-8 (RFC 3629, sections 3 and 4).
 
 use crate::fields::{Fields, Text};
-use letters::{Letter, decode, utf8_len};
+use ruletable::{Letter, decode, utf8_len};
 use std::alloc::Global;
 
 /// `utf8 TEXT`: how many bytes the longest prefix has that is UTF-8; and the code points of the text, or `of more`.

@@ -3,7 +3,7 @@ use Rattle.std.proofs.Common.{◌∙◌, ap, arith, length, subst, sym}
 use Rattle.std.specs.Prelude.{Contains}
 use Rattle.std.proofs.lemmas.List.{length-map}
 use Rattle.fixpoint.proofs.RowsOfLemmas.{length-rows}
-use Rattle.rulenames.specs.IdMarks.{AreMarks}
+use Rattle.fixpoint.specs.IdMarks.{AreMarks}
 use Rattle.abnfread.specs.Element.{Rule}
 use Rattle.abnfread.specs.AbnfViews.{rule_of, rules_of}
 use Rattle.abnfcheck.specs.ProseIn.{prose_in}

@@ -2,7 +2,7 @@
 use Rattle.std.proofs.Common.{◌≤◌, ◌∙◌, ap, arith, length, map, not, subst, sym, take}
 use Rattle.std.proofs.lemmas.List.{length-map}
 use Rattle.fixpoint.proofs.RowsOfLemmas.{length-rows}
-use Rattle.rulenames.specs.IdMarks.{AreMarks}
+use Rattle.fixpoint.specs.IdMarks.{AreMarks}
 use Rattle.abnfread.specs.Element.{Rule}
 use Rattle.abnfcheck.specs.AbnfNotes.{judged_in, IsUnused}
 use Rattle.abnfcheck.specs.AbnfUses.{HoldsProse}

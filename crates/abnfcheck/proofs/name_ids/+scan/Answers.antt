@@ -2,7 +2,7 @@
 use Rattle.std.proofs.Common.{◌++◌, ◌∙◌, subst, arith}
 use Rattle.std.proofs.lemmas.List.{take_all}
 use Rattle.ruletable.specs.declared.table.NameCase.TheVariants.{Fold}
-use Rattle.rulenames.specs.NameUses.{IsScanned}
+use Rattle.fixpoint.specs.NameUses.{IsScanned}
 use Rattle.abnfread.specs.AbnfViews.{elements_of}
 use Rattle.abnfread.proofs.ElementLemmas.{element-Concat, element-Alt, element-Rep, element-Opt, element-Name}
 use Rattle.abnfcheck.specs.AbnfUses.{names_in_all}

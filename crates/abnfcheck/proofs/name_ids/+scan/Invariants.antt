@@ -1,7 +1,7 @@
 -- The names in the members so far.
 use Rattle.std.proofs.Common.{◌≡◌, ℕ, List, ◌++◌, take}
 use Rattle.ruletable.specs.declared.table.NameCase.TheVariants.{Fold}
-use Rattle.rulenames.specs.NameUses.{IsScanned}
+use Rattle.fixpoint.specs.NameUses.{IsScanned}
 use Rattle.abnfread.specs.AbnfViews.{elements_of}
 use Rattle.abnfcheck.specs.AbnfUses.{names_in_all}
 use Rattle.abnfcheck.proofs.name_ids.+scan.Given as goal

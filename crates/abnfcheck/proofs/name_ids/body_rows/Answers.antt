@@ -5,9 +5,9 @@ use Rattle.std.proofs.lemmas.List.{map-append}
 use Rattle.fixpoint.specs.StepRows.{rows_of}
 use Rattle.ruletable.specs.Rules.{names_of}
 use Rattle.ruletable.specs.declared.table.NameCase.TheVariants.{Fold}
-use Rattle.rulenames.specs.FirstUses.{news}
-use Rattle.rulenames.specs.NameUses.{IsScanned, no_uses}
-use Rattle.rulenames.proofs.IsScannedLemmas.{scan_grows}
+use Rattle.fixpoint.specs.FirstUses.{news}
+use Rattle.fixpoint.specs.NameUses.{IsScanned, no_uses}
+use Rattle.fixpoint.proofs.IsScannedLemmas.{scan_grows}
 use Rattle.abnfread.specs.Element.{bodies}
 use Rattle.abnfread.specs.AbnfViews.{element_of, rules_of}
 use Rattle.abnfcheck.specs.AbnfUses.{names_in, names_used}

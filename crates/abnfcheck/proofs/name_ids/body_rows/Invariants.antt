@@ -3,7 +3,7 @@ use Rattle.std.proofs.Common.{◌≡◌, ℕ, List, ◌++◌, take}
 use Rattle.fixpoint.specs.StepRows.{rows_of}
 use Rattle.ruletable.specs.Rules.{names_of}
 use Rattle.ruletable.specs.declared.table.NameCase.TheVariants.{Fold}
-use Rattle.rulenames.specs.FirstUses.{news}
+use Rattle.fixpoint.specs.FirstUses.{news}
 use Rattle.abnfread.specs.AbnfViews.{rules_of}
 use Rattle.abnfcheck.specs.AbnfUses.{names_used}
 use Rattle.abnfcheck.specs.NameIds.{AreRowsTo}

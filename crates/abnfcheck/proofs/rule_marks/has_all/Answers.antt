@@ -1,7 +1,7 @@
 -- A value that is no letter is found, or there is none.
 use Rattle.std.proofs.Common.{◌∙◌, false, refl, sym}
 use Rattle.std.proofs.lemmas.Bool.{both_ways}
-use Rattle.letters.specs.Letters.{has}
+use Rattle.ruletable.specs.Letters.{has}
 use Rattle.abnfcheck.proofs.AimLemmas.{letter_in, next_value}
 use Rattle.abnfcheck.proofs.rule_marks.has_all.Goals as goal
 

@@ -6,7 +6,7 @@ use Rattle.std.specs.Prelude.{codes, decimal, if◌then◌else◌, nat_lt, take}
 use Rattle.abnfread.specs.AbnfViews.{rules_of}
 use Rattle.abnfread.specs.Element.{Rule}
 use Rattle.diagnostics.specs.ShownBytes.{cut}
-use Rattle.letters.specs.declared.alphabet.Alphabet.{Alphabet}
+use Rattle.ruletable.specs.declared.alphabet.Alphabet.{Alphabet}
 use Rattle.refusedlines.specs.RefusedText.{column_after, is_none, none_of, refused_at, reported_expected}
 use Rattle.refusedlines.specs.RefusedText.{unit_text}
 use Rattle.refusedlines.specs.Refusals.{IsRefusalReported, name_at, octet_count}

@@ -3,7 +3,7 @@ use Rattle.std.proofs.Common.{◌<◌, arith, length}
 use Rattle.std.proofs.lemmas.List.{map-append}
 use Rattle.abnfcheck.specs.AbnfNotes.{no_more}
 use Rattle.abnfread.specs.AbnfViews.{rules_of}
-use Rattle.letters.specs.Letters.{has}
+use Rattle.ruletable.specs.Letters.{has}
 use Rattle.abnfhints.specs.AbnfHints.{DerivesNothing}
 use Rattle.abnfhints.proofs.BarrenNamesLemmas.{next_named, next_passed, all_named}
 use Rattle.abnfhints.proofs.barren.barren_names.Goals as goal

@@ -3,7 +3,7 @@ use Rattle.std.proofs.Common.{map, take}
 use Rattle.abnfcheck.specs.AbnfNotes.{Those}
 use Rattle.abnfhints.specs.AbnfHints.{DerivesNothing}
 use Rattle.abnfread.specs.AbnfViews.{rules_of}
-use Rattle.letters.specs.Letters.{has}
+use Rattle.ruletable.specs.Letters.{has}
 use Rattle.abnfhints.proofs.barren.barren_names.Given as goal
 
 abbrev pub invariant-loop-id : goal.invariant-loop-id

@@ -1,7 +1,7 @@
 -- The hints by the positions.
 use Rattle.std.proofs.Common.{map}
 use Rattle.abnfread.specs.AbnfViews.{rules_of}
-use Rattle.letters.specs.Letters.{has}
+use Rattle.ruletable.specs.Letters.{has}
 use Rattle.diagnostics.specs.BodyMentions.{mentioned_at}
 use Rattle.abnfhints.proofs.AbnfHintsLemmas.{hints_by_positions}
 use Rattle.abnfhints.proofs.ReportedFirstLemmas.{three_from_nothing}

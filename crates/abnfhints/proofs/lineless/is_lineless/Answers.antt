@@ -1,7 +1,7 @@
 -- The marks of what is left.
 use Rattle.std.proofs.Common.{◌<◌, arith, length, refl}
 use Rattle.fixpoint.proofs.IsMarkedLemmas.{marked_lt}
-use Rattle.letters.specs.Letters.{has}
+use Rattle.ruletable.specs.Letters.{has}
 use Rattle.abnfread.specs.AbnfViews.{rules_of}
 use Rattle.abnfhints.specs.LineEnds.{end_byte}
 use Rattle.abnfhints.proofs.DerivesOnlyWithLemmas.{end_low, only_reported}

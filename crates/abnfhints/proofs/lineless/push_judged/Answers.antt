@@ -2,7 +2,7 @@
 use Rattle.std.proofs.Common.{[], arith, sym, subst, Some}
 use Rattle.std.proofs.lemmas.List.{append-nil, length-map}
 use Rattle.abnfread.specs.AbnfViews.{rule_of, rules_of}
-use Rattle.letters.specs.Letters.{has}
+use Rattle.ruletable.specs.Letters.{has}
 use Rattle.abnfhints.specs.AbnfHints.{no_rule, no_line, some_line, IsReportedOfJudged, lineless_reported}
 use Rattle.abnfhints.proofs.DerivesOnlyWithLemmas.{name_reported}
 use Rattle.abnfhints.proofs.lineless.push_judged.Goals as goal

@@ -5,7 +5,7 @@ use Rattle.std.proofs.lemmas.Result.{err_from_is_err_and}
 use Rattle.abnfread.specs.AbnfViews.{rules_of}
 use Rattle.abnfrun.proofs.IsAnswerOnLemmas.{judge_says, letters_costly, verdict_says}
 use Rattle.abnfrun.proofs.line_judge.judge_letters.Goals as goal
-use Rattle.letters.specs.Letters.{has}
+use Rattle.ruletable.specs.Letters.{has}
 
 pub returns-in-Yes-clause-answer : goal.returns-in-Yes-clause-answer
 returns-in-Yes-clause-answer g c =

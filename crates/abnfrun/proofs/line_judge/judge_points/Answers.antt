@@ -8,9 +8,9 @@ use Rattle.abnfrun.proofs.IsAnswerToLemmas.{line_costly, text_answer, text_lette
 use Rattle.abnfrun.proofs.SpellsLengthLemmas.{ascii_letters, ascii_spelled, points_at_most}
 use Rattle.abnfrun.proofs.line_judge.judge_points.Goals as goal
 use Rattle.abnfcheck.specs.Derivable.{AreLetters}
-use Rattle.letters.specs.Letters.{has}
-use Rattle.letters.specs.declared.alphabet.Alphabet.TheVariants.{Utf8}
-use Rattle.letters.specs.Utf8Text.{number, numbers}
+use Rattle.ruletable.specs.Letters.{has}
+use Rattle.ruletable.specs.declared.alphabet.Alphabet.TheVariants.{Utf8}
+use Rattle.ruletable.specs.Utf8Text.{number, numbers}
 
 pub returns-then-is_text-clause-answer : goal.returns-then-is_text-clause-answer
 returns-then-is_text-clause-answer c =

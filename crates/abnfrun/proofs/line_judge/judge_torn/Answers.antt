@@ -6,8 +6,8 @@ use Rattle.abnfread.specs.AbnfViews.{rules_of}
 use Rattle.abnfrun.proofs.IsAnswerToLemmas.{decoded_as, line_costly, torn_answer}
 use Rattle.abnfrun.proofs.SpellsLengthLemmas.{points_at_most}
 use Rattle.abnfrun.proofs.line_judge.judge_torn.Goals as goal
-use Rattle.letters.specs.Utf8Text.{number, numbers}
-use Rattle.letters.specs.declared.alphabet.Alphabet.TheVariants.{Utf8}
+use Rattle.ruletable.specs.Utf8Text.{number, numbers}
+use Rattle.ruletable.specs.declared.alphabet.Alphabet.TheVariants.{Utf8}
 
 pub returns-clause-answer : goal.returns-clause-answer
 returns-clause-answer c =

@@ -4,7 +4,7 @@ use Rattle.std.specs.Prelude.{if◌then◌else◌}
 use Rattle.clap.specs.Words.{first_value, found_of}
 use Rattle.clap.proofs.WalkLemmas.{first_value-rows}
 use Rattle.cli.specs.Asked.{alphabet_named}
-use Rattle.letters.specs.declared.alphabet.Alphabet.TheVariants.{Bytes, Utf8}
+use Rattle.ruletable.specs.declared.alphabet.Alphabet.TheVariants.{Bytes, Utf8}
 use Rattle.cli.proofs.values.letters_of.Goals as goal
 
 pub returns-in-Some : goal.returns-in-Some

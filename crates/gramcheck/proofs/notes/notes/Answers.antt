@@ -2,7 +2,7 @@
 use Rattle.std.proofs.Common.{map, refl, sym, ap}
 use Rattle.std.specs.Prelude.{option_copied}
 use Rattle.ruletable.specs.Notes.{said_of}
-use Rattle.rulenames.proofs.ChosenLemmas.{one_by_one}
+use Rattle.fixpoint.proofs.ChosenLemmas.{one_by_one}
 use Rattle.pegread.specs.PegViews.{rules_of}
 use Rattle.gramcheck.proofs.RuleNameLemmas.{names-same}
 use Rattle.gramcheck.proofs.AreNotesLemmas.{are-notes}

@@ -2,7 +2,7 @@
 use Rattle.std.proofs.Common.{◌≡◌, ℕ, zero, suc, ◌+◌, ◌<◌, Bool, true, List, [], ◌∷◌, length, take, map, get_or}
 use Rattle.std.proofs.Common.{add-one, arith, subst}
 use Rattle.abnfcheck.specs.Derivable.{AreLetters}
-use Rattle.letters.specs.Letters.{has}
+use Rattle.ruletable.specs.Letters.{has}
 use Rattle.lowering.proofs.letter_law.values_are_letters.Goals as goal
 
 module _ {A : Type 0} (test : ℕ → Bool) (f : A → ℕ) where

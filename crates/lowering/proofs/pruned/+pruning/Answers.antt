@@ -2,7 +2,7 @@ use Rattle.std.proofs.lemmas.Result.{IfOk-weaker}
 use Rattle.abnfread.specs.AbnfViews.{rules_of}
 use Rattle.abnfread.proofs.ElementLemmas.{element-Text, element-Values, element-Range, element-Concat, element-Alt}
 use Rattle.abnfread.proofs.ElementLemmas.{element-Rep, element-Opt, element-Name, element-Prose}
-use Rattle.letters.specs.Letters.{has}
+use Rattle.ruletable.specs.Letters.{has}
 use Rattle.lowering.specs.Pruned.{keep_none, some_none}
 use Rattle.lowering.proofs.KeepsLemmas.{no_prose}
 use Rattle.lowering.proofs.PruneLemmas as o

@@ -1,6 +1,6 @@
 use Rattle.std.proofs.Common.{take}
 use Rattle.abnfread.specs.AbnfViews.{elements_of, rules_of}
-use Rattle.letters.specs.Letters.{has}
+use Rattle.ruletable.specs.Letters.{has}
 use Rattle.lowering.specs.Pruned.{KeepsAll, KeepsSome}
 use Rattle.lowering.proofs.pruned.+pruning.Given as goal
 

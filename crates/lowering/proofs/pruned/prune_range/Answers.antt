@@ -1,5 +1,5 @@
 use Rattle.abnfread.proofs.ElementLemmas.{element-Range}
-use Rattle.letters.specs.Letters.{has}
+use Rattle.ruletable.specs.Letters.{has}
 use Rattle.lowering.specs.Pruned.{keep_range}
 use Rattle.lowering.proofs.PruneLemmas as o
 use Rattle.lowering.proofs.pruned.prune_range.Goals as goal

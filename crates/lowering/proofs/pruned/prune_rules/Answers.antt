@@ -1,5 +1,5 @@
 use Rattle.std.proofs.Common.{arith}
-use Rattle.letters.specs.Letters.{has}
+use Rattle.ruletable.specs.Letters.{has}
 use Rattle.lowering.proofs.PruneRulesLemmas.{next_pruned, all_pruned}
 use Rattle.lowering.proofs.pruned.prune_rules.Goals as goal
 

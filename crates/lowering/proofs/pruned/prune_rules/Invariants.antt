@@ -1,4 +1,4 @@
-use Rattle.letters.specs.Letters.{has}
+use Rattle.ruletable.specs.Letters.{has}
 use Rattle.lowering.proofs.PruneRulesLemmas.{IsPruning}
 use Rattle.lowering.proofs.pruned.prune_rules.Given as goal
 

@@ -1,5 +1,5 @@
 use Rattle.std.proofs.Common.{sym, ◌∙◌, arith}
-use Rattle.letters.specs.Letters.{has}
+use Rattle.ruletable.specs.Letters.{has}
 use Rattle.abnfread.proofs.ElementLemmas.{element-Values}
 use Rattle.abnfcheck.proofs.AimLemmas.{letter_in, next_value}
 use Rattle.lowering.proofs.PruneLemmas as o

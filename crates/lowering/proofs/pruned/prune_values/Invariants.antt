@@ -1,6 +1,6 @@
 use Rattle.std.proofs.Common.{◌≡◌, take}
 use Rattle.abnfcheck.specs.Derivable.{AreLetters}
-use Rattle.letters.specs.Letters.{has}
+use Rattle.ruletable.specs.Letters.{has}
 use Rattle.lowering.proofs.pruned.prune_values.Given as goal
 
 abbrev pub invariant-loop-value : goal.invariant-loop-value

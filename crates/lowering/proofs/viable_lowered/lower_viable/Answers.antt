@@ -1,7 +1,7 @@
 use Rattle.std.proofs.Common.{subst, arith}
 use Rattle.std.proofs.lemmas.Result.{IfOk-weaker, MatchResult-weaker}
 use Rattle.abnfread.specs.AbnfViews.{rules_of}
-use Rattle.letters.specs.Letters.{has}
+use Rattle.ruletable.specs.Letters.{has}
 use Rattle.lowering.proofs.LoweredLemmas.{ok_both}
 use Rattle.lowering.specs.Pruned.{ArePruned}
 use Rattle.lowering.proofs.ArePrunedLemmas.{gives_prefixes, positions_left, null_alike}

@@ -1,8 +1,8 @@
 use Rattle.std.proofs.Common.{◌∙◌, ap, arith, length, nat_lt, subst, sym, take}
 use Rattle.std.proofs.lemmas.List.{length-map, take-map}
 use Rattle.abnfread.specs.AbnfViews.{rules_of}
-use Rattle.letters.specs.Utf8Text.{Spells, number, numbers}
-use Rattle.letters.specs.declared.alphabet.Alphabet.TheVariants.{Utf8}
+use Rattle.ruletable.specs.Utf8Text.{Spells, number, numbers}
+use Rattle.ruletable.specs.declared.alphabet.Alphabet.TheVariants.{Utf8}
 use Rattle.refusedlines.specs.RefusedText.{column_after, refused_at}
 use Rattle.refusedlines.specs.Refusals.{octet_count}
 use Rattle.refusedlines.proofs.RefusalLemmas.{points_bound, reported_points}

@@ -1,5 +1,5 @@
 use Rattle.std.proofs.Common.{◌∙◌, ◌+◌, ap, arith}
-use Rattle.letters.specs.declared.alphabet.Alphabet.TheVariants.{Utf8}
+use Rattle.ruletable.specs.declared.alphabet.Alphabet.TheVariants.{Utf8}
 use Rattle.refusedlines.specs.Refusals.{octets}
 use Rattle.refusedlines.proofs.RefusalLemmas.{count_next, count_within}
 use Rattle.refusedlines.proofs.explained.octets_of.Goals as goal

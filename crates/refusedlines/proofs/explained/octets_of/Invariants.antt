@@ -1,6 +1,6 @@
 use Rattle.std.proofs.Common.{◌≡◌, take}
-use Rattle.letters.specs.Utf8Text.{numbers}
-use Rattle.letters.specs.declared.alphabet.Alphabet.TheVariants.{Utf8}
+use Rattle.ruletable.specs.Utf8Text.{numbers}
+use Rattle.ruletable.specs.declared.alphabet.Alphabet.TheVariants.{Utf8}
 use Rattle.refusedlines.specs.Refusals.{octet_count}
 use Rattle.refusedlines.proofs.explained.octets_of.Given as goal
 

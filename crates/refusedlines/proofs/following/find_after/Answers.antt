@@ -1,7 +1,7 @@
 use Rattle.std.proofs.Common.{map, length, sym, subst, arith}
 use Rattle.std.proofs.lemmas.List.{length-map}
 use Rattle.earleyitems.specs.ChartSets.{set_at, AreDotsOf}
-use Rattle.letters.specs.Letters.{has}
+use Rattle.ruletable.specs.Letters.{has}
 use Rattle.refusedlines.specs.Following.{AreFollowing}
 use Rattle.refusedlines.proofs.CanFollowLemmas.{are_following, readers_of_set}
 use Rattle.refusedlines.proofs.following.find_after.Goals as goal

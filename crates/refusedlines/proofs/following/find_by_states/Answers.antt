@@ -1,7 +1,7 @@
 use Rattle.std.proofs.Common.{◌≡◌, map, subst, arith}
 use Rattle.std.proofs.lemmas.List.{length-map}
 use Rattle.std.specs.Prelude.{IfSome}
-use Rattle.letters.specs.Letters.{has}
+use Rattle.ruletable.specs.Letters.{has}
 use Rattle.lazydfa.specs.ExpectedSets.{IsExpected}
 use Rattle.refusedlines.proofs.CanFollowLemmas.{following_of_set, last_is_furthest}
 use Rattle.refusedlines.proofs.following.find_by_states.Goals as goal

@@ -2,7 +2,7 @@ use Rattle.std.proofs.Common.{◌∙◌, map, sym, subst, arith}
 use Rattle.std.proofs.lemmas.List.{length-map, length-take-le, take-map}
 use Rattle.std.proofs.lemmas.Result.{IfOk-weaker, MatchResult-weaker}
 use Rattle.abnfcheck.specs.Prefixes.{IsFurthest}
-use Rattle.letters.specs.Letters.{has}
+use Rattle.ruletable.specs.Letters.{has}
 use Rattle.lowering.proofs.LoweredLemmas.{ok_both}
 use Rattle.refusedlines.specs.Following.{AreFollowing}
 use Rattle.refusedlines.proofs.CanFollowLemmas.{take_following}

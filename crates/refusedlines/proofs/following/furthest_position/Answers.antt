@@ -2,7 +2,7 @@ use Rattle.std.proofs.Common.{map, subst, arith}
 use Rattle.std.proofs.lemmas.List.{length-map}
 use Rattle.abnfcheck.specs.Prefixes.{IsFurthest}
 use Rattle.flatgrammar.specs.FlatVerdicts.{IsFlatVerdict}
-use Rattle.letters.specs.Letters.{has}
+use Rattle.ruletable.specs.Letters.{has}
 use Rattle.lowering.specs.Verdicts.{IsVerdict}
 use Rattle.refusedlines.proofs.CanFollowLemmas.{derived_is_furthest}
 use Rattle.refusedlines.proofs.following.furthest_position.Goals as goal

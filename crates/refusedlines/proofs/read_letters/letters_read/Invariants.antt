@@ -1,5 +1,5 @@
 use Rattle.std.proofs.Common.{◌≡◌, ◌↔◌, ℕ, true, take, All}
-use Rattle.letters.specs.Letters.{has}
+use Rattle.ruletable.specs.Letters.{has}
 use Rattle.refusedlines.specs.LetterRuns.{IsSomeRun, RunsHave}
 use Rattle.refusedlines.specs.ReadLetters.{DotsRead}
 use Rattle.refusedlines.proofs.read_letters.letters_read.Given as goal

@@ -1,5 +1,5 @@
 use Rattle.std.proofs.Common.{subst, sym}
-use Rattle.letters.specs.Letters.{has}
+use Rattle.ruletable.specs.Letters.{has}
 use Rattle.rulelines.specs.Samples.{AreInLineOrder}
 use Rattle.rulelines.specs.StatePairs.{AreSamples}
 use Rattle.rulelines.proofs.alone.old_alone.Goals as goal

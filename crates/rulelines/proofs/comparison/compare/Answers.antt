@@ -1,6 +1,6 @@
 use Rattle.std.proofs.Common.{ℕ, Bool, subst}
 use Rattle.std.specs.Prelude.{IfSome}
-use Rattle.letters.specs.Letters.{has as symbols_of}
+use Rattle.ruletable.specs.Letters.{has as symbols_of}
 use Rattle.abnfread.specs.AbnfViews.{rules_of}
 use Rattle.rulelines.specs.Alone.{DerivesAsRule}
 use Rattle.rulelines.proofs.comparison.compare.Goals as goal

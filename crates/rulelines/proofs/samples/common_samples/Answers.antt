@@ -1,6 +1,6 @@
 use Rattle.std.proofs.Common.{◌≡◌, List, ℕ, map, subst, sym}
 use Rattle.std.proofs.lemmas.Result.{IfOk-weaker}
-use Rattle.letters.specs.Letters.{has}
+use Rattle.ruletable.specs.Letters.{has}
 use Rattle.rulelines.specs.Samples.{AreCommonBounds, AreInLineOrder, symbol_of}
 use Rattle.rulelines.specs.StatePairs.{AreSamples}
 use Rattle.rulelines.proofs.SamplesLemmas.{samples_are}

@@ -1,5 +1,5 @@
 use Rattle.std.proofs.lemmas.Option.{slice_get-get_or}
-use Rattle.letters.specs.Letters.{has}
+use Rattle.ruletable.specs.Letters.{has}
 use Rattle.rulelines.proofs.SamplesLemmas.{keys_all, keys_next}
 use Rattle.rulelines.proofs.samples.keys_of.Goals as goal
 

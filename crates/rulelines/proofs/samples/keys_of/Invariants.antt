@@ -1,4 +1,4 @@
-use Rattle.letters.specs.Letters.{has}
+use Rattle.ruletable.specs.Letters.{has}
 use Rattle.rulelines.proofs.SamplesLemmas.{AreKeysTo}
 use Rattle.rulelines.proofs.samples.keys_of.Given as goal
 

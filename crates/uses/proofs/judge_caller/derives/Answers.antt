@@ -1,7 +1,7 @@
 -- The flat grammar derives the line exactly if the judged rule does, and the line's bytes are its letters.
 use Rattle.std.proofs.Common.{Bool, Result, Ok, Err, IfOk, map-id, arith}
-use Rattle.letters.specs.Letters.{has}
-use Rattle.letters.specs.declared.alphabet.Alphabet.TheVariants.{Bytes}
+use Rattle.ruletable.specs.Letters.{has}
+use Rattle.ruletable.specs.declared.alphabet.Alphabet.TheVariants.{Bytes}
 use Rattle.uses.proofs.judge_caller.derives.Goals as goal
 
 reported_as : {E : Type 0} (r : Result Bool E) (P Q : Bool → Type 0) → ((b : Bool) → P b → Q b) → IfOk r P → IfOk r Q

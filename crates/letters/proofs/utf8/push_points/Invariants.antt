@@ -1,6 +1,0 @@
-use Rattle.std.proofs.Common.{◌≡◌}
-use Rattle.letters.specs.Utf8Text.{numbers}
-use Rattle.letters.proofs.utf8.push_points.Given as goal
-
-abbrev pub invariant-loop-c : goal.invariant-loop-c
-invariant-loop-c l = numbers l.points.items ≡ l.yielded

@@ -1,3 +1,0 @@
-pub mod FirstUses
-pub mod IdMarks
-pub mod NameUses
