@@ -11,7 +11,7 @@ use Rattle.fixpoint.specs.StepRows.{Step}
 use Rattle.fixpoint.specs.Way.{At}
 use Rattle.fixpoint.specs.Distances.{Distance, Steps, no_step, one_more}
 use Rattle.fixpoint.specs.ShortChains.{AreBacks, Back, ChainTo, at_start, after}
-use Rattle.abnfcheck.specs.NameChains.{AreEnds}
+use Rattle.abnfcheck.specs.NameChains.{AreLast}
 use Rattle.abnfcheck.specs.declared.reached_names.ChainEnds.{ChainEnds}
 
 module _ (rows : List (List ℕ)) (s : ℕ) where
@@ -84,7 +84,7 @@ module _ (rows : List (List ℕ)) (s : ℕ) where
   pub chain_has_ends : (backs : List (Option ℕ)) (to at count steps last : ℕ) (ids : List ℕ) (ends : ChainEnds)
       → AreBacks rows s backs → Distance rows s at (count - steps) → Completes to at ids → length ids ≡ steps
       → steps ≤ count → count - steps ≡ count - last → ends.left ≡ count - last
-      → ends.ids.items ≡ reverse (ids ++ s ∷ []) → (whole : List ℕ) × ChainTo rows s to whole × AreEnds last whole ends
+      → ends.ids.items ≡ reverse (ids ++ s ∷ []) → (whole : List ℕ) × ChainTo rows s to whole × AreLast last whole ends
   chain_has_ends backs to at count steps last ids ends b d completes many le same left is =
       let c = chain_exists backs b (count - steps) at d in
       let front : List ℕ = c.0 in

@@ -12,7 +12,7 @@ use Rattle.fixpoint.specs.Distances.{Distance, Steps, no_step, one_more}
 use Rattle.fixpoint.specs.ShortChains.{Back, ChainTo, IsChainIfReached, at_start, after}
 use Rattle.abnfread.specs.Element.{Rule}
 use Rattle.abnfcheck.specs.NameChains.{IsChainAt, IsFirstUser, IsNameChain, ReachesBy, UseChain, UseDistance, names_at}
-use Rattle.abnfcheck.specs.NameChains.{AreEnds, after_user, judged_alone, no_use, one_use}
+use Rattle.abnfcheck.specs.NameChains.{AreLast, after_user, judged_alone, no_use, one_use}
 use Rattle.abnfcheck.specs.declared.reached_names.ChainEnds.{ChainEnds}
 use Rattle.abnfcheck.specs.NameIds.{IsGraph, IsJudged, UsesNameAt, all_names}
 use Rattle.abnfcheck.proofs.GraphLemmas.{position_is_one, step_use, use_step}
@@ -151,9 +151,9 @@ pub named_ends : (rules : List Rule) (given : Option (List ℕ)) (name : List �
     (judged p last : ℕ) (ends : Option ChainEnds) → IsGraph rules given names rows judged
     → position (same_name Fold name) names ≡ Some p
     → MatchOption ends (IsChainIfReached rows judged p None)
-    (λ e. (ids : List ℕ) × ChainTo rows judged p ids × AreEnds last ids e)
+    (λ e. (ids : List ℕ) × ChainTo rows judged p ids × AreLast last ids e)
     → MatchOption ends (IsNameChain rules given name None)
-    (λ e. (ids : List ℕ) × IsNameChain rules given name (Some (names_at names ids)) × AreEnds last ids e)
+    (λ e. (ids : List ℕ) × IsNameChain rules given name (Some (names_at names ids)) × AreLast last ids e)
 named_ends rules given name names rows judged p last None graph is h =
     chain_by_rows rules given name names rows judged None graph
     (chain_of_id rules given names rows judged p _ None graph is h)

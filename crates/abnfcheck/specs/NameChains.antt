@@ -63,6 +63,6 @@ pub record AreNameChains (rules : List Rule) (given : Option (List ℕ)) (found 
   pub chains : MatchOption found.chains (length rows ≤ judged) (AreChains rows judged)
 
 -- the code has the first id of a chain, at most so many of the last ones, and how many stand between them
-pub record AreEnds (last : ℕ) (ids : List ℕ) (ends : ChainEnds) : Type 0 where
+pub record AreLast (last : ℕ) (ids : List ℕ) (ends : ChainEnds) : Type 0 where
   pub left : ends.left ≡ length ids - (last + 1)
   pub is : ends.ids.items ≡ take 1 ids ++ drop (length ids - (last + 1) + 1) ids

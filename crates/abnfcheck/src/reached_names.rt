@@ -6,7 +6,7 @@ ghost use Rattle.ruletable.specs.Rules.{names_of};
 ghost use Rattle.fixpoint.specs.ShortChains.{AreChains, ChainTo, IsChainIfReached};
 ghost use Rattle.abnfread.specs.AbnfViews.{rules_of};
 ghost use Rattle.abnfread.specs.Element.{Rule};
-ghost use Rattle.abnfcheck.specs.NameChains.{AreEnds, AreNameChains, IsNameChain, names_at};
+ghost use Rattle.abnfcheck.specs.NameChains.{AreLast, AreNameChains, IsNameChain, names_at};
 
 use crate::name_ids::name_ids;
 use abnfread::Elem;
@@ -95,7 +95,7 @@ fn ends_to(
 ) -> Result<Option<ChainEnds>, AllocError>
     ensures { IfOk result (λ ends. (rows : List (List ℕ)) → AreChains rows first chains.now
         → MatchOption ends (IsChainIfReached rows first to None)
-        (λ e. (ids : List ℕ) × ChainTo rows first to ids × AreEnds last ids e)) }
+        (λ e. (ids : List ℕ) × ChainTo rows first to ids × AreLast last ids e)) }
 {
     let Some(count) = entry_of(&chains.far, to) else {
         return Ok(None);
@@ -132,7 +132,7 @@ impl NameChains {
         ensures { IfOk result (λ ends. (rules : List Rule) (given : Option (List ℕ))
             → AreNameChains rules given self.now → MatchOption ends (IsNameChain rules given name.now None)
             (λ e. (ids : List ℕ) × IsNameChain rules given name.now (Some (names_at (names_of self.now.names) ids))
-            × AreEnds last ids e)) }
+            × AreLast last ids e)) }
     {
         let Some(id) = self.names.find(name)? else {
             return Ok(None);

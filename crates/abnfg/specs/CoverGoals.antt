@@ -14,8 +14,8 @@ use Rattle.coverlines.specs.declared.cover.CoverLine.{CoverLine}
 use Rattle.coverlines.specs.declared.way.GoalWay.{GoalWay}
 use Rattle.coverlines.specs.declared.way.GoalWay.TheVariants.{Chosen, Taken, LeftOut, Rounds, First, Last, OtherCase}
 use Rattle.refusedlines.specs.Refusals.{name_at}
+use Rattle.refusedlines.specs.RefusedText.{unit_word}
 use Rattle.refusedlines.specs.declared.refusal.LineUnit.{LineUnit}
-use Rattle.refusedlines.specs.declared.refusal.LineUnit.TheVariants.{Line, Record}
 
 -- an element, or another one in its place
 abbrev pub element_or : Option Element → Element → Element
@@ -57,11 +57,6 @@ abbrev pub goal_text : List Rule → CoverGoal → List ℕ
 goal_text rules goal = rounds_text goal.way ++ (opening_words goal.way
     ++ (text_of (subject_of (element_of goal.elem.now) goal.way)
     ++ (closing_words goal.way ++ (codes " in " ++ name_at rules goal.rule))))
-
--- what is numbered
-abbrev pub unit_word : LineUnit → List ℕ
-unit_word Line = codes "line "
-unit_word Record = codes "record "
 
 -- the goal for which a line of that number was made
 abbrev pub reached_line : LineUnit → List Rule → ℕ → CoverGoal → List ℕ

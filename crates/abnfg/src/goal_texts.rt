@@ -13,7 +13,6 @@ ghost use Rattle.abnfg.specs.CoverGoals.{
   closing_words,
   opening_words,
   rounds_text,
-  unit_word as the_word,
 };
 ghost use Rattle.abnfprint.specs.CanonicalAbnf.{text_of};
 ghost use Rattle.abnfread.specs.AbnfViews.{element_of, rules_of};
@@ -23,7 +22,7 @@ use abnfprint::print_elem;
 use abnfread::Elem;
 use coverlines::{CoverGoal, CoverLine, GoalWay};
 use diagnostics::push_number;
-use refusedlines::LineUnit;
+use refusedlines::{LineUnit, unit_word};
 use ruletable::{Memory, RuleTable, SinkOf};
 use std::alloc::Global;
 
@@ -127,16 +126,6 @@ fn push_goal(
     out.extend_from_slice(b" in ")?;
     out.extend_from_slice(rule_name(rules, goal.rule))?;
     Ok(())
-}
-
-// Returns what stands before the number of a line or a record.
-fn unit_word(unit: LineUnit) -> &'static [u8]
-    ensures { result.now ≡ the_word unit }
-{
-    match unit {
-        LineUnit::Line => b"line ",
-        LineUnit::Record => b"record ",
-    }
 }
 
 // Adds the line that says what a line or a record of that number is for. `Memory` if an allocation fails.

@@ -19,7 +19,7 @@ use Rattle.abnfread.specs.AbnfViews.{rule_of, rules_of}
 use Rattle.abnfread.specs.declared.elem.Elem.{Elem}
 use Rattle.abnfread.specs.Element.{Definition, Rule}
 use Rattle.abnfcheck.specs.AbnfUses.{rule_names}
-use Rattle.abnfcheck.specs.NameChains.{AreEnds, AreNameChains, IsNameChain}
+use Rattle.abnfcheck.specs.NameChains.{AreLast, AreNameChains, IsNameChain}
 use Rattle.abnfcheck.specs.NameIds.{all_names}
 use Rattle.abnfcheck.specs.WithCore.{with_core}
 use Rattle.abnfcheck.specs.declared.reached_names.ChainEnds.{ChainEnds}
@@ -145,7 +145,7 @@ module _ (rules : List Rule) (given : Option (List ℕ)) (found : NameChains) (n
       )
 
 -- the line of a chain is that of its ends
-pub line_of_ends : (name : ℕ → List ℕ) (ids : List ℕ) (ends : ChainEnds) → AreEnds 7 ids ends
+pub line_of_ends : (name : ℕ → List ℕ) (ids : List ℕ) (ends : ChainEnds) → AreLast 7 ids ends
     → ends_line ends.left (map name ends.ids.items) ≡ chain_line (map name ids)
 line_of_ends name ids ends are = rw (
   length-map ids name,

@@ -16,7 +16,7 @@ use Rattle.std.proofs.lemmas.Slice.Eq.{bytes_eq-Decides, starts_is}
 use Rattle.diagnostics.specs.NumberLists.{positions_from}
 use Rattle.diagnostics.proofs.NumberListsLemmas.{first-passes, none-passes}
 use Rattle.pegread.specs.Pattern.{Pattern}
-use Rattle.pegexplain.specs.CodeHints.{AreSized, IsSized, earlier_position, first_at, hides, is_literal, is_sized}
+use Rattle.pegexplain.specs.CodeHints.{AreSizes, IsSized, earlier_position, first_at, hides, is_literal, is_sized}
 use Rattle.pegexplain.specs.HiddenAlternatives.{AlternativeAt, HiddenBy, hidden_by, hidden_if, is_any, is_prefix}
 use Rattle.pegexplain.specs.HiddenAlternatives.{shown_of, why_by}
 use Rattle.pegexplain.specs.LeftUses.{or_else}
@@ -51,7 +51,7 @@ module _ (p : AlternativeAt → Bool) where
 
 -- the sizes of literals
 pub sized_pushed : (old new : List ℕ) (xs : List AlternativeAt) (a : AlternativeAt) → IsSized old new a.literal
-    → AreSized old xs → AreSized new (xs ++ a ∷ [])
+    → AreSizes old xs → AreSizes new (xs ++ a ∷ [])
 sized_pushed old new [] a is are = (is.sized, tt)
 sized_pushed old new (b ∷ xs) a is are = (is.kept b.literal are.0, sized_pushed old new xs a is are.1)
 
@@ -207,7 +207,7 @@ module _ (whole : List ℕ) where
       by (Some b) = and_false (starts_with (λ x y. x == y) whole b)
 
   -- where all sizes are known
-  pub all_sized : (sizes : List ℕ) (xs : List AlternativeAt) → AreSized sizes xs
+  pub all_sized : (sizes : List ℕ) (xs : List AlternativeAt) → AreSizes sizes xs
       → first_at (is_prefix_sized sizes) xs ≡ first_at (λ a. is_prefix a.literal (Some whole)) xs
   all_sized sizes xs are = ap (λ (ns : List ℕ). slice_get ns 0) (by 0 xs are)
     where
@@ -215,7 +215,7 @@ module _ (whole : List ℕ) where
       and_true true c e = e
       and_true false c e = refl
 
-      by : (n : ℕ) (xs : List AlternativeAt) → AreSized sizes xs → positions_from n (is_prefix_sized sizes) xs
+      by : (n : ℕ) (xs : List AlternativeAt) → AreSizes sizes xs → positions_from n (is_prefix_sized sizes) xs
           ≡ positions_from n (λ a. is_prefix a.literal (Some whole)) xs
       by n [] are = refl
       by n (a ∷ xs) are =

@@ -14,7 +14,7 @@ use Rattle.pegexplain.specs.HiddenAlternatives.{AlternativeAt, HiddenBy, HintAt,
 use Rattle.pegexplain.specs.NullTests.{null_mark_of, nullable_by}
 use Rattle.pegexplain.specs.SureNodes.{sure_by}
 use Rattle.pegexplain.specs.declared.hints.alternatives.Alternative.{Alternative}
-use Rattle.pegexplain.specs.declared.hints.alternatives.Before.{Before}
+use Rattle.pegexplain.specs.declared.hints.alternatives.Earlier.{Earlier}
 use Rattle.pegexplain.specs.declared.hints.alternatives.Hidden.{Hidden}
 use Rattle.pegexplain.specs.declared.hints.hints.Hint.{Hint}
 use Rattle.pegexplain.specs.declared.hints.known.KnownRules.{KnownRules}
@@ -89,16 +89,16 @@ pub record IsSized (old new : List ℕ) (literal : Option (List ℕ)) : Type 0 w
   pub sized : is_sized new literal ≡ true
 
 -- the sizes of all literals are among these
-abbrev pub AreSized : List ℕ → List AlternativeAt → Type 0
-AreSized sizes [] = Unit {0}
-AreSized sizes (x ∷ xs) = (is_sized sizes x.literal ≡ true) × AreSized sizes xs
+abbrev pub AreSizes : List ℕ → List AlternativeAt → Type 0
+AreSizes sizes [] = Unit {0}
+AreSizes sizes (x ∷ xs) = (is_sized sizes x.literal ≡ true) × AreSizes sizes xs
 
 -- Of alternatives the code has where the first ones stand that fail nowhere and that are dots, where those of each
 -- literal stand, and the sizes of the literals.
-pub record AreIndexed (before : Before) : Type 0 where
+pub record IsIndexed (before : Earlier) : Type 0 where
   pub sure : before.sure ≡ first_at (λ a. a.sure) (alternatives_found before.all.items)
   pub dot : before.dot ≡ first_at (λ a. is_any a.e) (alternatives_found before.all.items)
   pub exact : before.literals.names ≡ Exact
   pub literals : (bytes : List ℕ) → numbers_for before.literals bytes
       ≡ positions_from 0 (λ a. is_literal bytes a.literal) (alternatives_found before.all.items)
-  pub sizes : AreSized before.sizes.items (alternatives_found before.all.items)
+  pub sizes : AreSizes before.sizes.items (alternatives_found before.all.items)

@@ -14,4 +14,4 @@ pub use letterruns::{
     CoreRule, LetterRun, ReportedLetters, merge_runs, push_expected, reported_letters,
     runs_are_one, symbol_pieces,
 };
-pub use refusal::{LineUnit, RefusedLine};
+pub use refusal::{LineUnit, RefusedLine, unit_word};

@@ -254,8 +254,8 @@ fn push_record(
     push_record_picture(line.bytes, refusal.position, out)
 }
 
-// Returns the word for what is rejected, and a space.
-fn unit_word(unit: LineUnit) -> &'static [u8]
+/// Returns the word for what is rejected, and a space.
+pub fn unit_word(unit: LineUnit) -> &'static [u8]
     ensures { result.now ≡ the_word unit }
 {
     match unit {

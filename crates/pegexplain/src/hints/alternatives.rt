@@ -5,7 +5,7 @@ ghost use Rattle.std.specs.List.{starts_with};
 ghost use Rattle.pegread.specs.PegViews.{pattern_of};
 ghost use Rattle.ruletable.specs.declared.table.NameCase.TheVariants.{Exact};
 ghost use Rattle.pegexplain.specs.CodeHints.{
-  AreIndexed,
+  IsIndexed,
   IsSized,
   alternative_found,
   alternatives_found,
@@ -50,7 +50,7 @@ pub(crate) struct Alternative<'a> {
 /// The alternatives of a choice before another one. The first that hides it is found in time that does not depend on
 /// their number.
 #[derive(Drop)]
-pub(crate) struct Before<'a> {
+pub(crate) struct Earlier<'a> {
     /// The alternatives, in order.
     pub(crate) all: Vec<Alternative<'a>>,
     /// Where the first one stands that fails nowhere.
@@ -180,12 +180,12 @@ fn push_literal(
 /// `Memory` if an allocation fails.
 pub(crate) fn push_alternative<'a>(
     alloc: Global,
-    before: &mut Before<'a>,
+    before: &mut Earlier<'a>,
     alternative: Alternative<'a>,
 ) -> Result<(), Memory>
     ensures all { OnOk result (alternatives_found before.new.all.items ≡ alternatives_found before.old.all.items
         ++ alternative_found alternative.entry ∷ []) }
-    ensures indexed { OnOk result (AreIndexed before.old → AreIndexed before.new) }
+    ensures indexed { OnOk result (IsIndexed before.old → IsIndexed before.new) }
 {
     let position = before.all.len();
     before.sure = before.sure.or(alternative.sure.then_some(position));
@@ -213,8 +213,8 @@ fn earlier_of(a: Option<usize>, b: Option<usize>) -> Option<usize>
 }
 
 // Where the first of the alternatives stands whose literal is a prefix of another one.
-fn first_prefix(before: &Before<'_>, whole: Option<&[u8]>) -> Result<Option<usize>, Memory>
-    requires { AreIndexed before.now }
+fn first_prefix(before: &Earlier<'_>, whole: Option<&[u8]>) -> Result<Option<usize>, Memory>
+    requires { IsIndexed before.now }
     ensures { IfOk result (λ at. at ≡ first_at (λ a. begins a.literal (option_map (λ b. b.now) whole.entry))
         (alternatives_found before.now.all.items)) }
 {
@@ -233,11 +233,11 @@ fn first_prefix(before: &Before<'_>, whole: Option<&[u8]>) -> Result<Option<usiz
 
 // Where the first of the alternatives stands that hides one, which may take nothing or not, and begins with a literal.
 fn first_hiding(
-    before: &Before<'_>,
+    before: &Earlier<'_>,
     null: bool,
     whole: Option<&[u8]>,
 ) -> Result<Option<usize>, Memory>
-    requires { AreIndexed before.now }
+    requires { IsIndexed before.now }
     ensures { IfOk result (λ at. at ≡ first_at (hides null (option_map (λ b. b.now) whole.entry))
         (alternatives_found before.now.all.items)) }
 {
@@ -254,10 +254,10 @@ fn first_hiding(
 /// `Memory` if an allocation fails.
 pub(crate) fn hiding_of<'a>(
     known: &KnownRules<'a>,
-    before: &Before<'a>,
+    before: &Earlier<'a>,
     e: &'a Expr,
 ) -> Result<Option<Hidden<'a>>, Memory>
-    requires { AreIndexed before.now }
+    requires { IsIndexed before.now }
     ensures { IfOk result (λ found. option_map hidden_found found ≡ hiding (known_literal known.now) (sure_in known.now)
         (null_in known.now) (alternatives_found before.now.all.items) (pattern_of e.now)) }
 {

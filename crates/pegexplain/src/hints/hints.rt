@@ -1,7 +1,7 @@
 //! The hints on a grammar's rules.
 ghost use Rattle.std.specs.Prelude.{◌≡◌, ◌++◌, [], map, IfOk, OnOk};
 ghost use Rattle.pegread.specs.PegViews.{pattern_of, patterns_of, rules_of};
-ghost use Rattle.pegexplain.specs.CodeHints.{AreIndexed, alternatives_found, hint_found, known_literal, null_in};
+ghost use Rattle.pegexplain.specs.CodeHints.{IsIndexed, alternatives_found, hint_found, known_literal, null_in};
 ghost use Rattle.pegexplain.specs.CodeHints.{sure_in};
 ghost use Rattle.pegexplain.specs.HiddenAlternatives.{
   alternative_hints,
@@ -14,7 +14,7 @@ ghost use Rattle.pegexplain.specs.HiddenAlternatives.{
 };
 ghost use Rattle.pegexplain.specs.PegHints.{hints_of};
 
-use crate::hints::alternatives::{Before, Hidden, alternative_of, hiding_of, push_alternative};
+use crate::hints::alternatives::{Earlier, Hidden, alternative_of, hiding_of, push_alternative};
 use crate::hints::known::KnownRules;
 use crate::hints::marks::add_marks;
 use diagnostics::MentionKind;
@@ -50,12 +50,12 @@ struct Within<'a> {
 fn push_hint<'a>(
     alloc: Global,
     within: &Within<'a>,
-    before: &Before<'a>,
+    before: &Earlier<'a>,
     e: &'a Expr,
     position: usize,
     found: &mut Vec<Hint<'a>>,
 ) -> Result<(), Memory>
-    requires { AreIndexed before.now }
+    requires { IsIndexed before.now }
     ensures { OnOk result (map hint_found found.new.items ≡ map hint_found found.old.items
         ++ hint_if within.now.rule.now (pattern_of within.now.body.now) position (marks_in (pattern_of e.now))
         (hiding (known_literal within.now.known) (sure_in within.now.known) (null_in within.now.known)
@@ -145,7 +145,7 @@ fn add_alternative_hints<'a>(
         ++ alternative_hints (known_literal within.now.known) (sure_in within.now.known) (null_in within.now.known)
         within.now.rule.now (pattern_of within.now.body.now) marks.old.items [] (patterns_of alternatives.now)) }
 {
-    let mut before = Before {
+    let mut before = Earlier {
         all: Vec::new(alloc),
         sure: None,
         dot: None,
