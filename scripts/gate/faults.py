@@ -136,7 +136,7 @@ LISTED = listed("lines of a rule", b'd = 1*2BIT "x"\nu = d\n', [b"0X\n", b"0x\n"
 ALL_LISTED = listed("all lines of a rule", b's = "a" / %s"bc"\n', [b"A\0", b"a\0", b"bc\0"], words=["-z"])
 DRAWN = listed("lines by lot", b's = %s"bc"\n', [b"bc\n"] * 3, words=["-m", "random", "-c", "3", "-l", "9"])
 MISSED = listed("rejected lines explained", b's = "0"\n', [b"\n", b"!\n", b"0!\n"],
-                b'line 1 ends too early: expected "0"\n  \n  ^\nline 2, letter 1: expected "0"\n  !\n  ^\n'
+                b'line 1 ends too early: expected "0"\nline 2, letter 1: expected "0"\n  !\n  ^\n'
                 b'line 3, letter 2: expected the end of the line\n  0!\n   ^\n', words=["-m", "miss", "-x"])
 NONE_LISTED = listed("a rule without lines", b's = "a" s\n', [], status=1)
 UNLISTED = listed("a grammar whose lines are not listed", b's = <any>\n', [], b"prose in rule 's'\n", 2)
