@@ -10,6 +10,7 @@ same archive. VERSION is what `--version` writes, and the date of the last commi
 library and no other: the script does not pack them otherwise. It needs readelf (Debian: binutils) and for `deb`
 dpkg-deb.
 """
+import email.utils
 import gzip
 import hashlib
 import os
@@ -42,6 +43,13 @@ Description: proved grammar tools: pegi runs PEG grammars, abnfi judges lines by
  abnfx joins the grammars in ABNF that texts of RFCs give. abnfd compares the
  lines that rules of two grammars in ABNF derive. abnfg lists the lines that a
  rule derives.
+"""
+# What Debian wants to know of the changes of a package.
+CHANGELOG = """{name} ({version}) unstable; urgency=low
+
+  * Packed from {sources}.
+
+ -- Fanquber's developers <fanquber@localhost>  {day}
 """
 
 
@@ -122,18 +130,27 @@ def dist():
     return archive
 
 
+def compress(path, text):
+    """Writes a compressed file, which holds no time."""
+    path.write_bytes(gzip.compress(text, mtime=0))
+
+
 def deb():
     """Makes the package for Debian, and returns it."""
     libc = libc_version()
-    when, version, _ = commit()
+    when, version, sources = commit()
     package = TOP / "bin" / f"{NAME}_{version}_amd64.deb"
     with tempfile.TemporaryDirectory() as made:
         folder = pathlib.Path(made)
         folder.chmod(0o755)
         lay_out(folder, "/usr")
         for it in (folder / "usr/share/man/man1").iterdir():
-            (it.parent / f"{it.name}.gz").write_bytes(gzip.compress(it.read_bytes(), mtime=when))
+            compress(it.parent / f"{it.name}.gz", it.read_bytes())
             it.unlink()
+        output("strip", *(folder / "usr/bin" / it for it in PROGRAMS))
+        day = email.utils.formatdate(when)
+        changes = CHANGELOG.format(name=NAME, version=version, sources=sources, day=day)
+        compress(folder / f"usr/share/doc/{NAME}/changelog.gz", changes.encode())
         # Debian wants the licence in a file of this name
         (folder / f"usr/share/doc/{NAME}/LICENSE").rename(folder / f"usr/share/doc/{NAME}/copyright")
         # Debian's zsh looks here for what packages complete
