@@ -1,5 +1,5 @@
 -- What `found_at` says of the entries of a list.
--- Serves: Desk::step, Packrat::match_unit.
+-- Serves: Packrat::match_unit of packrat
 use Rattle.std.proofs.Common.{◌≡◌, ℕ, Bool, true, false, ◌&&◌, ◌==◌, if◌then◌else◌, List, [], ◌∷◌, ◌++◌, Some, refl}
 use Rattle.std.specs.Option.{option_or}
 use Rattle.std.proofs.lemmas.Bool.{eqb-true, eq-eqb, and_parts, and_from}

@@ -1,5 +1,5 @@
 -- What an evaluation asks for: it is spelled, stands no earlier, and is lower where it stands at the same position.
--- Serves: Desk::step, Desk::match_unit, Desk::replay.
+-- Serves: visits_are_within; Packrat::match_unit of packrat; farthest_failure of matchfailure
 use Rattle.std.proofs.Common.{◌≡◌, inl, inr, ℕ, ◌<◌, ◌≤◌, List, length, Some, refl, sym, subst, arith}
 use Rattle.std.specs.Prelude.{slice_get, Contains}
 use Rattle.pegread.specs.Pattern as expr

@@ -1,5 +1,5 @@
 -- There are no more cells than nodes at positions.
--- Serves: Desk::step, Desk::match_unit, Desk::replay.
+-- Serves: Packrat::match_unit of packrat
 use Rattle.std.proofs.Common.{◌≡◌, ◌⊎◌, inl, inr, ℕ, zero, suc, ◌+◌, ◌*◌, ◌<◌, ◌≤◌, Bool, true, false, if◌then◌else◌}
 use Rattle.std.proofs.Common.{List, [], ◌∷◌, length, Option, Some, None, refl, sym, ◌∙◌, ap, subst, arith}
 use Rattle.std.proofs.Math.Nat.{mul-le-mul_right}

@@ -1,5 +1,5 @@
 -- What a node gives, from what its operands give.
--- Serves: Desk::step, Desk::match_unit.
+-- Serves: Packrat::match_unit of packrat; farthest_failure of matchfailure
 use Rattle.std.proofs.Common.{◌≡◌, ℕ, max, List, [], ◌++◌, map, Some, ap, subst, ◌∙◌}
 use Rattle.std.specs.Prelude.{slice_get}
 use Rattle.pegread.specs.Pattern as expr

@@ -1,5 +1,5 @@
 -- What is printed event by event.
--- Serves: Plain::replay, Desk::replay
+-- Serves: Packrat::replay of packrat
 use Rattle.std.proofs.Common.{◌≡◌, ℕ, ◌+◌, ◌<◌, ◌≤◌, List, [], ◌∷◌, ◌++◌, length, get_or, drop, Option, Some}
 use Rattle.std.proofs.Common.{None, refl, sym, ◌∙◌, ap, subst, arith, append_assoc, append-nil, add-one, drop-cons}
 use Rattle.std.specs.Prelude.{slice_range, slice_get}

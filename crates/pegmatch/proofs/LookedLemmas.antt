@@ -1,5 +1,5 @@
 -- An evaluation looks no further than the input's end.
--- Serves: Desk::match_unit.
+-- Serves: Packrat::match_unit of packrat
 use Rattle.std.proofs.Common.{ℕ, zero, suc, ◌+◌, ◌-◌, ◌≤◌, Bool, true, false, if◌then◌else◌, ◌==◌, List, [], ◌∷◌}
 use Rattle.std.proofs.Common.{length, drop, arith, length-drop}
 use Rattle.std.proofs.lemmas.Option.{slice_get_within}

@@ -1,5 +1,5 @@
 -- A node spells one expression, and gives one outcome at a position.
--- Serves: Desk::step, Desk::match_unit.
+-- Serves: Packrat::match_unit of packrat; farthest_failure of matchfailure
 use Rattle.std.proofs.Common.{◌≡◌, ℕ, ◌+◌, ◌<◌, Bool, true, false, if◌then◌else◌, List, [], ◌∷◌, length, Some, refl}
 use Rattle.std.proofs.Common.{sym, ap, subst, ◌∙◌, arith}
 use Rattle.std.specs.Prelude.{slice_get}

@@ -1,5 +1,5 @@
 -- What an evaluation asks for gives an outcome, and looks no further than the evaluation does.
--- Serves: Desk::match_unit.
+-- Serves: visits_are_within; Packrat::match_unit of packrat; farthest_failure of matchfailure
 use Rattle.std.proofs.Common.{◌≡◌, inl, inr, ℕ, ◌≤◌, max, List, Some, refl, sym, ap, subst, arith}
 use Rattle.std.specs.Prelude.{slice_get}
 use Rattle.pegread.specs.Pattern as expr
