@@ -13,7 +13,7 @@ use Rattle.fixpoint.proofs.ContainsLemmas.{none_of, only_one, in_first, in_later
 use Rattle.ruletable.specs.Letters.{has as in_alphabet}
 use Rattle.ruletable.specs.declared.alphabet.Alphabet.{Alphabet}
 use Rattle.abnfread.specs.Element as e
-use Rattle.abnfread.specs.Element.{Element, Elements, Rule, bodies, body_of, id_of, none, more}
+use Rattle.abnfread.specs.Element.{Element, Elements, Rule, bodies, id_of}
 use Rattle.abnfcheck.specs.Derivable as der
 use Rattle.abnfcheck.specs.Derivable.{AreLetters, Derives, DerivesAll, DerivesSome, DerivesTimes, all_done, then, this}
 use Rattle.abnfcheck.specs.Derivable.{later, no_more, one_more, RuleDerives}

@@ -13,7 +13,7 @@ use Rattle.rulelines.specs.declared.alone.Alone.TheVariants.{Never}
 use Rattle.rulelines.specs.declared.comparison.Comparison.{Comparison}
 use Rattle.ruletable.specs.Rules as table
 use Rattle.abnfd.specs.ComparedTexts.{AreLinesKnown}
-use Rattle.abnfd.specs.UnchangedRules.{AreAlike, AreBodiesAlike, ArePaired, ArePairs, IsAlike, Partners}
+use Rattle.abnfd.specs.UnchangedRules.{AreAlike, ArePaired, ArePairs, IsAlike, Partners}
 use Rattle.abnfd.specs.UnchangedRules as a
 use Rattle.abnfread.specs.AbnfViews.{element_of, elements_of, rule_of}
 use Rattle.abnfread.specs.Element.{Element, Elements, Rule, bodies, body_of, id_of}

@@ -20,7 +20,7 @@ use Rattle.abnfread.specs.Element.{Element, Elements, none, more, Rule, bodies, 
 use Rattle.abnfread.specs.AbnfViews.{element_of, elements, elements_of}
 use Rattle.abnfread.specs.declared.elem.Elem.{Elem}
 use Rattle.abnfcheck.specs.Derivable as der
-use Rattle.abnfcheck.specs.Derivable.{AreLetters, AtMost, Derives, DerivesAll, DerivesSome, DerivesTimes, all_done}
+use Rattle.abnfcheck.specs.Derivable.{AreLetters, Derives, DerivesAll, DerivesSome, DerivesTimes, all_done}
 use Rattle.abnfcheck.specs.Derivable.{then, this, later, no_more, one_more, Spelled, StandsFor, RuleDerives}
 use Rattle.ruletable.specs.Letters.{small}
 use Rattle.abnfcheck.specs.RuleMarks.{AreProductive}

@@ -29,7 +29,7 @@ use Rattle.gramcheck.specs.Left.{in_plus, in_opt, in_and, in_not, in_seq, in_cho
 use Rattle.gramcheck.specs.Left.{repeats_later}
 use Rattle.fixpoint.specs.NumberMarks.{IsMarked}
 use Rattle.pegnodes.specs.NodeCounts.{node_counts}
-use Rattle.pegnodes.specs.Nodes.{Shape, id_of, Spells, spells_any, spells_bytes, spells_set, spells_name, spells_seq}
+use Rattle.pegnodes.specs.Nodes.{Shape, id_of, Spells, spells_bytes, spells_name, spells_seq}
 use Rattle.pegnodes.specs.Nodes.{spells_choice, spells_star, spells_plus, spells_opt, spells_and, spells_not}
 use Rattle.pegnodes.specs.Nodes.{spells_act, spells_open, spells_close, SpellAll, spell_none, spell_more}
 use Rattle.gramcheck.specs.GrammarNotes.{Those, no_more, not_this, AreNotes, AreMarks, said_refuses}

@@ -10,12 +10,12 @@ use Rattle.std.proofs.Math.Seq.{take-suc}
 use Rattle.ruletable.specs.Letters.{has as in_alphabet, HasLetter}
 use Rattle.ruletable.specs.declared.alphabet.Alphabet.{Alphabet}
 use Rattle.abnfread.specs.Element as e
-use Rattle.abnfread.specs.Element.{Element, Elements, none, more, Rule, bodies, body_of, id_of}
+use Rattle.abnfread.specs.Element.{Element, Elements, none, more, Rule, bodies, id_of}
 use Rattle.abnfread.specs.AbnfViews.{element_of, elements, elements_of}
 use Rattle.abnfread.specs.declared.elem.Elem.{Elem}
 use Rattle.abnfcheck.specs.Derivable as der
 use Rattle.abnfcheck.specs.Derivable.{AreLetters, Derives, DerivesAll, DerivesSome, DerivesTimes, then, this, later}
-use Rattle.abnfcheck.specs.Derivable.{no_more, one_more, RuleDerives}
+use Rattle.abnfcheck.specs.Derivable.{no_more, one_more}
 use Rattle.abnfcheck.specs.RuleMarks as marks
 use Rattle.abnfcheck.proofs.YieldsLemmas.{letters_parts}
 use Rattle.fixpoint.specs.NumberMarks.{IsMarked}

@@ -16,7 +16,7 @@ use Rattle.pegmatch.specs.KeptEvents.{SpellsSome}
 use Rattle.pegmatch.specs.Visits.{AsksBy}
 use Rattle.pegnodes.proofs.HasShapeLemmas.{has_shape}
 use Rattle.pegnodes.specs.Nodes as node
-use Rattle.pegnodes.specs.Nodes.{Shape, Spells, shapes_of}
+use Rattle.pegnodes.specs.Nodes.{Spells, shapes_of}
 use Rattle.pegread.specs.Pattern as expr
 use Rattle.pegread.specs.PegViews.{rules_of}
 use Rattle.matchfailure.specs.ByteRuns.{IsByteRun, IsRunPassed}

@@ -3,9 +3,9 @@
 use Rattle.std.proofs.Common.{◌≡◌, inl, inr, ℕ, ◌<◌, ◌≤◌, List, length, Some, refl, sym, subst, arith}
 use Rattle.std.specs.Prelude.{slice_get, Contains}
 use Rattle.pegread.specs.Pattern as expr
-use Rattle.pegread.specs.Pattern.{Pattern, Patterns, Rule}
+use Rattle.pegread.specs.Pattern.{Patterns, Rule}
 use Rattle.pegnodes.specs.Nodes as node
-use Rattle.pegnodes.specs.Nodes.{Shape, Spells, spells_star, SpellAll, spell_none, spell_more}
+use Rattle.pegnodes.specs.Nodes.{Shape, Spells, spells_star, SpellAll, spell_more}
 use Rattle.gramcheck.specs.Ranks.{IsNullNode, NodeStep, FrontNode, front_first, front_later, to_body, to_alternative}
 use Rattle.gramcheck.specs.Ranks.{to_member, to_starred, to_repeated, to_optional, to_asserted, to_denied}
 use Rattle.gramcheck.specs.Sound.{IsRanked}

@@ -3,7 +3,7 @@
 use Rattle.std.proofs.Common.{◌≡◌, ℕ, max, List, [], ◌++◌, map, Some, ap, subst, ◌∙◌}
 use Rattle.std.specs.Prelude.{slice_get}
 use Rattle.pegread.specs.Pattern as expr
-use Rattle.pegread.specs.Pattern.{Pattern, Patterns, Rule}
+use Rattle.pegread.specs.Pattern.{Pattern, Rule}
 use Rattle.pegnodes.specs.Nodes as node
 use Rattle.pegnodes.specs.Nodes.{Shape, Spells, spells_star}
 use Rattle.gramcheck.specs.Outcome.{Event, Outcome, Fails, Takes, Gives, name, opt_takes, opt_none, star_none}

@@ -5,7 +5,7 @@ use Rattle.std.specs.Prelude.{slice_get}
 use Rattle.pegread.specs.Pattern as expr
 use Rattle.pegread.specs.Pattern.{Pattern, Patterns, Rule, body_of}
 use Rattle.pegnodes.specs.Nodes as node
-use Rattle.pegnodes.specs.Nodes.{Shape, Spells, spells_star, SpellAll, spell_none, spell_more}
+use Rattle.pegnodes.specs.Nodes.{Shape, Spells, spells_star, SpellAll, spell_more}
 use Rattle.gramcheck.specs.Outcome.{Outcome, Fails, Takes, Gives, name, seq, choice, opt_takes, opt_none, star_none}
 use Rattle.gramcheck.specs.Outcome.{star_more, plus_fails, plus_takes, and_takes, and_fails, not_takes, not_fails}
 use Rattle.gramcheck.specs.Outcome.{GivesAll, one_fails, rest_fails, rest_takes, GivesFirst, first_takes, first_fails}
