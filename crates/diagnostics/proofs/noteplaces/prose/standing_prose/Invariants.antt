@@ -3,7 +3,7 @@ use Rattle.std.specs.List.{find}
 use Rattle.diagnostics.specs.BodyMentions.{mentioned_at}
 use Rattle.diagnostics.specs.DefinitionHeads.{defined_at}
 use Rattle.diagnostics.proofs.StandingProseLemmas.{is_prose_in}
-use Rattle.diagnostics.proofs.noteplaces.prose.first_prose.Given as goal
+use Rattle.diagnostics.proofs.noteplaces.prose.standing_prose.Given as goal
 
 abbrev pub invariant-loop-mention : goal.invariant-loop-mention
 invariant-loop-mention l =
