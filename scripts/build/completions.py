@@ -73,6 +73,7 @@ PROGRAMS = (
         Option("b", "budget", "N", (),
                "Print no more than N bytes in a unit, from 1 to 4294967295 [default: 4294967295, any number]"),
         Option("1", "whole", "", (), "Take the input as one unit, up to its end"),
+        Option("", "line-buffered", "", (), "Run units at line feeds, before more input is read"),
         Option("r", "raw", "", (), "Print actions verbatim"),
         Option("", "escapes", "", (), "Replace escapes in actions by their bytes"),
         EXPLAIN,

@@ -60,6 +60,8 @@ PRINT, CHECK = ("-m", "print"), ("-m", "check")
 YES, NO = b"yes\n", b"no\n"
 USERNAME = peg("a word replaced", b'start <- "username" { USER } / < . > { yytext }', b"a username\n",
                [b"a\n", b" \n", b"USER\n", b"\n\n"])
+LINE_UNITS = peg("units run at line feeds", b"line <- < [a-z]* > '\\n' { yytext }", b"ab\n\nc\n",
+                 [b"ab\n", b"\n", b"c\n"], words=["--line-buffered"])
 WORDS = abnf("words of letters", b"word = 1*ALPHA", b"ab\nA1\n\nZ", [YES, NO, NO, YES], status=1)
 REFUSED = b"A <- ('' / 'b')* C\nD <- 'd'"
 REFUSALS = b"rule 'C' used but not defined\nrule 'D' defined but not used\npossible infinite loop in rule 'A'\n"
@@ -144,6 +146,7 @@ UNLISTED = listed("a grammar whose lines are not listed", b's = <any>\n', [], b"
 # The runs in which each allocation fails.
 GROWING = [
     USERNAME,
+    LINE_UNITS,
     peg("a capture that rules share", b"S <- B <'a'> B <> B\nB <- {yytext.}", b"a", [b".\na.\n.\n"]),
     PRINTED,
     peg("an action met four times in a unit", b"S <- A A 'x'\nA <- B B\nB <- {b}", b"x", [b"b\nb\nb\nb\n"]),
@@ -323,18 +326,18 @@ def writes(tools):
 
 
 def judged_of(run, size):
-    """The answers to the lines whose LF lies in the first bytes of the input."""
+    """The answers to the lines whose LF lies in the first bytes of the input, or the texts of such units."""
     return b"".join(run.texts[:run.given[:size].count(b"\n")])
 
 
 def reads(tools):
     """Each read failing, of the grammar and of the input, and reads of one to three bytes."""
-    for run in (it for it in [USERNAME, WORDS, ABNF_NOTED] if tools.has(it.program)):
+    for run in (it for it in [USERNAME, LINE_UNITS, WORDS, ABNF_NOTED] if tools.has(it.program)):
         for most in (1, 2, 3):
             ended = tools.run(run, PIECE=most)
             tools.expect(run, ended, is_as_stated(run, ended), f"reads of {most} bytes")
         for size in range(len(run.given) + 1):
-            out = judged_of(run, size) if run.program == "abnfi" else b""
+            out = judged_of(run, size) if run.program == "abnfi" or run is LINE_UNITS else b""
             for most in (1, 4096):
                 ended = tools.run(run, INPUT=size, PIECE=most)
                 right = ended[:3] == (out, run.reported + b"read error\n", 4)

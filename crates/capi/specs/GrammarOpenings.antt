@@ -28,6 +28,7 @@ pub record RunsBy (runner : Runner) (settings : PegSettings) : Type 0 where
   pub style : settings.options.style ≡ runner.style
   pub whole : settings.options.whole ≡ runner.whole
   pub budget : settings.options.budget ≡ runner.budget
+  pub line_buffered : settings.options.line_buffered ≡ runner.line_buffered
   pub explain : settings.explain ≡ runner.explain
 
 -- the text has these notes, and this runs its grammar as settings ask, unless one of them rejects it
