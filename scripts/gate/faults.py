@@ -77,6 +77,11 @@ EXPLAINED = peg("a fault explained", b"S <- 'a' | 'b'\n", b"a", [],
                 b"line 1: syntax error\n  S <- 'a' | 'b'\n           ^\n  column 10: expected an element, "
                 b'"&", "!", "?", "*", "+", "/" or the end of the text\n  alternatives have "/" between them\n', 2,
                 words=["-x"])
+FAULTS_EXPLAINED = peg("two faults explained", b"S <- |\nT <- )\n", b"a", [],
+                       b"line 1: syntax error\n  S <- |\n       ^\n  column 6: expected an element, "
+                       b'"&", "!", "/" or the end of the text\n  alternatives have "/" between them\n'
+                       b"line 2: syntax error\n  T <- )\n       ^\n  column 6: expected an element, "
+                       b'"&", "!", "/" or the end of the text\n', 2, words=["-x"])
 ABNF_EXPLAINED = abnf("a fault of ABNF explained", b'my_rule = "x"\n', b"a\n", [],
                       b'line 1: syntax error\n  my_rule = "x"\n    ^\n  column 3: expected "=" or "=/"\n'
                       b'  names hold letters, digits and "-"\n', 2, words=["-x"])
@@ -165,6 +170,7 @@ GROWING = [
     CHECKED,
     ABNF_CHECKED,
     EXPLAINED,
+    FAULTS_EXPLAINED,
     ABNF_EXPLAINED,
     AGAIN_EXPLAINED,
     EARLY_EXPLAINED,

@@ -9,7 +9,7 @@ use Rattle.abnfrun.specs.OpenAbnf.{IsOpened}
 use Rattle.abnfrun.specs.OpenJudge.{OpenJudge}
 use Rattle.capi.specs.OpenCall.{IsOpening}
 use Rattle.capi.specs.declared.runner.Runner.{Runner}
-use Rattle.pegprint.specs.PegExplained.{Explains as ExplainsPeg}
+use Rattle.pegprint.specs.PegAllFaults.{ExplainsAll as ExplainsPeg}
 use Rattle.pegexplain.specs.PegNotes.{ExplainsNote}
 use Rattle.pegexplain.specs.PegHints.{ArePegHints}
 use Rattle.pegread.specs.Reading.{IsFaultOf as IsPegFault}
