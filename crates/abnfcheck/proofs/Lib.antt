@@ -16,3 +16,7 @@ mod NameMarksLemmas
 pub mod RuleIdLemmas
 mod WithCoreLemmas
 pub mod YieldsLemmas
+mod CopiedRulesLemmas
+pub mod ReachedGrammarLemmas
+mod NewSymbolsLemmas
+mod AlikeSymbolsLemmas

@@ -11,3 +11,7 @@ pub mod NameMarks
 pub mod ProseIn
 pub mod RuleMarks
 pub mod WithCore
+pub mod AlikeSymbols
+pub mod CountsWithin
+pub mod NewSymbols
+pub mod ReachedGrammar
