@@ -125,6 +125,8 @@ PROGRAMS = (
         Option("m", "mode", "MODE", ("all", "cover", "miss", "random"), "Choose which lines to list"),
         Option("l", "limit", "N", (), "List lines of at most N symbols, from 1 to 16777216"),
         Option("c", "count", "N", (), "List at most N lines, from 1 to 4294967295"),
+        Option("a", "alike", "", (),
+               "List lines of mode `all` with the first alone of symbols that no set distinguishes"),
         Option("e", "edges", "", (), "Also list lines of mode `miss` by wrong symbols next to those that can follow"),
         Option("g", "seed", "SEED", (), "Draw lines of mode `random` by this number, from 0 to 18446744073709551615"),
         Option("u", "letters", "MODE", ("bytes", "utf8"), "Take bytes or code points of UTF-8 as symbols"),

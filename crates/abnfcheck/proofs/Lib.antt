@@ -14,5 +14,11 @@ mod NameChainLemmas
 mod NameIdsLemmas
 mod NameMarksLemmas
 pub mod RuleIdLemmas
+pub mod UnrolledDerivesLemmas
+pub mod UnrolledRulesLemmas
 mod WithCoreLemmas
 pub mod YieldsLemmas
+mod CopiedRulesLemmas
+pub mod ReachedGrammarLemmas
+mod NewSymbolsLemmas
+mod AlikeSymbolsLemmas
