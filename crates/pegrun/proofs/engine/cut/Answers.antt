@@ -278,7 +278,7 @@ returns-in-Ok-Stops-clause-units g c =
               within = omega (arith, length-append so_far.0 items, so_far.1);
               text = front.0;
               units = front.1;
-              few = omega (arith, front.4, c.in-Ok-Stops.ensures.twice);
+              few = omega (arith, front.4, c.in-Ok-Stops.ensures.twice, c.forget.ensures.calls);
             },
           ),
     )
