@@ -282,7 +282,8 @@ returns-in-Ok-Stops-clause-units g c =
               within = omega (arith, length-append so_far.0 items, so_far.1);
               text = front.0;
               units = front.1;
-              few = few_at_stop (matches_for c.args.settings.now) _ _ _ _ front.4 c.in-Ok-Stops.ensures.few;
+              few = rw c.forget.ensures.calls
+                  (few_at_stop (matches_for c.args.settings.now) _ _ _ _ front.4 c.in-Ok-Stops.ensures.few);
             },
           ),
     )
