@@ -167,7 +167,8 @@ module _ (rules : List Rule) (judged : ℕ) (kept : List Rule) (are : AreReached
     λ derives. record {
       body = derives.body;
       is = are.reached judged judged_rule ∙ derives.is;
-      derives = derives_still has rules kept IsNamed (λ n el r is. (body_kept n r ∙ is, names_in n el r is)) derives.derives
+      derives = derives_still has rules kept IsNamed (λ n el r is. (body_kept n r ∙ is, names_in n el r is))
+          derives.derives
           (λ m within. by_name judged_rule derives.is within);
     },
   )

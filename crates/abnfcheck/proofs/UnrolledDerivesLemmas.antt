@@ -130,7 +130,8 @@ module _ (has : ℕ → Bool) (rules new : List Rule) (are : AreUnrolled rules n
 
   loop_more : {ys xs : Elements} {u v : List ℕ} → Derives has new (loop ys xs) u → DerivesSome has new xs v
       → Derives has new (loop ys xs) (u ++ v)
-  loop_more {ys = ys} {xs = xs} {v = v} (d.concat (d.then {w = y} one (d.then {w = x} (d.rep low most times) d.all_done))) some =
+  loop_more {ys = ys} {xs = xs} {v = v}
+      (d.concat (d.then {w = y} one (d.then {w = x} (d.rep low most times) d.all_done))) some =
       subst (λ u. Derives has new (loop ys xs) u) same_word
       (d.concat (d.then one (d.then (d.rep zero_le tt (times_more times (d.alt some))) d.all_done)))
     where

@@ -1,6 +1,7 @@
 -- Parts of a body with a loop, rules with such bodies, and sound grammars of them.
 -- Serves: unrolled_grammar; compare of rulelines
-use Rattle.std.proofs.Common.{◌≡◌, ◌∙◌, ap, refl, sym, subst, arith, ℕ, zero, suc, ◌+◌, ◌<◌, List, [], ◌∷◌, ◌++◌, length}
+use Rattle.std.proofs.Common.{◌≡◌, ◌∙◌, ap, refl, sym, subst, arith, ℕ, zero, suc, ◌+◌, ◌<◌, List, [], ◌∷◌, ◌++◌}
+use Rattle.std.proofs.Common.{length}
 use Rattle.std.proofs.Common.{map, take, get_or, cond, ◌==◌, Bool, true, false, Option, Some, None, add-one, ◌↔◌}
 use Rattle.std.proofs.Math.Seq.{take-suc}
 use Rattle.std.proofs.lemmas.Bool.{eq-eqb, eqb-true}
@@ -11,13 +12,16 @@ use Rattle.ruletable.specs.declared.span.Span.{Span}
 use Rattle.ruletable.specs.declared.table.NameCase.TheVariants.{Fold}
 use Rattle.abnfread.proofs.ElementListLemmas.{elements_of-push}
 use Rattle.abnfread.specs.AbnfViews.{element_of, elements_of, rule_of, rules_of}
-use Rattle.abnfread.specs.Element.{Alt, Concat, Element, Elements, Name, Prose, Rep, Rule, append, bodies, id_of, more, none}
+use Rattle.abnfread.specs.Element.{Alt, Concat, Element, Elements, Name, Prose, Rep, Rule, append, bodies, id_of, more}
+use Rattle.abnfread.specs.Element.{none}
 use Rattle.abnfread.specs.declared.elem.Elem.{Elem}
-use Rattle.abnfcheck.specs.AbnfGrammar.{Grammar, IsSound, Reachable, Within, WithinSome, by_name, judged_rule, of_alt, of_concat}
+use Rattle.abnfcheck.specs.AbnfGrammar.{Grammar, IsSound, Reachable, Within, WithinSome, by_name, judged_rule, of_alt}
+use Rattle.abnfcheck.specs.AbnfGrammar.{of_concat}
 use Rattle.abnfcheck.specs.AbnfGrammar.{of_first, of_later, of_opt, of_rep, itself}
 use Rattle.abnfcheck.specs.Derivable.{RuleDerives}
 use Rattle.abnfcheck.proofs.CopiedRulesLemmas.{copy_of}
-use Rattle.abnfcheck.proofs.UnrolledDerivesLemmas.{AreParted, AreUnrolled, IsTail, IsUnrolled, alone, before, is_unrolled, keeps}
+use Rattle.abnfcheck.proofs.UnrolledDerivesLemmas.{AreParted, AreUnrolled, IsTail, IsUnrolled, alone, before}
+use Rattle.abnfcheck.proofs.UnrolledDerivesLemmas.{is_unrolled, keeps}
 use Rattle.abnfcheck.proofs.UnrolledDerivesLemmas.{looped, moves, no_part, same, unrolled_derives}
 use Rattle.abnfcheck.specs.UnrolledRules.{IsUnrolledGrammar, alternatives_in, firsts, loop, steps, tail_after, tail_of}
 use Rattle.abnfcheck.specs.UnrolledRules.{unrolled_body, unrolled_from}

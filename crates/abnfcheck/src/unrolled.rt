@@ -72,10 +72,10 @@ impl Parts {
         alternative: &Elem,
     ) -> Result<(), Memory>
         requires folds { rules.now.names ≡ NameCase.Fold }
-        ensures firsts { IfOk result (λ done. elements_of self.new.firsts.items ≡ append (elements_of self.old.firsts.items)
-            (firsts (rules_of rules.now) id (more (element_of alternative.now) none))) }
-        ensures steps { IfOk result (λ done. elements_of self.new.steps.items ≡ append (elements_of self.old.steps.items)
-            (steps (rules_of rules.now) id (more (element_of alternative.now) none))) }
+        ensures firsts { IfOk result (λ done. elements_of self.new.firsts.items
+            ≡ append (elements_of self.old.firsts.items) (firsts (rules_of rules.now) id (more (element_of alternative.now) none))) }
+        ensures steps { IfOk result (λ done. elements_of self.new.steps.items
+            ≡ append (elements_of self.old.steps.items) (steps (rules_of rules.now) id (more (element_of alternative.now) none))) }
     {
         match tail_of(rules, id, alternative)? {
             Some(tail) => {

@@ -73,8 +73,8 @@ fn derived_lines(
     Lines::new(alloc, grammar, settings.letters, end, settings.limit, ROOM)
 }
 
-// Returns the lines that the judged rule of a grammar derives: all, or if settings ask for them, those that have only the
-// first of symbols that no set distinguishes. `None` if there is no room for the states. `Memory` if an allocation
+// Returns the lines that the judged rule of a grammar derives: all, or if settings ask for them, those that have only
+// the first of symbols that no set distinguishes. `None` if there is no room for the states. `Memory` if an allocation
 // fails.
 fn ordered_lines(
     alloc: Global,

@@ -34,7 +34,8 @@ use Rattle.rulelines.proofs.LineOrderLemmas.{inner_letters}
 pub table_begun : (flat : Flat) (none : StateSets) (table : Table) (symbols : SymbolSet) → AreStatesOf flat none
     → AreMoreStates none table.states → IsStartState table.states table.start → table.seen ≤ table.start + 1
     → AreClassStarts flat (has_symbol symbols) table.starts.items → IsStrictlyIncreasing table.starts.items
-    → table.rows.items ≡ [] → table.levels.items ≡ [] → symbol_set table.symbols ≡ symbols → IsTableFor flat symbols table
+    → table.rows.items ≡ [] → table.levels.items ≡ [] → symbol_set table.symbols ≡ symbols
+    → IsTableFor flat symbols table
 table_begun flat none table symbols s more begins seen starts rise rows levels same_symbols = record {
   is = record {
     grammar = record {

@@ -111,7 +111,8 @@ kept_trans a b c first then = record {
 }
 
 -- rows and levels were added
-module _ (old new : Table) (is : IsStateTable old) (symbols : symbol_set new.symbols ≡ symbol_set old.symbols) (start : new.start ≡ old.start)
+module _ (old new : Table) (is : IsStateTable old) (symbols : symbol_set new.symbols ≡ symbol_set old.symbols)
+    (start : new.start ≡ old.start)
     (starts : new.starts.items ≡ old.starts.items) where
   pub levels_changed : new.states ≡ old.states → new.seen ≡ old.seen → new.rows.items ≡ old.rows.items
       → AreLevelsOf old.states (listed_in old.symbols) new.levels.items → IsTableGrown old new

@@ -8,8 +8,8 @@ use Rattle.abnfcheck.proofs.unrolled.parts_of.Goals as goal
 
 pub loop-alternative-preserved : goal.loop-alternative-preserved
 loop-alternative-preserved c = record {
-  firsts = firsts_next _ _ c.args.alternatives.now c.loop-alternative.alternative-index _ _ _ c.loop-alternative-test.true
-      c.alternative-item.is c.loop-alternative.invariant.firsts c.in_ok-add.ensures.firsts;
+  firsts = firsts_next _ _ c.args.alternatives.now c.loop-alternative.alternative-index _ _ _
+      c.loop-alternative-test.true c.alternative-item.is c.loop-alternative.invariant.firsts c.in_ok-add.ensures.firsts;
   steps = steps_next _ _ c.args.alternatives.now c.loop-alternative.alternative-index _ _ _ c.loop-alternative-test.true
       c.alternative-item.is c.loop-alternative.invariant.steps c.in_ok-add.ensures.steps;
 }

@@ -6,6 +6,8 @@ use Rattle.abnfcheck.proofs.unrolled.parts_of.Given as goal
 
 abbrev pub invariant-loop-alternative : goal.invariant-loop-alternative
 invariant-loop-alternative l = record {
-  firsts : elements_of l.parts.firsts.items ≡ firsts (rules_of l.rules) l.id (elements_of (take l.alternative-index l.alternatives));
-  steps : elements_of l.parts.steps.items ≡ steps (rules_of l.rules) l.id (elements_of (take l.alternative-index l.alternatives));
+  firsts : elements_of l.parts.firsts.items
+      ≡ firsts (rules_of l.rules) l.id (elements_of (take l.alternative-index l.alternatives));
+  steps : elements_of l.parts.steps.items
+      ≡ steps (rules_of l.rules) l.id (elements_of (take l.alternative-index l.alternatives));
 }

@@ -26,4 +26,5 @@ returns-clause-rules c =
     let size = length-map c.args.rules.now.rules rule_of in
     let len = c.len-id-end.ensures.len in
     let same = length_unrolled rules 0 rules in
-    c.loop-id.invariant.rules ∙ take_all c.loop-id.id (unrolled_from rules 0 rules) (omega (arith, past, size, len, same))
+    c.loop-id.invariant.rules
+    ∙ take_all c.loop-id.id (unrolled_from rules 0 rules) (omega (arith, past, size, len, same))

@@ -28,6 +28,7 @@ returns-in-Some c =
 pub returns-in-None : goal.returns-in-None
 returns-in-None c =
     let self = c.args.self.now in
-    subst (λ (o : Option (Vec ℕ Global)). true ≡ (allows_key (option_map (λ (v : Vec ℕ Global). v.items) o) (sort_key c.args.number)
+    subst (λ (o : Option (Vec ℕ Global)). true
+    ≡ (allows_key (option_map (λ (v : Vec ℕ Global). v.items) o) (sort_key c.args.number)
     && is_line_symbol self.inner.alphabet self.inner.terminator c.args.number)) (sym c.in-None.is)
     (sym (sym c.is_inner.ensures ∙ c.if-not-is_inner.false))
