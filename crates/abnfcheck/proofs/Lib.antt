@@ -14,7 +14,6 @@ mod NameChainLemmas
 mod NameIdsLemmas
 mod NameMarksLemmas
 pub mod RuleIdLemmas
-pub mod UnrolledDerivesLemmas
 pub mod UnrolledRulesLemmas
 mod WithCoreLemmas
 pub mod YieldsLemmas

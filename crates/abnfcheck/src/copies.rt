@@ -1,10 +1,16 @@
-//! Copies of rules, since a grammar owns its rules.
+//! Copies of rules, since a grammar owns its rules, and grammars of copies.
 ghost use Rattle.std.specs.Prelude.{◌≡◌, IfOk};
 ghost use Rattle.abnfread.specs.AbnfViews.{element_of, elements_of, rules_of};
 
 use abnfread::Elem;
 use ruletable::{Memory, NameCase, RuleTable};
 use std::alloc::Global;
+
+mod reach;
+mod unrolled;
+
+pub use reach::reached_grammar;
+pub use unrolled::unrolled_grammar;
 
 /// Returns a copy of an element. `Memory` if an allocation fails.
 #[cycle(copying)]

@@ -4,7 +4,7 @@ use Rattle.abnfread.proofs.ElementLemmas.{element-Concat}
 use Rattle.abnfread.specs.AbnfViews.{element_of, elements_of, rules_of}
 use Rattle.abnfread.specs.Element.{Concat, Elements}
 use Rattle.abnfcheck.proofs.UnrolledRulesLemmas.{firsts_more, firsts_same, steps_more, steps_same}
-use Rattle.abnfcheck.proofs.unrolled.Parts.add.Goals as goal
+use Rattle.abnfcheck.proofs.copies.unrolled.LoopParts.add.Goals as goal
 
 pub returns-in_ok-push-in-Some-clause-firsts : goal.returns-in_ok-push-in-Some-clause-firsts
 returns-in_ok-push-in-Some-clause-firsts c = firsts_same (rules_of c.args.rules.now) c.args.id

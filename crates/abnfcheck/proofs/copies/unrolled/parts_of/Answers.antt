@@ -4,7 +4,7 @@ use Rattle.std.proofs.lemmas.List.{take_all}
 use Rattle.abnfread.specs.AbnfViews.{elements_of, rules_of}
 use Rattle.abnfcheck.specs.UnrolledRules.{firsts, steps}
 use Rattle.abnfcheck.proofs.UnrolledRulesLemmas.{firsts_next, steps_next}
-use Rattle.abnfcheck.proofs.unrolled.parts_of.Goals as goal
+use Rattle.abnfcheck.proofs.copies.unrolled.parts_of.Goals as goal
 
 pub loop-alternative-preserved : goal.loop-alternative-preserved
 loop-alternative-preserved c = record {

@@ -5,7 +5,7 @@ use Rattle.abnfread.specs.AbnfViews.{element_of, rule_of, rules_of}
 use Rattle.abnfcheck.specs.UnrolledRules.{unrolled_body, unrolled_from}
 use Rattle.abnfcheck.proofs.CopiedRulesLemmas.{rule_onto}
 use Rattle.abnfcheck.proofs.UnrolledRulesLemmas.{length_unrolled, unrolled_there}
-use Rattle.abnfcheck.proofs.unrolled.unrolled_rules.Goals as goal
+use Rattle.abnfcheck.proofs.copies.unrolled.unrolled_rules.Goals as goal
 
 pub loop-id-preserved : goal.loop-id-preserved
 loop-id-preserved c =

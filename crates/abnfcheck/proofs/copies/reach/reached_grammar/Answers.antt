@@ -5,7 +5,7 @@ use Rattle.abnfread.specs.Element.{Rule}
 use Rattle.abnfcheck.specs.AbnfGrammar.{IsSound}
 use Rattle.abnfcheck.specs.ReachedGrammar.{AreReachedOf, rules_kept}
 use Rattle.abnfcheck.proofs.ReachedGrammarLemmas.{reached_kept, reached_sound}
-use Rattle.abnfcheck.proofs.reach.reached_grammar.Goals as goal
+use Rattle.abnfcheck.proofs.copies.reach.reached_grammar.Goals as goal
 
 pub new-requires : goal.new-requires
 new-requires c =

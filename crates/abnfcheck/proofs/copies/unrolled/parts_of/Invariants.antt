@@ -2,7 +2,7 @@
 use Rattle.std.proofs.Common.{◌≡◌, take}
 use Rattle.abnfread.specs.AbnfViews.{elements_of, rules_of}
 use Rattle.abnfcheck.specs.UnrolledRules.{firsts, steps}
-use Rattle.abnfcheck.proofs.unrolled.parts_of.Given as goal
+use Rattle.abnfcheck.proofs.copies.unrolled.parts_of.Given as goal
 
 abbrev pub invariant-loop-alternative : goal.invariant-loop-alternative
 invariant-loop-alternative l = record {

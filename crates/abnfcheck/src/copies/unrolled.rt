@@ -14,7 +14,7 @@ use std::alloc::Global;
 
 /// The alternatives of a rule, by whether they begin with its name.
 #[derive(Drop)]
-struct Parts {
+struct LoopParts {
     /// Those that do not.
     firsts: Vec<Elem>,
     /// What follows the name in the others.
@@ -62,7 +62,7 @@ fn tail_of<'a>(
     Ok(if found == id { Some(rest) } else { None })
 }
 
-impl Parts {
+impl LoopParts {
     // Adds an alternative of a rule. `Memory` if an allocation fails.
     fn add(
         &mut self,
@@ -73,9 +73,11 @@ impl Parts {
     ) -> Result<(), Memory>
         requires folds { rules.now.names ≡ NameCase.Fold }
         ensures firsts { IfOk result (λ done. elements_of self.new.firsts.items
-            ≡ append (elements_of self.old.firsts.items) (firsts (rules_of rules.now) id (more (element_of alternative.now) none))) }
+            ≡ append (elements_of self.old.firsts.items) (firsts (rules_of rules.now) id
+            (more (element_of alternative.now) none))) }
         ensures steps { IfOk result (λ done. elements_of self.new.steps.items
-            ≡ append (elements_of self.old.steps.items) (steps (rules_of rules.now) id (more (element_of alternative.now) none))) }
+            ≡ append (elements_of self.old.steps.items) (steps (rules_of rules.now) id
+            (more (element_of alternative.now) none))) }
     {
         match tail_of(rules, id, alternative)? {
             Some(tail) => {
@@ -94,13 +96,13 @@ fn parts_of(
     rules: &RuleTable<Elem>,
     id: usize,
     alternatives: &[Elem],
-) -> Result<Parts, Memory>
+) -> Result<LoopParts, Memory>
     requires folds { rules.now.names ≡ NameCase.Fold }
     ensures { IfOk result (λ parts.
         (elements_of parts.firsts.items ≡ firsts (rules_of rules.now) id (elements_of alternatives.now)) ×
         (elements_of parts.steps.items ≡ steps (rules_of rules.now) id (elements_of alternatives.now))) }
 {
-    let mut parts = Parts {
+    let mut parts = LoopParts {
         firsts: Vec::new(alloc),
         steps: Vec::new(alloc),
     };
@@ -111,7 +113,7 @@ fn parts_of(
 }
 
 // Returns a loop of these parts: one of the first, and then any number of steps. `Memory` if an allocation fails.
-fn loop_of(alloc: Global, parts: Parts) -> Result<Elem, Memory>
+fn loop_of(alloc: Global, parts: LoopParts) -> Result<Elem, Memory>
     ensures { IfOk result (λ made. element_of made ≡ loop (elements_of parts.firsts.items)
         (elements_of parts.steps.items)) }
 {

@@ -17,7 +17,7 @@ use Rattle.abnfcheck.specs.AbnfGrammar.{Reachable}
 use Rattle.abnfcheck.specs.NameIds.{IsGraph}
 use Rattle.abnfcheck.proofs.BrokenNeedsLemmas.{reached_at, reached_from}
 use Rattle.ruletable.specs.Rules as table
-use Rattle.abnfcheck.proofs.reach.reached_rules.Goals as goal
+use Rattle.abnfcheck.proofs.copies.reach.reached_rules.Goals as goal
 
 module _ (rules : List Rule) (given : Option (List ℕ)) (names : List (List ℕ)) (rows : List (List ℕ)) (judged : ℕ)
     (graph : IsGraph rules given names rows judged) (s : ℕ) (lt : s < length rules) where

@@ -5,7 +5,7 @@ use Rattle.abnfread.specs.Element.{Rule}
 use Rattle.abnfcheck.specs.AbnfGrammar.{IsSound}
 use Rattle.abnfcheck.specs.UnrolledRules.{unrolled_from}
 use Rattle.abnfcheck.proofs.UnrolledRulesLemmas.{are_unrolled, length_unrolled, unrolled_sound}
-use Rattle.abnfcheck.proofs.unrolled.unrolled_grammar.Goals as goal
+use Rattle.abnfcheck.proofs.copies.unrolled.unrolled_grammar.Goals as goal
 
 pub new-requires : goal.new-requires
 new-requires c =

@@ -6,11 +6,11 @@ use Rattle.abnfread.specs.Element.{Elements}
 use Rattle.abnfread.specs.declared.elem.Elem.{Elem}
 use Rattle.abnfcheck.specs.UnrolledRules.{firsts, steps}
 use Rattle.abnfcheck.proofs.UnrolledRulesLemmas.{body_kept, body_looped}
-use Rattle.abnfcheck.proofs.unrolled.body_of.Goals as goal
+use Rattle.abnfcheck.proofs.copies.unrolled.body_of.Goals as goal
 
 if_made : (r : Result Elem Memory) (P Q : Elem → Type 0) → IfOk r P → ((made : Elem) → P made → Q made) → IfOk r Q
-if_made (Ok made) P Q ok turn = turn made ok
-if_made (Err fault) P Q ok turn = tt
+if_made (Ok made) P Q ok then = then made ok
+if_made (Err fault) P Q ok then = tt
 
 pub returns-then-is_empty : goal.returns-then-is_empty
 returns-then-is_empty c = if_made c.copied.result _ _ c.copied.ensures (λ made is.

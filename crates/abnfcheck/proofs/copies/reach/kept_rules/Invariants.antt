@@ -4,7 +4,7 @@ use Rattle.abnfread.specs.AbnfViews.{rules_of}
 use Rattle.ruletable.specs.Rules.{names_of}
 use Rattle.ruletable.specs.declared.table.NameCase.TheVariants.{Fold}
 use Rattle.abnfcheck.specs.ReachedGrammar.{rules_kept}
-use Rattle.abnfcheck.proofs.reach.kept_rules.Given as goal
+use Rattle.abnfcheck.proofs.copies.reach.kept_rules.Given as goal
 
 abbrev pub invariant-loop-id : goal.invariant-loop-id
 invariant-loop-id l = record {

@@ -6,7 +6,7 @@ use Rattle.abnfread.specs.AbnfViews.{rule_of, rules_of}
 use Rattle.abnfcheck.specs.ReachedGrammar.{rules_kept}
 use Rattle.abnfcheck.proofs.CopiedRulesLemmas.{rule_onto}
 use Rattle.abnfcheck.proofs.ReachedGrammarLemmas.{kept_there, length_kept}
-use Rattle.abnfcheck.proofs.reach.kept_rules.Goals as goal
+use Rattle.abnfcheck.proofs.copies.reach.kept_rules.Goals as goal
 
 pub loop-id-preserved : goal.loop-id-preserved
 loop-id-preserved c =

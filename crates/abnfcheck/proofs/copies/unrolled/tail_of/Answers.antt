@@ -5,8 +5,8 @@ use Rattle.abnfread.specs.Element.{Elements}
 use Rattle.abnfcheck.proofs.RuleIdLemmas.{id_found}
 use Rattle.abnfcheck.specs.UnrolledRules.{tail_after}
 use Rattle.abnfcheck.proofs.UnrolledRulesLemmas.{tail_is, tail_not}
-use Rattle.abnfcheck.proofs.unrolled.tail_of.Goals.{then-found-id, else-found-id}
-use Rattle.abnfcheck.proofs.unrolled.tail_of.Goals as goal
+use Rattle.abnfcheck.proofs.copies.unrolled.tail_of.Goals.{then-found-id, else-found-id}
+use Rattle.abnfcheck.proofs.copies.unrolled.tail_of.Goals as goal
 
 pub returns : goal.returns
 returns c =
