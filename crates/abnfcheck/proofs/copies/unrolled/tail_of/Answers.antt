@@ -16,7 +16,7 @@ returns c =
     let found = c.unwrap_or-found.ensures
     ∙ id_found c.args.rules.now name _ _ c.requires.folds c.in_ok-find.ensures.found c.len.ensures.len in
     let split = ap (λ o. option_map (λ s. (s.0.now, elements_of s.1.now)) o) (sym c.in-Some.is)
-        ∙ c.split_name.ensures in
+    ∙ c.split_name.ensures in
     let after = ap (λ (o : Option (List ℕ × Elements)). tail_after rules c.args.id o) split in
     elim c.if-found-id.branch [
       | then-found-id w ↦ ap (λ o. option_map (λ es. elements_of es.now) o) w.result-is
