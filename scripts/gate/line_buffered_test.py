@@ -49,7 +49,7 @@ UNITS = (
     ((), LINE, ((b"ab\n", b"ab\n"), (b"\n", b"\n"), (b"c\n", b"c\n")), b""),
     (("-x",), LINE, ((b"ab\n", b"ab\n"), (b"c\n", b"c\n")), b""),
     (("-b", "9"), LINE, ((b"ab\n", b"ab\n"), (b"c\n", b"c\n")), b""),
-    (("-r",), LINE, ((b"ab\n", b"yytext"), (b"c\n", b"yytext")), b""),
+    (("-r",), LINE, ((b"ab\n", b" ab "), (b"c\n", b" c ")), b""),
     # several units at once, and the front of one more
     ((), LINE, ((b"ab\na\nab\na", b"ab\na\nab\n"), (b"c\n", b"ac\n")), b""),
     # a line in many parts
@@ -65,7 +65,8 @@ UNITS = (
      (*[(b"a\n", b"")] * 60, (b".\n", b"a\n" * 60 + b"end\n"), (b"b\n.\n", b"b\nend\n")), b""),
     # a unit that looks past its line feed waits for the next one, or for the end
     ((), b"line <- < [a-z]* > '\\n' !' ' { yytext }\n", ((b"a\n", b""), (b"b\n", b"a\n"), (b"c\n", b"b\n")), b"c\n"),
-    ((), b"all <- < [a-z\\n]* > !. { yytext }\n", ((b"a\n", b""), (b"b\n", b"")), b"a\nb\n\n"),
+    # .. and one of no bytes follows
+    ((), b"all <- < [a-z\\n]* > !. { yytext }\n", ((b"a\n", b""), (b"b\n", b"")), b"a\nb\n\n\n"),
     (("-1",), LINE, ((b"a\n", b""),), b"a\n"),
     # units of one byte
     ((), b"start <- 'ab' { two } / < . > { yytext }\n",
@@ -113,8 +114,8 @@ def pipes_differ(program, words, talk, grammar, last, wanted_status):
             over.run.kill()
             return f"{head}: no answer {wanted[:40]!r} to line {number}, {sent[:40]!r}"
     os.close(over.given)
-    rest = os.read(over.taken, 1000)
-    os.close(over.taken)
+    with os.fdopen(over.taken, "rb") as taken:
+        rest = taken.read()
     status = over.end()
     return "" if (rest, status) == (last, wanted_status) else f"{head}: {rest!r} at the end, status {status}"
 
