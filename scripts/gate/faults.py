@@ -54,7 +54,7 @@ def listed(name, grammar, texts, reported=b"", status=0, words=()):
 # Names of runs of abnfi by a grammar that counts how often something nullable is repeated: they have no automaton.
 NO_AUTOMATON = {"a counted repetition of an option"}
 # Names of runs of pegi with a unit of one byte: its text is kept for the next ones where there is memory.
-UNITS_OF_A_BYTE = {"a word replaced", "a stop explained"}
+UNITS_OF_A_BYTE = {"a word replaced", "a stop explained", "units run at line feeds"}
 
 PRINT, CHECK = ("-m", "print"), ("-m", "check")
 YES, NO = b"yes\n", b"no\n"
