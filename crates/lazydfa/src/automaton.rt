@@ -15,6 +15,7 @@ use crate::chains::HashChains;
 use crate::close::Ids;
 use crate::conts::Conts;
 use crate::expected::{Expected, dots_of};
+use crate::kernels::KernelLeads;
 use crate::memo::Memo;
 use crate::run::{ClassTable, run, verdict_at};
 use flatgrammar::{Classes, Flat, Node, Tables, Verdict, find_classes};
@@ -124,6 +125,7 @@ pub(crate) fn empty_memo(alloc: Global, tables: &Tables, room: usize) -> Memo
     ensures cells { result.cache.cells.items ≡ [] }
     ensures transitions { result.transitions.items ≡ [] }
     ensures resumes { result.resumes.items ≡ [] }
+    ensures leads { result.leads.items.items ≡ [] }
 {
     let nodes = tables.nodes.len();
     let most = nodes.saturating_mul(4).saturating_add(16_384);
@@ -147,6 +149,10 @@ pub(crate) fn empty_memo(alloc: Global, tables: &Tables, room: usize) -> Memo
         transitions: Vec::new(alloc),
         resumes: Vec::new(alloc),
         chains: HashChains::new(alloc),
+        leads: KernelLeads {
+            items: Vec::new(alloc),
+            chains: HashChains::new(alloc),
+        },
         suffixes: Vec::new(alloc),
     }
 }
