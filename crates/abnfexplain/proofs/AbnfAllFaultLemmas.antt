@@ -10,7 +10,7 @@ use Rattle.lexer.specs.GrammarLimits.{max_grammar}
 use Rattle.lexer.specs.Pieces.{LiesIn}
 use Rattle.lexer.specs.TokenLists.{Tok, start_of}
 use Rattle.diagnostics.proofs.LaterFaultLemmas.{first-one, later-one}
-use Rattle.diagnostics.specs.LaterFaults.{AreLaterFaults, IsFirstAt, enough, it_reads, no_line, one_more}
+use Rattle.diagnostics.specs.LaterFaults.{AreLaterFaults, IsFirstAt, enough, it_reads, no_line, on_line, one_more}
 use Rattle.ruletable.specs.Faults.{fault_text}
 use Rattle.ruletable.specs.Lines.{line_at}
 use Rattle.ruletable.specs.declared.fault.ReadFault.{ReadFault}
@@ -25,7 +25,7 @@ use Rattle.abnfread.specs.declared.kind.AbnfKind.{AbnfKind}
 use Rattle.abnfread.proofs.AbnfFaultLemmas.{marked-one, one-fault}
 use Rattle.abnfexplain.specs.declared.abnf_decide.Decision.{Decision}
 use Rattle.abnfexplain.specs.declared.abnf_decide.Decision.TheVariants.{Hopeless, TooDeep, TooLarge}
-use Rattle.abnfexplain.specs.AbnfAllFaults.{AreFurther, AreOthers, ExplainsAll, IsFaultFrom, on_line}
+use Rattle.abnfexplain.specs.AbnfAllFaults.{AreFurther, AreOthers, ExplainsAll, IsFaultFrom}
 use Rattle.abnfexplain.specs.AbnfDecisions.{Decides, IsFaultToken, IsTokenOf, NoneDecides, fault_of, first_marked}
 use Rattle.abnfexplain.specs.AbnfDecisions.{token_of}
 use Rattle.abnfexplain.specs.AbnfExplained.{Explains, Why, indent}

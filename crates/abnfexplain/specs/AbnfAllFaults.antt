@@ -1,7 +1,7 @@
 -- What explains a fault of a grammar's text, with the faults after it.
 use Rattle.std.specs.Prelude.{◌≡◌, ◌≢◌, ℕ, ◌+◌, List, [], ◌++◌, drop}
 use Rattle.lexer.specs.TokenLists.{Tok, start_of}
-use Rattle.diagnostics.specs.LaterFaults.{AreLaterFaults}
+use Rattle.diagnostics.specs.LaterFaults.{AreLaterFaults, on_line}
 use Rattle.ruletable.specs.Faults.{fault_text}
 use Rattle.ruletable.specs.Lines.{line_at}
 use Rattle.ruletable.specs.declared.fault.ReadFault.{ReadFault}
@@ -12,15 +12,6 @@ use Rattle.abnfread.specs.declared.kind.AbnfKind.{AbnfKind}
 use Rattle.abnfexplain.specs.AbnfDecisions.{IsFaultToken}
 use Rattle.abnfexplain.specs.AbnfExplained.{Explains}
 use Rattle.abnfexplain.specs.AbnfRuleLines.{IsNext}
-
--- the same fault on another line
-abbrev pub on_line : ℕ → ReadFault → ReadFault
-on_line line (faults.Syntax _) = faults.Syntax line
-on_line line (faults.Depth _) = faults.Depth line
-on_line line (faults.CodePredicate _) = faults.CodePredicate line
-on_line line (faults.NumberTooLarge _) = faults.NumberTooLarge line
-on_line line faults.TooLong = faults.TooLong
-on_line line faults.Memory = faults.Memory
 
 -- The text has a fault if it is read from a position on: the message of the fault and the lines that explain it. The
 -- token that decides stands so many bytes after that position, and the word of the next rule there or further on.

@@ -1,7 +1,6 @@
 //! Explanations of all faults of a text.
 ghost use Rattle.std.specs.Prelude.{◌≡◌, ◌≤◌, ◌++◌, ℕ, List, length, drop, IfOk, OnOk, MatchOption};
 ghost use Rattle.lexer.specs.GrammarLimits.{max_grammar};
-ghost use Rattle.ruletable.specs.Faults.{fault_text};
 ghost use Rattle.abnfread.specs.AbnfReading.{IsFaultOf};
 ghost use Rattle.abnfexplain.specs.AbnfAllFaults.{AreOthers, ExplainsAll, IsFaultFrom};
 ghost use Rattle.abnfexplain.specs.AbnfDecisions.{NoneDecides};
@@ -11,8 +10,9 @@ use crate::abnf_decide::{deciding_token, fault_token};
 use crate::abnf_explain::{explain_abnf_fault, indent_of, token_lines};
 use crate::rule_lines::next_rule_line;
 use abnfread::{AbnfKind, abnf_tokens};
+use diagnostics::fault_message;
 use lexer::{have_tokens, tokens_make_up};
-use ruletable::{LineRule, Memory, ReadFault, SinkOf, line_of, write_fault};
+use ruletable::{LineRule, Memory, ReadFault, line_of};
 use std::alloc::Global;
 
 /// How many faults of a text are reported.
@@ -28,17 +28,6 @@ fn margin_of(text: &[u8]) -> usize
     match tokens.next() {
         Some(first) => indent_of(text, first),
         None => 0,
-    }
-}
-
-// Returns the message of a fault.
-fn fault_message(alloc: Global, fault: &ReadFault) -> Result<Vec<u8>, Memory>
-    ensures { IfOk result (λ text. text.items ≡ fault_text fault.now) }
-{
-    let mut text = SinkOf::new(Vec::new(alloc));
-    match write_fault(fault, &mut text) {
-        Ok(()) => Ok(text.into_inner()),
-        Err(_) => Err(Memory),
     }
 }
 

@@ -15,8 +15,8 @@ fn is_name(e: &Elem, name: &[u8]) -> bool {
     }
 }
 
-// Returns whether an alternative begins with that name, and does not end with it. Loops in place of `s = s s / "a"`
-// nest as deep as a line is long.
+// Returns whether an alternative is that name, or begins with it and does not end with it. Loops in place of
+// `s = s s / "a"` nest as deep as a line is long.
 fn is_left_recursive(alternative: &Elem, name: &[u8]) -> bool {
     let Elem::Concat(members) = alternative else {
         return is_name(alternative, name);
@@ -40,8 +40,8 @@ fn is_left_recursive_body(body: &Elem, name: &[u8]) -> bool {
     false
 }
 
-// Returns whether a rule has an alternative that begins with the rule's own name, and does not end with it. No answer
-// depends on it.
+// Returns whether a rule has an alternative that is the rule's own name, or begins with it and does not end with it.
+// No answer depends on it.
 fn has_left_recursion(rules: &RuleTable<Elem>) -> bool {
     for id in 0..rules.len() {
         if is_left_recursive_body(rules.body(id), rules.name(id)) {
@@ -52,8 +52,8 @@ fn has_left_recursion(rules: &RuleTable<Elem>) -> bool {
 }
 
 /// Returns a grammar of the rules that the judged rule reaches, with loops in place of left recursion. It derives the
-/// same lines. `None` if no alternative of these rules begins with the name of its rule, and does not end with it.
-/// `Memory` if an allocation fails.
+/// same lines. `None` if no alternative of these rules is the name of its rule, or begins with it and does not end
+/// with it. `Memory` if an allocation fails.
 pub(crate) fn loop_grammar(alloc: Global, grammar: &SoundAbnf) -> Result<Option<SoundAbnf>, Memory>
     ensures { IfOk result (λ made. IfSome made (DeriveAlike grammar.now)) }
 {
