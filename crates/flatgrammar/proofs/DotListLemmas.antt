@@ -3,8 +3,10 @@
 use Rattle.std.proofs.Common.{◌≡◌, ℕ, zero, suc, ◌+◌, ◌++◌, ◌<◌, ◌≤◌, ◌⊎◌, inl, inr, Option, Some, None, List, [], ◌∷◌}
 use Rattle.std.proofs.Common.{◌||◌, if◌then◌else◌, Bool, true, false, nat_lt, ltb-true}
 use Rattle.std.proofs.Common.{length, take, slice_get, slice_index_or, Vec, Global, refl, sym, ◌∙◌, ap, subst, arith}
+use Rattle.std.proofs.Common.{get_or, set}
 use Rattle.std.proofs.lemmas.Bool.{cases_lt}
 use Rattle.std.proofs.lemmas.List.{map-append, take_all}
+use Rattle.std.proofs.lemmas.Option.{slice_get_read}
 use Rattle.flatgrammar.specs.Positions.{In, now, on, AreDifferent}
 use Rattle.flatgrammar.specs.declared.closure.DottedRule.{DottedRule}
 use Rattle.flatgrammar.specs.declared.dot_list.Ask.{Ask}
@@ -15,7 +17,7 @@ use Rattle.flatgrammar.specs.ItemClosures.{call_at, dots_of, AreAsks}
 use Rattle.flatgrammar.specs.declared.flat_node.Ends.{Ends}
 use Rattle.flatgrammar.specs.ItemClosures.{Lists, Reads, AreEnds, Picks, AreByLetter, lists_in, IsDotList}
 use Rattle.flatgrammar.proofs.CallOfLemmas.{past_get}
-use Rattle.flatgrammar.proofs.SliceGetLemmas.{push_cases}
+use Rattle.flatgrammar.proofs.SliceGetLemmas.{push_cases, set_cases, get_below}
 use Rattle.flatgrammar.proofs.InLemmas.{in_left, at_end, before_end, among_more, in_front, from_front, different_end}
 
 taken_more : {a : DottedRule} (k : ℕ) (xs : List DottedRule) (d : DottedRule) → k < length xs
@@ -106,6 +108,103 @@ leave_one Q dots list new k d lt is never picks =
     to : (q : DottedRule) → In q (take k dots) ⊎ (q ≡ slice_index_or dots k d) → Q q → In q list
     to q (inl h) is_q = picks.1 q h is_q
     to q (inr same) is_q = absurd (never (subst (λ v. Q v) same is_q))
+
+-- different dotted rules with one more: those before it are different, and it is none of them
+split_end : (d : DottedRule) (dots : List DottedRule) → AreDifferent (dots ++ d ∷ [])
+    → AreDifferent dots × (In d dots → ⊥)
+split_end d [] h = (tt, (λ i. elim i [ ]))
+split_end d (x ∷ xs) h = let rest = split_end d xs h.1 in ((λ i. h.0 (in_left (d ∷ []) i), rest.0), apart rest.1)
+  where
+    apart : (In d xs → ⊥) → In d (x ∷ xs) → ⊥
+    apart before (now same) = h.0 (subst (λ v. In v (xs ++ d ∷ [])) same (at_end d xs))
+    apart before (on i) = before i
+
+-- a dotted rule after all of them, taken
+pub pick_end : (Q : DottedRule → Type 0) (d : DottedRule) (dots list : List DottedRule) → Picks Q dots list
+    → Picks Q (dots ++ d ∷ []) (list ++ d ∷ [])
+pick_end Q d dots list picks = (
+  (λ q h. from q (before_end q d list h)),
+  (λ q h is_q. to q (before_end q d dots h) is_q),
+  (λ h. let apart = split_end d dots h in different_end d list (λ i. apart.1 (picks.0 d i)) (picks.2 apart.0)),
+)
+  where
+    from : (q : DottedRule) → In q list ⊎ (q ≡ d) → In q (dots ++ d ∷ [])
+    from q (inl h) = in_left (d ∷ []) (picks.0 q h)
+    from q (inr same) = subst (λ v. In v (dots ++ d ∷ [])) (sym same) (at_end d dots)
+
+    to : (q : DottedRule) → In q dots ⊎ (q ≡ d) → Q q → In q (list ++ d ∷ [])
+    to q (inl h) is_q = in_left (d ∷ []) (picks.1 q h is_q)
+    to q (inr same) is_q = subst (λ v. In v (list ++ d ∷ [])) (sym same) (at_end d list)
+
+-- .. or left
+pub leave_end : (Q : DottedRule → Type 0) (d : DottedRule) (dots list : List DottedRule) → (Q d → ⊥)
+    → Picks Q dots list → Picks Q (dots ++ d ∷ []) list
+leave_end Q d dots list never picks = (
+  (λ q h. in_left (d ∷ []) (picks.0 q h)),
+  (λ q h is_q. to q (before_end q d dots h) is_q),
+  (λ h. picks.2 (split_end d dots h).0),
+)
+  where
+    to : (q : DottedRule) → In q dots ⊎ (q ≡ d) → Q q → In q list
+    to q (inl h) is_q = picks.1 q h is_q
+    to q (inr same) is_q = absurd (never (subst (λ v. Q v) same is_q))
+
+-- if old lists are those of some dotted rules, the lists of the letters below k have one more that reads them
+abbrev pub AreDoneBelow : code_flat.Tables → DottedRule → List (Vec DottedRule Global) → List (Vec DottedRule Global)
+    → ℕ → Type 0
+AreDoneBelow flat d old lists k = (dots : List DottedRule) → AreByLetter flat dots old
+    → (c : ℕ) (list : Vec DottedRule Global) → c < k → slice_get lists c ≡ Some list
+    → Picks (Reads flat c) (dots ++ d ∷ []) list.items
+
+module _ (flat : code_flat.Tables) (d : DottedRule) (old lists : List (Vec DottedRule Global)) (k : ℕ) where
+  same_below : AreDoneBelow flat d old lists k → (dots : List DottedRule) → AreByLetter flat dots old → (c : ℕ)
+      (list : Vec DottedRule Global) → c < k + 1 → (c ≡ k → ⊥) → slice_get lists c ≡ Some list
+      → Picks (Reads flat c) (dots ++ d ∷ []) list.items
+  same_below done dots are c list below other at = let less : c < k = omega (arith, below, other) in
+      done dots are c list less at
+
+  -- it is put into the list of the letter k
+  pub reader_taken : (before after : Vec DottedRule Global) → before ≡ get_or lists k before → k < length lists
+      → after.items ≡ before.items ++ d ∷ [] → ((c : ℕ) → k ≤ c → slice_get lists c ≡ slice_get old c)
+      → AreDoneBelow flat d old lists k → AreDoneBelow flat d old (set lists k after) (k + 1)
+  reader_taken before after is lt more left done dots are c list below at = by (set_cases lists k c after list at)
+    where
+      there : slice_get old k ≡ Some before
+      there = sym (left k (omega arith)) ∙ slice_get_read lists (length lists) k before refl lt is
+
+      by : ((c ≡ k) × (after ≡ list)) ⊎ ((c ≡ k → ⊥) × (slice_get lists c ≡ Some list))
+          → Picks (Reads flat c) (dots ++ d ∷ []) list.items
+      by (inl same) = subst (λ n. Picks (Reads flat n) (dots ++ d ∷ []) list.items) (sym same.0)
+          (subst (λ v. Picks (Reads flat k) (dots ++ d ∷ []) v) (sym more ∙ ap (λ v. v.items) same.1)
+          (pick_end (Reads flat k) d dots before.items (are k before there)))
+      by (inr other) = same_below done dots are c list below other.0 other.1
+
+  -- it does not read the letter k
+  pub reader_left : (Reads flat k d → ⊥) → ((c : ℕ) → k ≤ c → slice_get lists c ≡ slice_get old c)
+      → AreDoneBelow flat d old lists k → AreDoneBelow flat d old lists (k + 1)
+  reader_left never left done dots are c list below at = by (cases_lt c k)
+    where
+      by : (c < k) ⊎ (k ≤ c) → Picks (Reads flat c) (dots ++ d ∷ []) list.items
+      by (inl lt) = done dots are c list lt at
+      by (inr le) = let same : k ≡ c = omega (arith, below, le) in
+          leave_end (Reads flat c) d dots list.items (subst (λ n. Reads flat n d → ⊥) same never)
+          (are c list (sym (left c le) ∙ at))
+
+  -- it reads none of the letters below k
+  pub readers_below : ((c : ℕ) → Reads flat c d → k ≤ c) → AreDoneBelow flat d old old k
+  readers_below least dots are c list lt at = leave_end (Reads flat c) d dots list.items
+      (λ reads. let le = least c reads in absurd (omega (arith, le, lt))) (are c list at)
+
+  -- it reads none of the letters from k on that have a list
+  pub readers_above : ((c : ℕ) → k ≤ c → c < length lists → Reads flat c d → ⊥)
+      → ((c : ℕ) → k ≤ c → slice_get lists c ≡ slice_get old c) → AreDoneBelow flat d old lists k
+      → (dots : List DottedRule) → AreByLetter flat dots old → AreByLetter flat (dots ++ d ∷ []) lists
+  readers_above never left done dots are c list at = by (cases_lt c k)
+    where
+      by : (c < k) ⊎ (k ≤ c) → Picks (Reads flat c) (dots ++ d ∷ []) list.items
+      by (inl lt) = done dots are c list lt at
+      by (inr le) = leave_end (Reads flat c) d dots list.items (never c le (get_below lists c at))
+          (are c list (sym (left c le) ∙ at))
 
 -- one more dotted rule that asks
 pub pick_ask : (Q : DottedRule → Type 0) (dots : List DottedRule) (list new : List Ask) (k : ℕ) (d : DottedRule)

@@ -1,7 +1,7 @@
 -- Members of lists, by number.
 -- Serves: Flat::new, lower, judge.
 use Rattle.std.proofs.Common.{◌≡◌, ℕ, zero, suc, ◌<◌, List, [], ◌∷◌, ◌++◌, length, refl, ap, arith, ⊎_elim, ◌⊎◌, inl}
-use Rattle.std.proofs.Common.{inr}
+use Rattle.std.proofs.Common.{inr, set}
 use Rattle.std.specs.Prelude.{slice_get, Some}
 
 pub get_below : {A : Type 0} (xs : List A) (k : ℕ) {y : A} → slice_get xs k ≡ Some y → k < length xs
@@ -25,3 +25,20 @@ pub get_there : {A : Type 0} (xs : List A) (k : ℕ) → k < length xs → (y : 
 get_there [] k lt = absurd (omega arith)
 get_there (x ∷ xs) zero lt = (x, refl)
 get_there (x ∷ xs) (suc k) lt = get_there xs k (omega arith)
+
+-- a member of a list in which one was replaced
+pub set_cases : {A : Type 0} (xs : List A) (i k : ℕ) (v x : A) → slice_get (set xs i v) k ≡ Some x
+    → ((k ≡ i) × (v ≡ x)) ⊎ ((k ≡ i → ⊥) × (slice_get xs k ≡ Some x))
+set_cases [] i k v x h = absurd (cc h)
+set_cases (y ∷ xs) zero zero v x h = inl (refl, cc h)
+set_cases (y ∷ xs) zero (suc k) v x h = inr (λ e. absurd (omega (arith, e)), h)
+set_cases (y ∷ xs) (suc i) zero v x h = inr (λ e. absurd (omega (arith, e)), h)
+set_cases (y ∷ xs) (suc i) (suc k) v x h = ⊎_elim (λ c. inl (ap (λ n. suc n) c.0, c.1))
+    (λ c. inr ((λ e. c.0 (omega (arith, e))), c.1)) (set_cases xs i k v x h)
+
+pub set_other : {A : Type 0} (xs : List A) (i k : ℕ) (v : A) → i < k → slice_get (set xs i v) k ≡ slice_get xs k
+set_other [] i k v lt = refl
+set_other (y ∷ xs) zero zero v lt = absurd (omega (arith, lt))
+set_other (y ∷ xs) zero (suc k) v lt = refl
+set_other (y ∷ xs) (suc i) zero v lt = absurd (omega (arith, lt))
+set_other (y ∷ xs) (suc i) (suc k) v lt = set_other xs i k v (omega (arith, lt))

@@ -1,7 +1,10 @@
 //! The dotted rules of a closure that call or read.
-ghost use Rattle.std.specs.Prelude.{◌≡◌, ◌≤◌, ℕ, Some, IsTrue, IfOk, IfSome, IfNone, slice_get};
+ghost use Rattle.std.specs.Prelude.{◌≡◌, ◌≤◌, ◌∷◌, ◌++◌, ℕ, List, [], Some};
+ghost use Rattle.std.specs.Prelude.{IsTrue, IfOk, IfSome, IfNone, OnOk, slice_get};
 ghost use Rattle.flatgrammar.specs.ItemClosures.{closure_of, call_at, dots_of, Asks, AreAsks, Reads, ReadsAny, Picks};
 ghost use Rattle.flatgrammar.specs.ItemClosures.{AreByLetter, AreEnds, lists_in, IsDotList};
+ghost use Rattle.flatgrammar.specs.declared.closure.DottedRule.{DottedRule as TheRule};
+ghost use Rattle.flatgrammar.specs.declared.tables.Tables.{Tables as TheTables};
 
 use crate::closure::DottedRule;
 use crate::flat_item::Item;
@@ -12,6 +15,12 @@ use std::alloc::Global;
 
 // Fewer dotted rules that read are walked without a table by letter.
 const FEW: usize = 4;
+
+// The ends of a range without a symbol.
+const NO_ENDS: Ends = Ends {
+    least: u32::MAX,
+    greatest: 0,
+};
 
 /// A dotted rule that calls a target with a closure of its own.
 #[derive(Clone, Copy)]
@@ -119,32 +128,41 @@ fn widened_by(flat: &Tables, dot: DottedRule, ends: Ends) -> Ends
 fn ends_of(flat: &Tables, from: &[DottedRule]) -> Ends
     ensures { AreEnds flat.now from.now result }
 {
-    let mut ends = Ends {
-        least: u32::MAX,
-        greatest: 0,
-    };
+    let mut ends = NO_ENDS;
     for dot in from {
         ends = widened_by(flat, *dot, ends);
     }
     ends
 }
 
-// Returns those that read a letter.
-fn readers_of_letter(
-    alloc: Global,
-    flat: &Tables,
-    from: &[DottedRule],
-    value: u32,
-) -> Result<Vec<DottedRule>, Memory>
-    ensures { IfOk result (λ list. Picks (Reads flat.now value) from.now list.items) }
+// Returns an empty list for each letter below 256.
+fn no_readers(alloc: Global) -> Result<Vec<Vec<DottedRule>>, Memory>
+    ensures { IfOk result (λ lists. (flat : TheTables) → AreByLetter flat [] lists.items) }
 {
-    let mut list = Vec::new(alloc);
-    for dot in from {
-        if reads_it(flat, *dot, value) {
-            list.push(*dot)?;
+    let mut lists = Vec::new(alloc);
+    for _letter in 0..256 {
+        lists.push(Vec::new(alloc))?;
+    }
+    Ok(lists)
+}
+
+// Adds a dotted rule to the lists of the letters that it reads.
+fn add_reader(
+    flat: &Tables,
+    dot: DottedRule,
+    lists: &mut Vec<Vec<DottedRule>>,
+) -> Result<(), Memory>
+    ensures { OnOk result ((dots : List TheRule) → AreByLetter flat.now dots lists.old.items
+        → AreByLetter flat.now (dots ++ dot ∷ []) lists.new.items) }
+{
+    let ends = widened_by(flat, dot, NO_ENDS);
+    let end = lists.len().min(ends.greatest as usize + 1);
+    for value in ends.least as usize..end {
+        if reads_it(flat, dot, value as u32) {
+            lists[value].push(dot)?;
         }
     }
-    Ok(list)
+    Ok(())
 }
 
 // Returns for each letter below 256 those that read it, or no list if there are few of them.
@@ -155,13 +173,12 @@ fn by_letter(
 ) -> Result<Vec<Vec<DottedRule>>, Memory>
     ensures { IfOk result (λ lists. AreByLetter flat.now from.now lists.items) }
 {
-    let mut lists = Vec::new(alloc);
     if from.len() <= FEW {
-        return Ok(lists);
+        return Ok(Vec::new(alloc));
     }
-    for value in 0..256u32 {
-        let list = readers_of_letter(alloc, flat, from, value)?;
-        lists.push(list)?;
+    let mut lists = no_readers(alloc)?;
+    for dot in from {
+        add_reader(flat, *dot, &mut lists)?;
     }
     Ok(lists)
 }
