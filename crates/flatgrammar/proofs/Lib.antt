@@ -15,3 +15,4 @@ pub mod StacksLemmas
 pub mod LeadOnLemmas
 pub mod LiftLemmas
 pub mod StackClosureLemmas
+mod OldStacksLemmas

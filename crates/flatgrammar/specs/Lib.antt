@@ -14,3 +14,4 @@ pub mod TableViews
 pub mod Ways
 pub mod ClassBounds
 pub mod Stacks
+pub mod OldItems

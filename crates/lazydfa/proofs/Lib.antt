@@ -20,3 +20,4 @@ pub mod ExpectedLemmas
 pub mod AreUncountedLemmas
 pub mod StateSetsLemmas
 mod StackCutsLemmas
+pub mod WalksOverLemmas

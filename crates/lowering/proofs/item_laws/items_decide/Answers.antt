@@ -7,6 +7,8 @@ use Rattle.flatgrammar.specs.declared.verdict.Verdict.{Verdict}
 use Rattle.flatgrammar.specs.declared.verdict.Verdict.TheVariants.{Yes, No}
 use Rattle.lowering.specs.GivenPrefixes.{GivesPrefixes}
 use Rattle.lowering.specs.Verdicts.{IsVerdict}
+use Rattle.lowering.proofs.AwaitedItemsLemmas.{awaited_exactly}
+use Rattle.lowering.proofs.PrunedOneLemmas.{pruned_one}
 use Rattle.lowering.proofs.RuleDerivesLemmas.{derives_exactly}
 use Rattle.lowering.proofs.item_laws.items_decide.Goals as goal
 
@@ -30,3 +32,10 @@ returns-clause-derives c = λ has rules judged flat x lowered line letters.
 
 pub returns-clause-verdict : goal.returns-clause-verdict
 returns-clause-verdict c = verdict_of
+
+pub returns-clause-awaited : goal.returns-clause-awaited
+returns-clause-awaited c = λ has rules judged flat x lowered line letters rule top s n k site is stands.
+    awaited_exactly has rules judged flat lowered x line letters rule top s n k site is stands
+
+pub returns-clause-pruned : goal.returns-clause-pruned
+returns-clause-pruned c = pruned_one
