@@ -15,4 +15,5 @@ pub mod StacksLemmas
 pub mod LeadOnLemmas
 pub mod LiftLemmas
 pub mod StackClosureLemmas
-mod OldStacksLemmas
+pub mod OldStacksLemmas
+pub mod PartsLemmas

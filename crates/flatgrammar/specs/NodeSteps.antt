@@ -65,6 +65,16 @@ callee (Opt m) k = if eqb k 0 then Some (m, 2) else None
 callee (Name r) k = None
 callee Nothing k = None
 
+abbrev pub is_name : Node → Bool
+is_name (Letters sets) = false
+is_name (Concat ms) = false
+is_name (Alt ms) = false
+is_name (Rep a b m) = false
+is_name (Iterations b m) = false
+is_name (Opt m) = false
+is_name (Name r) = true
+is_name Nothing = false
+
 -- the steps below this may call something
 abbrev pub call_count : Node → ℕ
 call_count (Letters sets) = 0

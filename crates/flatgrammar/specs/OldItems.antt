@@ -1,5 +1,5 @@
 -- Items of rules that began before their set, what they read and call, and the stacks that have them on top.
-use Rattle.std.specs.Prelude.{◌≡◌, ℕ, ◌<◌, Bool, true, false, List, [], ◌∷◌, length, slice_get, Some}
+use Rattle.std.specs.Prelude.{◌≡◌, ℕ, ◌<◌, Bool, true, false, List, ◌∷◌, length, slice_get, Some}
 use Rattle.flatgrammar.specs.Flat.{Flat, Dot, at, Set, Letters, Name, Starts, Calls}
 use Rattle.flatgrammar.specs.Holds.{Holds}
 use Rattle.flatgrammar.specs.Nullable.{Nullable}

@@ -1,6 +1,6 @@
 -- How many dotted rules there are, and lists without repeats.
 use Rattle.std.specs.Prelude.{◌≡◌, ℕ, ◌+◌, ◌*◌, List, [], ◌∷◌, length}
-use Rattle.flatgrammar.specs.Flat.{Node, Letters, Concat, Alt, Rep, Iterations, Opt, Name, Nothing, top, capped}
+use Rattle.flatgrammar.specs.Flat.{Node, Letters, Concat, Alt, Rep, Iterations, Opt, Name, Nothing, top}
 
 -- the dotted rules of one node
 abbrev pub width : Node → ℕ

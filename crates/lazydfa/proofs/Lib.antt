@@ -21,3 +21,7 @@ pub mod AreUncountedLemmas
 pub mod StateSetsLemmas
 mod StackCutsLemmas
 pub mod WalksOverLemmas
+mod NameWalksLemmas
+mod WalkedOverLemmas
+mod TopPartLemmas
+mod AwaitedLemmas

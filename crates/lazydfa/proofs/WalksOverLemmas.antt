@@ -1,8 +1,8 @@
 -- A walk from stacks that dominate others has the same parts as one from these.
 -- Serves: expected.
-use Rattle.std.proofs.Common.{◌≡◌, ◌⊎◌, inl, inr, ℕ, ◌+◌, List, [], ◌∷◌, ◌++◌, refl, sym, ◌∙◌, ap, subst}
-use Rattle.std.specs.Prelude.{Bool, true, false, slice_get, Some}
-use Rattle.flatgrammar.specs.Flat.{Flat, Dot, Set, Has, Starts, Reads, Calls}
+use Rattle.std.proofs.Common.{◌≡◌, ◌⊎◌, inl, inr, ℕ, List, [], ◌∷◌, refl, sym, ◌∙◌, ap, subst}
+use Rattle.std.specs.Prelude.{Bool, true, false}
+use Rattle.flatgrammar.specs.Flat.{Flat, Dot, Set, Starts, Reads, Calls}
 use Rattle.flatgrammar.specs.OldItems.{IsNameNode, Walks, begun, returns, enters, enters_last, passes}
 use Rattle.flatgrammar.specs.Stacks.{IsDoneAt, IsReading, Lifted, MarksLast, Reach, ReadBy, reading, reads}
 use Rattle.lazydfa.specs.Domination.{Dominates, IsAhead, IsFewer, IsPlainCover}

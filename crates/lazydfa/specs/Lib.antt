@@ -9,3 +9,4 @@ pub mod Spines
 pub mod StackSuffixes
 pub mod StateSets
 pub mod StackCuts
+pub mod NameWalks

@@ -61,7 +61,7 @@ fn read_on(
 }
 
 /// Adds the continuations after those that read a symbol.
-fn read_all(
+pub(crate) fn read_all(
     tables: &Tables,
     tops: &[usize],
     value: u32,

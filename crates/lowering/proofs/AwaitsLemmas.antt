@@ -1,12 +1,11 @@
 -- What items of a set await is awaited in rules under way.
 -- Serves: items_decide.
-use Rattle.std.proofs.Common.{◌≡◌, ◌⊎◌, inl, inr, ℕ, zero, suc, ◌+◌, ◌<◌, ◌≤◌, Bool, true, false, Some, List, [], ◌∷◌}
-use Rattle.std.proofs.Common.{◌++◌, length, map, take, refl, sym, subst, arith, ap, append_assoc}
+use Rattle.std.proofs.Common.{◌≡◌, ◌⊎◌, inl, inr, ℕ, zero, suc, ◌+◌, ◌<◌, ◌≤◌, Bool, Some, List, [], ◌∷◌}
+use Rattle.std.proofs.Common.{◌++◌, length, take, refl, sym, subst, arith, ap, append_assoc}
 use Rattle.std.proofs.lemmas.List.{append-nil, length-map, take-map}
 use Rattle.std.specs.Prelude.{slice_get}
 use Rattle.abnfread.specs.Element as e
 use Rattle.abnfread.specs.Element.{Element, Elements, none, more, Rule, bodies, id_of}
-use Rattle.abnfcheck.specs.Derivable as der
 use Rattle.abnfcheck.specs.Derivable.{AreLetters, DerivesAll, all_done, then}
 use Rattle.abnfcheck.proofs.IsPathLemmas.{here, step, paths_join}
 use Rattle.abnfcheck.proofs.LiesLemmas.{OnLine, Lies}

@@ -26,3 +26,4 @@ pub mod AwaitedItemsLemmas
 pub mod AwaitsLemmas
 pub mod ArePlantedLemmas
 pub mod PrunedOneLemmas
+mod AwaitsElementLemmas

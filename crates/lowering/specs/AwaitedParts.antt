@@ -1,12 +1,32 @@
 -- The parts that can come next after a prefix of a line: names and terminals of the rules under way, of rules without
 -- what derives nothing; and where nodes of a flat grammar stand.
-use Rattle.std.specs.Prelude.{◌≡◌, ◌⊎◌, ℕ, suc, ◌+◌, ◌<◌, Bool, List, [], ◌∷◌, ◌++◌, length, take, slice_get, Option}
-use Rattle.std.specs.Prelude.{Some}
-use Rattle.abnfread.specs.Element.{Element, Elements, Text, Values, Range, Concat, Alt, Rep, Opt, Name, more, Rule}
+use Rattle.std.specs.Prelude.{◌≡◌, ◌⊎◌, ℕ, zero, suc, ◌+◌, ◌<◌, Bool, List, [], ◌∷◌, ◌++◌, length, take, slice_get}
+use Rattle.std.specs.Prelude.{Option, Some, None}
+use Rattle.abnfread.specs.Element.{Element, Elements, Text, Values, Range, Concat, Alt, Rep, Opt, Name, Prose, none}
+use Rattle.abnfread.specs.Element.{more, Rule}
 use Rattle.abnfread.specs.Element.{bodies, id_of}
 use Rattle.abnfcheck.specs.Derivable.{AtMost, Derives, DerivesTimes, Spelled}
 use Rattle.flatgrammar.specs.Flat.{Flat, Node}
 use Rattle.lowering.specs.Lowered.{OperandAt}
+
+-- the element at a site of another: the numbers of the operands that lead to it
+abbrev mutual
+  pub element_at : Element → List ℕ → Option Element
+  element_at e [] = Some e
+  element_at (Text folds t) (i ∷ z) = None
+  element_at (Values vs) (i ∷ z) = None
+  element_at (Range low high) (i ∷ z) = None
+  element_at (Concat es) (i ∷ z) = member_at es i z
+  element_at (Alt es) (i ∷ z) = member_at es i z
+  element_at (Rep a b e) (i ∷ z) = element_at e z
+  element_at (Opt e) (i ∷ z) = element_at e z
+  element_at (Name n) (i ∷ z) = None
+  element_at (Prose t) (i ∷ z) = None
+
+  pub member_at : Elements → ℕ → List ℕ → Option Element
+  member_at none i z = None
+  member_at (more e es) zero z = element_at e z
+  member_at (more e es) (suc i) z = member_at es i z
 
 -- the symbols of a line from position i to position j are w
 pub data Spans (x : List ℕ) : ℕ → List ℕ → ℕ → Type 0 where

@@ -11,4 +11,4 @@ mod viable_lowered;
 pub use item_laws::items_decide;
 pub use letter_law::values_are_letters;
 pub use lowered::{lower, lower_rules};
-pub use viable_lowered::lower_viable;
+pub use viable_lowered::{lower_viable, productive_rules};

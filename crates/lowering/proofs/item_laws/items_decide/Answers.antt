@@ -7,7 +7,9 @@ use Rattle.flatgrammar.specs.declared.verdict.Verdict.{Verdict}
 use Rattle.flatgrammar.specs.declared.verdict.Verdict.TheVariants.{Yes, No}
 use Rattle.lowering.specs.GivenPrefixes.{GivesPrefixes}
 use Rattle.lowering.specs.Verdicts.{IsVerdict}
+use Rattle.lowering.proofs.ArePrunedLemmas.{gives_prefixes}
 use Rattle.lowering.proofs.AwaitedItemsLemmas.{awaited_exactly}
+use Rattle.lowering.proofs.AwaitsElementLemmas.{awaited_element}
 use Rattle.lowering.proofs.PrunedOneLemmas.{pruned_one}
 use Rattle.lowering.proofs.RuleDerivesLemmas.{derives_exactly}
 use Rattle.lowering.proofs.item_laws.items_decide.Goals as goal
@@ -39,3 +41,11 @@ returns-clause-awaited c = λ has rules judged flat x lowered line letters rule 
 
 pub returns-clause-pruned : goal.returns-clause-pruned
 returns-clause-pruned c = pruned_one
+
+pub returns-clause-prefixes : goal.returns-clause-prefixes
+returns-clause-prefixes c = λ has rules left judged flat pruned lowered.
+    gives_prefixes has rules left pruned judged flat lowered
+
+pub returns-clause-element : goal.returns-clause-element
+returns-clause-element c = λ has rules judged x n rule k site body part is awaited.
+    awaited_element has rules judged x n rule site part k body is awaited
