@@ -18,6 +18,8 @@
 #endif
 enum { SECONDS = 10, MEMORY = 256 << 20, OUTPUT = 64 << 20 };
 static const fanquber_result BAD = { 0, 0, FANQUBER_BAD_SETTINGS };
+/* How the message on a line that costs more than the budget ends. */
+static const char COSTLY[] = " items\n";
 
 typedef struct text {
     const char *bytes;
@@ -145,13 +147,18 @@ fanquber_answer fanquber_abnf_judge(fanquber_judge *judge, const void *line, siz
     opened like = *(opened *)judge->at;
     like.settings.nul = memchr(line, 0, line_len) == NULL;
     like.settings.explain = false;
+    static char told[1 << 16];
     char said[32] = "", *ended = malloc(line_len + 1);
     if (!ended) abort();
     memcpy(ended, line, line_len);
     ended[line_len] = like.settings.nul ? 0 : '\n';
     like.front = 0;
-    fanquber_result got = run(&like, (text){ ended, line_len + 1 }, said, sizeof said - 1, NULL, 0);
+    fanquber_result got = run(&like, (text){ ended, line_len + 1 }, said, sizeof said - 1, told, sizeof told);
     free(ended);
+    /* The status of a line that costs more than the budget is that of a long one: the message says which it is. */
+    const size_t items = strlen(COSTLY);
+    if (got.status == FANQUBER_OVERLONG && got.err_len >= items && got.err_len <= sizeof told)
+        if (memcmp(told + got.err_len - items, COSTLY, items) == 0) got.status = FANQUBER_COSTLY;
     return (fanquber_answer){ strtoul(said + (strlen(said) > 3 ? 3 : strlen(said)), NULL, 10), got.status };
 }
 

@@ -25,6 +25,7 @@ complete -c abnfg -s s -l rule -x -a '(__abnfg_rules)' -d 'List lines of this ru
 complete -c abnfg -s m -l mode -x -a 'all cover miss random' -d 'Choose which lines to list'
 complete -c abnfg -s l -l limit -x -d 'List lines of at most N symbols, from 1 to 16777216'
 complete -c abnfg -s c -l count -x -d 'List at most N lines, from 1 to 4294967295'
+complete -c abnfg -s a -l alike -d 'List lines of mode `all` with the first alone of symbols that no set distinguishes'
 complete -c abnfg -s e -l edges -d 'Also list lines of mode `miss` by wrong symbols next to those that can follow'
 complete -c abnfg -s g -l seed -x -d 'Draw lines of mode `random` by this number, from 0 to 18446744073709551615'
 complete -c abnfg -s u -l letters -x -a 'bytes utf8' -d 'Take bytes or code points of UTF-8 as symbols'

@@ -26,6 +26,7 @@ complete -c pegi -s s -l rule -x -a '(__pegi_rules)' -d 'Start from this rule [d
 complete -c pegi -s l -l limit -x -d 'Look at no more than N bytes, or Nk, NM, in a unit, from 1 to 16777216'
 complete -c pegi -s b -l budget -x -d 'Print no more than N bytes in a unit, from 1 to 4294967295 [default: 4294967295, any number]'
 complete -c pegi -s 1 -l whole -d 'Take the input as one unit, up to its end'
+complete -c pegi -l line-buffered -d 'Run units at line feeds, before more input is read'
 complete -c pegi -s r -l raw -d 'Print actions verbatim'
 complete -c pegi -l escapes -d 'Replace escapes in actions by their bytes'
 complete -c pegi -s x -l explain -d 'Explain messages in more lines'

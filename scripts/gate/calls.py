@@ -35,7 +35,8 @@ LOOPS = {"abnfi": ("lazydfa", "run", 12), "pegi": ("packrat", "evaluate", 12)}
 # The functions that may add nothing to a call, each with its reason.
 PASSED = {
     # The contract of `len` says that a window has at most `capacity` bytes.
-    "feed: Feed.find: discards", "linejudge: answer_lines: discards", "linejudge: next_line: discards",
+    "feed: Feed.find: discards", "feed: Feed.rfind: discards",
+    "linejudge: answer_lines: discards", "linejudge: next_line: discards",
     # Nothing is left to do if the error output fails.
     "toolrun: flush_err: discards",
     # The contract of `into_reader` says what was taken from the reader.

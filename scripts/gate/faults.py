@@ -54,12 +54,14 @@ def listed(name, grammar, texts, reported=b"", status=0, words=()):
 # Names of runs of abnfi by a grammar that counts how often something nullable is repeated: they have no automaton.
 NO_AUTOMATON = {"a counted repetition of an option"}
 # Names of runs of pegi with a unit of one byte: its text is kept for the next ones where there is memory.
-UNITS_OF_A_BYTE = {"a word replaced", "a stop explained"}
+UNITS_OF_A_BYTE = {"a word replaced", "a stop explained", "units run at line feeds"}
 
 PRINT, CHECK = ("-m", "print"), ("-m", "check")
 YES, NO = b"yes\n", b"no\n"
 USERNAME = peg("a word replaced", b'start <- "username" { USER } / < . > { yytext }', b"a username\n",
                [b"a\n", b" \n", b"USER\n", b"\n\n"])
+LINE_UNITS = peg("units run at line feeds", b"line <- < [a-z]* > '\\n' { yytext }", b"ab\n\nc\n",
+                 [b"ab\n", b"\n", b"c\n"], words=["--line-buffered"])
 WORDS = abnf("words of letters", b"word = 1*ALPHA", b"ab\nA1\n\nZ", [YES, NO, NO, YES], status=1)
 REFUSED = b"A <- ('' / 'b')* C\nD <- 'd'"
 REFUSALS = b"rule 'C' used but not defined\nrule 'D' defined but not used\npossible infinite loop in rule 'A'\n"
@@ -75,6 +77,11 @@ EXPLAINED = peg("a fault explained", b"S <- 'a' | 'b'\n", b"a", [],
                 b"line 1: syntax error\n  S <- 'a' | 'b'\n           ^\n  column 10: expected an element, "
                 b'"&", "!", "?", "*", "+", "/" or the end of the text\n  alternatives have "/" between them\n', 2,
                 words=["-x"])
+FAULTS_EXPLAINED = peg("two faults explained", b"S <- |\nT <- )\n", b"a", [],
+                       b"line 1: syntax error\n  S <- |\n       ^\n  column 6: expected an element, "
+                       b'"&", "!", "/" or the end of the text\n  alternatives have "/" between them\n'
+                       b"line 2: syntax error\n  T <- )\n       ^\n  column 6: expected an element, "
+                       b'"&", "!", "/" or the end of the text\n', 2, words=["-x"])
 ABNF_EXPLAINED = abnf("a fault of ABNF explained", b'my_rule = "x"\n', b"a\n", [],
                       b'line 1: syntax error\n  my_rule = "x"\n    ^\n  column 3: expected "=" or "=/"\n'
                       b'  names hold letters, digits and "-"\n', 2, words=["-x"])
@@ -144,6 +151,7 @@ UNLISTED = listed("a grammar whose lines are not listed", b's = <any>\n', [], b"
 # The runs in which each allocation fails.
 GROWING = [
     USERNAME,
+    LINE_UNITS,
     peg("a capture that rules share", b"S <- B <'a'> B <> B\nB <- {yytext.}", b"a", [b".\na.\n.\n"]),
     PRINTED,
     peg("an action met four times in a unit", b"S <- A A 'x'\nA <- B B\nB <- {b}", b"x", [b"b\nb\nb\nb\n"]),
@@ -162,6 +170,7 @@ GROWING = [
     CHECKED,
     ABNF_CHECKED,
     EXPLAINED,
+    FAULTS_EXPLAINED,
     ABNF_EXPLAINED,
     AGAIN_EXPLAINED,
     EARLY_EXPLAINED,
@@ -323,18 +332,18 @@ def writes(tools):
 
 
 def judged_of(run, size):
-    """The answers to the lines whose LF lies in the first bytes of the input."""
+    """The answers to the lines whose LF lies in the first bytes of the input, or the texts of such units."""
     return b"".join(run.texts[:run.given[:size].count(b"\n")])
 
 
 def reads(tools):
     """Each read failing, of the grammar and of the input, and reads of one to three bytes."""
-    for run in (it for it in [USERNAME, WORDS, ABNF_NOTED] if tools.has(it.program)):
+    for run in (it for it in [USERNAME, LINE_UNITS, WORDS, ABNF_NOTED] if tools.has(it.program)):
         for most in (1, 2, 3):
             ended = tools.run(run, PIECE=most)
             tools.expect(run, ended, is_as_stated(run, ended), f"reads of {most} bytes")
         for size in range(len(run.given) + 1):
-            out = judged_of(run, size) if run.program == "abnfi" else b""
+            out = judged_of(run, size) if run.program == "abnfi" or run is LINE_UNITS else b""
             for most in (1, 4096):
                 ended = tools.run(run, INPUT=size, PIECE=most)
                 right = ended[:3] == (out, run.reported + b"read error\n", 4)

@@ -30,7 +30,7 @@ def leaf(r, names):
         first = r.choice([0, 48, 65, 97, 97, 200, 0xD7FF])
         return kind, first, first + r.choice([0, 1, 25, 100, 2000, 0x110000, -1 if first else 0])
     if kind == "prose":
-        return kind, b"any text"
+        return kind, r.choice([b"any text", r.choice(["s", "B", "z", "Digit", "a"]).encode()])
     found = r.choice(["ALPHA", "digit", "BIT", "HEXDIG", "WSP", "LWSP", "Crlf"] if kind == "core" else names)
     return "name", found if r.random() < 0.8 else found.swapcase()
 

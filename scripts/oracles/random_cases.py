@@ -7,12 +7,13 @@ A case is a unit that pegi tries, a line that abnfi judges, or a grammar that is
 half of them by each program; 20000 if it is not given. Cases and their order follow from the seed alone. Prints how
 many cases were compared; at the first disagreement it prints the case and ends with status 1. A program that is not
 built is skipped. With -u half of the runs of abnfi have its option `-u utf8`; so it is with -w, -z and -k, and its
-options of these names. With -p most of them have its option `-p`, `-n` or `-H`, with -q some its option `-q`, with -b
-half of them `--line-buffered`. With -1 a third of the runs of pegi have its option `-1`, with -e half of them
-`--escapes`. With -d half of the runs of both have the option `-b`; those of abnfi may end at a line that needs more
-items. With -x half of the runs of both have the option `-x`, half of these with what explains their notes, with hints
-(slow_notes.py, slow_hints.py), how the run of pegi stops (slow_stops.py), and rejected lines (slow_refused.py), the
-others of a text with a fault (slow_faults.py): a grammar's, of which some bytes are changed.
+options of these names. With -p most of them have its option `-p`, `-n` or `-H`, with -q some its option `-q`. With -1 a
+third of the runs of pegi have its option `-1`, with -e half of them `--escapes`. With -b half of the runs of both have
+the option `--line-buffered`, which changes no answer. With -d half of the runs of both have the option `-b`; those of
+abnfi may end at a line that needs more items. With -x half of the runs of both have the option `-x`, half of these with
+what explains their notes, with hints (slow_notes.py, slow_hints.py), how the run of pegi stops (slow_stops.py), and
+rejected lines (slow_refused.py), the others of a text with a fault (slow_faults.py): a grammar's, of which some bytes
+are changed.
 """
 import argparse
 import collections
@@ -81,6 +82,7 @@ def peg_case(r, may):
     is_whole = "1" in may and r.random() < 0.3
     is_escaped = "e" in may and r.random() < 0.5
     words = ["-l", str(limit)] + ["-r"] * raw + (["-s", start] if start else []) + ["-1"] * is_whole
+    words += ["--line-buffered"] * ("b" in may and r.random() < 0.5)
     budget = r.choice([1, 2, 3, 5, 10, 20]) if "d" in may and r.random() < 0.5 else None
     words += ["--escapes"] * is_escaped + (["-b", str(budget)] if budget else [])
     text = random_peg.grammar_text(r, rules)
@@ -236,7 +238,7 @@ def main():
     words.add_argument("-k", action="store_true", help="half of the runs of abnfi by `-k`")
     words.add_argument("-p", action="store_true", help="most of the runs of abnfi by `-p`, `-n` or `-H`")
     words.add_argument("-q", action="store_true", help="some of the runs of abnfi by `-q`")
-    words.add_argument("-b", action="store_true", help="half of the runs of abnfi by `--line-buffered`")
+    words.add_argument("-b", action="store_true", help="half of the runs of both by `--line-buffered`")
     words.add_argument("-1", action="store_true", help="a third of the runs of pegi by `-1`")
     words.add_argument("-e", action="store_true", help="half of the runs of pegi by `--escapes`")
     words.add_argument("-d", action="store_true", help="half of the runs of both by `-b`")

@@ -1,8 +1,9 @@
 #!/usr/bin/env python3
 """Compares bin/abnfg with a slow answer on random grammars: all short lists that the rule derives, as a set, in order.
-With `-m random` each line is derived, and a seed gives the same lines again. With `-m cover` the lines are compared
-with the goals that short lists reach: each line is a shortest one for some goal, and each goal has one. With `-x` this
-is so for the goal that is reported of each line, and the goals that are reported as missed are those of no short list.
+With `-a` no letter of them comes after another one that is in the same sets. With `-m random` each line is derived, and
+a seed gives the same lines again. With `-m cover` the lines are compared with the goals that short lists reach: each
+line is a shortest one for some goal, and each goal has one. With `-x` this is so for the goal that is reported of each
+line, and the goals that are reported as missed are those of no short list.
 
 usage: random_lines.py [-n GRAMMARS] [-s SEED]
 
@@ -22,7 +23,7 @@ import tempfile
 import random_abnf
 import slow_abnf
 from covered_lines import Reached, all_goals
-from short_lists import ShortLists, bounds_in, is_taken, line_key
+from short_lists import ShortLists, bounds_in, first_alike, is_taken, line_key
 
 BIN = pathlib.Path(__file__).resolve().parents[2] / "bin"
 # The most lists that are made of the letters of a grammar, and that are made for its goals.
@@ -67,7 +68,7 @@ class Case:
         self.is_utf8, self.end, self.count = r.random() < 0.5, r.choice([10, 10, 0]), r.choice([1, 2, 3, 5, 20])
         rules = slow_abnf.Rules(grammar)
         self.reported, self.is_refused = slow_abnf.notes_on(rules, rule)
-        self.lines, self.limit = [], 1
+        self.lines, self.alike, self.limit = [], [], 1
         self.rules, self.key = rules, (rule or next(iter(rules.file))).upper()
         if not self.is_refused:
             self.find_lines(rules, self.key, r.choice([1, 2, 3, 8]))
@@ -85,6 +86,8 @@ class Case:
         self.limit = limit
         lists = ShortLists(rules, letters, limit).derived(key)
         self.lines = sorted(lists, key=line_key)[:self.count]
+        lists = ShortLists(rules, first_alike(bodies, self.is_utf8, self.end), limit).derived(key)
+        self.alike = sorted(lists, key=line_key)[:self.count]
 
     def cover_words(self):
         return [*self.plain, "-c", "100000", "-l", str(self.most)]
@@ -100,18 +103,18 @@ class Case:
         self.least = {goal: {it for it in lists if len(it) == min(map(len, lists))}
                       for goal, lists in self.reaching.items()}
 
-    def output(self):
-        return b"".join(written(it, self.is_utf8) + bytes([self.end]) for it in self.lines)
+    def output(self, lines):
+        return b"".join(written(it, self.is_utf8) + bytes([self.end]) for it in lines)
 
-    def ended(self, out, err, status):
-        """Returns how a run ended: a word, or nothing if something is wrong with it."""
+    def ended(self, lines, out, err, status):
+        """Returns how a run that lists these lines ended: a word, or nothing if something is wrong with it."""
         if self.is_refused:
             return "refused" if (out, err, status) == (b"", self.reported, 2) else None
         if status == 3:
-            is_part = self.output().startswith(out) and (not out or out[-1] == self.end)
+            is_part = self.output(lines).startswith(out) and (not out or out[-1] == self.end)
             return "too many stacks" if is_part and err == self.reported + TOO_MANY else None
-        wanted = (self.output(), self.reported, 0 if self.lines else 1)
-        return ("lines" if self.lines else "no line") if (out, err, status) == wanted else None
+        wanted = (self.output(lines), self.reported, 0 if lines else 1)
+        return ("lines" if lines else "no line") if (out, err, status) == wanted else None
 
     def is_line(self, line):
         is_right = all(it != self.end and slow_abnf.is_letter(it, self.is_utf8) for it in line)
@@ -191,10 +194,16 @@ def main():
             if not case.is_refused:
                 case.find_goals()
             cover = [BIN / "abnfg", "-m", "cover", *case.cover_words(), grammar]
-            how = case.ended(*ran)
+            how = case.ended(case.lines, *ran)
             counts[how] += 1
             if how is None:
-                print(f"grammar {number}: abnfg {' '.join(case.words)}: {ran}\n{case.text}\nwanted: {case.output()}")
+                wanted = case.output(case.lines)
+                print(f"grammar {number}: abnfg {' '.join(case.words)}: {ran}\n{case.text}\nwanted: {wanted}")
+                return 1
+            alike = run([BIN / "abnfg", "-a", *case.words, grammar])
+            if case.ended(case.alike, *alike) is None:
+                wanted = case.output(case.alike)
+                print(f"grammar {number}: abnfg -a {' '.join(case.words)}: {alike}\n{case.text}\nwanted: {wanted}")
                 return 1
             covered, explained = run(cover), run([*cover, "-x"])
             if case.covered(*covered) is None or not case.is_explained(covered, explained):

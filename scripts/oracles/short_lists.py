@@ -39,6 +39,37 @@ def samples(bodies, is_utf8):
                   if slow_abnf.is_letter(it, is_utf8) and any(is_taken(body, it) for body in bodies))
 
 
+def sets_in(e):
+    """Yields the sets of letters of an element, each as a test: of a letter of a text, of a value, of a range. A
+    repetition with reversed bounds has none."""
+    kind = e[0]
+    if kind == "text":
+        for c in e[1]:
+            yield (lambda it, c=c: it == c) if e[2] else lambda it, c=c: slow_abnf.lower(it) == slow_abnf.lower(c)
+    elif kind == "values":
+        for v in e[1]:
+            yield lambda it, v=v: it == v
+    elif kind == "range":
+        yield lambda it: e[1] <= it <= e[2]
+    elif kind in ("concat", "alt"):
+        for part in e[1]:
+            yield from sets_in(part)
+    elif kind == "opt":
+        yield from sets_in(e[1])
+    elif kind == "rep" and (e[2] is None or e[1] <= e[2]):
+        yield from sets_in(e[3])
+
+
+def first_alike(bodies, is_utf8, end):
+    """Returns the letters before which, in the order of lines, none comes that is in the same sets of all elements."""
+    bounds = {0, 32, 33, 127, 0xE000, end, end + 1} | {it for body in bodies for it in bounds_in(body)}
+    sets, first = [test for body in bodies for test in sets_in(body)], {}
+    for letter in sorted(bounds, key=lambda it: line_key([it])):
+        if letter != end and slow_abnf.is_letter(letter, is_utf8):
+            first.setdefault(tuple(test(letter) for test in sets), letter)
+    return [letter for held, letter in first.items() if any(held)]
+
+
 class ShortLists:
     """The lists of at most so many of some letters that rules derive."""
 

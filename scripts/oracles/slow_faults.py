@@ -7,7 +7,7 @@ import collections
 import re
 
 SHOWN, HALF = 72, 36
-MAX_OPEN, MAX_NUMBER = 200, 4294967295
+MAX_OPEN, MAX_NUMBER, MAX_FAULTS = 200, 4294967295, 16
 
 # A token: its kind, where it begins, its bytes, and in ABNF whether white space stands right before it, and whether it
 # is the first of a line that begins a rule.
@@ -158,9 +158,9 @@ def action_end(text, start):
     return None
 
 
-def tokens_of(text, white, kinds, has_actions):
-    """Returns the tokens of a text, up to its end or a bad one: each is the longest that stands there."""
-    found, at = [], 0
+def tokens_of(text, white, kinds, has_actions, at=0):
+    """Returns the tokens of a text from a place on, up to its end or a bad one: each is the longest there."""
+    found, front = [], at
     while True:
         start = white.match(text, at).end()
         ends = [(it.end(), kind) for kind, form in kinds if (it := re.compile(form).match(text, start))]
@@ -168,7 +168,7 @@ def tokens_of(text, white, kinds, has_actions):
             ends.append((end, "Action"))
         kind = "End" if start == len(text) else "Bad"
         at, kind = max(ends, default=(len(text), kind))
-        after = found[-1].start + len(found[-1].text) if found else 0
+        after = found[-1].start + len(found[-1].text) if found else front
         found.append(Token(kind, start, text[start:at], start > after))
         if kind in ("End", "Bad"):
             return found
@@ -180,9 +180,14 @@ def indent(text, start):
     return None if front.strip(b" \t") else len(front)
 
 
+def margin_of(text):
+    """Returns the indentation of the first token of a text in ABNF; None if something else stands before it."""
+    return indent(text, ABNF_WHITE.match(text).end())
+
+
 def marked(text, tokens):
     """Marks the tokens of ABNF that are the first of a line that begins a rule."""
-    margin = indent(text, tokens[0].start)
+    margin = margin_of(text)
     found = []
     for it in tokens:
         here = indent(text, it.start)
@@ -259,26 +264,55 @@ def opens(token):
     return {"LParen": 1, "LBrack": 1, "RParen": -1, "RBrack": -1}.get(token.kind, 0)
 
 
-def peg(text):
-    """Returns the report on the fault of a grammar for pegi, and explains it; None if it has none."""
-    tokens, prefixes, depth = tokens_of(text, PEG_WHITE, PEG_TOKENS, True), Prefixes(PEG_RULES), 0
+def peg_from(text, start):
+    """Returns the report on the first fault of a grammar for pegi where it is read from a place on, which it explains,
+    and from where on the next rule line is looked for; None if there is no fault."""
+    tokens, prefixes, depth = tokens_of(text, PEG_WHITE, PEG_TOKENS, True, start), Prefixes(PEG_RULES), 0
     for number, token in enumerate(tokens):
+        low = tokens[number - 1].start if token.kind == "Arrow" and number > 0 else token.start
         line = len(re.findall(rb"\r\n|\r|\n", text[:token.start])) + 1
         where = place(text, token, rb"\r\n|\r|\n")
         if not prefixes.can_stand(token.kind, False, False):
             is_code = token.kind == "Action" and number > 0 and tokens[number - 1].kind == "Amp"
             reported = f"line {line}: " + ("code predicate\n" if is_code else "syntax error\n")
-            return reported + where + expected(prefixes, PEG_PHRASES) + peg_mistake(text, tokens, number)
+            return reported + where + expected(prefixes, PEG_PHRASES) + peg_mistake(text, tokens, number), low
         depth += opens(token)
         if depth > MAX_OPEN:
-            return f"line {line}: nested too deeply\n{where}200 brackets are open before it\n"
+            return f"line {line}: nested too deeply\n{where}200 brackets are open before it\n", low
         prefixes.read(token._replace(gap=False))
     return None
 
 
+def peg_rule_lines(text):
+    """Returns where the rule lines of a grammar for pegi begin, and where the names in them do."""
+    starts = [0, *(it.end() for it in re.finditer(rb"\r\n|\r|\n", text))]
+    found = [it for at in starts if (it := re.compile(rb"([ \t]*)[A-Za-z_][A-Za-z0-9_-]*[ \t]*<-").match(text, at))]
+    return [(it.start(), it.end(1)) for it in found if len(it[1]) <= len(found[0][1])]
+
+
+def all_faults(text, read_from, lines):
+    """Returns the reports on the faults of a grammar, of which each after the first is the first from a rule line on;
+    None if it has none."""
+    reports, start, lines = "", 0, lines(text)
+    for _ in range(MAX_FAULTS):
+        found = read_from(text, start)
+        if not found:
+            break
+        reports += found[0]
+        start = next((at for at, word in lines if word >= found[1] and at > start), None)
+        if start is None:
+            break
+    return reports or None
+
+
+def peg(text):
+    """Returns the reports on the faults of a grammar for pegi, and explains them; None if it has none."""
+    return all_faults(text, peg_from, peg_rule_lines)
+
+
 def line_facts(text, tokens, number):
-    """Returns the report on a token of ABNF by where its line, and that of the first token, begin."""
-    token, margin, facts = tokens[number], indent(text, tokens[0].start), ""
+    """Returns the report on a token of ABNF by where its line, and that of the first token of the text, begin."""
+    token, margin, facts = tokens[number], margin_of(text), ""
     if token.first and number > 0:
         facts += f"  its line begins a rule: it is indented by {indent(text, token.start)}, the first by {margin}\n"
     before = tokens[number - 1] if number > 0 else token
@@ -329,10 +363,10 @@ def mistake(text, tokens, number):
     return None
 
 
-def abnf_decision(text):
-    """Returns the tokens of a text, the number of the first with which it is no grammar in ABNF, the prefixes before
-    it, and what is wrong with it; the last three are None if it is a grammar."""
-    tokens, prefixes, depth = tokens_of(text, ABNF_WHITE, ABNF_TOKENS, False), Prefixes(ABNF_RULES), 0
+def abnf_decision(text, start=0):
+    """Returns the tokens of a text from a place on, the number of the first with which they are no grammar in ABNF, the
+    prefixes before it, and what is wrong with it; the last three are None if they are a grammar."""
+    tokens, prefixes, depth = tokens_of(text, ABNF_WHITE, ABNF_TOKENS, False, start), Prefixes(ABNF_RULES), 0
     tokens = marked(text, tokens)
     for number, token in enumerate(tokens):
         depth += opens(token)
@@ -344,9 +378,10 @@ def abnf_decision(text):
     return tokens, None, None, None
 
 
-def abnf(text):
-    """Returns the report on the fault of a grammar for abnfi, and explains it; None if it has none."""
-    tokens, number, prefixes, fault = abnf_decision(text)
+def abnf_from(text, start):
+    """Returns the report on the first fault of a grammar in ABNF where it is read from a place on, which it explains,
+    and from where on the next rule line is looked for; None if there is no fault."""
+    tokens, number, prefixes, fault = abnf_decision(text, start)
     if number is None:
         return None
     token = tokens[number]
@@ -356,4 +391,10 @@ def abnf(text):
         reported = mistake(text, tokens, number)
         facts = bad_fact(token, text, ABNF_FACTS) + line_facts(text, tokens, number)
         facts = {fault: expected(prefixes, ABNF_PHRASES) + (f"  {reported}\n" if reported else facts)}
-    return f"line {line}: {fault}\n{where}{facts[fault]}"
+    return f"line {line}: {fault}\n{where}{facts[fault]}", token.start
+
+
+def abnf(text):
+    """Returns the report on the fault of a grammar for abnfi, and explains it; None if it has none."""
+    found = abnf_from(text, 0)
+    return found and found[0]

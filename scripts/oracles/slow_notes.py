@@ -289,6 +289,13 @@ class AbnfPositions(Places):
         near = next((it for it in rules if is_near(it, self.key(name))), None)
         return f"  perhaps '{cut(self.spelled(near, near))}' is meant\n" if near and self.noted <= MEANT else ""
 
+    def prose(self, name):
+        """Returns the line of a rule's first prose, and another one if that is the name of a rule in brackets."""
+        word = next(word for is_prose, word, _ in self.bodies[self.key(name)] if is_prose)
+        names = {*self.named, *(it.lower().encode() for it in slow_abnf.CORE)}
+        is_rule = any(self.key(word) == b"<" + it + b">" for it in names)
+        return super().prose(name) + "  without < and > this is the rule of that name\n" * is_rule
+
     def names_in(self, rule):
         """Returns the keys of the names in a rule's body."""
         given = self.named.get(rule, [])

@@ -118,12 +118,12 @@ module _ (rows : List (List ℕ)) (prose : List Bool) (needs : List Demand) (are
 -- what chains of steps from a rule reach is what can be reached from it
 module _ (rules : List Rule) (given : Option (List ℕ)) (names : List (List ℕ)) (rows : List (List ℕ)) (judged : ℕ)
     (graph : IsGraph rules given names rows judged) (s : ℕ) (lt : s < length rules) where
-  record ReachedFrom (m : ℕ) : Type 0 where
+  pub record ReachedFrom (m : ℕ) : Type 0 where
     pub id : ℕ
     pub is : IsIdAt (length rules) m id
     pub reachable : Reachable rules s id
 
-  reached_from : {m : ℕ} → Reaches rows s m → ReachedFrom m
+  pub reached_from : {m : ℕ} → Reaches rows s m → ReachedFrom m
   reached_from start = record { id = s; is = inl (lt, refl); reachable = judged_rule }
   reached_from (further {n = n} {m = m} r step) =
       let old = reached_from r in
@@ -137,12 +137,12 @@ module _ (rules : List Rule) (given : Option (List ℕ)) (names : List (List ℕ
         reachable = by_name (subst (λ v. Reachable rules s v) same old.reachable) u.body_is u.within;
       }
 
-  record ReachedAt (id : ℕ) : Type 0 where
+  pub record ReachedAt (id : ℕ) : Type 0 where
     pub position : ℕ
     pub is : IsIdAt (length rules) position id
     pub reaches : Reaches rows s position
 
-  reached_at : {id : ℕ} → Reachable rules s id → ReachedAt id
+  pub reached_at : {id : ℕ} → Reachable rules s id → ReachedAt id
   reached_at judged_rule = record { position = s; is = inl (lt, refl); reaches = start }
   reached_at (by_name {id = user} {body = body} {name = name} r at within) =
       let old = reached_at r in

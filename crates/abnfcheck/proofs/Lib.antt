@@ -14,5 +14,10 @@ mod NameChainLemmas
 mod NameIdsLemmas
 mod NameMarksLemmas
 pub mod RuleIdLemmas
+pub mod UnrolledRulesLemmas
 mod WithCoreLemmas
 pub mod YieldsLemmas
+mod CopiedRulesLemmas
+pub mod ReachedGrammarLemmas
+mod NewSymbolsLemmas
+mod AlikeSymbolsLemmas

@@ -10,4 +10,9 @@ pub mod NameIds
 pub mod NameMarks
 pub mod ProseIn
 pub mod RuleMarks
+pub mod UnrolledRules
 pub mod WithCore
+pub mod AlikeSymbols
+pub mod CountsWithin
+pub mod NewSymbols
+pub mod ReachedGrammar

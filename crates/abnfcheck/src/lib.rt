@@ -4,6 +4,9 @@
 mod abnf_check;
 mod abnf_notes;
 mod aim;
+mod alike;
+mod copies;
+mod counts;
 mod decided_law;
 mod joined;
 mod name_ids;
@@ -18,6 +21,9 @@ mod sound_abnf;
 mod table_marks;
 
 pub use abnf_check::{Checked, JudgedAbnf, check_abnf, judge_abnf};
+pub use alike::new_symbols;
+pub use copies::{copied_rules, reached_grammar, unrolled_grammar};
+pub use counts::are_rules_within;
 pub use decided_law::{derivation_is_decided, furthest_is_found};
 pub use joined::AllRules;
 pub use notes_law::one_list_of_abnf_notes;

@@ -2,7 +2,6 @@ mod OpenedSideLemmas
 pub mod CheckedTextLemmas
 pub mod CompareAnswersLemmas
 pub mod CompareWordsLemmas
-pub mod CopiedRulesLemmas
 pub mod RulesByNameLemmas
 pub mod StatusLemmas
 pub mod UnchangedRulesLemmas

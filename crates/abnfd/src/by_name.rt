@@ -20,10 +20,9 @@ use crate::answer::comparison_status;
 use crate::compared::{
     CompareSettings, ComparisonAnswer, Report, both_reported, compare_texts, is_partner, rejected,
 };
-use crate::copies::copied_rules;
 use crate::files::Texts;
 use crate::side::{faulty_text, side_notes};
-use abnfcheck::{JudgedAbnf, SoundAbnf, judge_abnf, sound_rules};
+use abnfcheck::{JudgedAbnf, SoundAbnf, copied_rules, judge_abnf, sound_rules};
 use abnfread::{Abnf, Elem, read_abnf};
 use cli::greater_status;
 use fixpoint::names_of_rules;

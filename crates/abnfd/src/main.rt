@@ -6,7 +6,6 @@ mod answer;
 mod by_name;
 mod command;
 mod compared;
-mod copies;
 mod files;
 mod quoted;
 mod refusals;

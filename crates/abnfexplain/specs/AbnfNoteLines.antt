@@ -4,6 +4,7 @@ use Rattle.abnfread.specs.AbnfKinds.{ends_list}
 use Rattle.abnfread.specs.AbnfSlices.{White, First}
 use Rattle.abnfread.specs.declared.kind.AbnfKind.{AbnfKind}
 use Rattle.abnfread.specs.declared.kind.AbnfKind.TheVariants.{Name, Is, Adds, Prose, Num, Repeat}
+use Rattle.diagnostics.specs.ExplainedNotes as explained
 use Rattle.diagnostics.specs.ExplainedNotes.{ArePositions, IsNoteExplained}
 use Rattle.diagnostics.specs.declared.noteplaces.positions.Positions.{Positions}
 use Rattle.diagnostics.specs.declared.noteplaces.sign.Sign.{Sign}
@@ -29,3 +30,7 @@ AreAbnfPositions text = ArePositions White First ends_list sign_of Lf Fold text
 -- the lines after a note, where that name is given for the judged rule
 abbrev pub ExplainsNote : List ℕ → Option (List ℕ) → Said → List ℕ → Type 0
 ExplainsNote text = IsNoteExplained White First ends_list sign_of Lf Fold text
+
+-- the first prose of the rule of that name, with `<` and `>`, if it has one
+abbrev pub IsFirstProse : List ℕ → List ℕ → Option (List ℕ) → Type 0
+IsFirstProse text = explained.IsFirstProse White First ends_list sign_of Lf Fold text

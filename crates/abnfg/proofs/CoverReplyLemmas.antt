@@ -67,7 +67,7 @@ module _ (s : ListSettings) (rules : List Rule) (id : ℕ) (s0 s1 : Option (List
       (are_missed : AreMissedBy s rules id missed) where
     first_cover : (n : ℕ) → AreFirstAsked s rules id (line_items (take n lines))
     first_cover n =
-        subst (λ (m : ListMode). FirstIn m s.edges s.letters (end_of s.nul) s.limit rules id
+        subst (λ (m : ListMode). FirstIn m s.alike s.edges s.letters (end_of s.nul) s.limit rules id
         (line_items (take n lines))) (sym mode) (inr (record {
           lines = lines;
           cover = cover;
@@ -76,7 +76,7 @@ module _ (s : ListSettings) (rules : List Rule) (id : ℕ) (s0 s1 : Option (List
 
     whole_cover : AreWholeAsked s rules id (line_items lines)
     whole_cover =
-        subst (λ (m : ListMode). WholeIn m s.edges s.letters (end_of s.nul) s.limit rules id (line_items lines))
+        subst (λ (m : ListMode). WholeIn m s.alike s.edges s.letters (end_of s.nul) s.limit rules id (line_items lines))
         (sym mode) (record { lines = lines; cover = cover; are = refl })
 
     goals_reported : (n : ℕ) (text : List ℕ)

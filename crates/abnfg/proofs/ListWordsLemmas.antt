@@ -16,6 +16,7 @@ unseeded_app letters modes = program_app (codes "abnfg") (rule_rule
     ∷ number_rule (codes "limit") (code "l") 16777216 (codes "256")
     ∷ number_rule (codes "count") (code "c") 4294967295 (codes "1000")
     ∷ flag_rule (codes "null-data") (code "z")
+    ∷ flag_rule (codes "alike") (code "a")
     ∷ flag_rule (codes "edges") (code "e")
     ∷ flag_rule (codes "explain") (code "x")
     ∷ grammar_rule

@@ -8,8 +8,8 @@ use Rattle.std.specs.List.{All}
 use Rattle.std.proofs.lemmas.List.Elements.{All-push, All-weaker}
 use Rattle.abnfg.proofs.ListedLinesLemmas.{all_as, first_as, no_lines_first, none_listed}
 use Rattle.abnfg.specs.ListedLines.{AreListed, IsListStep, end_of}
-use Rattle.abnfg.specs.ListModes.{AreFirstAsked, AreLinesAsked, AreMissesAsked, FirstIn, HasReturned}
-use Rattle.abnfg.specs.ListModes.{IsReturnStep, WholeIn, prefixes_asked}
+use Rattle.abnfg.specs.ListModes.{AreFirstAsked, AreLinesAsked, AreMissesAsked, AreOrderedAsked, FirstIn}
+use Rattle.abnfg.specs.ListModes.{HasReturned, IsOrderedLine, IsReturnStep, WholeIn, prefixes_asked}
 use Rattle.abnfg.specs.declared.lines.ListMode.{ListMode}
 use Rattle.abnfg.specs.declared.lines.ListMode.TheVariants.{All as InOrder, Cover, Miss, Random}
 use Rattle.abnfg.specs.declared.lines.ListSettings.{ListSettings}
@@ -29,13 +29,16 @@ use Rattle.rulelines.proofs.MissLinesLemmas.{first_misses, no_prefixes, reported
 
 module _ (s : ListSettings) (rules : List Rule) (id : ℕ) where
   abbrev FirstOf : ListMode → List (List ℕ) → Type 0
-  FirstOf mode = FirstIn mode s.edges s.letters (end_of s.nul) s.limit rules id
+  FirstOf mode = FirstIn mode s.alike s.edges s.letters (end_of s.nul) s.limit rules id
 
   abbrev WholeOf : ListMode → List (List ℕ) → Type 0
-  WholeOf mode = WholeIn mode s.edges s.letters (end_of s.nul) s.limit rules id
+  WholeOf mode = WholeIn mode s.alike s.edges s.letters (end_of s.nul) s.limit rules id
 
   abbrev RuleLine : List ℕ → Type 0
   RuleLine = IsRuleLine s.letters (end_of s.nul) s.limit rules id
+
+  abbrev OrderedLine : List ℕ → Type 0
+  OrderedLine = IsOrderedLine s.alike s.letters (end_of s.nul) s.limit rules id
 
   -- the first misses of a set of prefixes, and all of them
   abbrev FirstMissesIn : PrefixSet → List (List ℕ) → Type 0
@@ -46,7 +49,7 @@ module _ (s : ListSettings) (rules : List Rule) (id : ℕ) where
 
   -- no line is the first of the lines of any mode
   pub none_first : (mode : ListMode) → FirstOf mode []
-  none_first InOrder = no_lines_first RuleLine
+  none_first InOrder = no_lines_first OrderedLine
   none_first Cover = inl refl
   none_first Miss =
       first_misses s.letters (end_of s.nul) s.limit rules id s.edges []
@@ -57,7 +60,7 @@ module _ (s : ListSettings) (rules : List Rule) (id : ℕ) where
   pub returned_first : (source : LineSource) (ws : List (List ℕ)) → HasReturned s rules id source ws
       → AreFirstAsked s rules id ws
   returned_first (Derived d) ws is =
-      subst (λ (m : ListMode). FirstOf m ws) (sym is.0) (first_as (IsLineIn d.lines) RuleLine is.1 ws is.2.first)
+      subst (λ (m : ListMode). FirstOf m ws) (sym is.0) (first_as (IsLineIn d.lines) OrderedLine is.1 ws is.2.first)
   returned_first (Missed m) ws is =
       subst (λ (m : ListMode). FirstOf m ws) (sym is.0)
       (subst (λ (v : PrefixSet). FirstMissesIn v ws) is.1.0 (reported_first rules id m ws is.2))
@@ -66,7 +69,7 @@ module _ (s : ListSettings) (rules : List Rule) (id : ℕ) where
       (All-weaker (IsLineIn lines) RuleLine (λ w. (is.1 w).0) ws is.2)
 
   -- a source that has returned no line
-  pub none_derived : (d : DerivedLines) → s.mode ≡ InOrder → AreLinesAsked s rules id d.lines → d.last ≡ None
+  pub none_derived : (d : DerivedLines) → s.mode ≡ InOrder → AreOrderedAsked s rules id d.lines → d.last ≡ None
       → HasReturned s rules id (Derived d) []
   none_derived d mode are none = (
     mode,
@@ -94,11 +97,11 @@ module _ (s : ListSettings) (rules : List Rule) (id : ℕ) where
       → IsListStep (IsLineIn old.lines) new.last ws step → IsReturnStep s rules id (Derived new) ws step
   derived_next old new same ws (Line w) is next = (
     is.0,
-    subst (λ (v : LineSet). AreLinesAsked s rules id v) (sym same) is.1,
+    subst (λ (v : LineSet). AreOrderedAsked s rules id v) (sym same) is.1,
     subst (λ (v : LineSet). AreListed (IsLineIn v) new.last (ws ++ w.items ∷ [])) (sym same) next,
   )
   derived_next old new same ws Done is all =
-      subst (λ (m : ListMode). WholeOf m ws) (sym is.0) (all_as (IsLineIn old.lines) RuleLine is.1 ws all)
+      subst (λ (m : ListMode). WholeOf m ws) (sym is.0) (all_as (IsLineIn old.lines) OrderedLine is.1 ws all)
 
   same_misses : (old new : MissList) → new.prefixes.set ≡ old.prefixes.set → AreMissesAsked s rules id old
       → AreMissesAsked s rules id new

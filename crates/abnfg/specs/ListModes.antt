@@ -1,5 +1,5 @@
 -- Which lines each mode lists.
-use Rattle.std.specs.Prelude.{◌≡◌, ℕ, Bool, true, false, List, [], ◌∷◌, ◌++◌}
+use Rattle.std.specs.Prelude.{◌≡◌, ◌↔◌, ℕ, Bool, true, false, List, [], ◌∷◌, ◌++◌}
 use Rattle.std.specs.List.{All}
 use Rattle.std.proofs.Common.{Vec, Global}
 use Rattle.abnfg.specs.CoverGoals.{AreGoalsReported}
@@ -18,31 +18,40 @@ use Rattle.rulelines.specs.LineSets.{AreRuleLines, IsLineIn, IsRuleLine, LineSet
 use Rattle.rulelines.specs.MissLists.{AreAllMisses, AreFirstMisses, AreLinesReported, AreOfRule, MissList}
 use Rattle.rulelines.specs.MissLists.{item_lines}
 use Rattle.rulelines.specs.MissSearch.{PrefixSet}
+use Rattle.rulelines.specs.SampleLines.{IsSampleLine}
 use Rattle.rulelines.specs.declared.list.lines.NextLine.{NextLine}
 use Rattle.rulelines.specs.declared.list.lines.NextLine.TheVariants.{Line, Done}
 
+-- a line of the rule, or one whose symbols are each the first of those that no set distinguishes from it
+abbrev pub IsOrderedLine : Bool → Alphabet → ℕ → ℕ → List Rule → ℕ → List ℕ → Type 0
+IsOrderedLine false alphabet terminator limit rules id = IsRuleLine alphabet terminator limit rules id
+IsOrderedLine true alphabet terminator limit rules id = IsSampleLine alphabet terminator limit rules id
+
 -- the lists of lines that a mode begins with
-abbrev pub FirstIn : ListMode → Bool → Alphabet → ℕ → ℕ → List Rule → ℕ → List (List ℕ) → Type 0
-FirstIn InOrder edges alphabet terminator limit rules id = AreFirstLines (IsRuleLine alphabet terminator limit rules id)
-FirstIn Cover edges alphabet terminator limit rules id = AreFirstOfCover (bounds_of alphabet terminator limit) rules id
-FirstIn Miss edges alphabet terminator limit rules id = AreFirstMisses alphabet terminator limit rules id edges
-FirstIn Random edges alphabet terminator limit rules id = All (IsRuleLine alphabet terminator limit rules id)
+abbrev pub FirstIn : ListMode → Bool → Bool → Alphabet → ℕ → ℕ → List Rule → ℕ → List (List ℕ) → Type 0
+FirstIn InOrder alike edges alphabet terminator limit rules id =
+    AreFirstLines (IsOrderedLine alike alphabet terminator limit rules id)
+FirstIn Cover alike edges alphabet terminator limit rules id =
+    AreFirstOfCover (bounds_of alphabet terminator limit) rules id
+FirstIn Miss alike edges alphabet terminator limit rules id = AreFirstMisses alphabet terminator limit rules id edges
+FirstIn Random alike edges alphabet terminator limit rules id = All (IsRuleLine alphabet terminator limit rules id)
 
 -- the lists of all its lines
-abbrev pub WholeIn : ListMode → Bool → Alphabet → ℕ → ℕ → List Rule → ℕ → List (List ℕ) → Type 0
-WholeIn InOrder edges alphabet terminator limit rules id = HoldAll (IsRuleLine alphabet terminator limit rules id)
-WholeIn Cover edges alphabet terminator limit rules id =
+abbrev pub WholeIn : ListMode → Bool → Bool → Alphabet → ℕ → ℕ → List Rule → ℕ → List (List ℕ) → Type 0
+WholeIn InOrder alike edges alphabet terminator limit rules id =
+    HoldAll (IsOrderedLine alike alphabet terminator limit rules id)
+WholeIn Cover alike edges alphabet terminator limit rules id =
     AreOfCover IsSameList (bounds_of alphabet terminator limit) rules id
-WholeIn Miss edges alphabet terminator limit rules id = AreAllMisses alphabet terminator limit rules id edges
-WholeIn Random edges alphabet terminator limit rules id = HoldAll (IsRuleLine alphabet terminator limit rules id)
+WholeIn Miss alike edges alphabet terminator limit rules id = AreAllMisses alphabet terminator limit rules id edges
+WholeIn Random alike edges alphabet terminator limit rules id = HoldAll (IsRuleLine alphabet terminator limit rules id)
 
 abbrev pub AreFirstAsked : ListSettings → List Rule → ℕ → List (List ℕ) → Type 0
-AreFirstAsked settings rules id = FirstIn settings.mode settings.edges settings.letters (end_of settings.nul)
-    settings.limit rules id
+AreFirstAsked settings rules id = FirstIn settings.mode settings.alike settings.edges settings.letters
+    (end_of settings.nul) settings.limit rules id
 
 abbrev pub AreWholeAsked : ListSettings → List Rule → ℕ → List (List ℕ) → Type 0
-AreWholeAsked settings rules id = WholeIn settings.mode settings.edges settings.letters (end_of settings.nul)
-    settings.limit rules id
+AreWholeAsked settings rules id = WholeIn settings.mode settings.alike settings.edges settings.letters
+    (end_of settings.nul) settings.limit rules id
 
 -- the prefixes of the lines that are asked for and miss a rule, by the flat grammar of some
 abbrev pub prefixes_asked : ListSettings → PrefixSet → PrefixSet
@@ -93,13 +102,18 @@ module _ (settings : ListSettings) (rules : List Rule) (id : ℕ) where
   abbrev pub AreLinesAsked : LineSet → Type 0
   AreLinesAsked lines = AreRuleLines settings.letters (end_of settings.nul) settings.limit rules id lines
 
+  -- .. in the mode of lines in order
+  abbrev pub AreOrderedAsked : LineSet → Type 0
+  AreOrderedAsked lines = (w : List ℕ)
+      → IsLineIn lines w ↔ IsOrderedLine settings.alike settings.letters (end_of settings.nul) settings.limit rules id w
+
   abbrev pub AreMissesAsked : MissList → Type 0
   AreMissesAsked misses = (misses.prefixes.set ≡ prefixes_asked settings misses.prefixes.set)
       × AreOfRule rules id misses
 
   -- a source of the lines that are asked for has returned some
   abbrev pub HasReturned : LineSource → List (List ℕ) → Type 0
-  HasReturned (Derived derived) ws = (settings.mode ≡ InOrder) × AreLinesAsked derived.lines
+  HasReturned (Derived derived) ws = (settings.mode ≡ InOrder) × AreOrderedAsked derived.lines
       × AreListed (IsLineIn derived.lines) derived.last ws
   HasReturned (Missed misses) ws = (settings.mode ≡ Miss) × AreMissesAsked misses × AreLinesReported rules id misses ws
   HasReturned (Drawn lines lots) ws = (settings.mode ≡ Random) × AreLinesAsked lines × All (IsLineIn lines) ws

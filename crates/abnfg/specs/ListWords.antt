@@ -21,12 +21,13 @@ seed_rule = record (value_rule (codes "seed") (code "g")) {
   defaults = codes "1" ∷ [];
 }
 
--- `abnfg [-s RULE] [-l N] [-c N] [-z] [-e] [-x] GRAMMAR [-u MODE] [-m MODE] [-g SEED]`
+-- `abnfg [-s RULE] [-l N] [-c N] [-z] [-a] [-e] [-x] GRAMMAR [-u MODE] [-m MODE] [-g SEED]`
 abbrev pub abnfg_app : Names → Names → App
 abnfg_app letters modes = program_app (codes "abnfg") (rule_rule
     ∷ number_rule (codes "limit") (code "l") 16777216 (codes "256")
     ∷ number_rule (codes "count") (code "c") 4294967295 (codes "1000")
     ∷ flag_rule (codes "null-data") (code "z")
+    ∷ flag_rule (codes "alike") (code "a")
     ∷ flag_rule (codes "edges") (code "e")
     ∷ flag_rule (codes "explain") (code "x")
     ∷ grammar_rule
@@ -59,6 +60,7 @@ pub record AskLines (rows : List Row) (settings : ListSettings) : Type 0 where
   pub limit : IsNumberOf 256 (one_of (codes "limit") rows) settings.limit
   pub count : IsNumberOf 1000 (one_of (codes "count") rows) settings.count
   pub nul : settings.nul ≡ is_flagged (first_of (codes "null-data") rows)
+  pub alike : settings.alike ≡ is_flagged (first_of (codes "alike") rows)
   pub edges : settings.edges ≡ is_flagged (first_of (codes "edges") rows)
   pub explain : settings.explain ≡ is_flagged (first_of (codes "explain") rows)
   pub seed : IsSeedOf (one_of (codes "seed") rows) settings.seed

@@ -25,6 +25,7 @@ Lines:
   -m, --mode <MODE>     Choose which lines to list [default: all] [possible values: all, cover, miss, random]
   -l, --limit <N>       List lines of at most N symbols, from 1 to 16777216 [default: 256]
   -c, --count <N>       List at most N lines, from 1 to 4294967295 [default: 1000]
+  -a, --alike           List lines of mode `all` with the first alone of symbols that no set distinguishes
   -e, --edges           Also list lines of mode `miss` by wrong symbols next to those that can follow
   -g, --seed <SEED>     Draw lines of mode `random` by this number, from 0 to 18446744073709551615 [default: 1]
   -u, --letters <MODE>  Take bytes or code points of UTF-8 as symbols [default: bytes] [possible values: bytes, utf8]
@@ -47,11 +48,12 @@ Example:
   abnfg -c 20 date.abnf";
 
 /// The options and operands but for the seed.
-static PARAMETERS: [Parameter; 9] = [
+static PARAMETERS: [Parameter; 10] = [
     Parameter::Text("rule", 's', "RULE"),
     Parameter::Number("limit", 'l', 16_777_216, "256"),
     Parameter::Number("count", 'c', 4_294_967_295, "1000"),
     Parameter::Flag("null-data", 'z'),
+    Parameter::Flag("alike", 'a'),
     Parameter::Flag("edges", 'e'),
     Parameter::Flag("explain", 'x'),
     Parameter::Operand("grammar", "GRAMMAR", true),
@@ -85,8 +87,8 @@ fn add_seed<'a>(command: Command<'a>, alloc: Global) -> Result<Command<'a>, Allo
     command.arg(seed_arg(alloc)?)
 }
 
-/// Returns the command `abnfg [-e] [-m MODE] [-l N] [-c N] [-g SEED] [-s RULE] [-u MODE] [-x] [-z] GRAMMAR`, or an
-/// error if an allocation fails.
+/// Returns the command `abnfg [-a] [-e] [-m MODE] [-l N] [-c N] [-g SEED] [-s RULE] [-u MODE] [-x] [-z] GRAMMAR`, or
+/// an error if an allocation fails.
 pub(crate) fn abnfg_command<'a>(alloc: Global) -> Result<Command<'a>, AllocError>
     ensures { (app : _) × IsAbnfgApp app × IfOk result (λ c. app_of c ≡ app) }
 {
@@ -124,6 +126,7 @@ pub(crate) fn settings_of<'a>(matches: &ArgMatches<'a>) -> ListSettings<'a>
         limit: number_of(matches, "limit", 256),
         count: number_of(matches, "count", 1000),
         nul: is_given(matches, "null-data"),
+        alike: is_given(matches, "alike"),
         edges: is_given(matches, "edges"),
         explain: is_given(matches, "explain"),
         seed: seed_of(matches),

@@ -49,6 +49,8 @@ pub(crate) struct ListSettings<'a> {
     pub(crate) count: u32,
     /// Whether a NUL byte ends a line, in place of LF.
     pub(crate) nul: bool,
+    /// Whether lines in order have only the first of symbols that no set distinguishes.
+    pub(crate) alike: bool,
     /// Whether each symbol that cannot follow a prefix is listed after it, next to one that can.
     pub(crate) edges: bool,
     /// Whether it is explained why lines that miss the rule are rejected, and which goals others reach.

@@ -40,8 +40,8 @@ fn list_asked<R: Files + AllocGlobal, O: Sink, E: Sink>(
     }
 }
 
-/// Runs the program, whose words are its own name and `[-e] [-m MODE] [-l N] [-c N] [-g SEED] [-s RULE] [-u MODE]
-/// [-x] [-z] GRAMMAR`: it lists lines that a rule of the grammar in the file GRAMMAR derives.
+/// Runs the program, whose words are its own name and `[-a] [-e] [-m MODE] [-l N] [-c N] [-g SEED] [-s RULE] [-u
+/// MODE] [-x] [-z] GRAMMAR`: it lists lines that a rule of the grammar in the file GRAMMAR derives.
 ///
 /// - `-h`: the help on `out`, `Done`.
 /// - Other words: what is wrong with them on `err`, `Refused`, and nothing is read.
@@ -49,7 +49,8 @@ fn list_asked<R: Files + AllocGlobal, O: Sink, E: Sink>(
 /// - The grammar's fault, or the notes on it, stand on `err`. A fault, or a note that rejects the grammar: `Refused`.
 /// - Else the first lines of the rule on `out`, each with its end, `Done`. They come in the order of lines: shorter
 ///   ones first, and else by the first symbol that differs: %x21-7E, then the space, then others by number. Each stands
-///   there once. They are as many as the words ask for, or all that have at most so many symbols.
+///   there once. With `-a` no set distinguishes a symbol of them from an earlier one. They are as many as the words ask
+///   for, or all that have at most so many symbols.
 /// - With `-x` and `-m miss`: then on `err` why the rule rejects each of the lines.
 /// - With `-x` and `-m cover`: then on `err` the goal of each of the lines, and the goals that no line reaches.
 /// - There is no such line: `NoMatch`.

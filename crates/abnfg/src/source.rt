@@ -1,7 +1,7 @@
 //! The lines that are asked for, one after another.
 ghost use Rattle.std.specs.Prelude.{◌≡◌, ℕ, List, [], IfOk, IfSome, false};
 ghost use Rattle.abnfg.specs.ListedLines.{AreListed, IsListStep, IsStepOf, end_of};
-ghost use Rattle.abnfg.specs.ListModes.{HasReturned, IsReturnStep, reaches_goals};
+ghost use Rattle.abnfg.specs.ListModes.{AreOrderedAsked, HasReturned, IsReturnStep, reaches_goals};
 ghost use Rattle.abnfg.specs.declared.lines.ListSettings.{ListSettings as the_settings};
 ghost use Rattle.abnfread.specs.AbnfViews.{rules_of};
 ghost use Rattle.abnfread.specs.Element.{Rule};
@@ -73,6 +73,24 @@ fn derived_lines(
     Lines::new(alloc, grammar, settings.letters, end, settings.limit, ROOM)
 }
 
+// Returns the lines that the judged rule of a grammar derives: all, or if settings ask for them, those that have only
+// the first of symbols that no set distinguishes. `None` if there is no room for the states. `Memory` if an allocation
+// fails.
+fn ordered_lines(
+    alloc: Global,
+    settings: &ListSettings<'_>,
+    grammar: &SoundAbnf,
+) -> Result<Option<Lines>, Memory>
+    ensures { IfOk result (λ reported. IfSome reported (AreOrderedAsked settings.now (rules_of grammar.now.rules)
+        grammar.now.judged)) }
+{
+    if settings.alike {
+        let end = end_byte(settings);
+        return Lines::of_samples(alloc, grammar, settings.letters, end, settings.limit, ROOM);
+    }
+    derived_lines(alloc, settings, grammar)
+}
+
 // Returns the lines that miss the judged rule of a grammar. `None` if there is no room for the states. `Memory` if an
 // allocation fails.
 fn missed_lines(
@@ -117,7 +135,7 @@ impl LineSource {
     {
         match settings.mode {
             ListMode::All => {
-                let Some(lines) = derived_lines(alloc, settings, grammar)? else {
+                let Some(lines) = ordered_lines(alloc, settings, grammar)? else {
                     return Ok(None);
                 };
                 let last = None;

@@ -1,9 +1,10 @@
 -- What explains a note is one text.
 -- Serves: one_statement_of_abnf, run_abnf (right)
 use Rattle.std.proofs.Common.{◌≡◌, ℕ, ◌+◌, ◌-◌, Bool, true, false, List, [], ◌∷◌, ◌++◌, length, take, drop, Option}
-use Rattle.std.proofs.Common.{map, refl, sym, ◌∙◌, ap, subst}
-use Rattle.std.specs.Prelude.{position}
-use Rattle.std.proofs.lemmas.List.{drop-map, length-map, map-append, take-map}
+use Rattle.std.proofs.Common.{Some, None, map, refl, sym, ◌∙◌, ap, arith, subst}
+use Rattle.std.specs.Borrow.{Bor}
+use Rattle.std.specs.Prelude.{codes, if◌then◌else◌, is_some, option_map, position}
+use Rattle.std.proofs.lemmas.List.{drop-map, length-append, length-map, map-append, take-map, take_at}
 use Rattle.ruletable.proofs.TableLemmas.{position-map}
 use Rattle.ruletable.specs.Notes.{Said}
 use Rattle.ruletable.specs.declared.note.NoteKind.{NoteKind}
@@ -21,17 +22,22 @@ use Rattle.abnfread.specs.Element.{Definition, Rule}
 use Rattle.abnfcheck.specs.AbnfUses.{rule_names}
 use Rattle.abnfcheck.specs.NameChains.{AreLast, AreNameChains, IsNameChain}
 use Rattle.abnfcheck.specs.NameIds.{all_names}
-use Rattle.abnfcheck.specs.WithCore.{with_core}
+use Rattle.abnfcheck.proofs.JoinLemmas.{position_found}
+use Rattle.abnfcheck.specs.WithCore.{has_name, with_core}
 use Rattle.abnfcheck.specs.declared.reached_names.ChainEnds.{ChainEnds}
 use Rattle.abnfcheck.specs.declared.reached_names.NameChains.{NameChains}
-use Rattle.abnfexplain.specs.AbnfNoteLines.{ExplainsNote}
+use Rattle.abnfexplain.specs.AbnfNoteLines.{ExplainsNote, IsFirstProse}
 use Rattle.abnfexplain.specs.ChainLines.{chain_line, chain_reported, ends_line}
 use Rattle.diagnostics.proofs.NearNamesLemmas.{meant-line-one}
+use Rattle.diagnostics.specs.BodyMentions.{MentionedAt, mentioned_at}
+use Rattle.diagnostics.specs.declared.noteplaces.mentions.Mention.{Mention}
 use Rattle.diagnostics.specs.NearNames.{IsMeant, IsMeantIf, is_before_limit, meant_reported}
 use Rattle.abnfrun.specs.AbnfNoted.{all_rules}
-use Rattle.abnfrun.specs.AbnfExplainedNotes.{AreAllRules, AreUndefinedLines, ExplainsAbnfNote, IsMeantLine}
-use Rattle.abnfrun.specs.AbnfExplainedNotes.{IsReachAfter, IsReachLine, is_early_name}
-use Rattle.abnfrun.proofs.AllRulesLemmas.{all_same}
+use Rattle.abnfrun.specs.AbnfExplainedNotes.{AreAllRules, AreProseLines, AreUndefinedLines}
+use Rattle.abnfrun.specs.AbnfExplainedNotes.{ExplainsAbnfNote, IsMeantLine}
+use Rattle.abnfrun.specs.AbnfExplainedNotes.{IsReachAfter, IsReachLine, between_brackets, is_early_name}
+use Rattle.abnfrun.specs.AbnfExplainedNotes.{named_line}
+use Rattle.abnfrun.proofs.AllRulesLemmas.{all_same, any_map}
 
 -- the lines of positions are one text
 abbrev LinesAreOne : Type 0
@@ -42,12 +48,18 @@ LinesAreOne = (text : List ℕ) (start : Option (List ℕ)) (note : Said) (a b :
 abbrev ReadingsAreOne : Type 0
 ReadingsAreOne = (text : List ℕ) (a b : List Definition) → Reads text a → Reads text b → a ≡ b
 
+-- a rule's first prose is one
+abbrev ProsesAreOne : Type 0
+ProsesAreOne = (text name : List ℕ) (a b : Option (List ℕ)) → IsFirstProse text name a → IsFirstProse text name b
+    → a ≡ b
+
 -- a chain of names is one
 abbrev ChainsAreOne : Type 0
 ChainsAreOne = (rules : List Rule) (given : Option (List ℕ)) (name : List ℕ) (a b : Option (List (List ℕ)))
     → IsNameChain rules given name a → IsNameChain rules given name b → a ≡ b
 
-module _ (reading : ReadingsAreOne) (one : ChainsAreOne) (text : List ℕ) (start : Option (List ℕ)) where
+module _ (proses : ProsesAreOne) (reading : ReadingsAreOne) (one : ChainsAreOne) (text : List ℕ)
+    (start : Option (List ℕ)) where
   reach_is_one : (name a b : List ℕ) → IsReachLine text start name a → IsReachLine text start name b → a ≡ b
   reach_is_one name a b g h =
       let same = reading text h.definitions g.definitions h.reads g.reads in
@@ -65,22 +77,34 @@ module _ (reading : ReadingsAreOne) (one : ChainsAreOne) (text : List ℕ) (star
       g.is_meant moved)
       ∙ ap (λ (z : List ℕ). h.meant ++ z) (reach_is_one name g.reach h.reach g.is_reach h.is_reach) ∙ sym h.is
 
+  prose_is_one : (name a b : List ℕ) → AreProseLines text start name a → AreProseLines text start name b → a ≡ b
+  prose_is_one name a b g h =
+      let same = reading text g.definitions h.definitions g.reads h.reads in
+      g.is
+      ∙ ap (λ (ds : List Definition). named_line (all_rules ds) g.prose ++ g.reach) same
+      ∙ ap (λ (p : Option (List ℕ)). named_line (all_rules h.definitions) p ++ g.reach)
+      (proses text name g.prose h.prose g.is_prose h.is_prose)
+      ∙ ap (λ (z : List ℕ). named_line (all_rules h.definitions) h.prose ++ z)
+      (reach_is_one name g.reach h.reach g.is_reach h.is_reach) ∙ sym h.is
+
   after_is_one : (kind : NoteKind) (name a b : List ℕ) → IsReachAfter text start kind name a
       → IsReachAfter text start kind name b → a ≡ b
   after_is_one Redefined name a b g h = g ∙ sym h
   after_is_one ExtendedEarly name a b g h = g ∙ sym h
   after_is_one Undefined name a b g h = undefined_is_one name a b g h
-  after_is_one Prose name a b g h = reach_is_one name a b g h
+  after_is_one Prose name a b g h = prose_is_one name a b g h
   after_is_one Unused name a b g h = g ∙ sym h
   after_is_one LeftRecursion name a b g h = g ∙ sym h
   after_is_one Loop name a b g h = g ∙ sym h
 
-pub explanation_is_one : LinesAreOne → ReadingsAreOne → ChainsAreOne → (text : List ℕ) (start : Option (List ℕ))
-    (note : Said) (a b : List ℕ) → ExplainsAbnfNote text start note a → ExplainsAbnfNote text start note b → a ≡ b
-explanation_is_one lines reading one text start note a b g h =
+pub explanation_is_one : LinesAreOne → ProsesAreOne → ReadingsAreOne → ChainsAreOne → (text : List ℕ)
+    (start : Option (List ℕ)) (note : Said) (a b : List ℕ) → ExplainsAbnfNote text start note a
+    → ExplainsAbnfNote text start note b → a ≡ b
+explanation_is_one lines proses reading one text start note a b g h =
     g.is
     ∙ (ap (λ z. z ++ g.line) (lines text start note g.lines h.lines g.explains h.explains)
-    ∙ (ap (λ z. h.lines ++ z) (after_is_one reading one text start note.kind note.name g.line h.line g.after h.after)
+    ∙ (ap (λ z. h.lines ++ z)
+    (after_is_one proses reading one text start note.kind note.name g.line h.line g.after h.after)
     ∙ sym h.is))
 
 -- the rules of a text with the core rules that it leaves alone
@@ -96,12 +120,12 @@ rules_are_all text file core again early rules count many (ds, reads, t) c is = 
   counted = many ∙ sym (length-map file.rules rule_of) ∙ ap length t.kept;
 }
 
--- the line of a chain stands after notes of one kind
-pub reach_stands : (text : List ℕ) (start : Option (List ℕ)) (kind : NoteKind) (name line : List ℕ)
-    → kind ≡ Prose → IsReachLine text start name line → IsReachAfter text start kind name line
-reach_stands text start kind name line is r = rw is r
+-- the line of prose that is a rule's name, and that of a chain, stand after notes of one kind
+pub prose_stands : (text : List ℕ) (start : Option (List ℕ)) (kind : NoteKind) (name line : List ℕ)
+    → kind ≡ Prose → AreProseLines text start name line → IsReachAfter text start kind name line
+prose_stands text start kind name line is r = rw is r
 
--- and with the line of a rule that is meant after those of another
+-- and that of a chain with the line of a rule that is meant after those of another
 pub undefined_stands : (text : List ℕ) (start : Option (List ℕ)) (kind : NoteKind) (name line : List ℕ)
     → kind ≡ Undefined → AreUndefinedLines text start name line → IsReachAfter text start kind name line
 undefined_stands text start kind name line is r = rw is r
@@ -156,3 +180,41 @@ line_of_ends name ids ends are = rw (
   drop-map name (length ids - 8 + 1) ids,
 )
     refl
+
+-- a rule of a table that folds names is found exactly if one has the name
+pub named_found : (rules : table.Rules Elem) (name : List ℕ) → rules.names ≡ Fold → is_some (find_in rules name)
+    ≡ has_name Fold (rules_of rules) name
+named_found rules name folds =
+    position_found (λ (r : table.Rule Elem). same_name rules.names name r.name) rules.rules
+    ∙ sym (any_map rule_of (λ (r : Rule). same_name rules.names name r.name) rules.rules)
+    ∙ ap (λ (c : NameCase). has_name c (rules_of rules) name) folds
+
+-- the line of prose by whether a rule is found
+pub line_found : (rules : table.Rules Elem) (prose : List ℕ) (found : Bool) → rules.names ≡ Fold
+    → found ≡ is_some (find_in rules (between_brackets prose)) → named_line (rules_of rules) (Some prose)
+    ≡ (if found then codes "  without < and > this is the rule of that name\n" else [])
+line_found rules prose found folds is =
+    ap (λ (b : Bool). if b then codes "  without < and > this is the rule of that name\n" else [])
+    (sym (named_found rules (between_brackets prose) folds) ∙ sym is)
+
+-- the text of prose
+pub prose_text : (found : Option (Bor Mention)) → option_map (λ m. m.now.text.items) found
+    ≡ option_map (λ (m : MentionedAt). m.text) (option_map (λ m. mentioned_at m.now) found)
+prose_text None = refl
+prose_text (Some m) = refl
+
+-- what stands between the first byte and the last one
+pub cut_brackets : (prose rest name : List ℕ) (x y : ℕ) → prose ≡ x ∷ rest → rest ≡ name ++ y ∷ []
+    → length name + 1 ≡ length rest → name ≡ between_brackets prose
+cut_brackets prose rest name x y first last size =
+    rw (first, last) (sym (take_at name (y ∷ []) (length (name ++ y ∷ []) - 1)
+    (omega (arith, length-append name (y ∷ [])))))
+
+-- nothing stands between them where there is one byte, or none
+pub cut_one : (prose rest : List ℕ) (x : ℕ) → prose ≡ x ∷ rest → length rest ≡ 0 → rest ≡ between_brackets prose
+cut_one prose [] x first none = rw first refl
+cut_one prose (y ∷ rest) x first none = absurd (omega (arith, none))
+
+pub cut_none : (prose : List ℕ) → length prose ≡ 0 → prose ≡ between_brackets prose
+cut_none [] none = refl
+cut_none (x ∷ prose) none = absurd (omega (arith, none))

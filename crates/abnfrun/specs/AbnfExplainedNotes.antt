@@ -1,6 +1,7 @@
--- What explains a note on the grammar of a text: its lines, which rule is perhaps meant, and by which rules the judged
--- one reaches its name.
-use Rattle.std.specs.Prelude.{◌≡◌, ℕ, Bool, List, [], ◌++◌, length, position, Option}
+-- What explains a note on the grammar of a text: its lines, which rule is perhaps meant, whether prose is the name of a
+-- rule, and by which rules the judged one reaches its name.
+use Rattle.std.specs.Prelude.{◌≡◌, ℕ, ◌-◌, Bool, List, [], ◌++◌, length, position, Option, Some, None, codes}
+use Rattle.std.specs.Prelude.{drop, take, if◌then◌else◌}
 use Rattle.diagnostics.specs.NearNames.{IsMeantIf, is_before_limit}
 use Rattle.ruletable.specs.Rules.{same_name}
 use Rattle.ruletable.specs.Notes.{Said}
@@ -15,7 +16,8 @@ use Rattle.abnfread.specs.declared.elem.Elem.{Elem}
 use Rattle.abnfcheck.specs.AbnfUses.{rule_names}
 use Rattle.abnfcheck.specs.NameChains.{AreNameChains, IsNameChain}
 use Rattle.abnfcheck.specs.NameIds.{all_names}
-use Rattle.abnfexplain.specs.AbnfNoteLines.{AreAbnfPositions, ExplainsNote}
+use Rattle.abnfcheck.specs.WithCore.{has_name}
+use Rattle.abnfexplain.specs.AbnfNoteLines.{AreAbnfPositions, ExplainsNote, IsFirstProse}
 use Rattle.abnfexplain.specs.ChainLines.{chain_reported}
 use Rattle.abnfprint.specs.AbnfReadBack.{file_rules}
 use Rattle.abnfrun.specs.AbnfNoted.{all_rules}
@@ -47,10 +49,31 @@ pub record AreUndefinedLines (text : List ℕ) (start : Option (List ℕ)) (name
   pub is_reach : IsReachLine text start name reach
   pub is : lines ≡ meant ++ reach
 
--- they follow notes on names that no rule has, and the line of the chain those on rules that hold prose
+-- what stands between the brackets of prose (RFC 5234, section 4: prose-val)
+abbrev pub between_brackets : List ℕ → List ℕ
+between_brackets prose = take (length (drop 1 prose) - 1) (drop 1 prose)
+
+-- The line after that of prose, if one of these rules has its name: angle brackets may stand around a rule name, and a
+-- reader may have meant the rule (RFC 5234, section 2.1).
+abbrev pub named_line : List Rule → Option (List ℕ) → List ℕ
+named_line rules None = []
+named_line rules (Some prose) = if has_name Fold rules (between_brackets prose)
+    then codes "  without < and > this is the rule of that name\n" else []
+
+-- the lines after those of a note on a rule that holds prose
+pub record AreProseLines (text : List ℕ) (start : Option (List ℕ)) (name lines : List ℕ) : Type 0 where
+  pub definitions : List Definition
+  pub reads : Reads text definitions
+  pub prose : Option (List ℕ)
+  pub reach : List ℕ
+  pub is_prose : IsFirstProse text name prose
+  pub is_reach : IsReachLine text start name reach
+  pub is : lines ≡ named_line (all_rules definitions) prose ++ reach
+
+-- they follow notes on names that no rule has, and on rules that hold prose
 abbrev pub IsReachAfter : List ℕ → Option (List ℕ) → NoteKind → List ℕ → List ℕ → Type 0
 IsReachAfter text start Undefined name line = AreUndefinedLines text start name line
-IsReachAfter text start Prose name line = IsReachLine text start name line
+IsReachAfter text start Prose name line = AreProseLines text start name line
 IsReachAfter text start _ name line = line ≡ []
 
 -- the lines explain the note

@@ -1,7 +1,9 @@
 //! Explanations of notes on a grammar in ABNF.
-ghost use Rattle.std.specs.Prelude.{◌≡◌, ◌++◌, ℕ, List, Option, length, option_copied, IfOk, OnOk};
+ghost use Rattle.std.specs.Prelude.{◌≡◌, ◌++◌, ℕ, List, Option, length, option_copied, option_map, IfOk, OnOk};
 ghost use Rattle.ruletable.specs.Notes.{said_of};
+ghost use Rattle.ruletable.specs.declared.table.NameCase.TheVariants.{Fold};
 ghost use Rattle.abnfread.specs.AbnfReading.{Reads};
+ghost use Rattle.abnfread.specs.AbnfViews.{rules_of};
 ghost use Rattle.abnfread.specs.Element.{Definition, Rule};
 ghost use Rattle.abnfcheck.specs.NameChains.{AreNameChains, IsNameChain};
 ghost use Rattle.abnfexplain.specs.AbnfNoteLines.{AreAbnfPositions};
@@ -9,18 +11,22 @@ ghost use Rattle.abnfexplain.specs.ChainLines.{chain_reported};
 ghost use Rattle.abnfrun.specs.AbnfExplainedNotes.{
   AreAllRules,
   AreNotePositions,
+  AreProseLines,
   AreUndefinedLines,
   ExplainsAbnfNote,
   IsMeantLine,
   IsReachAfter,
+  between_brackets as inside,
+  named_line,
 };
 ghost use Rattle.abnfrun.specs.AbnfNoted.{all_rules};
 
 use crate::abnf_positions::AbnfPositions;
 use abnfcheck::{AllRules, NameChains, name_chains};
 use abnfexplain::{MAX_LAST, push_chain};
-use diagnostics::{Positions, explain_note, is_early, push_meant};
-use ruletable::{Memory, Note, NoteKind};
+use abnfread::Elem;
+use diagnostics::{Mention, Positions, explain_note, first_prose, is_early, push_meant};
+use ruletable::{Memory, Note, NoteKind, RuleTable};
 use std::alloc::Global;
 
 /// Returns where a text says what explains notes on its grammar, by where it defines rules and mentions them. It takes
@@ -101,35 +107,78 @@ fn push_undefined(
     Ok(())
 }
 
-// Adds the lines that follow those of a note, if any do, of so many rules.
+// Returns what stands between the brackets of prose.
+fn between_brackets(prose: &[u8]) -> &[u8]
+    ensures { result.now ≡ inside prose.entry.now }
+{
+    let Some((_, rest)) = prose.split_first() else {
+        return prose;
+    };
+    match rest.split_last() {
+        Some((_, name)) => name,
+        None => rest,
+    }
+}
+
+// Adds the line of prose that is the name of one of the rules.
+fn push_named(
+    out: &mut Vec<u8>,
+    rules: &RuleTable<Elem>,
+    prose: Option<&Mention>,
+) -> Result<(), Memory>
+    requires { rules.now.names ≡ Fold }
+    ensures { OnOk result (out.new.items ≡ out.old.items
+        ++ named_line (rules_of rules.now) (option_map (λ m. m.now.text.items) prose.entry)) }
+{
+    let Some(prose) = prose else {
+        return Ok(());
+    };
+    let is_rule = rules.find(between_brackets(&prose.text))?.is_some();
+    if !is_rule {
+        return Ok(());
+    }
+    out.extend_from_slice(b"  without < and > this is the rule of that name\n")?;
+    Ok(())
+}
+
+// Adds the lines that follow those of a note on a rule that holds prose.
+fn push_after_prose(
+    alloc: Global,
+    out: &mut Vec<u8>,
+    found: &AbnfPositions,
+    name: &[u8],
+) -> Result<(), Memory>
+    ensures { OnOk result ((text : List ℕ) (start : Option (List ℕ)) → AreNotePositions text start found.now
+        → (lines : List ℕ) × AreProseLines text start name.now lines × (out.new.items ≡ out.old.items ++ lines)) }
+{
+    let prose = first_prose(alloc, &found.positions, name)?;
+    push_named(out, &found.all.rules, prose)?;
+    push_reached(alloc, out, &found.chains, name)
+}
+
+// Adds the lines that follow those of a note, if any do.
 fn push_after(
     alloc: Global,
     out: &mut Vec<u8>,
-    chains: &NameChains,
-    count: usize,
+    found: &AbnfPositions,
     note: &Note,
 ) -> Result<(), Memory>
-    ensures { OnOk result ((text : List ℕ) (start : Option (List ℕ)) (definitions : List Definition)
-        → Reads text definitions → AreNameChains (all_rules definitions) start chains.now
-        → count ≡ length (all_rules definitions) → (line : List ℕ)
-        × IsReachAfter text start note.now.kind note.now.name.items line
+    ensures { OnOk result ((text : List ℕ) (start : Option (List ℕ)) → AreNotePositions text start found.now
+        → (line : List ℕ) × IsReachAfter text start note.now.kind note.now.name.items line
         × (out.new.items ≡ out.old.items ++ line)) }
 {
+    let name = note.name.as_slice();
     match note.kind {
         NoteKind::Undefined => {
-            push_undefined(alloc, out, chains, count, note.name.as_slice())?;
-            Ok(())
+            push_undefined(alloc, out, &found.chains, found.all.rules.len(), name)
         }
-        NoteKind::Prose => {
-            push_reached(alloc, out, chains, note.name.as_slice())?;
-            Ok(())
-        }
+        NoteKind::Prose => push_after_prose(alloc, out, found, name),
         _ => Ok(()),
     }
 }
 
 /// Returns the lines that explain a note: those of positions, which rule is perhaps meant by a name that no rule has,
-/// and by which rules the judged one reaches that name, or a rule that holds prose.
+/// whether prose is the name of a rule, and by which rules the judged one reaches that name or a rule that holds prose.
 ///
 /// `Memory` if an allocation fails.
 pub(crate) fn explain_reached(
@@ -142,12 +191,6 @@ pub(crate) fn explain_reached(
         → ExplainsAbnfNote text (option_copied start.entry) (said_of note.now) why.items) }
 {
     let mut why = explain_note(alloc, &positions.positions, start, note)?;
-    push_after(
-        alloc,
-        &mut why,
-        &positions.chains,
-        positions.all.rules.len(),
-        note,
-    )?;
+    push_after(alloc, &mut why, positions, note)?;
     Ok(why)
 }

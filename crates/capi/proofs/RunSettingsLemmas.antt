@@ -25,13 +25,14 @@ explained_so false Why Other f why is = is
 
 module _ (rules : List Rule) (start : ℕ) (a b : PegSettings) (input : Input) (limit : b.limit ≡ a.limit)
     (style : b.options.style ≡ a.options.style) (whole : b.options.whole ≡ a.options.whole)
-    (budget : b.options.budget ≡ a.options.budget) (explain : b.explain ≡ a.explain) where
+    (budget : b.options.budget ≡ a.options.budget) (lines : b.options.line_buffered ≡ a.options.line_buffered)
+    (explain : b.explain ≡ a.explain) where
   before_by : (s : ℕ) (before : Option ℕ) → UnitBefore rules start a input s before
       → UnitBefore rules start b input s before
   before_by s before none_before = none_before
   before_by s before (one_before at k text last us u lt) =
-      one_before at k text last (units_by rules start a b input limit style whole budget at text us)
-      (unit_by rules start a b input limit style whole budget at k last u) lt
+      one_before at k text last (units_by rules start a b input limit style whole budget lines at text us)
+      (unit_by rules start a b input limit style whole budget lines at k last u) lt
 
   lines_by : (s : ℕ) (stop : Stop) (why : List ℕ) → StopLines rules start a input s stop why
       → StopLines rules start b input s stop why
@@ -59,7 +60,7 @@ module _ (rules : List Rule) (start : ℕ) (a b : PegSettings) (input : Input) (
   unfolding plain_by
   reported_by reply r = record {
     plain = r.plain;
-    replies = plain_by rules start a b input limit style whole budget r.plain r.replies;
+    replies = plain_by rules start a b input limit style whole budget lines r.plain r.replies;
     before = r.before;
     reports = r.reports;
     why = r.why;
@@ -71,26 +72,26 @@ module _ (rules : List Rule) (start : ℕ) (a b : PegSettings) (input : Input) (
   unfolding plain_by
   states_by_same reply (replied_reported same r) = replied_reported same (reported_by same r)
   states_by_same reply (unexplained plain r reported reports may) =
-      unexplained plain (plain_by rules start a b input limit style whole budget plain r) reported reports
+      unexplained plain (plain_by rules start a b input limit style whole budget lines plain r) reported reports
       (lack_by r.point r.stop may)
   states_by_same reply (cut_short point out reported all before reports r begins) =
-      cut_short point out reported all (units_by rules start a b input limit style whole budget point out before)
+      cut_short point out reported all (units_by rules start a b input limit style whole budget lines point out before)
       reports
-      (plain_by rules start a b input limit style whole budget all r) begins
+      (plain_by rules start a b input limit style whole budget lines all r) begins
 
 -- so does what a run over memory gives
 pub planned_by_same : (rules : List Rule) (start : ℕ) (a b : PegSettings) → b.limit ≡ a.limit
     → b.options.style ≡ a.options.style → b.options.whole ≡ a.options.whole
-    → b.options.budget ≡ a.options.budget → b.explain ≡ a.explain
+    → b.options.budget ≡ a.options.budget → b.options.line_buffered ≡ a.options.line_buffered → b.explain ≡ a.explain
     → {input out err : List ℕ} {code : ℕ}
     → IsPlannedRun (RunStates rules start a) input out err code
     → IsPlannedRun (RunStates rules start b) input out err code
-planned_by_same rules start a b limit style whole budget explain {input} p = record {
+planned_by_same rules start a b limit style whole budget lines explain {input} p = record {
   notes = p.notes;
   stated = p.stated;
   states = (
     p.states.0,
-    states_by_same rules start a b (bounded input) limit style whole budget explain p.stated p.states.1,
+    states_by_same rules start a b (bounded input) limit style whole budget lines explain p.stated p.states.1,
   );
   out_failed = p.out_failed;
   err_failed = p.err_failed;
@@ -105,6 +106,7 @@ pub runner_stays : (old : Runner) (peg : Grammar) (within : (1 ≤ old.limit) ×
       style = old.style;
       whole = old.whole;
       budget = old.budget;
+      line_buffered = old.line_buffered;
       explain = old.explain;
       in_range = within;
     }) old

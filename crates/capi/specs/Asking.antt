@@ -54,6 +54,7 @@ pub record PegMeant (asked : CSettings) (options : PegOptions) : Type 0 where
   pub escapes : options.style.escapes ≡ false
   pub whole : options.whole ≡ false
   pub budget : options.budget ≡ budget_asked asked
+  pub line_buffered : options.line_buffered ≡ false
 
 -- C asks for these options of the ABNF tool
 pub record AbnfMeant (asked : CSettings) (options : AbnfOptions) : Type 0 where

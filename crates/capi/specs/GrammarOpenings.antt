@@ -9,7 +9,7 @@ use Rattle.abnfrun.specs.OpenAbnf.{IsOpened}
 use Rattle.abnfrun.specs.OpenJudge.{OpenJudge}
 use Rattle.capi.specs.OpenCall.{IsOpening}
 use Rattle.capi.specs.declared.runner.Runner.{Runner}
-use Rattle.pegprint.specs.PegExplained.{Explains as ExplainsPeg}
+use Rattle.pegprint.specs.PegAllFaults.{ExplainsAll as ExplainsPeg}
 use Rattle.pegexplain.specs.PegNotes.{ExplainsNote}
 use Rattle.pegexplain.specs.PegHints.{ArePegHints}
 use Rattle.pegread.specs.Reading.{IsFaultOf as IsPegFault}
@@ -28,6 +28,7 @@ pub record RunsBy (runner : Runner) (settings : PegSettings) : Type 0 where
   pub style : settings.options.style ≡ runner.style
   pub whole : settings.options.whole ≡ runner.whole
   pub budget : settings.options.budget ≡ runner.budget
+  pub line_buffered : settings.options.line_buffered ≡ runner.line_buffered
   pub explain : settings.explain ≡ runner.explain
 
 -- the text has these notes, and this runs its grammar as settings ask, unless one of them rejects it

@@ -126,6 +126,7 @@ impl COptions for PegOptions {
             },
             whole: false,
             budget: budget_of(asked),
+            line_buffered: false,
         }
     }
 }

@@ -16,6 +16,8 @@ pub struct Runner {
     pub whole: bool,
     /// How many bytes a unit may print; any number if it is `None`.
     pub budget: Option<usize>,
+    /// Whether units are run at line feeds.
+    pub line_buffered: bool,
     /// Whether it is explained where a run stops.
     pub explain: bool,
     ghost in_range: { (1 ≤ limit) × (limit ≤ 16777216) },

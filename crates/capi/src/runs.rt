@@ -22,6 +22,7 @@ pub(crate) fn runner_by(peg: PegRunner, settings: &PegSettings<'_>) -> Runner
         style: settings.options.style,
         whole: settings.options.whole,
         budget: settings.options.budget,
+        line_buffered: settings.options.line_buffered,
         explain: settings.explain,
     }
 }
@@ -50,6 +51,7 @@ pub(crate) fn run_input(
             style: runner.style,
             whole: runner.whole,
             budget: runner.budget,
+            line_buffered: runner.line_buffered,
         },
     };
     run_opened_into(alloc, &mut runner.peg, &settings, input, out, err)

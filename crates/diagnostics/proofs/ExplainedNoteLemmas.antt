@@ -1,16 +1,18 @@
 -- What the positions of a text report explains a note, and only that.
 -- Serves: explain_peg_note, one_note_explanation, one_note_explanation_of_abnf; abnfi_main of abnfi
 use Rattle.std.proofs.Common.{◌≡◌, ℕ, Bool, List, Option, None, length, map, sym, ap, ◌∙◌, subst}
+use Rattle.std.specs.Prelude.{option_map}
 use Rattle.diagnostics.specs.BodyMentions.{MentionedAt, mentioned_at, mentions_in}
 use Rattle.lexer.specs.TokenLists.{Tok, AreTokens}
 use Rattle.ruletable.specs.Notes.{Said}
 use Rattle.ruletable.specs.declared.lines.LineRule.{LineRule}
 use Rattle.ruletable.specs.declared.table.NameCase.{NameCase}
 use Rattle.diagnostics.specs.DefinitionHeads.{DefinedAt, definitions_in, sign_at}
-use Rattle.diagnostics.specs.ExplainedNotes.{ArePositions, IsNoteExplained, AreNoteLines, AreReportedBy}
+use Rattle.diagnostics.specs.ExplainedNotes.{ArePositions, IsFirstProse, IsNoteExplained, AreNoteLines}
+use Rattle.diagnostics.specs.ExplainedNotes.{AreReportedBy, prose_by}
 use Rattle.diagnostics.specs.FirstMentions.{rule_named, uses_of}
 use Rattle.diagnostics.specs.MentionLines.{lines_mentioned, mention_lines_by, mention_lines_of}
-use Rattle.diagnostics.specs.UseLines.{AreLinesAfter, lines_by}
+use Rattle.diagnostics.specs.UseLines.{AreLinesAfter, lines_by, prose_of}
 use Rattle.diagnostics.specs.declared.noteplaces.mentions.MentionKind.{MentionKind}
 use Rattle.diagnostics.specs.declared.noteplaces.positions.Positions.{Positions}
 use Rattle.diagnostics.specs.declared.noteplaces.sign.Sign.{Sign}
@@ -52,6 +54,33 @@ module _ {K : Type 0} (White : List ℕ → List ℕ → Type 0) (First : K → 
       (mentions_in rule text None (map (sign_at sign_of) h.tokens)) start note a b
       (subst (λ ts. AreNoteLines rule names text (map (sign_at sign_of) ts) start note a)
       (one g.tokens h.tokens g.are_tokens h.are_tokens) g.are) h.are
+
+  -- the first prose that the positions report is that of the tokens
+  pub positions-prose : (positions : Positions) (name : List ℕ)
+      → ArePositions White First is_end sign_of rule names text positions
+      → IsFirstProse White First is_end sign_of rule names text name
+      (option_map (λ (m : MentionedAt). m.text) (prose_by positions name))
+  positions-prose positions name are = record {
+    tokens = are.tokens;
+    are_tokens = are.are_tokens;
+    is = ap (option_map (λ (m : MentionedAt). m.text))
+        (ap (λ ds. prose_of positions.names ds (map mentioned_at positions.mentions.items) name) are.heads_are
+        ∙ ap (λ ms. prose_of positions.names (definitions_in rule text (map (sign_at sign_of) are.tokens)) ms name)
+        are.mentions_are
+        ∙ ap (λ (c : NameCase). prose_of c (definitions_in rule text (map (sign_at sign_of) are.tokens))
+        (mentions_in rule text None (map (sign_at sign_of) are.tokens)) name) are.names_are);
+  }
+
+  -- it is one, where the tokens are one list
+  pub prose-one : ((a b : List (Tok K)) → AreTokens White First is_end (length text) text a
+      → AreTokens White First is_end (length text) text b → a ≡ b)
+      → (name : List ℕ) (a b : Option (List ℕ)) → IsFirstProse White First is_end sign_of rule names text name a
+      → IsFirstProse White First is_end sign_of rule names text name b → a ≡ b
+  prose-one one name a b g h =
+      g.is ∙ ap (λ (ts : List (Tok K)). option_map (λ (m : MentionedAt). m.text)
+      (prose_of names (definitions_in rule text (map (sign_at sign_of) ts))
+      (mentions_in rule text None (map (sign_at sign_of) ts)) name))
+      (one g.tokens h.tokens g.are_tokens h.are_tokens) ∙ sym h.is
 
   -- the lines of mentions that the positions report are those of the tokens
   pub positions-mention : (positions : Positions) (kind : MentionKind) (name : List ℕ)

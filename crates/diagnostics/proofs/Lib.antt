@@ -16,3 +16,4 @@ mod RisingStartsLemmas
 mod MentionsUnderLemmas
 mod StandingProseLemmas
 pub mod NearNamesLemmas
+pub mod LaterFaultLemmas

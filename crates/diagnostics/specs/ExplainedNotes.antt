@@ -1,12 +1,12 @@
 -- The lines that explain a note on the grammar of a text.
-use Rattle.std.specs.Prelude.{◌≡◌, ℕ, Bool, List, Option, None, length, map}
+use Rattle.std.specs.Prelude.{◌≡◌, ℕ, Bool, List, Option, None, length, map, option_map}
 use Rattle.lexer.specs.TokenLists.{Tok, AreTokens}
 use Rattle.ruletable.specs.Notes.{Said}
 use Rattle.ruletable.specs.declared.lines.LineRule.{LineRule}
 use Rattle.ruletable.specs.declared.table.NameCase.{NameCase}
-use Rattle.diagnostics.specs.BodyMentions.{mentioned_at, mentions_in}
+use Rattle.diagnostics.specs.BodyMentions.{MentionedAt, mentioned_at, mentions_in}
 use Rattle.diagnostics.specs.DefinitionHeads.{SignAt, defined_at, definitions_in, sign_at}
-use Rattle.diagnostics.specs.UseLines.{AreLinesAfter}
+use Rattle.diagnostics.specs.UseLines.{AreLinesAfter, prose_of}
 use Rattle.diagnostics.specs.declared.noteplaces.positions.Positions.{Positions}
 use Rattle.diagnostics.specs.declared.noteplaces.sign.Sign.{Sign}
 
@@ -19,6 +19,11 @@ AreNoteLines rule names text signs =
 abbrev pub AreReportedBy : Positions → Option (List ℕ) → Said → List ℕ → Type 0
 AreReportedBy positions =
     AreLinesAfter positions.names (map defined_at positions.heads.items) (map mentioned_at positions.mentions.items)
+
+-- the first prose of the rule of that name that such positions report
+abbrev pub prose_by : Positions → List ℕ → Option MentionedAt
+prose_by positions = prose_of positions.names (map defined_at positions.heads.items)
+    (map mentioned_at positions.mentions.items)
 
 module _ {K : Type 0} (White : List ℕ → List ℕ → Type 0) (First : K → List ℕ → List ℕ → Type 0) (is_end : K → Bool)
     (sign_of : K → Sign) (rule : LineRule) (names : NameCase) (text : List ℕ) where
@@ -36,3 +41,11 @@ module _ {K : Type 0} (White : List ℕ → List ℕ → Type 0) (First : K → 
     pub tokens : List (Tok K)
     pub are_tokens : AreTokens White First is_end (length text) text tokens
     pub are : AreNoteLines rule names text (map (sign_at sign_of) tokens) start note why
+
+  -- the first prose of the rule of that name, as the text spells it, if it has one
+  pub record IsFirstProse (name : List ℕ) (prose : Option (List ℕ)) : Type 0 where
+    pub tokens : List (Tok K)
+    pub are_tokens : AreTokens White First is_end (length text) text tokens
+    pub is : prose ≡ option_map (λ m. m.text) (prose_of names
+        (definitions_in rule text (map (sign_at sign_of) tokens))
+        (mentions_in rule text None (map (sign_at sign_of) tokens)) name)

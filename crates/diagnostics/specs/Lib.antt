@@ -18,5 +18,6 @@ pub mod MentionLines
 pub mod UseLines
 pub mod NameIndexes
 pub mod NumberLists
+pub mod LaterFaults
 pub mod EditTests
 pub mod NearNames

@@ -32,14 +32,14 @@ is_given names (Some start) name = same_name names name start
 abbrev pub used_line : NameCase → Option (List ℕ) → Option RuleMention → List ℕ → List ℕ
 used_line names start first name = if is_given names start name then codes "  given by -s\n" else use_line first
 
-module _ (names : NameCase) (definitions : List DefinedAt) (mentions : List MentionedAt) (start : Option (List ℕ)) where
-  -- the first prose of a rule
-  abbrev pub prose_lines : List ℕ → List ℕ
-  prose_lines name = prose_line (first_prose (standing_definitions (named names name definitions)) mentions)
+-- the first prose of the rule of that name, in the definition that begins it or in one that adds to it
+abbrev pub prose_of : NameCase → List DefinedAt → List MentionedAt → List ℕ → Option MentionedAt
+prose_of names definitions mentions name = first_prose (standing_definitions (named names name definitions)) mentions
 
+module _ (names : NameCase) (definitions : List DefinedAt) (mentions : List MentionedAt) (start : Option (List ℕ)) where
   abbrev pub lines_by : Option RuleMention → NoteKind → List ℕ → List ℕ
   lines_by first Undefined name = used_line names start first name
-  lines_by first Prose name = prose_lines name
+  lines_by first Prose name = prose_line (prose_of names definitions mentions name)
   lines_by first kind name = lines_of kind (named names name definitions)
 
   -- what they report after a note, by the first use of its name

@@ -8,7 +8,7 @@ mod picture;
 pub use near::{is_early, push_meant};
 pub use noteplaces::{
     Head, Mention, MentionKind, Positions, Sign, Signs, add_number, explain_note, first_mention,
-    mention_lines, numbers_of, positions_by, positions_of, push_more,
+    first_prose, mention_lines, numbers_of, positions_by, positions_of, push_more,
 };
 pub use picture::{
     Fact, LineAround, find_fact, is_utf16, line_around, point_facts, push_cut, push_fact,

@@ -22,4 +22,5 @@ pub use lines_of_kind::mention_lines;
 pub use mentions::{Mention, MentionKind};
 pub use number_lists::{add_number, numbers_of};
 pub use positions::Positions;
+pub use prose::first_prose;
 pub use sign::{Sign, Signs};

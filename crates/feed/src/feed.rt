@@ -4,7 +4,7 @@ ghost use Rattle.std.specs.Prelude.{IfNone, IfOk, IfSome, OnOk};
 ghost use Rattle.std.specs.Borrow.{sem};
 ghost use Rattle.std.specs.List.{refill};
 ghost use Rattle.circular_buffer.specs.Buffer.{buffer};
-ghost use Rattle.memchr.specs.Find.{IsFirstByte, is_byte};
+ghost use Rattle.memchr.specs.Find.{IsFirstByte, IsLastByte, is_byte};
 ghost use Rattle.ruletable.specs.Writing.{IsPrefixOf};
 ghost use Rattle.feed.specs.Feed.{Grows, IsHeld, IsTrueOfReader, SameLoan, allowance_of, bytes_of, capacity_of};
 ghost use Rattle.feed.specs.Feed.{flow_of, input_limit, loan_of, reader_of};
@@ -13,7 +13,7 @@ ghost use Rattle.feed.specs.Window.{LendsWindow};
 use crate::held::{Flow, Held};
 use crate::source::Source;
 use circular_buffer::HeapCircularBuffer;
-use memchr::memchr;
+use memchr::{memchr, memrchr};
 use ruletable::Memory;
 use std::alloc::Global;
 
@@ -218,6 +218,18 @@ impl<'a, R: Source> Feed<'a, R> {
                 Some(k) => Some(front.len() + k),
                 None => None,
             },
+        }
+    }
+
+    /// Returns where a byte last stands in what is held. It is looked for piece by piece, and nothing is moved.
+    pub fn rfind(&self, byte: u8) -> Option<usize>
+        ensures { IsLastByte (is_byte byte) (bytes_of self.now) result }
+    {
+        let _len = self.len();
+        let (front, back) = self.ring.as_slices();
+        match memrchr(byte, back) {
+            Some(k) => Some(front.len() + k),
+            None => memrchr(byte, front),
         }
     }
 

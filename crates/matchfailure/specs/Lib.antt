@@ -3,6 +3,7 @@ pub mod Farthest
 pub mod ReportedUnit
 pub mod UnitEnds
 pub mod FailureTasks
+pub mod PackedTaskFrames
 pub mod FailureSteps
 pub mod KeptFailures
 pub mod FailureStates

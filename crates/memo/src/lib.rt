@@ -11,4 +11,4 @@ mod task;
 
 pub use found::Found;
 pub use key_log::{Given, KeyLog, Stored};
-pub use task::MatchTask;
+pub use task::{MatchTask, PackedTask};

@@ -1,9 +1,11 @@
 //! Tasks, under which outcomes are stored.
 ghost use Rattle.std.specs.Prelude.{◌≡◌, ◌+◌, ◌*◌, ◌<◌, ◌^◌, IfOk, OnErr};
 ghost use Rattle.memo.specs.KeyLog.{row_of, position_of, number_of, IsNarrow};
+ghost use Rattle.memo.specs.PackedTasks.{task_of};
 
 use crate::narrow::narrow;
 use ruletable::Memory;
+use std::mem::size_of;
 
 /// A task of an evaluation: a node at a position; or, of a node with members, the tail from one of its members on, at a
 /// position.
@@ -94,4 +96,72 @@ pub(crate) fn tail_number(node: u32, index: u32, position: u32) -> usize
     ensures small { result < 2 ^ 63 + 2 ^ 32 }
 {
     node as usize * BY_NODE + (index as usize + 1) * BY_MEMBER + position as usize
+}
+
+/// A task in numbers of 32 bits.
+#[derive(Clone, Copy)]
+pub enum PackedTask {
+    /// A node and a position.
+    Eval {
+        node: u32,
+        position: u32,
+    },
+    /// A node, the index of a member, and a position.
+    Tail {
+        node: u32,
+        index: u32,
+        position: u32,
+    },
+}
+
+// A task is to stay small: the stack of a deep nesting has several for each level.
+const _: () = prove!(size_of::<PackedTask>() <= 16);
+
+impl PackedTask {
+    /// Packs a task into numbers of 32 bits.
+    ///
+    /// # Errors
+    /// `Memory` if a number does not fit.
+    #[inline(always)]
+    pub fn of(task: MatchTask) -> Result<PackedTask, Memory>
+        ensures { IfOk result (λ packed. task_of packed ≡ task) }
+    {
+        match task {
+            MatchTask::Eval { node, position } => Ok(PackedTask::Eval {
+                node: narrow(node)?,
+                position: narrow(position)?,
+            }),
+            MatchTask::Tail {
+                node,
+                index,
+                position,
+            } => Ok(PackedTask::Tail {
+                node: narrow(node)?,
+                index: narrow(index)?,
+                position: narrow(position)?,
+            }),
+        }
+    }
+
+    /// Returns the task.
+    #[inline(always)]
+    pub fn task(self) -> MatchTask
+        ensures { result ≡ task_of self }
+    {
+        match self {
+            PackedTask::Eval { node, position } => MatchTask::Eval {
+                node: node as usize,
+                position: position as usize,
+            },
+            PackedTask::Tail {
+                node,
+                index,
+                position,
+            } => MatchTask::Tail {
+                node: node as usize,
+                index: index as usize,
+                position: position as usize,
+            },
+        }
+    }
 }

@@ -35,6 +35,8 @@ const MOST: usize = 4_294_967_295;
 /// begun, the events of the last success, and the number of matches.
 #[derive(Drop)]
 pub struct Packrat {
+    /// Where its memory is allocated.
+    alloc: Global,
     /// The state of the last match. Its memory serves the next one.
     machine: Machine,
     /// The head of the events of the last success, or 0.
@@ -94,6 +96,7 @@ impl Packrat {
         ensures { result ≡ empty 0 }
     {
         Packrat {
+            alloc,
             machine: Machine {
                 log: KeyLog::new(alloc),
                 events: EventLog::new(alloc),
@@ -230,5 +233,14 @@ impl Matcher for Packrat {
             self.reset();
         }
         replayed
+    }
+
+    /// Empties it, and frees its memory. It keeps the count of matches.
+    fn forget(&mut self)
+        ensures { self.new ≡ empty self.old.matches }
+    {
+        let mut emptied = Packrat::new(self.alloc);
+        emptied.matches = self.matches;
+        *self = emptied;
     }
 }

@@ -30,6 +30,7 @@ Input and output:
   -l, --limit <N>      Look at no more than N bytes, or Nk, NM, in a unit, from 1 to 16777216 [default: 65536]
   -b, --budget <N>     Print no more than N bytes in a unit, from 1 to 4294967295 [default: 4294967295, any number]
   -1, --whole          Take the input as one unit, up to its end
+      --line-buffered  Run units at line feeds, before more input is read
   -r, --raw            Print actions verbatim
       --escapes        Replace escapes in actions by their bytes
   -x, --explain        Explain messages in more lines
@@ -51,15 +52,17 @@ Example:
   pegi username.peg letter.txt";
 
 /// The options of the program alone.
-static OWN: [Parameter; 5] = [
+static OWN: [Parameter; 6] = [
     Parameter::Number("budget", 'b', 4_294_967_295, "4294967295"),
     Parameter::Flag("raw", 'r'),
     Parameter::Flag("whole", '1'),
     Parameter::LongFlag("escapes"),
+    Parameter::LongFlag("line-buffered"),
     Parameter::Choice("format", 'f', "FORM", &["text", "gcc", "json"], "text"),
 ];
 
-/// The program `pegi [-m MODE] [-l N] [-s RULE] [-b N] [-r] [-1] [--escapes] [-x] [-f FORM] GRAMMAR [FILE]..`.
+/// The program `pegi [-m MODE] [-l N] [-s RULE] [-b N] [-r] [-1] [--escapes] [--line-buffered] [-x] [-f FORM] GRAMMAR
+/// [FILE]..`.
 pub(crate) struct Pegi;
 
 impl Program for Pegi {
@@ -89,6 +92,7 @@ impl Program for Pegi {
             },
             whole: is_given(matches, "whole"),
             budget: budget_of(matches, "budget"),
+            line_buffered: is_given(matches, "line-buffered"),
         }
     }
 
@@ -100,6 +104,7 @@ impl Program for Pegi {
         out: &mut O,
         err: &mut E,
     ) -> Status {
+        out.write_through(settings.options.line_buffered);
         run_peg(alloc, grammar, settings, reader, out, err)
     }
 

@@ -74,4 +74,8 @@ pub trait Matcher {
             Replays (W.contents out.old) (W.contents out.new) (W.failed out.old) (W.failed out.new)
             (text_of style window.now events) result }
         ensures unmatched { matches self.new ≡ matches self.old };
+
+    /// Frees what it holds of its last match. It matches nothing.
+    fn forget(&mut self)
+        ensures { matches self.new ≡ matches self.old };
 }

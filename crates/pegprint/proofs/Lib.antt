@@ -12,4 +12,5 @@ pub mod CanStandLemmas
 pub mod TakenTokensLemmas
 pub mod PegExplainedLemmas
 pub mod PegWhyLemmas
+pub mod PegAllFaultLemmas
 mod ReportsKindsLemmas

@@ -1,7 +1,6 @@
 -- The words of a pattern's canonical text, put before what follows, and that they spell it.
 -- Serves: is_read_back
 use Rattle.std.proofs.Common.{Bool, true, false, List, [], ◌∷◌, ◌≡◌, refl, sym, subst}
-use Rattle.ruletable.specs.declared.span.Span.{Span}
 use Rattle.pegprint.specs.declared.position.Context.TheVariants.{Alternative, Member, OfPrefix, OfAmp, OfSuffix}
 use Rattle.pegprint.specs.Brackets.{wraps, is_act}
 use Rattle.pegread.proofs.GrammarViabilityLemmas.{nowhere}

@@ -29,12 +29,12 @@ within-take : (i : ℕ) (ts : List Tok) → AreWithin ts → AreWithin (take i t
 within-take i ts h = shallow-take MAX_OPEN 0 i ts h
 
 -- two tokens of a text that decide are one
-record OneToken (all others : List Tok) (i j : ℕ) (t u : Tok) : Type 0 where
-  lists : others ≡ all
-  numbers : j ≡ i
-  tokens : t ≡ u
+pub record OneToken (all others : List Tok) (i j : ℕ) (t u : Tok) : Type 0 where
+  pub lists : others ≡ all
+  pub numbers : j ≡ i
+  pub tokens : t ≡ u
 
-one-token : (text : List ℕ) (all others : List Tok) (i j : ℕ) (t u : Tok) → AreTokens (length text) text all
+pub one-token : (text : List ℕ) (all others : List Tok) (i j : ℕ) (t u : Tok) → AreTokens (length text) text all
     → AreTokens (length text) text others → slice_get all i ≡ Some t → slice_get others j ≡ Some u → Decides all i
     → Decides others j → OneToken all others i j t u
 one-token text all others i j t u are are' at at' h k =

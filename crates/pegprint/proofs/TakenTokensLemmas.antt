@@ -1,11 +1,11 @@
 -- What the search for the deciding token has come to.
 -- Serves: explain_fault
-use Rattle.std.proofs.Common.{◌≡◌, ℕ, ◌<◌, ◌≤◌, ◌⊎◌, Some, None, List, [], ◌∷◌, ◌++◌, length, take}
+use Rattle.std.proofs.Common.{◌≡◌, ℕ, ◌<◌, ◌≤◌, ◌⊎◌, inl, inr, Some, None, List, [], ◌∷◌, ◌++◌, length, take}
 use Rattle.std.proofs.Common.{slice_get, refl, sym, ap, ◌∙◌, append_assoc, append-nil, length-append, arith}
-use Rattle.std.proofs.Math.Seq.{get_or-append_seam}
+use Rattle.std.proofs.Math.Seq.{get_or-append_seam, take-append_seam}
 use Rattle.std.proofs.lemmas.Option.{slice_get-get_or}
 use Rattle.lexer.specs.TokenLists as lexed
-use Rattle.lexer.specs.TokenLists.{kind_of}
+use Rattle.lexer.specs.TokenLists.{kind_of, start_of}
 use Rattle.lexer.specs.Viability.{say_none}
 use Rattle.lexer.specs.declared.limits.TheConstants.{MAX_OPEN}
 use Rattle.lexer.specs.declared.token_iter.TokenIter.{TokenIter}
@@ -26,6 +26,7 @@ use Rattle.pegread.proofs.SaysLemmas.{token-says}
 use Rattle.pegread.proofs.SliceLemmas.{tokens-one}
 use Rattle.pegprint.specs.declared.faults.stand.Position.{Position}
 use Rattle.pegprint.specs.declared.faults.stand.Stand.TheVariants.{Start}
+use Rattle.pegprint.specs.PegAllFaults.{DecidesAfter, last_start}
 use Rattle.pegprint.specs.PegDecisions.{IsTokenOf, ReportsKinds, NoneDecides}
 use Rattle.pegprint.specs.PegStands.{position_of, position_at, goes}
 use Rattle.pegprint.proofs.CanStandLemmas.{after-some, goes-bad, viable-taken, step-there, stops-there, can-stand}
@@ -100,6 +101,20 @@ module _ {text : List ℕ} {left : List Tok → Type 0} {position : Position} {t
     h.few,
   )
 
+  -- what decides comes after the tokens so far
+  after-there : (before : ℕ) → before ≡ last_start ts → IsHopeless (ts ++ t ∷ others) (length ts)
+      ⊎ IsTooDeep (ts ++ t ∷ others) (length ts) → DecidesAfter text t before
+  unfolding there-is
+  after-there before e d = record {
+    decides = there-is (λ us i. IsHopeless us i ⊎ IsTooDeep us i) d;
+    is = e ∙ ap last_start (sym (take-append_seam ts (t ∷ others)));
+  }
+
+  pub hopeless-after : (before : ℕ) → before ≡ last_start ts
+      → goes position.stand position.depth (kind_of t) ≡ None → DecidesAfter text t before
+  hopeless-after before e none = after-there before e (inl (hopeless-next h.config h.say h.reached h.shallow t others
+      (stops-there h.config h.say h.reached h.shallow position h.stands t none)))
+
   module _ {total : ℕ} {s r : List ℕ} (cut : Next total s t r) (next : Position)
       (some : goes position.stand position.depth (kind_of t) ≡ Some next) where
     no-bad : kind_of t ≡ kinds.Bad → ⊥
@@ -131,6 +146,13 @@ module _ {text : List ℕ} {left : List Tok → Type 0} {position : Position} {t
         there-is IsTooDeep (too_deep-next h.config h.say h.reached h.shallow t others o.config o.word o.says o.steps
         (omega arith))
 
+    pub deep-after : (before : ℕ) → before ≡ last_start ts → MAX_OPEN < next.depth → DecidesAfter text t before
+    deep-after before e lt =
+        let o = goes-on in
+        let depth : levels_in o.config ≡ next.depth = ap (λ (p : Position). p.depth) o.stands in
+        after-there before e (inr (too_deep-next h.config h.say h.reached h.shallow t others o.config o.word o.says
+        o.steps (omega arith)))
+
     -- one token more
     pub one-taken : (onward : List Tok → Type 0) → onward others → next.depth ≤ MAX_OPEN
         → HasTaken text onward next (ts ++ t ∷ [])
@@ -149,6 +171,12 @@ module _ {text : List ℕ} {left : List Tok → Type 0} {position : Position} {t
           stands = o.stands;
           few = le;
         }
+
+-- the last token is that which was added
+pub last_start-snoc : (ts : List Tok) (t : Tok) → last_start (ts ++ t ∷ []) ≡ start_of t
+last_start-snoc [] t = refl
+last_start-snoc (u ∷ []) t = refl
+last_start-snoc (u ∷ v ∷ ts) t = last_start-snoc (v ∷ ts) t
 
 within-take : (i : ℕ) (ts : List Tok) → AreWithin ts → AreWithin (take i ts)
 within-take i ts h = shallow-take MAX_OPEN 0 i ts h

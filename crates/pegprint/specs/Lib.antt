@@ -2,9 +2,11 @@ pub mod Brackets
 pub mod Canon
 pub mod CanonMembers
 pub mod ReadBack
+pub mod PegAllFaults
 pub mod PegDecisions
 pub mod PegExpected
 pub mod PegExplained
 pub mod PegMistakes
+pub mod PegRuleLines
 pub mod PegStands
 pub mod PhraseRows

@@ -24,6 +24,10 @@ pub record ReportsKinds (position : Position) (ts : List Tok) (i : ℕ) : Type 0
   pub stand : (k : Kind) → allows position k ≡ true → CanStand ts i k
   pub other : (k : Kind) → allows position k ≡ false → CanStand ts i k → ⊥
 
+abbrev pub token_of : Decision → Tok
+token_of (Hopeless position token) = tok_of token
+token_of (TooDeep token) = tok_of token
+
 abbrev pub Decides : List ℕ → Decision → Type 0
 Decides text (Hopeless position token) =
     IsTokenOf text (tok_of token) (λ ts i. IsHopeless ts i × ReportsKinds position ts i) × (position.depth ≤ max_open)

@@ -197,7 +197,7 @@ module _ (rules : List Rule) (start : ℕ) (settings : PegSettings) (input : Inp
     stops_at_position = stops_by settings.explain refl
 
   pub fails_there : (fault : WriteFault) → IsStep rules start settings input position mid new (Err fault)
-      → taken ≡ taken_at settings input position →
+      → taken ≤ taken_at settings input position →
       IsCut rules start settings input taken old new (Err fault)
   fails_there fault (k, unit, is, part) took = (
     position,

@@ -65,7 +65,7 @@ module _ (settings : PegSettings) (input : Input) (text : List ℕ) where
             start = start;
             is_start = is;
             replies = plain_by (firsts [] ds) start (explained_by asked settings) settings input refl refl refl refl
-                plain.0 plain.1;
+                refl plain.0 plain.1;
           });
         }),
         record {

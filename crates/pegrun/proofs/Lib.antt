@@ -4,6 +4,8 @@ pub mod CutLemmas
 pub mod ExplainedByLemmas
 pub mod FirstsLemmas
 pub mod FollowsLemmas
+pub mod LineReadLemmas
+pub mod LineUnitLemmas
 pub mod LooksOfStartLemmas
 pub mod MatchCallsLemmas
 pub mod NextUnitLemmas

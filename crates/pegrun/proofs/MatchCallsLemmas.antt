@@ -1,6 +1,7 @@
 -- What a run asked its matcher for, of the input that its reader had.
 -- Serves: run_units
-use Rattle.std.proofs.Common.{◌≡◌, ℕ, ◌+◌, Bool, List, [], length, Option, Some, None, refl, arith}
+use Rattle.std.proofs.Common.{◌≡◌, ℕ, suc, ◌+◌, ◌*◌, ◌≤◌, Bool, List, [], length, Option, Some, None, refl, ap, arith}
+use Rattle.std.proofs.Math.Nat.{mul-le-mul_left, mul-suc}
 use Rattle.std.specs.Prelude.{IfSome}
 use Rattle.std.specs.Io.KnownBytes.{Consumes}
 use Rattle.feed.specs.Feed.{IsReportedBy, input_limit}
@@ -12,6 +13,26 @@ use Rattle.toolrun.proofs.AgreesLemmas.{agrees_of}
 use Rattle.toolrun.specs.Agrees.{Agrees}
 use Rattle.toolrun.specs.Input.{Input, input_from}
 use Rattle.pegrun.specs.PegSettings.{PegSettings}
+
+-- at most k matches for each of so many units, and for some more of which none was asked for
+pub few_with_more : (k was calls u v n : ℕ) → calls ≤ was + k * u → v ≡ u + n → calls ≤ was + k * v
+few_with_more k was calls u v n few is =
+    let more = mul-le-mul_left {m = u} {n = v} k (omega (arith, is)) in
+    omega (arith, few, more)
+
+-- and at most k for one unit more
+pub few_with_one : (k was calls now u v : ℕ) → calls ≤ was + k * u → now ≤ calls + k → v ≡ suc u → now ≤ was + k * v
+few_with_one k was calls now u v few one is =
+    let more = mul-suc k u in
+    let same = ap (λ n. k * n) is in
+    omega (arith, few, one, more, same)
+
+pub few_at_stop : (k was calls now u : ℕ) → calls ≤ was + k * u → now ≤ calls + k → now ≤ was + k * (u + 1)
+few_at_stop k was calls now u few one = few_with_one k was calls now u (u + 1) few one (omega arith)
+
+-- and of none for the unit at which the run stops
+pub few_before_stop : (k was calls u : ℕ) → calls ≤ was + k * u → calls ≤ was + k * (u + 1)
+few_before_stop k was calls u few = few_with_more k was calls u (u + 1) 1 few refl
 
 module _ (rules : List Rule) (start : ℕ) (settings : PegSettings) (was calls : ℕ) where
   -- of a reader whose bytes are stated

@@ -1,7 +1,7 @@
 -- What a window over a reader says of every input of which so much has been seen.
 -- Serves: run_peg (right)
 use Rattle.std.proofs.Common.{◌≡◌, ℕ, zero, suc, ◌+◌, ◌<◌, ◌≤◌, ◌==◌, Bool, true, false, Option, List, [], ◌++◌, length}
-use Rattle.std.proofs.Common.{drop, take, refl, sym, ◌∙◌, ap, subst, arith, nat_lt, inr, length-append}
+use Rattle.std.proofs.Common.{drop, take, refl, sym, ◌∙◌, ap, subst, arith, nat_lt, inl, inr, length-append}
 use Rattle.std.proofs.Common.{if◌then◌else◌}
 use Rattle.std.specs.Prelude.{Result, Ok, Err}
 use Rattle.std.proofs.lemmas.Grind.{common_steps}
@@ -20,7 +20,8 @@ use Rattle.gramcheck.proofs.StartRuleLemmas.{rises_of_start}
 use Rattle.toolrun.specs.Agrees.{Agrees}
 use Rattle.pegrun.specs.Attempts.{IsLimited, IsStep, IsStepOn, StaysWithin, failed_at, step_after, step_held, stop_at}
 use Rattle.toolrun.specs.Input.{Input}
-use Rattle.pegrun.specs.Units.{Ends, MayRun, is_after_whole, over_at_end, over_before_end, taken_at}
+use Rattle.pegrun.specs.Units.{Ends, IsSettled, MayRun, is_after_whole, over_at_end, over_before_end, runs_at_lines}
+use Rattle.pegrun.specs.Units.{taken_at}
 use Rattle.pegrun.specs.PegSettings.{PegSettings}
 use Rattle.toolrun.specs.declared.status.Status.TheVariants.{Done}
 use Rattle.toolrun.specs.declared.stop.Stop.{Stop}
@@ -30,8 +31,17 @@ use Rattle.pegrun.specs.declared.attempt.Attempt.TheVariants.{Printed, Failed, T
 use Rattle.pegrun.specs.declared.unit.UnitStep.{UnitStep}
 use Rattle.pegrun.specs.declared.unit.UnitStep.TheVariants.{Stops}
 use Rattle.toolrun.proofs.AgreesLemmas.{bytes_len, rest_held, rest_is, taken_end, taken_full, window_is}
-use Rattle.pegrun.proofs.StepLemmas.{step_broken, step_is}
+use Rattle.pegrun.proofs.StepLemmas.{may_run_on, step_broken, step_is}
 use Rattle.pegrun.specs.declared.options.PegOptions.{PegOptions}
+
+-- where the first unit was the only one, none was run at a line feed
+over_waits : (settings : PegSettings) (s : ℕ) → is_after_whole settings s ≡ true → runs_at_lines settings ≡ true → ⊥
+over_waits settings s over lines = by_whole settings.options.whole refl over lines
+  where
+    by_whole : (w : Bool) → settings.options.whole ≡ w → is_after_whole settings s ≡ true
+        → runs_at_lines settings ≡ true → ⊥
+    by_whole true e over lines = grind (arith, common_steps, e, lines)
+    by_whole false e over lines = grind (arith, common_steps, e, over)
 
 -- whether a position is the end depends on the lengths
 same_stop : (s m n : ℕ) → (s == m) ≡ (s == n) → stop_at s m ≡ stop_at s n
@@ -42,7 +52,7 @@ same_failed : (settings : PegSettings) (s m n : ℕ) → (s == m) ≡ (s == n) �
 same_failed settings s m n e =
     ap (λ (it : Stop). if settings.options.whole then stop.NoMatch s else it) (same_stop s m n e)
 
-same_step : (settings : PegSettings) (s m n : ℕ) (r : Result Attempt WriteFault) → (s == m) ≡ (s == n)
+pub same_step : (settings : PegSettings) (s m n : ℕ) (r : Result Attempt WriteFault) → (s == m) ≡ (s == n)
     → step_after settings s m r ≡ step_after settings s n r
 same_step settings s m n (Ok (Printed zero)) e = rw (same_stop s m n e) refl
 same_step settings s m n (Ok (Printed (suc k))) e = refl
@@ -52,7 +62,7 @@ same_step settings s m n (Ok (Costly budget)) e = refl
 same_step settings s m n (Ok NoMemory) e = refl
 same_step settings s m n (Err fault) e = refl
 
-not-equal : (s m : ℕ) → s < m → (s == m) ≡ false
+pub not-equal : (s m : ℕ) → s < m → (s == m) ≡ false
 not-equal s m h = grind (arith, common_steps)
 
 -- a unit lies in what is held
@@ -108,7 +118,8 @@ module _ (settings : PegSettings) (start : ℕ) (before items : List ℕ) (flow 
         ∙ sym (not-equal start (length input.bytes)
         (let l = bytes_len before items here agrees in omega (arith, l, full)))) in (
           subst (λ v. IsStep (rules_of g.rules) g.start settings input start old new v) (sym (e ∙ same))
-              (step_is g settings input start start_inside sound goes (λ _. rest_long) old new attempted there),
+              (step_is g settings input start start_inside sound goes
+              (may_run_on g settings input start start_inside (λ _. rest_long)) old new attempted there),
           taken_full before items here agrees settings.limit (omega (arith, full)),
         )
 
@@ -146,19 +157,20 @@ module _ (settings : PegSettings) (start : ℕ) (before items : List ℕ) (flow 
         taken_to_end last.0 short,
       )
 
-  pub broken_step : flow ≡ Broken → length items ≤ settings.limit → (g : Grammar) → (old : Option (List ℕ))
-      → (r : Result UnitStep WriteFault) → r ≡ Ok (Stops stop.Broken) →
+  pub broken_step : flow ≡ Broken → length items ≤ settings.limit → (g : Grammar) →
+      (runs_at_lines settings ≡ true → IsSettled (rules_of g.rules) g.start settings input start → ⊥)
+      → (old : Option (List ℕ)) → (r : Result UnitStep WriteFault) → r ≡ Ok (Stops stop.Broken) →
       IsStep (rules_of g.rules) g.start settings input start old old r
       × (length (before ++ items) ≡ taken_at settings input start)
-  broken_step broken short g old r is =
+  broken_step broken short g never old r is =
       let last = agrees.broken broken in (
-        rw is (inr (step_broken g settings input start start_inside old last.1 (short_rest last.0 short))),
+        rw is (inr (step_broken g settings input start start_inside old last.1 (short_rest last.0 short) never)),
         taken_to_end last.0 short,
       )
 
   -- where no unit is tried, a run ends by what is held
   module _ (over : is_after_whole settings start ≡ true) (g : Grammar) (old : Option (List ℕ)) where
-    over_there : (b : Bool) → (start == length input.bytes) ≡ b → MayRun settings input start
+    over_there : (b : Bool) → (start == length input.bytes) ≡ b → MayRun (rules_of g.rules) g.start settings input start
         → Ends (rules_of g.rules) g.start settings input start [] (if b then stop.Quiet Done else stop.NoMatch start)
     over_there true e may = over_at_end over may (grind (arith, common_steps, e))
     over_there false e may =
@@ -166,7 +178,8 @@ module _ (settings : PegSettings) (start : ℕ) (before items : List ℕ) (flow 
         let h : start < length input.bytes = grind (arith, common_steps, e, inside) in
         over_before_end over may h
 
-    stops_over : (n : ℕ) → (start == n) ≡ (start == length input.bytes) → MayRun settings input start
+    stops_over : (n : ℕ) → (start == n) ≡ (start == length input.bytes)
+        → MayRun (rules_of g.rules) g.start settings input start
         → IsStep (rules_of g.rules) g.start settings input start old old (Ok (Stops (stop_at start n)))
     stops_over n e may =
         inr (
@@ -184,7 +197,8 @@ module _ (settings : PegSettings) (start : ℕ) (before items : List ℕ) (flow 
         let l = bytes_len before items here agrees in (
           stops_over (start + length items)
               (not-equal start (start + length items) (omega (arith, full))
-              ∙ sym (not-equal start (length input.bytes) (omega (arith, l, full)))) (λ _. omega (arith, l, full)),
+              ∙ sym (not-equal start (length input.bytes) (omega (arith, l, full))))
+              (λ _. inl (omega (arith, l, full))),
           taken_full before items here agrees settings.limit (omega (arith, full)),
         )
 
@@ -208,8 +222,8 @@ module _ (settings : PegSettings) (start : ℕ) (before items : List ℕ) (flow 
     over_step f held.End is same flows room =
         end_over (sym flows ∙ is.0) (let l = ap length same in let lt = is.1 in omega (arith, l, lt, room))
     over_step f held.Fault is same flows room =
-        broken_step (sym flows ∙ is.0) (let l = ap length same in let lt = is.1 in omega (arith, l, lt, room)) g old _
-        refl
+        broken_step (sym flows ∙ is.0) (let l = ap length same in let lt = is.1 in omega (arith, l, lt, room)) g
+        (λ lines. absurd (over_waits settings start over lines)) old _ refl
 
 -- no bytes are taken where no unit is tried
 pub over_fits : (held : Held) (s n len : ℕ) → StaysWithin len s (Ok (step_held held s n))

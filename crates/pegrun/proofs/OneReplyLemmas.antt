@@ -1,7 +1,7 @@
 -- The units of an input and how a run on it ends are determined, and so is its reply.
 -- Serves: one_reply, one_statement, explanations_change_no_answer
 use Rattle.std.proofs.Common.{◌≡◌, ℕ, ◌+◌, ◌<◌, ◌≤◌, true, false, List, [], ◌++◌, length, refl, sym, ◌∙◌, ap, subst}
-use Rattle.std.proofs.Common.{Option, Some, take, arith}
+use Rattle.std.proofs.Common.{Option, Some, take, arith, inl, inr}
 use Rattle.pegread.specs.Pattern.{Rule}
 use Rattle.gramcheck.specs.Outcome.{Event, Outcome, Fails, Takes, RuleGives}
 use Rattle.gramcheck.proofs.StartRuleLemmas.{same_of_start}
@@ -15,7 +15,7 @@ use Rattle.toolrun.specs.Status.{code_of}
 use Rattle.toolrun.specs.Stop.{message_of, status_of}
 use Rattle.pegrun.specs.Units.{taken_at, rest_from, MayRun, GivesAt, IsUnit, Units, none, one_more, Ends, broken}
 use Rattle.pegrun.specs.Units.{overlong, no_match, finished, no_unit, empty_before_end, empty_at_end, is_after_whole}
-use Rattle.pegrun.specs.Units.{IsWithin, costly, over_before_end, over_at_end}
+use Rattle.pegrun.specs.Units.{IsSettled, IsWithin, costly, over_before_end, over_at_end, runs_at_lines}
 use Rattle.pegrun.specs.PegSettings.{PegSettings}
 use Rattle.toolrun.specs.declared.stop.Stop.{Stop}
 use Rattle.toolrun.specs.declared.stop.Stop.TheVariants.{Quiet, NoMatch, LongUnit, LongLine, Broken, NoMemory, Refused}
@@ -211,9 +211,11 @@ module _ (rules : List Rule) (start : ℕ) (settings : PegSettings) (input : Inp
       let l = ap length (u.prints ∙ ap (text_of settings.options.style (rest_from input s)) same) in
       omega (arith, within, l, over)
 
-  -- after a fault no unit is run on too few bytes
-  few_bytes : (s : ℕ) → input.fault ≡ true → length input.bytes < s + settings.limit + 1 → MayRun settings input s → ⊥
-  few_bytes s fault few may = let m = may fault in omega (arith, m, few)
+  -- after a fault no unit is run on too few bytes, if it looks further
+  few_bytes : (s : ℕ) → input.fault ≡ true → length input.bytes < s + settings.limit + 1
+      → (runs_at_lines settings ≡ true → IsSettled rules start settings input s → ⊥)
+      → MayRun rules start settings input s → ⊥
+  few_bytes s fault few never may = elim (may fault) [ inl m ↦ omega (arith, m, few) | inr is ↦ never is.0 is.1 ]
 
   -- where no unit is tried, none is
   not_over : (s : ℕ) → is_after_whole settings s ≡ false → is_after_whole settings s ≡ true → ⊥
@@ -221,7 +223,7 @@ module _ (rules : List Rule) (start : ℕ) (settings : PegSettings) (input : Inp
 
   -- no run ends where a unit of some bytes stands
   no_end : (s s' : ℕ) (last : List ℕ) (stop : Stop) → Reaches s s' → EndsAt s last stop → ⊥
-  no_end s s' last stop r (broken fault few) = few_bytes s fault few r.unit.gives.may_run
+  no_end s s' last stop r (broken fault few never) = few_bytes s fault few never r.unit.gives.may_run
   no_end s s' last stop r (overlong o looked goes may d over) = not_long s looked o (Takes r.bytes r.unit.events) d over
       r.unit.gives
   no_end s s' last stop r (costly k budget events d is over) =
@@ -244,20 +246,23 @@ module _ (rules : List Rule) (start : ℕ) (settings : PegSettings) (input : Inp
   -- one end at a position
   one_end : (s : ℕ) (last other : List ℕ) (stop end : Stop) → EndsAt s last stop → EndsAt s other end
       → OneEnd last other stop end
-  one_end s last other stop end (broken f few) (broken f' few') = record { lasts = refl; stops = refl }
-  one_end s last other stop end (broken f few) (overlong o' n' goes' may' d' over') = absurd (few_bytes s f few may')
-  one_end s last other stop end (broken f few) (costly k' n' es' d' is' over') =
-      absurd (few_bytes s f few d'.may_run)
-  one_end s last other stop end (broken f few) (no_match d' lt') = absurd (few_bytes s f few d'.may_run)
-  one_end s last other stop end (broken f few) (finished w' d' all') = absurd (few_bytes s f few d'.may_run)
-  one_end s last other stop end (broken f few) (no_unit w' d' all') = absurd (few_bytes s f few d'.may_run)
-  one_end s last other stop end (broken f few) (empty_before_end text' u' lt') =
-      absurd (few_bytes s f few u'.gives.may_run)
-  one_end s last other stop end (broken f few) (empty_at_end text' u' all') =
-      absurd (few_bytes s f few u'.gives.may_run)
-  one_end s last other stop end (broken f few) (over_before_end is' may' lt') = absurd (few_bytes s f few may')
-  one_end s last other stop end (broken f few) (over_at_end is' may' all') = absurd (few_bytes s f few may')
-  one_end s last other stop end (overlong o n goes may d over) (broken f' few') = absurd (few_bytes s f' few' may)
+  one_end s last other stop end (broken f few wait) (broken f' few' wait') = record { lasts = refl; stops = refl }
+  one_end s last other stop end (broken f few wait) (overlong o' n' goes' may' d' over') =
+      absurd (few_bytes s f few wait may')
+  one_end s last other stop end (broken f few wait) (costly k' n' es' d' is' over') =
+      absurd (few_bytes s f few wait d'.may_run)
+  one_end s last other stop end (broken f few wait) (no_match d' lt') = absurd (few_bytes s f few wait d'.may_run)
+  one_end s last other stop end (broken f few wait) (finished w' d' all') = absurd (few_bytes s f few wait d'.may_run)
+  one_end s last other stop end (broken f few wait) (no_unit w' d' all') = absurd (few_bytes s f few wait d'.may_run)
+  one_end s last other stop end (broken f few wait) (empty_before_end text' u' lt') =
+      absurd (few_bytes s f few wait u'.gives.may_run)
+  one_end s last other stop end (broken f few wait) (empty_at_end text' u' all') =
+      absurd (few_bytes s f few wait u'.gives.may_run)
+  one_end s last other stop end (broken f few wait) (over_before_end is' may' lt') =
+      absurd (few_bytes s f few wait may')
+  one_end s last other stop end (broken f few wait) (over_at_end is' may' all') = absurd (few_bytes s f few wait may')
+  one_end s last other stop end (overlong o n goes may d over) (broken f' few' wait') =
+      absurd (few_bytes s f' few' wait' may)
   one_end s last other stop end (overlong o n goes may d over) (overlong o' n' goes' may' d' over') =
       record { lasts = refl; stops = refl }
   one_end s last other stop end (overlong o n goes may d over) (costly k' n' es' d' is' over') =
@@ -276,7 +281,8 @@ module _ (rules : List Rule) (start : ℕ) (settings : PegSettings) (input : Inp
       absurd (not_over s goes is')
   one_end s last other stop end (overlong o n goes may d over) (over_at_end is' may' all') =
       absurd (not_over s goes is')
-  one_end s last other stop end (costly k n es d is over) (broken f' few') = absurd (few_bytes s f' few' d.may_run)
+  one_end s last other stop end (costly k n es d is over) (broken f' few' wait') =
+      absurd (few_bytes s f' few' wait' d.may_run)
   one_end s last other stop end (costly k n es d is over) (overlong o' n' goes' may' d' over') =
       absurd (not_long s n' o' (Takes k es) d' over' d)
   one_end s last other stop end (costly k n es d is over) (costly k' n' es' d' is' over') =
@@ -291,7 +297,7 @@ module _ (rules : List Rule) (start : ℕ) (settings : PegSettings) (input : Inp
   one_end s last other stop end (costly k n es d is over) (over_before_end is' may' lt') =
       absurd (not_over s d.goes is')
   one_end s last other stop end (costly k n es d is over) (over_at_end is' may' all') = absurd (not_over s d.goes is')
-  one_end s last other stop end (no_match d lt) (broken f' few') = absurd (few_bytes s f' few' d.may_run)
+  one_end s last other stop end (no_match d lt) (broken f' few' wait') = absurd (few_bytes s f' few' wait' d.may_run)
   one_end s last other stop end (no_match d lt) (overlong o' n' goes' may' d' over') =
       absurd (not_long s n' o' Fails d' over' d)
   one_end s last other stop end (no_match d lt) (costly k' n' es' d' is' over') =
@@ -303,7 +309,7 @@ module _ (rules : List Rule) (start : ℕ) (settings : PegSettings) (input : Inp
   one_end s last other stop end (no_match d lt) (empty_at_end text' u' all') = absurd (not_both s 0 text' d u')
   one_end s last other stop end (no_match d lt) (over_before_end is' may' lt') = absurd (not_over s d.goes is')
   one_end s last other stop end (no_match d lt) (over_at_end is' may' all') = absurd (not_over s d.goes is')
-  one_end s last other stop end (finished w d all) (broken f' few') = absurd (few_bytes s f' few' d.may_run)
+  one_end s last other stop end (finished w d all) (broken f' few' wait') = absurd (few_bytes s f' few' wait' d.may_run)
   one_end s last other stop end (finished w d all) (overlong o' n' goes' may' d' over') =
       absurd (not_long s n' o' Fails d' over' d)
   one_end s last other stop end (finished w d all) (costly k' n' es' d' is' over') =
@@ -315,7 +321,7 @@ module _ (rules : List Rule) (start : ℕ) (settings : PegSettings) (input : Inp
   one_end s last other stop end (finished w d all) (empty_at_end text' u' all') = absurd (not_both s 0 text' d u')
   one_end s last other stop end (finished w d all) (over_before_end is' may' lt') = absurd (not_over s d.goes is')
   one_end s last other stop end (finished w d all) (over_at_end is' may' all') = absurd (not_over s d.goes is')
-  one_end s last other stop end (no_unit w d all) (broken f' few') = absurd (few_bytes s f' few' d.may_run)
+  one_end s last other stop end (no_unit w d all) (broken f' few' wait') = absurd (few_bytes s f' few' wait' d.may_run)
   one_end s last other stop end (no_unit w d all) (overlong o' n' goes' may' d' over') =
       absurd (not_long s n' o' Fails d' over' d)
   one_end s last other stop end (no_unit w d all) (costly k' n' es' d' is' over') =
@@ -327,8 +333,8 @@ module _ (rules : List Rule) (start : ℕ) (settings : PegSettings) (input : Inp
   one_end s last other stop end (no_unit w d all) (empty_at_end text' u' all') = absurd (not_both s 0 text' d u')
   one_end s last other stop end (no_unit w d all) (over_before_end is' may' lt') = absurd (not_over s d.goes is')
   one_end s last other stop end (no_unit w d all) (over_at_end is' may' all') = absurd (not_over s d.goes is')
-  one_end s last other stop end (empty_before_end text u lt) (broken f' few') =
-      absurd (few_bytes s f' few' u.gives.may_run)
+  one_end s last other stop end (empty_before_end text u lt) (broken f' few' wait') =
+      absurd (few_bytes s f' few' wait' u.gives.may_run)
   one_end s last other stop end (empty_before_end text u lt) (overlong o' n' goes' may' d' over') =
       absurd (not_long s n' o' (Takes 0 u.events) d' over' u.gives)
   one_end s last other stop end (empty_before_end text u lt) (costly k' n' es' d' is' over') =
@@ -344,8 +350,8 @@ module _ (rules : List Rule) (start : ℕ) (settings : PegSettings) (input : Inp
       absurd (not_over s u.gives.goes is')
   one_end s last other stop end (empty_before_end text u lt) (over_at_end is' may' all') =
       absurd (not_over s u.gives.goes is')
-  one_end s last other stop end (empty_at_end text u all) (broken f' few') =
-      absurd (few_bytes s f' few' u.gives.may_run)
+  one_end s last other stop end (empty_at_end text u all) (broken f' few' wait') =
+      absurd (few_bytes s f' few' wait' u.gives.may_run)
   one_end s last other stop end (empty_at_end text u all) (overlong o' n' goes' may' d' over') =
       absurd (not_long s n' o' (Takes 0 u.events) d' over' u.gives)
   one_end s last other stop end (empty_at_end text u all) (costly k' n' es' d' is' over') =
@@ -361,7 +367,8 @@ module _ (rules : List Rule) (start : ℕ) (settings : PegSettings) (input : Inp
       absurd (not_over s u.gives.goes is')
   one_end s last other stop end (empty_at_end text u all) (over_at_end is' may' all') =
       absurd (not_over s u.gives.goes is')
-  one_end s last other stop end (over_before_end is may lt) (broken f' few') = absurd (few_bytes s f' few' may)
+  one_end s last other stop end (over_before_end is may lt) (broken f' few' wait') =
+      absurd (few_bytes s f' few' wait' may)
   one_end s last other stop end (over_before_end is may lt) (overlong o' n' goes' may' d' over') =
       absurd (not_over s goes' is)
   one_end s last other stop end (over_before_end is may lt) (costly k' n' es' d' is' over') =
@@ -377,7 +384,7 @@ module _ (rules : List Rule) (start : ℕ) (settings : PegSettings) (input : Inp
       record { lasts = refl; stops = refl }
   one_end s last other stop end (over_before_end is may lt) (over_at_end is' may' all') =
       absurd (omega (arith, lt, all'))
-  one_end s last other stop end (over_at_end is may all) (broken f' few') = absurd (few_bytes s f' few' may)
+  one_end s last other stop end (over_at_end is may all) (broken f' few' wait') = absurd (few_bytes s f' few' wait' may)
   one_end s last other stop end (over_at_end is may all) (overlong o' n' goes' may' d' over') =
       absurd (not_over s goes' is)
   one_end s last other stop end (over_at_end is may all) (costly k' n' es' d' is' over') =

@@ -21,6 +21,7 @@ use Rattle.toolrun.specs.Input.{Input}
 use Rattle.toolrun.specs.declared.ending.Ending.TheVariants.{Plain}
 use Rattle.toolrun.specs.declared.stop.Stop.TheVariants as stop
 use Rattle.pegrun.specs.ByteUnits.{AreByteUnits}
+use Rattle.pegrun.specs.MatchCalls.{matches_for}
 use Rattle.pegrun.specs.PassedUnits.{HasPassed, HasComeTo}
 use Rattle.pegrun.specs.PegSettings.{PegSettings}
 use Rattle.pegrun.specs.PegStopped.{IsCut}
@@ -29,6 +30,7 @@ use Rattle.pegrun.specs.declared.byte_units.ByteUnits.{ByteUnits}
 use Rattle.pegrun.specs.declared.passed.Passed.{Passed}
 use Rattle.pegrun.specs.declared.passed.Passed.TheVariants.{Broken, Units as Passes}
 use Rattle.pegrun.proofs.CutLemmas.{stops_plain}
+use Rattle.pegrun.proofs.MatchCallsLemmas.{few_with_more}
 
 module _ (rules : List Rule) (start : ℕ) (settings : PegSettings) (input : Input) (old mid new : Option (List ℕ))
     (position : ℕ) (text : List ℕ) (taken : ℕ) (units : Units rules start settings input position text)
@@ -44,17 +46,18 @@ module _ (rules : List Rule) (start : ℕ) (settings : PegSettings) (input : Inp
   -- The same, with what is kept of the unit before, which is asked for only where no unit was run so, and the calls.
   pub written_passed : (s n : ℕ) → s ≡ position → HasComeTo rules start settings input s taken mid new (Ok (Passes n)) →
       (IsKept : ℕ → Type 0) → (settings.explain ≡ true → n ≡ 0) → (settings.explain ≡ true → IsKept position) →
-      (was calls : ℕ) → calls ≤ was + 2 * unit_count rules start settings input units →
+      (was calls : ℕ) → calls ≤ was + matches_for settings * unit_count rules start settings input units →
       (longer : List ℕ) × (later : Units rules start settings input (position + n) longer) × Appends old new longer
       × (settings.explain ≡ true → IsKept (position + n))
-      × (calls ≤ was + 2 * unit_count rules start settings input later)
+      × (calls ≤ was + matches_for settings * unit_count rules start settings input later)
   written_passed s n here passed IsKept none kept was calls few =
       let u = units_passed s n here passed in (
         u.0,
         u.1,
         u.2,
         λ asked. subst IsKept (let e = none asked in omega (arith, e)) (kept asked),
-        omega (arith, few, u.3),
+        few_with_more (matches_for settings) was calls (unit_count rules start settings input units)
+            (unit_count rules start settings input u.1) n few u.3,
       )
 
   pub cut_at_fault : (s : ℕ) → s ≡ position → settings.explain ≡ false
@@ -219,7 +222,7 @@ WrittenTo remaining rules start settings first old was IsPast IsKept feed positi
     × ((input : Input) → Agrees (before ++ bytes_of feed) (flow_of feed) input → (text : List ℕ)
     × (units : Units rules start settings input position text) × Appends old out text
     × (settings.explain ≡ true → IsKept input position)
-    × (calls ≤ was + 2 * unit_count rules start settings input units))
+    × (calls ≤ was + matches_for settings * unit_count rules start settings input units))
 
 pub written_on : {R : Type 0} (remaining : R → Option (List ℕ)) (g : Grammar) (settings : PegSettings)
     (first old : Option (List ℕ)) (was : ℕ) (IsPast : List ℕ → Type 0) (IsKept : Input → ℕ → Type 0)

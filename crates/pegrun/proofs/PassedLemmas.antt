@@ -1,7 +1,7 @@
 -- Units that their first byte alone decides, many at a time.
 -- Serves: run_peg (right)
 use Rattle.std.proofs.Common.{◌≡◌, ℕ, zero, suc, ◌+◌, ◌-◌, ◌<◌, ◌≤◌, Bool, true, false, Option, Some, None, List}
-use Rattle.std.proofs.Common.{[], ◌∷◌, ◌++◌}
+use Rattle.std.proofs.Common.{[], ◌∷◌, ◌++◌, inl}
 use Rattle.std.proofs.Common.{length, take, drop, refl, sym, ◌∙◌, ap, subst, arith, append_assoc, length-append}
 use Rattle.std.proofs.Common.{if◌then◌else◌}
 use Rattle.std.specs.Prelude.{Ok, Err, is_some, unwrap_or}
@@ -30,7 +30,7 @@ use Rattle.toolrun.specs.declared.stop.Stop.TheVariants as stop
 use Rattle.pegrun.specs.ByteUnits.{AreByteUnits, is_known, text_by, texts_of}
 use Rattle.pegrun.specs.PassedUnits.{GoesOn, HasPassed, HasComeTo, can_run}
 use Rattle.pegrun.specs.PegSettings.{PegSettings}
-use Rattle.pegrun.specs.Units.{Ends, IsUnit, Units, broken, one_more, taken_at, unit_count}
+use Rattle.pegrun.specs.Units.{Ends, IsUnit, Units, broken, one_more, runs_at_lines, taken_at, unit_count}
 use Rattle.pegrun.specs.declared.byte_units.ByteUnits.{ByteUnits}
 use Rattle.pegrun.specs.declared.passed.Passed.TheVariants.{Broken, Units as Passes}
 
@@ -112,7 +112,7 @@ module _ (g : Grammar) (settings : PegSettings) (input : Input) (units : ByteUni
         events = unit.0;
         gives = record {
           goes = rw room.1 refl;
-          may_run = may;
+          may_run = λ f. inl (may f);
           looked = unit.1;
           gives = rw here unit.2;
           within = omega (arith, unit.3, room.0);
@@ -189,7 +189,7 @@ module _ (g : Grammar) (settings : PegSettings) (input : Input) (units : ByteUni
     -- the writer failed: the last of them is not written whole, for all that is known
     pub pass_fails : (old new : Option (List ℕ)) (fault : WriteFault) → AppendsPart old new (texts_of units bytes) →
         ((n : ℕ) → length bytes ≡ suc n
-        → length (before ++ held) ≡ taken_at settings input (length before + n)) →
+        → length (before ++ held) ≤ taken_at settings input (length before + n)) →
         HasComeTo (rules_of g.rules) g.start settings input (length before) (length (before ++ held)) old new
         (Err fault)
     pass_fails old new fault part taken =
@@ -244,7 +244,7 @@ moved_units rules start settings input s text it =
 module _ {R : Type 0} (remaining : R → Option (List ℕ)) (units : ByteUnits) (settings : PegSettings) (f0 f1 f2 : Feed R)
     (bytes : List ℕ) (some : 0 < length bytes) (first : IsPrefixOf bytes (bytes_of f0))
     (are_known : prefix_len (is_known units) bytes ≡ length bytes) (count : ℕ) (is_count : count ≡ length bytes)
-    (room : MayPass settings) (capacity : capacity_of f0 ≡ settings.limit + 1)
+    (room : MayPass settings) (waits : runs_at_lines settings ≡ false) (capacity : capacity_of f0 ≡ settings.limit + 1)
     (skip_bytes : bytes_of f1 ≡ drop (count - 1) (bytes_of f0)) (skip_reader : reader_of f1 ≡ reader_of f0)
     (skip_flow : flow_of f1 ≡ flow_of f0) (skip_allowance : allowance_of f1 ≡ allowance_of f0)
     (skip_capacity : capacity_of f1 ≡ capacity_of f0) (grows : Grows remaining f1 f2) (why : Held)
@@ -365,7 +365,7 @@ module _ {R : Type 0} (remaining : R → Option (List ℕ)) (units : ByteUnits) 
     fails_so was is fault part =
         pass_fails g settings input units are room before all agrees (take run bytes) tail all_first
         (known_part units bytes run all_known) may_run was is fault part
-        (λ k e. taken_by why is_held k (sym run_len ∙ e))
+        (λ k e. let took = taken_by why is_held k (sym run_len ∙ e) in omega (arith, took))
 
     ends_so : (h : Held) → IsHeld f2 h → can_run h count (length (bytes_of f2)) settings.limit < count
         → Ends (rules_of g.rules) g.start settings input
@@ -378,7 +378,7 @@ module _ {R : Type 0} (remaining : R → Option (List ℕ)) (units : ByteUnits) 
         let last = agrees.broken held.0 in
         let none = ap length last.0 in
         let e : length (before ++ all) ≡ length input.bytes = omega (arith, seen_len, whole_len, all_len, none) in (
-          broken last.1 (omega (arith, e, seen_len)),
+          broken last.1 (omega (arith, e, seen_len)) (λ lines is. cc (waits, lines)),
           e ∙ sym (min-eq_left (omega (arith, e, seen_len))),
         )
 

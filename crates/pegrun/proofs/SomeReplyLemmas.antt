@@ -1,7 +1,7 @@
 -- Each input has a reply, and the text of the first units is a prefix of it.
 -- Serves: run_peg (right)
-use Rattle.std.proofs.Common.{◌≡◌, ℕ, suc, zero, ◌+◌, ◌<◌, ◌≤◌, Bool, true, false, List, [], ◌++◌, length, drop, refl}
-use Rattle.std.proofs.Common.{sym, arith, inl, inr, ◌⊎◌, length-drop, Option, Some, None}
+use Rattle.std.proofs.Common.{◌≡◌, ℕ, suc, zero, ◌+◌, ◌<◌, ◌≤◌, Bool, true, false, List, [], ◌∷◌, ◌++◌, length, drop}
+use Rattle.std.proofs.Common.{refl, sym, arith, inl, inr, ◌⊎◌, length-drop, Option, Some, None}
 use Rattle.std.proofs.Math.Nat.{min-le_left, min-le_right, le-min}
 use Rattle.std.proofs.lemmas.Bool.{cases_lt, cases_eq}
 use Rattle.ruletable.proofs.AppendsLemmas.{IsPrefixOf-same, IsPrefixOf-trans}
@@ -10,7 +10,7 @@ use Rattle.gramcheck.specs.Grammar.{Grammar, IsSoundGrammar}
 use Rattle.pegnodes.specs.Nodes.{shapes_of}
 use Rattle.gramcheck.specs.Outcome.{Event, Outcome, Fails, Takes}
 use Rattle.gramcheck.proofs.SomeOutcomeLemmas.{has_of_start}
-use Rattle.gramcheck.proofs.StartRuleLemmas.{rises_of_start}
+use Rattle.gramcheck.proofs.StartRuleLemmas.{rises_of_start, same_of_start}
 use Rattle.pegmatch.specs.Text.{text_of}
 use Rattle.toolrun.specs.Input.{Input}
 use Rattle.pegrun.specs.PegReply.{PlainReplies}
@@ -20,11 +20,12 @@ use Rattle.toolrun.specs.Status.{code_of}
 use Rattle.toolrun.specs.Stop.{message_of, status_of}
 use Rattle.pegrun.specs.Units.{taken_at, MayRun, GivesAt, IsUnit, Units, none, one_more, Ends, broken, overlong}
 use Rattle.pegrun.specs.Units.{no_match, finished, no_unit, empty_before_end, empty_at_end, is_after_whole}
-use Rattle.pegrun.specs.Units.{IsWithin, costly, over_at_end, over_before_end}
+use Rattle.pegrun.specs.Units.{IsSettled, IsWithin, costly, over_at_end, over_before_end, runs_at_lines}
 use Rattle.pegrun.specs.PegSettings.{PegSettings}
 use Rattle.toolrun.specs.declared.status.Status.TheVariants.{Done}
 use Rattle.toolrun.specs.declared.stop.Stop.{Stop}
 use Rattle.toolrun.specs.declared.stop.Stop.TheVariants.{Quiet, NoMatch, LongUnit, CostlyUnit, Broken}
+use Rattle.pegrun.proofs.SameFrontLemmas.{same_front_of_start}
 
 -- a reply that begins with the text and takes no less than a unit at s
 abbrev pub Goes : Grammar → PegSettings → Input → ℕ → List ℕ → Type 0
@@ -135,15 +136,15 @@ module _ (g : Grammar) (settings : PegSettings) (input : Input) where
         (goes_to_stop s text [] (NoMatch s) units (no_match d (omega arith)))
   ]
 
-  may_run : (s : ℕ) (b : Bool) → b ≡ input.fault → (MayRun settings input s)
-      ⊎ ((input.fault ≡ true) × (length input.bytes < s + settings.limit + 1))
-  may_run s false e = inl (λ f. absurd (cc))
-  may_run s true e = elim (cases_lt (length input.bytes) (s + settings.limit + 1))
-      [ inl short ↦ inr (sym e, short) | inr long ↦ inl (λ f. long) ]
+  abbrev MayRunAt : ℕ → Type 0
+  MayRunAt s = MayRun (rules_of g.rules) g.start settings input s
+
+  abbrev Settled : ℕ → Type 0
+  Settled s = IsSettled (rules_of g.rules) g.start settings input s
 
   -- where no unit is tried
   goes_over : (s : ℕ) (text : List ℕ) → UnitsTo s text → s ≤ length input.bytes → is_after_whole settings s ≡ true
-      → MayRun settings input s → Goes g settings input s text
+      → MayRunAt s → Goes g settings input s text
   goes_over s text units inside over may = elim (cases_eq s (length input.bytes)) [
     | inl at_end ↦ goes_before s s text [] (omega arith)
         (goes_to_stop s text [] (Quiet Done) units (over_at_end over may at_end))
@@ -186,9 +187,47 @@ module _ (g : Grammar) (settings : PegSettings) (input : Input) where
       ]
 
   module _ (sound : IsSoundGrammar g) where
+    -- whether the start rule looks at a byte after those that are there
+    settled_or : (s : ℕ) → s < length input.bytes → Settled s ⊎ (Settled s → ⊥)
+    settled_or s some =
+        let longer = has_of_start (rules_of g.rules) g.start (shapes_of g.nodes) g.bodies g.ranks sound
+        (rest s ++ (0 ∷ [])) in
+        elim (cases_lt (length (rest s)) longer.1) [
+          | inl over ↦ inr (λ is.
+              let same = same_of_start (rules_of g.rules) g.start (rest s ++ (0 ∷ [])) longer.1 is.looked longer.0 is.o
+              longer.2 (is.gives (0 ∷ [])) in
+              let within = is.within in
+              omega (arith, over, same.looked, within))
+          | inr le ↦ inl (record {
+            some = some;
+            o = longer.0;
+            looked = longer.1;
+            gives = λ more.
+                same_front_of_start (rules_of g.rules) g.start (rest s) 0 [] more longer.1 longer.0 le longer.2;
+            within = le;
+          })
+        ]
+
+    runs_or : (s : ℕ) → (lines : Bool) → runs_at_lines settings ≡ lines → length input.bytes < s + settings.limit + 1
+        → input.fault ≡ true → MayRunAt s ⊎ (runs_at_lines settings ≡ true → Settled s → ⊥)
+    runs_or s false e short fault = inr (λ lines is. cc (e, lines))
+    runs_or s true e short fault = elim (cases_lt s (length input.bytes)) [
+      | inl some ↦ elim (settled_or s some) [ inl is ↦ inl (λ f. inr (e, is)) | inr never ↦ inr (λ lines is. never is) ]
+      | inr le ↦ inr (λ lines is. let some = is.some in omega (arith, some, le))
+    ]
+
+    -- a unit may be run here, or the run ends by a fault
+    may_run : (s : ℕ) (b : Bool) → b ≡ input.fault → (MayRunAt s) ⊎ EndsAt s [] Broken
+    may_run s false e = inl (λ f. absurd (cc))
+    may_run s true e = elim (cases_lt (length input.bytes) (s + settings.limit + 1)) [
+      | inl short ↦ elim (runs_or s (runs_at_lines settings) refl short (sym e))
+          [ inl may ↦ inl may | inr never ↦ inr (broken (sym e) short never) ]
+      | inr long ↦ inl (λ f. inl long)
+    ]
+
     goes_on : (fuel s : ℕ) (text : List ℕ) → GoesFrom fuel → UnitsTo s text → s ≤ length input.bytes
         → length input.bytes < s + suc fuel → is_after_whole settings s ≡ false
-        → MayRun settings input s → Goes g settings input s text
+        → MayRunAt s → Goes g settings input s text
     goes_on fuel s text later units inside room goes may =
         let some = has_of_start (rules_of g.rules) g.start (shapes_of g.nodes) g.bodies g.ranks sound (rest s) in
         elim (cases_lt settings.limit some.1) [
@@ -200,7 +239,7 @@ module _ (g : Grammar) (settings : PegSettings) (input : Input) where
 
     -- where the bytes of a unit are there
     goes_by : (b : Bool) (fuel s : ℕ) (text : List ℕ) → GoesFrom fuel → UnitsTo s text → s ≤ length input.bytes
-        → length input.bytes < s + suc fuel → is_after_whole settings s ≡ b → MayRun settings input s
+        → length input.bytes < s + suc fuel → is_after_whole settings s ≡ b → MayRunAt s
         → Goes g settings input s text
     goes_by true fuel s text later units inside room over may = goes_over s text units inside over may
     goes_by false fuel s text later units inside room goes may = goes_on fuel s text later units inside room goes may
@@ -208,7 +247,7 @@ module _ (g : Grammar) (settings : PegSettings) (input : Input) where
     goes_with_fuel : (fuel : ℕ) → GoesFrom fuel
     goes_with_fuel zero s text units inside room = absurd (omega arith)
     goes_with_fuel (suc fuel) s text units inside room = elim (may_run s input.fault refl) [
-      | inr cut ↦ goes_before s s text [] (omega arith) (goes_to_stop s text [] Broken units (broken cut.0 cut.1))
+      | inr cut ↦ goes_before s s text [] (omega arith) (goes_to_stop s text [] Broken units cut)
       | inl may ↦ goes_by (is_after_whole settings s) fuel s text (goes_with_fuel fuel) units inside room refl may
     ]
 

@@ -14,7 +14,7 @@ use Rattle.pegread.proofs.IsFaultOfLemmas.{one-reading, one-fault, no-fault}
 use Rattle.gramcheck.specs.Checked.{is_refused, IsStart}
 use Rattle.gramcheck.specs.GrammarNotes.{names_at}
 use Rattle.gramcheck.proofs.AreNotesLemmas.{notes-one, those-one}
-use Rattle.pegprint.specs.PegExplained.{Explains}
+use Rattle.pegprint.specs.PegAllFaults.{ExplainsAll}
 use Rattle.pegexplain.specs.PegNotes.{ExplainsNote}
 use Rattle.pegexplain.specs.PegHints.{ArePegHints}
 use Rattle.pegrun.specs.Answers.{States, refused, unexplained, noted, checked, runs, cut_notes, again}
@@ -44,8 +44,8 @@ again_is_one definitions a b g h =
 
 -- what explains a fault is one text
 abbrev ExplanationsAreOne : Type 0
-ExplanationsAreOne = (text : List ℕ) (fault : ReadFault) (a b : List ℕ) → Explains text fault a
-    → Explains text fault b → a ≡ b
+ExplanationsAreOne = (text : List ℕ) (fault : ReadFault) (a b : List ℕ) → ExplainsAll text fault a
+    → ExplainsAll text fault b → a ≡ b
 
 -- what explains a note is one text
 abbrev pub NotesAreOne : Type 0
@@ -79,7 +79,7 @@ module _ (settings : PegSettings) (input : Input) where
 
   module _ (text : List ℕ) where
     abbrev IsStated : List ℕ → Reply → Type 0
-    IsStated = Stated (IsFaultOf text) (λ fault. Explained settings (Explains text fault)) (Reads text)
+    IsStated = Stated (IsFaultOf text) (λ fault. Explained settings (ExplainsAll text fault)) (Reads text)
         (λ definitions. AreNotesOn definitions (start_given settings))
         (λ definitions notes. is_refused notes ≡ true) (λ definitions notes. is_refused notes ≡ false) AreAgain
         (HintedNotes settings (ExplainsNote text) (ArePegHints text)) (ReportedNotes settings (ExplainsNote text)) RunOf
@@ -144,13 +144,13 @@ module _ (settings : PegSettings) (input : Input) where
         (a b : Reply) → IsStated notes a
         → IsStated others b → a.status ≢ 5 → b.status ≢ 5 → (notes ≡ others) × (a ≡ b)
     one_of_text one lines hints = one_stated (IsFaultOf text)
-        (λ fault. Explained settings (Explains text fault))
+        (λ fault. Explained settings (ExplainsAll text fault))
         (Reads text)
         (λ definitions. AreNotesOn definitions (start_given settings))
         (λ definitions notes. is_refused notes ≡ true) (λ definitions notes. is_refused notes ≡ false) AreAgain
         (HintedNotes settings (ExplainsNote text) (ArePegHints text)) (ReportedNotes settings (ExplainsNote text)) RunOf
         printed_text settings.mode (one-reading text) (one-fault text)
-        (λ fault. one-explained settings (Explains text fault) (one text fault)) (no-fault text) notes_are_one
+        (λ fault. one-explained settings (ExplainsAll text fault) (one text fault)) (no-fault text) notes_are_one
         again_is_one
         (hinted-one settings (ExplainsNote text) (ArePegHints text) one_line (hints text))
         (λ notes. reported-one one_line)
@@ -181,13 +181,13 @@ long-unread long r = let within = r.within in omega arith
 -- a text that is too long is reported as that, whether an allocation fails or not
 pub long_is_reported : (text : List ℕ) (settings : PegSettings) (input : Input) (notes : List ℕ) (reply : Reply)
     → IsFaultOf text TooLong → States text settings input notes reply
-    → (notes ≡ []) × IsLongReply settings (Explains text TooLong) reply
+    → (notes ≡ []) × IsLongReply settings (ExplainsAll text TooLong) reply
 long_is_reported text settings input notes reply long (refused fault why f other reported) =
     let is : fault ≡ TooLong = one-fault text fault TooLong f long other (λ e. cc) in (
       refl,
       inl (
         why,
-        subst (λ (f : ReadFault). Explained settings (Explains text f) why) is reported,
+        subst (λ (f : ReadFault). Explained settings (ExplainsAll text f) why) is reported,
         ap (λ f. refusal f why) is,
       ),
     )

@@ -15,7 +15,7 @@ use Rattle.pegmatch.specs.Text.{text_of}
 use Rattle.pegrun.specs.Attempts.{IsLimited, IsStep, step_after}
 use Rattle.toolrun.specs.Input.{Input}
 use Rattle.pegrun.specs.Units.{MayRun, GivesAt, IsUnit, Ends, broken, overlong, no_match, finished, empty_before_end}
-use Rattle.pegrun.specs.Units.{IsWithin, costly, empty_at_end, is_after_whole, no_unit}
+use Rattle.pegrun.specs.Units.{IsSettled, IsWithin, costly, empty_at_end, is_after_whole, no_unit, runs_at_lines}
 use Rattle.pegrun.specs.PegSettings.{PegSettings}
 use Rattle.toolrun.specs.declared.status.Status.TheVariants.{Done}
 use Rattle.toolrun.specs.declared.stop.Stop.TheVariants.{Quiet, NoMatch, Broken}
@@ -35,14 +35,19 @@ module _ (g : Grammar) (settings : PegSettings) (input : Input) (s : ℕ) (insid
 
   -- the reader failed, and too few bytes are left
   pub step_broken : (old : Option (List ℕ)) → input.fault ≡ true → length rest ≤ settings.limit →
+      (runs_at_lines settings ≡ true → IsSettled (rules_of g.rules) g.start settings input s → ⊥) →
       (last : List ℕ) × Ends (rules_of g.rules) g.start settings input s last Broken × Appends old old last
-  step_broken old fault short = let l = length-drop s input.bytes in ([], broken fault (omega arith), Appends-same old)
+  step_broken old fault short never =
+      let l = length-drop s input.bytes in
+      ([], broken fault (omega arith) never, Appends-same old)
+
+  -- as many bytes are left as a unit may look at
+  pub may_run_on : (input.fault ≡ true → settings.limit < length rest)
+      → MayRun (rules_of g.rules) g.start settings input s
+  may_run_on may f = let l = length-drop s input.bytes in let lt = may f in inl (omega arith)
 
   module _ (sound : IsSoundGrammar g) (goes : is_after_whole settings s ≡ false)
-      (may : input.fault ≡ true → settings.limit < length rest) where
-    may_run : MayRun settings input s
-    may_run f = let l = length-drop s input.bytes in let lt = may f in omega arith
-
+      (may_run : MayRun (rules_of g.rules) g.start settings input s) where
     gives_at : (o : Outcome) (looked : ℕ) → StartGives g window o looked → WasEnough window more looked
         → GivesAt (rules_of g.rules) g.start settings input s o
     gives_at o looked d enough =

@@ -6,7 +6,7 @@ use Rattle.ruletable.specs.declared.fault.ReadFault.TheVariants.{Memory}
 use Rattle.pegread.specs.Definitions.{firsts}
 use Rattle.pegread.specs.Pattern.{Rule}
 use Rattle.pegread.specs.Reading.{Reads, IsFaultOf}
-use Rattle.pegprint.specs.PegExplained.{Explains}
+use Rattle.pegprint.specs.PegAllFaults.{ExplainsAll}
 use Rattle.pegexplain.specs.PegNotes.{ExplainsNote}
 use Rattle.pegexplain.specs.PegHints.{ArePegHints}
 use Rattle.gramcheck.specs.Checked.{is_refused, IsStart}
@@ -24,7 +24,7 @@ use Rattle.pegrun.specs.PegSettings.{PegSettings}
 pub data States (text : List ℕ) (settings : PegSettings) (input : Input) : List ℕ → Reply → Type 0 where
   -- the text has a fault, which is reported, and explained if that is asked
   refused : (fault : ReadFault) (why : List ℕ) → IsFaultOf text fault → fault ≢ Memory
-      → Explained settings (Explains text fault) why → States text settings input [] (refusal fault why)
+      → Explained settings (ExplainsAll text fault) why → States text settings input [] (refusal fault why)
   -- its fault is reported, and an allocation failed in explaining it
   unexplained : (fault : ReadFault) → IsFaultOf text fault → fault ≢ Memory → settings.explain ≡ true
       → States text settings input [] (unexplained_fault fault)

@@ -1,6 +1,6 @@
 -- What one attempt at a unit comes to, and what it writes.
-use Rattle.std.specs.Prelude.{◌≡◌, ℕ, zero, suc, ◌+◌, ◌<◌, ◌≤◌, ◌⊎◌, ◌==◌, ⊤, Bool, true, List, length, Option, Result}
-use Rattle.std.specs.Prelude.{Ok, Err, Some, None, if◌then◌else◌}
+use Rattle.std.specs.Prelude.{◌≡◌, ◌≢◌, ℕ, zero, suc, ◌+◌, ◌<◌, ◌≤◌, ◌⊎◌, ◌==◌, ⊤, Bool, true, false, List, [], ◌∷◌}
+use Rattle.std.specs.Prelude.{◌++◌, length, Option, Result, Ok, Err, Some, None, if◌then◌else◌}
 use Rattle.std.specs.Io.KnownBytes.{Appends, Keeps}
 use Rattle.ruletable.specs.Writing.{AppendsPart, Flags}
 use Rattle.ruletable.specs.declared.sink.WriteFault.{WriteFault}
@@ -13,7 +13,8 @@ use Rattle.pegmatch.specs.Answers.{StartGives, WasEnough}
 use Rattle.pegmatch.specs.Text.{text_of}
 use Rattle.pegmatch.specs.declared.style.PrintStyle.{PrintStyle}
 use Rattle.toolrun.specs.Input.{Input}
-use Rattle.pegrun.specs.Units.{IsUnit, IsWithin, Ends}
+use Rattle.pegrun.specs.LineReads.{LooksPast}
+use Rattle.pegrun.specs.Units.{IsUnit, IsWithin, Ends, runs_at_lines, taken_at}
 use Rattle.pegrun.specs.PegSettings.{PegSettings}
 use Rattle.pegrun.specs.declared.options.PegOptions.{PegOptions}
 use Rattle.toolrun.specs.declared.stop.Stop.{Stop}
@@ -68,7 +69,7 @@ IsFrontAttempt g window more style old new None = Keeps old new
 IsFrontAttempt g window more style old new (Some attempted) = IsAttempt g window more style old new attempted
 
 -- without an answer the writer has not failed
-abbrev pub FrontFlags : Bool → Bool → Option (Result Attempt WriteFault) → Type 0
+abbrev pub FrontFlags : {A E : Type 0} → Bool → Bool → Option (Result A E) → Type 0
 FrontFlags old new None = new ≡ old
 FrontFlags old new (Some attempted) = Flags old new attempted
 
@@ -102,6 +103,15 @@ IsStepOn g items more settings s old new result = (attempted : Result Attempt Wr
     × IsLimited g items more settings.options old new attempted ×
     (result ≡ step_after settings s (s + length items) attempted)
 
+-- What follows at a position from which some bytes are held, whatever comes after them: the start rule looks at none of
+-- that. Without an answer it does, and nothing is written.
+abbrev pub IsSettledStep : Grammar → List ℕ → PegSettings → ℕ → Option (List ℕ) → Option (List ℕ)
+    → Option (Result UnitStep WriteFault) → Type 0
+IsSettledStep g items settings s old new None = LooksPast g items × (new ≡ old)
+IsSettledStep g items settings s old new (Some result) = (attempted : Result Attempt WriteFault)
+    × IsLimited g (items ++ 0 ∷ []) true settings.options old new attempted × (attempted ≢ Ok TooLong)
+    × (result ≡ step_after settings s (s + length items) attempted)
+
 -- A unit of some bytes was printed, or the run ends here and the text of its last unit was printed, or an allocation
 -- failed and nothing was.
 abbrev pub IsStep : List Rule → ℕ → PegSettings → Input → ℕ → Option (List ℕ) → Option (List ℕ)
@@ -114,6 +124,13 @@ IsStep rules start settings input s old new (Ok (Stops why)) =
     × Appends old new last)
 IsStep rules start settings input s old new (Err fault) =
     (k : ℕ) × (text : List ℕ) × IsUnit rules start settings input s k text × AppendsPart old new text
+
+-- How many bytes were taken when this follows at s. A run that stops has taken as many as a unit may look at; so has
+-- one that goes on, if units are not run at line feeds.
+abbrev pub HasTaken : PegSettings → Input → ℕ → ℕ → Result UnitStep WriteFault → Type 0
+HasTaken settings input s taken (Ok (Stops why)) = taken ≡ taken_at settings input s
+HasTaken settings input s taken _ = (taken ≤ taken_at settings input s)
+    × (runs_at_lines settings ≡ false → taken ≡ taken_at settings input s)
 
 -- a unit takes some of the bytes that are there
 abbrev pub StaysWithin : ℕ → ℕ → Result UnitStep WriteFault → Type 0

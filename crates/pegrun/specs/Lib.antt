@@ -1,6 +1,8 @@
 pub mod Answers
 pub mod Attempts
 pub mod ByteUnits
+pub mod LineReads
+pub mod LineTries
 pub mod MatchCalls
 pub mod Noted
 pub mod OpenPeg

@@ -1,8 +1,8 @@
 -- How many matches a run asks its matcher for.
-use Rattle.std.specs.Prelude.{ℕ, ◌+◌, ◌*◌, ◌≤◌, List}
+use Rattle.std.specs.Prelude.{ℕ, ◌+◌, ◌*◌, ◌≤◌, if◌then◌else◌, List}
 use Rattle.pegread.specs.Pattern.{Rule}
 use Rattle.toolrun.specs.Input.{Input}
-use Rattle.pegrun.specs.Units.{Units, unit_count}
+use Rattle.pegrun.specs.Units.{Units, runs_at_lines, unit_count}
 use Rattle.pegrun.specs.PegSettings.{PegSettings}
 use Rattle.pegrun.specs.declared.attempt.CountedMatcher.{CountedMatcher}
 
@@ -10,8 +10,15 @@ use Rattle.pegrun.specs.declared.attempt.CountedMatcher.{CountedMatcher}
 abbrev pub calls_of : {M : Type 0} → (M → ℕ) → CountedMatcher M → ℕ
 calls_of matches m = matches m.matcher
 
--- A run that took so many bytes asked for at most two matches for each unit in them, and for at most two where it
--- stopped.
+-- a unit is tried at no more line feeds
+abbrev pub most_tries : ℕ
+most_tries = 89
+
+-- The most matches for a unit: two, and if units are run at line feeds two for each try.
+abbrev pub matches_for : PegSettings → ℕ
+matches_for settings = if runs_at_lines settings then 2 + 2 * most_tries else 2
+
+-- A run that took so many bytes asked for at most as many matches for each unit in them, and where it stopped.
 pub record HasFewCalls (rules : List Rule) (start : ℕ) (settings : PegSettings) (input : Input) (taken was calls : ℕ)
     : Type 0 where
   -- where the run stopped
@@ -19,4 +26,4 @@ pub record HasFewCalls (rules : List Rule) (start : ℕ) (settings : PegSettings
   pub within : position ≤ taken
   pub text : List ℕ
   pub units : Units rules start settings input position text
-  pub few : calls ≤ was + 2 * (unit_count rules start settings input units + 1)
+  pub few : calls ≤ was + matches_for settings * (unit_count rules start settings input units + 1)

@@ -1,5 +1,5 @@
 -- The result of printing units of one byte from the table.
-use Rattle.std.specs.Prelude.{◌≡◌, ℕ, ◌+◌, ◌-◌, ◌++◌, List, [], length, Option, Result, Ok, Err}
+use Rattle.std.specs.Prelude.{◌≡◌, ℕ, ◌+◌, ◌-◌, ◌≤◌, ◌++◌, List, [], length, Option, Result, Ok, Err}
 use Rattle.std.specs.Io.KnownBytes.{Appends, Consumes}
 use Rattle.ruletable.specs.Writing.{AppendsPart}
 use Rattle.ruletable.specs.declared.sink.WriteFault.{WriteFault}
@@ -37,7 +37,7 @@ HasComeTo rules start settings input s taken old new (Ok Broken) = (n : ℕ) × 
     × Ends rules start settings input (s + n) [] stop.Broken × (taken ≡ taken_at settings input (s + n))
 HasComeTo rules start settings input s taken old new (Err fault) = (n : ℕ) × (text last : List ℕ)
     × GoesOn rules start settings input s n text × IsUnit rules start settings input (s + n) 1 last
-    × AppendsPart old new (text ++ last) × (taken ≡ taken_at settings input (s + n))
+    × AppendsPart old new (text ++ last) × (taken ≤ taken_at settings input (s + n))
 
 -- How many of `count` units of one byte may be run, if `held` bytes are left from the start of the last one on. After a
 -- fault of the reader a unit needs limit + 1 bytes from its start on.

@@ -1,5 +1,5 @@
 -- What a run has written when it stops, before its messages.
-use Rattle.std.specs.Prelude.{◌≡◌, ℕ, ◌++◌, List, Option, Result, Ok, Err}
+use Rattle.std.specs.Prelude.{◌≡◌, ℕ, ◌≤◌, ◌++◌, List, Option, Result, Ok, Err}
 use Rattle.std.specs.Io.KnownBytes.{Appends}
 use Rattle.ruletable.specs.Writing.{AppendsPart}
 use Rattle.ruletable.specs.declared.sink.WriteFault.{WriteFault}
@@ -23,4 +23,4 @@ IsCut rules start settings input taken old new (Ok ending) = (position : ℕ) ×
     (WhyStopped rules start settings input) (MayLack rules start settings input) position last ending
 IsCut rules start settings input taken old new (Err fault) = (position k : ℕ) × (text last : List ℕ) ×
     Units rules start settings input position text × IsUnit rules start settings input position k last
-    × AppendsPart old new (text ++ last) × (taken ≡ taken_at settings input position)
+    × AppendsPart old new (text ++ last) × (taken ≤ taken_at settings input position)

@@ -48,6 +48,17 @@ impl<M: Matcher> CountedMatcher<M> {
         }
     }
 
+    /// Frees the memory of the last match if that is asked. It matches nothing.
+    pub(crate) fn forget(&mut self, is_asked: bool)
+        ensures calls { calls_of M.matches self.new ≡ calls_of M.matches self.old }
+        ensures units { self.new.units ≡ self.old.units }
+    {
+        if !is_asked {
+            return;
+        }
+        self.matcher.forget();
+    }
+
     /// Matches the start rule once at the front of a window, and prints the text of a success.
     #[inline(always)]
     pub fn print_unit<O: Sink>(

@@ -98,6 +98,8 @@ fn cut<M: Matcher, R: Source, O: Sink>(
                 }
             }
             Ok(UnitStep::Stops(stop)) => {
+                // The search takes as much memory as the match did.
+                counted.matcher.forget(settings.explain);
                 let search = &mut counted.search;
                 return Ok(ending_at(search, peg, settings, &mut past, feed, stop));
             }

@@ -1,7 +1,7 @@
 //! Laws of what is stated for a grammar and an input: there is at most one reply.
 ghost use Rattle.std.specs.Prelude.{◌≡◌, ◌≢◌, ℕ, Bool, true, List, []};
 ghost use Rattle.ruletable.specs.declared.fault.ReadFault.{ReadFault};
-ghost use Rattle.pegprint.specs.PegExplained.{Explains};
+ghost use Rattle.pegprint.specs.PegAllFaults.{ExplainsAll};
 ghost use Rattle.pegread.specs.Pattern.{Rule};
 ghost use Rattle.pegread.specs.Reading.{IsFaultOf, Reads};
 ghost use Rattle.toolrun.specs.Input.{Input};
@@ -39,7 +39,7 @@ pub fn one_statement()
         (notes ≡ others) × SameButWhy settings.explain a b }
     ensures long { (text : List ℕ) (settings : PegSettings) (input : Input) (notes : List ℕ) (reply : Reply) →
         IsFaultOf text ReadFault.TooLong → States text settings input notes reply →
-        (notes ≡ []) × IsLongReply settings (Explains text ReadFault.TooLong) reply }
+        (notes ≡ []) × IsLongReply settings (ExplainsAll text ReadFault.TooLong) reply }
 {
     one_explanation();
     one_note_explanation();

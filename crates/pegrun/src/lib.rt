@@ -6,6 +6,7 @@ mod byte_units;
 mod draft;
 mod engine;
 mod laws;
+mod line_unit;
 mod open_law;
 mod opened;
 mod options;

@@ -12,6 +12,8 @@ pub struct PegOptions {
     pub whole: bool,
     /// How many bytes a unit may print; any number if it is `None`.
     pub budget: Option<usize>,
+    /// Whether a unit is run when a line feed has been read and the unit looks no further. With `whole` it is not.
+    pub line_buffered: bool,
 }
 
 /// The settings of a run of the peg tool.

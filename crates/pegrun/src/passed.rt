@@ -73,8 +73,11 @@ pub(crate) fn pass_known<R: Source, O: Sink>(
     ensures flag { Flags (O.failed out.old) (O.failed out.new) result }
     ensures unasked { settings.now.explain ≡ true → result ≡ Ok (Passed.Units 0) }
 {
-    let is_limited = settings.options.budget.is_some();
-    if settings.explain || settings.limit == 0 || settings.options.whole || is_limited {
+    let options = settings.options;
+    if settings.explain || settings.limit == 0 || options.whole || options.budget.is_some() {
+        return Ok(Passed::Units(0));
+    }
+    if options.line_buffered {
         return Ok(Passed::Units(0));
     }
     let Some(bytes) = known_front(units, feed) else {

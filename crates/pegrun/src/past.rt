@@ -120,6 +120,10 @@ impl Past {
             return Err(Memory);
         }
         let last = self.bytes.len();
+        if last == 0 {
+            let window: &[u8] = feed.window();
+            return search.explain_no_match(self.alloc, peg, window, last, self.at);
+        }
         self.bytes.extend_from_slice(feed.window())?;
         search.explain_no_match(self.alloc, peg, self.bytes.as_slice(), last, self.at)
     }

@@ -1,6 +1,6 @@
 //! The language of peg(1), whose grammars are run on units of an input.
 ghost use Rattle.gramcheck.specs.Grammar.{IsRankedFor};
-ghost use Rattle.pegprint.specs.PegExplained.{Explains};
+ghost use Rattle.pegprint.specs.PegAllFaults.{ExplainsAll};
 ghost use Rattle.pegexplain.specs.PegNotes.{ArePegPositions, AreTextPositions, ExplainsNote, IsPegRead};
 ghost use Rattle.pegexplain.specs.PegHints.{ArePegHints};
 ghost use Rattle.pegprint.specs.Canon.{grammar_text};
@@ -20,7 +20,7 @@ use packrat::Packrat;
 use pegexplain::{
     PegPositions, PegText, explain_peg_note, peg_hints, peg_positions, read_peg_text,
 };
-use pegprint::{explain_fault, print_peg};
+use pegprint::{explain_faults, print_peg};
 use pegread::{Expr, Peg, read_peg};
 use ruletable::{Memory, Note, ReadFault, RuleTable, Sink, WriteFault};
 use std::alloc::Global;
@@ -48,7 +48,7 @@ impl Language for PegLanguage {
 
     ghost has_fault = { IsFaultOf };
 
-    ghost explains = { Explains };
+    ghost explains = { ExplainsAll };
 
     ghost are_text_positions = { AreTextPositions };
 
@@ -96,7 +96,7 @@ impl Language for PegLanguage {
     }
 
     fn explain_fault(alloc: Global, text: &[u8], fault: ReadFault) -> Result<Vec<u8>, Memory> {
-        explain_fault(alloc, text, fault)
+        explain_faults(alloc, text, fault)
     }
 
     fn positions(

@@ -39,6 +39,10 @@ use toolrun::{Status, run_tool};
 ///   unit that is too long report where it begins.
 /// - After a fault of the reader a unit is run only where `limit` + 1 bytes from its position on were read: else
 ///   `read error`, `Fault`. So is an input of 9,223,372,036,854,775,807 bytes taken to end.
+/// - If the settings ask for units at line feeds, but not for one unit, a unit is run when a line feed has been read
+///   and the unit looks at no later byte. Its text is written by one call before more is read. A unit of more than 64
+///   lines may wait. After a fault of the reader a unit is run also where it looks at no byte after those that were
+///   read. All else is the same.
 /// - Where a writer fails, nothing more is written to it, and the status is at least `Fault`. A fault of `out` is
 ///   reported by `write error` on `err`: right after the notes, or after all else where the flush of `out` failed.
 ///   Where `err` fails in the notes, nothing is read, and nothing is written on `out`. Writers that have not failed are

@@ -6,16 +6,18 @@ ghost use Rattle.feed.specs.Feed.{IsHeld, flow_of, input_limit};
 ghost use Rattle.gramcheck.specs.Grammar.{Grammar, IsSoundGrammar};
 ghost use Rattle.pegread.specs.PegViews.{rules_of};
 ghost use Rattle.toolrun.specs.Agrees.{Agrees};
-ghost use Rattle.pegrun.specs.Attempts.{FrontFlags, IsAttempt, IsFrontAttempt, IsLimited, IsStep, IsStepOn};
+ghost use Rattle.pegrun.specs.Attempts.{FrontFlags, HasTaken, IsAttempt, IsFrontAttempt, IsLimited, IsStep, IsStepOn};
 ghost use Rattle.pegrun.specs.Attempts.{StaysWithin, failed_at, step_after, step_held, stop_at};
 ghost use Rattle.pegrun.specs.ByteUnits.{AreByteUnits};
-ghost use Rattle.pegrun.specs.MatchCalls.{calls_of};
+ghost use Rattle.pegrun.specs.LineTries.{IsReadForUnit};
+ghost use Rattle.pegrun.specs.MatchCalls.{calls_of, matches_for};
 ghost use Rattle.toolrun.specs.Input.{Input};
-ghost use Rattle.pegrun.specs.Units.{is_after_whole as over_at, taken_at};
+ghost use Rattle.pegrun.specs.Units.{is_after_whole as over_at, runs_at_lines as at_lines};
 ghost use Rattle.pegrun.specs.declared.options.PegOptions.{PegOptions as Options};
 
 use crate::attempt::{Attempt, CountedMatcher};
 use crate::draft::Draft;
+use crate::line_unit::{LineTry, early_unit, unit_at_fault};
 use crate::options::{PegOptions, PegSettings};
 use feed::{Feed, Held, Source};
 use gramcheck::SoundPeg;
@@ -52,7 +54,7 @@ fn stop_failed(settings: &PegSettings<'_>, position: usize, len: usize) -> Stop
 }
 
 /// Returns the next step at a position, by the result of the start rule.
-fn step_of(
+pub(crate) fn step_of(
     attempted: Result<Attempt, WriteFault>,
     settings: &PegSettings<'_>,
     position: usize,
@@ -79,7 +81,7 @@ fn step_of(
 /// Runs the start rule on the first piece of a feed, if that has most of the bytes. Returns none if it does not run the
 /// rule, or if the piece is too short for a result.
 #[inline(always)]
-fn attempt_front<M: Matcher, R: Source, O: Sink>(
+pub(crate) fn attempt_front<M: Matcher, R: Source, O: Sink>(
     matcher: &mut CountedMatcher<M>,
     peg: &SoundPeg,
     feed: &Feed<'_, R>,
@@ -164,22 +166,25 @@ fn attempt_unit<M: Matcher, R: Source, O: Sink>(
 
 /// Prints the text of an attempt that was kept, unless it has more bytes than the budget. The attempt failed in keeping
 /// it where the budget was reached, or else where an allocation failed.
-fn print_draft<O: Sink>(
+pub(crate) fn print_draft<O: Sink>(
     attempted: Result<Attempt, WriteFault>,
     text: &[u8],
-    budget: usize,
+    budget: Option<usize>,
     out: &mut O,
 ) -> Result<Attempt, WriteFault>
     requires { O.failed out.old ≡ false }
     ensures answer { (g : Grammar) (window : List ℕ) (more : Bool) (options : Options) →
-        IsAttempt g window more options.style (Some []) (Some text.now) attempted → options.budget ≡ Some budget →
+        IsAttempt g window more options.style (Some []) (Some text.now) attempted → options.budget ≡ budget →
         IsLimited g window more options (O.contents out.old) (O.contents out.new) result }
     ensures flag { Flags (O.failed out.old) (O.failed out.new) result }
+    ensures long { result ≡ Ok Attempt.TooLong → attempted ≡ Ok Attempt.TooLong }
 {
     match attempted {
         Ok(Attempt::Printed(end)) => {
-            if text.len() > budget {
-                return Ok(Attempt::Costly(budget));
+            if let Some(most) = budget {
+                if text.len() > most {
+                    return Ok(Attempt::Costly(most));
+                }
             }
             match write_whole(out, text) {
                 Ok(()) => Ok(Attempt::Printed(end)),
@@ -190,10 +195,12 @@ fn print_draft<O: Sink>(
         Ok(Attempt::TooLong) => Ok(Attempt::TooLong),
         Ok(_) => Ok(Attempt::NoMemory),
         Err(_) => {
-            if text.len() < budget {
-                return Ok(Attempt::NoMemory);
+            if let Some(most) = budget {
+                if most <= text.len() {
+                    return Ok(Attempt::Costly(most));
+                }
             }
-            Ok(Attempt::Costly(budget))
+            Ok(Attempt::NoMemory)
         }
     }
 }
@@ -224,7 +231,7 @@ fn attempt_within<M: Matcher, R: Source, O: Sink>(
         Some(budget) => {
             let mut draft = Draft::new(matcher.units.alloc, budget);
             let attempted = attempt_unit(matcher, peg, feed, more, options.style, &mut draft);
-            print_draft(attempted, draft.text.as_slice(), budget, out)
+            print_draft(attempted, draft.text.as_slice(), options.budget, out)
         }
     }
 }
@@ -283,8 +290,9 @@ fn step_over<R: Source>(feed: &mut Feed<'_, R>, start: usize) -> UnitStep
     }
 }
 
-/// Reads until `limit` + 1 bytes are held, the input ends or a read fails, and runs one unit. With `whole` none is run
-/// after the first.
+/// Runs one unit. Before that it reads until `limit` + 1 bytes are held, the input ends or a read fails. If units are
+/// run at line feeds, it reads no further than to a line feed at which the unit looks at no later byte. After a failed
+/// read it runs a unit that looks at no later byte. With `whole` none is run after the first.
 #[inline(always)]
 pub fn next_unit<M: Matcher, R: Source, O: Sink>(
     matcher: &mut CountedMatcher<M>,
@@ -305,20 +313,22 @@ pub fn next_unit<M: Matcher, R: Source, O: Sink>(
     ensures follows { (before : List ℕ) (input : Input) → length before ≡ start → Agrees (before
         ++ bytes_of feed.new) (flow_of feed.new) input →
         IsStep (rules_of peg.now.rules) peg.now.start settings.now input start (O.contents out.old) (O.contents out.new)
-        result ×
-        (length (before ++ bytes_of feed.new) ≡ taken_at settings.now input start) }
+        result × HasTaken settings.now input start (length (before ++ bytes_of feed.new)) result }
+    ensures reads { at_lines settings.now ≡ true
+        → IsReadForUnit peg.now (bytes_of feed.old) (bytes_of feed.new) result }
     ensures fits { StaysWithin (start + length (bytes_of feed.new)) start result }
     ensures flag { Flags (O.failed out.old) (O.failed out.new) result }
-    ensures twice { calls_of M.matches matcher.new ≤ calls_of M.matches matcher.old + 2 }
+    ensures few { calls_of M.matches matcher.new ≤ calls_of M.matches matcher.old + matches_for settings.now }
     ensures units { AreByteUnits peg.now settings.now.options.style matcher.old.units
         → AreByteUnits peg.now settings.now.options.style matcher.new.units }
 {
     if is_over(settings, start) {
         return Ok(step_over(feed, start));
     }
-    match feed.fill() {
-        Held::Full => unit_at(matcher, peg, feed, true, settings, start, out),
-        Held::End => unit_at(matcher, peg, feed, false, settings, start, out),
-        Held::Fault => Ok(UnitStep::Stops(Stop::Broken)),
+    match early_unit(matcher, peg, settings, feed, start, out) {
+        LineTry::Ran(step) => step,
+        LineTry::Waits(Held::Full) => unit_at(matcher, peg, feed, true, settings, start, out),
+        LineTry::Waits(Held::End) => unit_at(matcher, peg, feed, false, settings, start, out),
+        LineTry::Waits(Held::Fault) => unit_at_fault(matcher, peg, settings, feed, start, out),
     }
 }

@@ -15,7 +15,8 @@ use Rattle.lazydfa.proofs.StateSetsLemmas.{got_at}
 use Rattle.rulelines.specs.FirstLines.{sort_key}
 use Rattle.rulelines.specs.Samples.{symbol_of}
 use Rattle.rulelines.specs.declared.list.table.Table.{Table}
-use Rattle.rulelines.specs.StateTables.{HasRestIn, line_symbols, IsCan, IsFirstKeyIn, IsStateTable, IsStep}
+use Rattle.rulelines.specs.ListedSets.{listed_in}
+use Rattle.rulelines.specs.StateTables.{HasRestIn, IsCan, IsFirstKeyIn, IsStateTable, IsStep}
 use Rattle.rulelines.specs.StateTables.{TakesKeyIn}
 use Rattle.rulelines.proofs.RestLemmas.{ended_rest, first_from, key_taken, no_key, none_from, rest_ended, some_key}
 use Rattle.rulelines.proofs.RestLemmas.{taken_key, taken_symbol}
@@ -41,23 +42,23 @@ module _ (table : Table) where
   taken_reported n t c key k can is same step reported s s_is =
       let l = step_leads n c t s reported.state step s_is reported.is in (
         λ h. key_taken (grammar_of table.states) (last_in table.states)
-            (line_symbols table.inner) s reported.state c key k
+            (listed_in table.symbols) s reported.state c key k
             same step.symbol l (reported.says.0 h),
         λ h. reported.says.1
             (taken_key (grammar_of table.states) (last_in table.states)
-            (line_symbols table.inner) s reported.state c key k
+            (listed_in table.symbols) s reported.state c key k
             is l h),
       )
 
   -- a key of no symbol
   pub never_reported : (c key k : ℕ) → c ≡ symbol_of key
-      → (line_symbols table.inner c ≡ true → sort_key c ≡ key → ⊥) → (s : StateSet)
+      → (listed_in table.symbols c ≡ true → sort_key c ≡ key → ⊥) → (s : StateSet)
       → IsTrue false ↔ TakesKeyIn table s key k
   never_reported c key k is out s = (
     λ h. absurd (cc h),
     λ h. absurd
-        (let g = taken_symbol (grammar_of table.states) (last_in table.states) (line_symbols table.inner) s key k h in
-        out (subst (λ v. line_symbols table.inner v ≡ true) (sym is) g.0) (ap sort_key is ∙ g.1)),
+        (let g = taken_symbol (grammar_of table.states) (last_in table.states) (listed_in table.symbols) s key k h in
+        out (subst (λ v. listed_in table.symbols v ≡ true) (sym is) g.0) (ap sort_key is ∙ g.1)),
   )
 
   -- of the first starts, none after a number is taken
@@ -84,7 +85,7 @@ module _ (table : Table) where
     pub none_reported : (i : ℕ) → length table.starts.items ≤ i → AreNotTaken n from k i
         → IsFirstKeyIn table s from k None
     none_reported i le none =
-        none_from (grammar_of table.states) (last_in table.states) (line_symbols table.inner) table.starts.items
+        none_from (grammar_of table.states) (last_in table.states) (listed_in table.symbols) table.starts.items
         is.starts_are s k from never
         (λ b h more taken. none s s_is h.0 b (let lt = h.1 in omega (arith, lt, le)) (got_at table.starts.items b h)
         more taken)
@@ -92,7 +93,7 @@ module _ (table : Table) where
     pub found_reported : (i b : ℕ) → slice_get table.starts.items i ≡ Some b → from < b → TakesKeyIn table s b k
         → AreNotTaken n from k i → IsFirstKeyIn table s from k (Some b)
     found_reported i b at_i more taken none =
-        first_from (grammar_of table.states) (last_in table.states) (line_symbols table.inner) table.starts.items
+        first_from (grammar_of table.states) (last_in table.states) (listed_in table.symbols) table.starts.items
         is.starts_are s k from b more taken never (λ a h lo hi t. by a h lo hi t (cases_lt h.0 i))
       where
         by : (a : ℕ) (h : Contains table.starts.items a) → from < a → a < b → TakesKeyIn table s a k
@@ -111,19 +112,19 @@ module _ (table : Table) where
   -- the entries of a level
   pub ended_reported : (n : ℕ) (s : StateSet) (ended : Bool) → ended ≡ s.ended → IsTrue ended ↔ HasRestIn table s 0
   ended_reported n s ended is = (
-    λ h. ended_rest (grammar_of table.states) (last_in table.states) (line_symbols table.inner) s (sym is ∙ h),
-    λ h. is ∙ rest_ended (grammar_of table.states) (last_in table.states) (line_symbols table.inner) s h,
+    λ h. ended_rest (grammar_of table.states) (last_in table.states) (listed_in table.symbols) s (sym is ∙ h),
+    λ h. is ∙ rest_ended (grammar_of table.states) (last_in table.states) (listed_in table.symbols) s h,
   )
 
   pub some_reported : (k count : ℕ) (s : StateSet) (found : Option ℕ) (can : Bool) → count ≡ k + 1
       → IsFirstKeyIn table s 0 k found → can ≡ is_some found → IsTrue can ↔ HasRestIn table s count
   some_reported k count s None can is none reported = (
     λ h. absurd (cc (reported, h)),
-    λ h. absurd (no_key (grammar_of table.states) (last_in table.states) (line_symbols table.inner) s k none
+    λ h. absurd (no_key (grammar_of table.states) (last_in table.states) (listed_in table.symbols) s k none
         (subst (λ v. HasRestIn table s v) is h)),
   )
   some_reported k count s (Some key) can is found reported = (
     λ h. subst (λ v. HasRestIn table s v) (sym is)
-        (some_key (grammar_of table.states) (last_in table.states) (line_symbols table.inner) s k key found.1),
+        (some_key (grammar_of table.states) (last_in table.states) (listed_in table.symbols) s k key found.1),
     λ h. reported,
   )

@@ -2,7 +2,7 @@ pub mod ComesFirstLemmas
 mod StatePairsLemmas
 mod StackSetsLemmas
 mod FoundPairsLemmas
-mod CountsWithinLemmas
+mod AnyLengthLemmas
 mod SamplesLemmas
 mod SearchLemmas
 mod OldAloneLemmas
@@ -25,3 +25,7 @@ mod ReportedWrongLemmas
 mod ReportedPrefixesLemmas
 pub mod MissLinesLemmas
 mod CutSearchLemmas
+mod AlikeSpellsLemmas
+mod FirstSamplesLemmas
+mod ListedSetsLemmas
+mod SampleLinesLemmas

@@ -16,12 +16,12 @@ use Rattle.rulelines.specs.declared.list.lines.NextLine.{NextLine}
 use Rattle.rulelines.specs.declared.list.lines.NextLine.TheVariants.{Line, Done}
 use Rattle.rulelines.specs.declared.list.search.Change.{Change}
 use Rattle.rulelines.specs.declared.list.table.Table.{Table}
+use Rattle.rulelines.specs.ListedSets.{listed_in, symbol_set}
 use Rattle.rulelines.specs.LineSets.{IsLineAfter, IsFirstAfter, is_line_symbol, IsLineIn}
 use Rattle.rulelines.specs.Rests.{IsRest}
 use Rattle.rulelines.specs.StateTables.{
   HasNoNextRestIn,
   HasNoRestFrom,
-  line_symbols,
   IsCan,
   IsChangedTo,
   IsFilledBy,
@@ -35,7 +35,7 @@ use Rattle.rulelines.proofs.StateTableLemmas.{one_element}
 use Rattle.rulelines.proofs.TakesLemmas.{accepted_takes, takes_accepted}
 
 -- symbols of a line are symbols of the alphabet
-inner_has : (alphabet : Alphabet) (terminator c : ℕ) → is_line_symbol alphabet terminator c ≡ true
+pub inner_has : (alphabet : Alphabet) (terminator c : ℕ) → is_line_symbol alphabet terminator c ≡ true
     → has alphabet c ≡ true
 inner_has alphabet terminator c is = by (has alphabet c) refl
   where
@@ -52,18 +52,8 @@ inner_letters alphabet terminator (c ∷ w) all =
 -- the lines of a table
 pub lines_same : (old new : Table) (limit : ℕ) → IsTableGrown old new → table_lines new limit ≡ table_lines old limit
 lines_same old new limit k =
-    ap (λ v. record {
-      flat = flat_of v;
-      alphabet = new.inner.alphabet;
-      terminator = new.inner.terminator;
-      limit = limit;
-    }) k.more.same
-    ∙ ap (λ v. record {
-      flat = grammar_of old.states;
-      alphabet = v.alphabet;
-      terminator = v.terminator;
-      limit = limit;
-    }) k.inner
+    ap (λ v. record { flat = flat_of v; symbols = symbol_set new.symbols; limit = limit }) k.more.same
+    ∙ ap (λ v. record { flat = grammar_of old.states; symbols = v; limit = limit }) k.symbols
 
 module _ (table : Table) (is : IsStateTable table) (limit : ℕ) where
   abbrev Start : StateSet
@@ -73,7 +63,7 @@ module _ (table : Table) (is : IsStateTable table) (limit : ℕ) where
   Lines = IsLineIn (table_lines table limit)
 
   abbrev IsStartRest : ℕ → List ℕ → Type 0
-  IsStartRest = IsRest (grammar_of table.states) (last_in table.states) (line_symbols table.inner) Start
+  IsStartRest = IsRest (grammar_of table.states) (last_in table.states) (listed_in table.symbols) Start
 
   pub rest_line : (w : List ℕ) (k : ℕ) → k ≤ limit → IsStartRest k w → Lines w
   rest_line w k le r = record {
@@ -108,7 +98,7 @@ module _ (table : Table) (is : IsStateTable table) (limit : ℕ) where
           one_element table.states.states table.start Start can.state is.begins.is can.is in
           let reported : false ≡ true = can.says.1 (
             v,
-            subst (λ s. IsRest (grammar_of table.states) (last_in table.states) (line_symbols table.inner) s count v)
+            subst (λ s. IsRest (grammar_of table.states) (last_in table.states) (listed_in table.symbols) s count v)
                 same (line_rest v count (omega (arith, lt, ge)) l),
           ) in
           cc reported

@@ -4,9 +4,13 @@ use Rattle.std.proofs.Common.{◌≡◌, ◌↔◌, ℕ, ◌+◌, ◌≤◌, Lis
 use Rattle.std.proofs.Common.{ap, subst, arith}
 use Rattle.std.proofs.lemmas.Option.{slice_get_within}
 use Rattle.std.specs.List.Sorted.{IsStrictlyIncreasing}
-use Rattle.std.specs.Prelude.{Bool, Some, slice_get}
+use Rattle.std.specs.Prelude.{Bool, None, Some, slice_get}
 use Rattle.abnfread.specs.Element.{Rule}
+use Rattle.abnfcheck.proofs.ReachedGrammarLemmas.{lines_reached}
+use Rattle.abnfcheck.specs.AbnfGrammar.{Grammar}
 use Rattle.abnfcheck.specs.Derivable.{AreLetters, RuleDerives}
+use Rattle.abnfcheck.specs.ReachedGrammar.{IsReachedGrammar}
+use Rattle.abnfread.specs.AbnfViews.{rules_of}
 use Rattle.flatgrammar.specs.Flat.{Flat}
 use Rattle.flatgrammar.specs.FlatVerdicts.{DerivesLine}
 use Rattle.flatgrammar.specs.NodeSteps.{flat_of}
@@ -16,22 +20,23 @@ use Rattle.flatgrammar.specs.Stacks.{AreUncounted, MarksLast}
 use Rattle.lazydfa.specs.Conts.{last_of}
 use Rattle.lazydfa.specs.RunVerdicts.{IsOne}
 use Rattle.lazydfa.specs.StateSets.{AreMoreStates, AreStatesOf, grammar_of, IsStartState, last_in, StateSets}
-use Rattle.rulelines.specs.declared.list.keys.LineSymbols.{LineSymbols}
 use Rattle.rulelines.specs.declared.list.lines.NextLine.{NextLine}
 use Rattle.rulelines.specs.declared.list.lines.NextLine.TheVariants.{Line, Done}
 use Rattle.rulelines.specs.declared.list.table.Table.{Table}
-use Rattle.rulelines.specs.LineSets.{AreRuleLines, IsFirstStep, LineSet}
+use Rattle.rulelines.specs.ListedSets.{listed_in, symbol_set}
+use Rattle.rulelines.specs.LineSets.{AreRuleLines, IsFirstStep, has_symbol, SymbolSet}
 use Rattle.rulelines.specs.Starts.{AreClassStarts}
-use Rattle.rulelines.specs.StateTables.{line_symbols, IsFirstFrom, IsTableGrown, IsTableFor}
-use Rattle.rulelines.specs.StateTables.{table_lines}
+use Rattle.rulelines.specs.StateTables.{IsFirstFrom, IsTableGrown, IsTableFor}
+use Rattle.rulelines.specs.StateTables.{flat_lines, table_lines}
 use Rattle.rulelines.proofs.LineOrderLemmas.{inner_letters}
 
 -- the first table
-pub table_begun : (flat : Flat) (none : StateSets) (table : Table) (inner : LineSymbols) → AreStatesOf flat none
+pub table_begun : (flat : Flat) (none : StateSets) (table : Table) (symbols : SymbolSet) → AreStatesOf flat none
     → AreMoreStates none table.states → IsStartState table.states table.start → table.seen ≤ table.start + 1
-    → AreClassStarts flat (line_symbols inner) table.starts.items → IsStrictlyIncreasing table.starts.items
-    → table.rows.items ≡ [] → table.levels.items ≡ [] → table.inner ≡ inner → IsTableFor flat inner table
-table_begun flat none table inner s more begins seen starts rise rows levels symbols = record {
+    → AreClassStarts flat (has_symbol symbols) table.starts.items → IsStrictlyIncreasing table.starts.items
+    → table.rows.items ≡ [] → table.levels.items ≡ [] → symbol_set table.symbols ≡ symbols
+    → IsTableFor flat symbols table
+table_begun flat none table symbols s more begins seen starts rise rows levels same_symbols = record {
   is = record {
     grammar = record {
       is = refl;
@@ -43,45 +48,46 @@ table_begun flat none table inner s more begins seen starts rise rows levels sym
     begins = begins;
     seen = (let lt = slice_get_within table.states.states table.start begins.state begins.is in
         omega (arith, lt, seen));
-    starts_are = subst (λ v. AreClassStarts v (line_symbols table.inner) table.starts.items) (sym same)
-        (subst (λ v. AreClassStarts flat (line_symbols v) table.starts.items) (sym symbols) starts);
+    starts_are = subst (λ v. AreClassStarts v (listed_in table.symbols) table.starts.items) (sym same)
+        (subst (λ v. AreClassStarts flat (has_symbol v) table.starts.items) (sym same_symbols) starts);
     rise = rise;
     rows_are = λ n row at_n. absurd (let e = subst (λ v. slice_get v n ≡ Some row) rows at_n in cc e);
     levels_are = λ count n level can at_count at_n.
         absurd (let e = subst (λ v. slice_get v count ≡ Some level) levels at_count in cc e);
   };
   grammar = same;
-  symbols = symbols;
+  symbols = same_symbols;
 }
   where
     same : grammar_of table.states ≡ flat
     same = ap (λ v. flat_of v) more.same ∙ s.is
 
-pub table_still : (flat : Flat) (inner : LineSymbols) (old new : Table) → IsTableFor flat inner old
-    → IsTableGrown old new
-    → IsTableFor flat inner new
-table_still flat inner old new t k = record {
+pub table_still : (flat : Flat) (symbols : SymbolSet) (old new : Table) → IsTableFor flat symbols old
+    → IsTableGrown old new → IsTableFor flat symbols new
+table_still flat symbols old new t k = record {
   is = k.is;
   grammar = ap (λ v. flat_of v) k.more.same ∙ t.grammar;
-  symbols = k.inner ∙ t.symbols;
+  symbols = k.symbols ∙ t.symbols;
 }
 
-abbrev pub lines_in : Flat → LineSymbols → ℕ → LineSet
-lines_in flat inner limit = record {
-  flat = flat;
-  alphabet = inner.alphabet;
-  terminator = inner.terminator;
-  limit = limit;
-}
-
-pub set_is : (flat : Flat) (inner : LineSymbols) (table : Table) (limit : ℕ) → IsTableFor flat inner table
-    → table_lines table limit ≡ lines_in flat inner limit
-set_is flat inner table limit t =
-    ap (λ v. lines_in v table.inner limit) t.grammar ∙ ap (λ v. lines_in flat v limit) t.symbols
+pub set_is : (flat : Flat) (symbols : SymbolSet) (table : Table) (limit : ℕ) → IsTableFor flat symbols table
+    → table_lines table limit ≡ flat_lines flat symbols limit
+set_is flat symbols table limit t =
+    ap (λ v. flat_lines v (symbol_set table.symbols) limit) t.grammar ∙ ap (λ v. flat_lines flat v limit) t.symbols
 
 pub prefix_of : (lines : List ℕ → Type 0) (step : NextLine) → IsFirstFrom lines 0 step → IsFirstStep lines step
 prefix_of lines (Line w) f = (f.0, λ v l. f.2 v l (omega arith))
 prefix_of lines Done f = λ v l. f v l (omega arith)
+
+-- a flat grammar of the rules that the judged one reaches
+pub derives_reached : (g kept : Grammar) (flat : Flat) (limit : ℕ) → IsReachedGrammar g kept
+    → ((has : ℕ → Bool) (x : List ℕ) → length x ≤ limit → AreLetters has x
+    → DerivesLine flat x ↔ RuleDerives has (rules_of kept.rules) kept.judged x) → (has : ℕ → Bool) (x : List ℕ)
+    → length x ≤ limit → AreLetters has x → DerivesLine flat x ↔ RuleDerives has (rules_of g.rules) g.judged x
+derives_reached g kept flat limit is derives has x short letters =
+    let flat_derives = derives has x short letters in
+    let same = lines_reached g kept is has x in
+    (λ d. same.0 (flat_derives.0 d), λ d. flat_derives.1 (same.1 d))
 
 -- the lines of a rule
 pub rule_lines : (flat : Flat) (alphabet : Alphabet) (terminator limit : ℕ) (rules : List Rule) (id : ℕ)
@@ -89,8 +95,7 @@ pub rule_lines : (flat : Flat) (alphabet : Alphabet) (terminator limit : ℕ) (r
     → DerivesLine flat x ↔ RuleDerives has rules id x)
     → AreRuleLines alphabet terminator limit rules id (record {
       flat = flat;
-      alphabet = alphabet;
-      terminator = terminator;
+      symbols = record { alphabet = alphabet; terminator = terminator; only = None };
       limit = limit;
     })
 rule_lines flat alphabet terminator limit rules id derives w = (

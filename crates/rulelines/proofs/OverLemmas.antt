@@ -7,8 +7,9 @@ use Rattle.std.proofs.lemmas.Bool.{cases_lt}
 use Rattle.lazydfa.specs.StateSets.{grammar_of, last_in, StateSet}
 use Rattle.rulelines.specs.Samples.{symbol_of}
 use Rattle.rulelines.specs.declared.list.table.Table.{Table}
+use Rattle.rulelines.specs.ListedSets.{listed_in}
 use Rattle.rulelines.specs.StateTables.{AreRowsClosed, HasNoRestFrom, HaveNoRest, HasRestIn, IsCan}
-use Rattle.rulelines.specs.StateTables.{IsStateTable, IsStep, line_symbols, TakesKeyIn}
+use Rattle.rulelines.specs.StateTables.{IsStateTable, IsStep, TakesKeyIn}
 use Rattle.rulelines.proofs.FirstKeyLemmas.{AreNotTaken, IsState, none_reported, step_leads}
 use Rattle.rulelines.proofs.RestLemmas.{no_key, taken_key, taken_symbol}
 use Rattle.rulelines.proofs.StatePairsLemmas.{element_at}
@@ -62,24 +63,24 @@ module _ (table : Table) (is : IsStateTable table) (closed : AreRowsClosed table
       let size = row.2 in
       let next = element_at row.0.items j (omega (arith, within, size)) in
       let to = is.rows_are n row.0 row.1 j b next.0 at_j next.1 in
-      let symbol = taken_symbol (grammar_of table.states) (last_in table.states) (line_symbols table.inner) s b k
+      let symbol = taken_symbol (grammar_of table.states) (last_in table.states) (listed_in table.symbols) s b k
       taken in
       let step : IsStep table n (symbol_of b) next.0 = record { symbol = symbol.0; next = to } in
       let leads = step_leads table n (symbol_of b) next.0 s to.to step s_is to.to_is in
       none next.0 to.to (row.3 j next.0 next.1) to.to_is
-      (taken_key (grammar_of table.states) (last_in table.states) (line_symbols table.inner) s to.to (symbol_of b) b k
+      (taken_key (grammar_of table.states) (last_in table.states) (listed_in table.symbols) s to.to (symbol_of b) b k
       refl leads taken)
 
   -- no symbol has the key 0
   no_first : (k : ℕ) (s : StateSet) → TakesKeyIn table s 0 k → ⊥
   no_first k s taken =
-      let e = (taken_symbol (grammar_of table.states) (last_in table.states) (line_symbols table.inner) s 0 k
+      let e = (taken_symbol (grammar_of table.states) (last_in table.states) (listed_in table.symbols) s 0 k
       taken).1 in
       cc e
 
   one_longer : (k : ℕ) → HaveNoRest table k table.seen → HaveNoRest table (k + 1) table.seen
   one_longer k none n s lt s_is h =
-      no_key (grammar_of table.states) (last_in table.states) (line_symbols table.inner) s k
+      no_key (grammar_of table.states) (last_in table.states) (listed_in table.symbols) s k
       (none_reported table is n 0 k s s_is (no_first k s) (length table.starts.items) (omega arith) not_taken) h
     where
       not_taken : AreNotTaken table n 0 k (length table.starts.items)

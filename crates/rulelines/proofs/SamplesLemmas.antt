@@ -199,11 +199,11 @@ module _ (has : ℕ → Bool) where
 
 -- sorted keys, each once
 module _ (mid new : List ℕ) (filtered : IsFiltered (DiffersFromLast eqb) [] mid new) where
-  keys_rise : IsSorted nat_cmp mid → IsStrictlyIncreasing new
+  pub keys_rise : IsSorted nat_cmp mid → IsStrictlyIncreasing new
   keys_rise sorted =
       subst (λ v. IsStrictlyIncreasing v) (sym (dedup_is eqb mid new filtered)) (IsStrictlyIncreasing-dedup mid sorted)
 
-  keys_kept : (has : ℕ → Bool) (bounds old : List ℕ) → IsPermutation old mid → AreKeysOf has bounds old
+  pub keys_kept : (has : ℕ → Bool) (bounds old : List ℕ) → IsPermutation old mid → AreKeysOf has bounds old
       → AreKeysOf has bounds new
   keys_kept has bounds old moved keys = record {
     only = λ k h. keys.only k (Contains-permutation mid old k (IsPermutation-sym old mid moved)

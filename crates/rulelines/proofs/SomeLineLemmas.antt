@@ -8,9 +8,10 @@ use Rattle.lazydfa.specs.StateSets.{grammar_of, last_in, StateSet}
 use Rattle.rulelines.specs.declared.list.lines.NextLine.{NextLine}
 use Rattle.rulelines.specs.declared.list.lines.NextLine.TheVariants.{Line, Done}
 use Rattle.rulelines.specs.declared.list.table.Table.{Table}
+use Rattle.rulelines.specs.ListedSets.{listed_in}
 use Rattle.rulelines.specs.LineSets.{IsLineIn, IsSomeLine}
 use Rattle.rulelines.specs.Rests.{Takes}
-use Rattle.rulelines.specs.StateTables.{IsFirstFrom, IsRestIn, IsStep, IsTableGrown, line_symbols, table_lines}
+use Rattle.rulelines.specs.StateTables.{IsFirstFrom, IsRestIn, IsStep, IsTableGrown, table_lines}
 use Rattle.rulelines.proofs.FirstKeyLemmas.{IsState, step_leads}
 use Rattle.rulelines.proofs.LineOrderLemmas.{lines_same, rest_line}
 use Rattle.rulelines.proofs.TakesLemmas.{takes_before}
@@ -21,7 +22,7 @@ module _ (table : Table) where
   pub record AreDrawn (first : StateSet) (done at : ℕ) (word : List ℕ) : Type 0 where
     pub here : StateSet
     pub is : IsState table at here
-    pub symbols : AreLetters (line_symbols table.inner) word
+    pub symbols : AreLetters (listed_in table.symbols) word
     pub count : length word ≡ done
     pub on : (u : List ℕ) → Takes (grammar_of table.states) (last_in table.states) here u
         → Takes (grammar_of table.states) (last_in table.states) first (word ++ u)
@@ -42,7 +43,7 @@ module _ (table : Table) where
       (record {
         here = step.next.to;
         is = step.next.to_is;
-        symbols = symbols_then (line_symbols table.inner) word c d.symbols step.symbol;
+        symbols = symbols_then (listed_in table.symbols) word c d.symbols step.symbol;
         count = (let n = length-append word (c ∷ []) in let e = d.count in omega (arith, n, e));
         on = λ u h. subst (λ v. Takes (grammar_of table.states) (last_in table.states) first v)
             (sym (append_assoc word (c ∷ []) u))

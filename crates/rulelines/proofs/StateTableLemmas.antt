@@ -18,9 +18,11 @@ use Rattle.rulelines.specs.Alone.{AreOfGrammar}
 use Rattle.rulelines.specs.FirstLines.{sort_key}
 use Rattle.rulelines.specs.Samples.{symbol_of}
 use Rattle.rulelines.specs.declared.list.table.Table.{Table}
+use Rattle.rulelines.specs.ListedSets.{listed_in, symbol_set}
+use Rattle.rulelines.specs.LineSets.{has_symbol}
 use Rattle.rulelines.specs.Rests.{HasRest}
 use Rattle.rulelines.specs.Starts.{AreClassStarts, IsLastUpTo}
-use Rattle.rulelines.specs.StateTables.{AreLevelsOf, AreRowsOf, line_symbols, IsCanOf, IsEntryAdded, IsTableGrown}
+use Rattle.rulelines.specs.StateTables.{AreLevelsOf, AreRowsOf, IsCanOf, IsEntryAdded, IsTableGrown}
 use Rattle.rulelines.specs.StateTables.{IsRowOf}
 use Rattle.rulelines.specs.StateTables.{HasRestIn, IsCan, IsStateTable, IsStep}
 use Rattle.rulelines.proofs.SamplesLemmas.{key_symbol}
@@ -98,21 +100,22 @@ pub no_more : (a : StateSets) → AreMoreStates a a
 no_more a = record { same = refl; added = []; grown = sym (append-nil a.states) }
 
 pub kept_self : (a : Table) → IsStateTable a → IsTableGrown a a
-kept_self a is = record { is = is; more = no_more a.states; inner = refl; start = refl }
+kept_self a is = record { is = is; more = no_more a.states; symbols = refl; start = refl }
 
 pub kept_trans : (a b c : Table) → IsTableGrown a b → IsTableGrown b c → IsTableGrown a c
 kept_trans a b c first then = record {
   is = then.is;
   more = more_trans a.states b.states c.states first.more then.more;
-  inner = then.inner ∙ first.inner;
+  symbols = then.symbols ∙ first.symbols;
   start = then.start ∙ first.start;
 }
 
 -- rows and levels were added
-module _ (old new : Table) (is : IsStateTable old) (inner : new.inner ≡ old.inner) (start : new.start ≡ old.start)
+module _ (old new : Table) (is : IsStateTable old) (symbols : symbol_set new.symbols ≡ symbol_set old.symbols)
+    (start : new.start ≡ old.start)
     (starts : new.starts.items ≡ old.starts.items) where
   pub levels_changed : new.states ≡ old.states → new.seen ≡ old.seen → new.rows.items ≡ old.rows.items
-      → AreLevelsOf old.states (line_symbols old.inner) new.levels.items → IsTableGrown old new
+      → AreLevelsOf old.states (listed_in old.symbols) new.levels.items → IsTableGrown old new
   levels_changed states seen rows levels = record {
     is = record {
       grammar = subst (λ v. AreOfGrammar (grammar_of v) v) (sym states) is.grammar;
@@ -120,18 +123,18 @@ module _ (old new : Table) (is : IsStateTable old) (inner : new.inner ≡ old.in
           (subst (λ v. IsStartState old.states v) (sym start) is.begins);
       seen = subst (λ v. new.seen ≤ length v.states) (sym states)
           (subst (λ v. v ≤ length old.states.states) (sym seen) is.seen);
-      starts_are = subst (λ v. AreClassStarts (grammar_of v) (line_symbols new.inner) new.starts.items) (sym states)
-          (subst (λ v. AreClassStarts (grammar_of old.states) (line_symbols v) new.starts.items) (sym inner)
-          (subst (λ v. AreClassStarts (grammar_of old.states) (line_symbols old.inner) v) (sym starts) is.starts_are));
+      starts_are = subst (λ v. AreClassStarts (grammar_of v) (listed_in new.symbols) new.starts.items) (sym states)
+          (subst (λ v. AreClassStarts (grammar_of old.states) (has_symbol v) new.starts.items) (sym symbols)
+          (subst (λ v. AreClassStarts (grammar_of old.states) (listed_in old.symbols) v) (sym starts) is.starts_are));
       rise = subst (λ v. IsStrictlyIncreasing v) (sym starts) is.rise;
       rows_are = subst (λ v. AreRowsOf v new.starts.items new.rows.items) (sym states)
           (subst (λ v. AreRowsOf old.states v new.rows.items) (sym starts)
           (subst (λ v. AreRowsOf old.states old.starts.items v) (sym rows) is.rows_are));
-      levels_are = subst (λ v. AreLevelsOf v (line_symbols new.inner) new.levels.items) (sym states)
-          (subst (λ v. AreLevelsOf old.states (line_symbols v) new.levels.items) (sym inner) levels);
+      levels_are = subst (λ v. AreLevelsOf v (listed_in new.symbols) new.levels.items) (sym states)
+          (subst (λ v. AreLevelsOf old.states (has_symbol v) new.levels.items) (sym symbols) levels);
     };
     more = subst (λ v. AreMoreStates old.states v) (sym states) (no_more old.states);
-    inner = inner;
+    symbols = symbols;
     start = start;
   }
 
@@ -144,18 +147,18 @@ module _ (old new : Table) (is : IsStateTable old) (inner : new.inner ≡ old.in
       begins = subst (λ v. IsStartState new.states v) (sym start)
           (start_kept old.states new.states more old.start is.begins);
       seen = seen;
-      starts_are = subst (λ v. AreClassStarts (flat_of v) (line_symbols new.inner) new.starts.items) (sym more.same)
-          (subst (λ v. AreClassStarts (grammar_of old.states) (line_symbols v) new.starts.items) (sym inner)
-          (subst (λ v. AreClassStarts (grammar_of old.states) (line_symbols old.inner) v) (sym starts) is.starts_are));
+      starts_are = subst (λ v. AreClassStarts (flat_of v) (listed_in new.symbols) new.starts.items) (sym more.same)
+          (subst (λ v. AreClassStarts (grammar_of old.states) (has_symbol v) new.starts.items) (sym symbols)
+          (subst (λ v. AreClassStarts (grammar_of old.states) (listed_in old.symbols) v) (sym starts) is.starts_are));
       rise = subst (λ v. IsStrictlyIncreasing v) (sym starts) is.rise;
       rows_are = subst (λ v. AreRowsOf new.states v new.rows.items) (sym starts) rows;
-      levels_are = subst (λ v. AreLevelsOf new.states (line_symbols v) new.levels.items) (sym inner)
-          (subst (λ v. AreLevelsOf new.states (line_symbols old.inner) v) (sym levels)
-          (λ count s level can at_count at_s. can_kept old.states new.states more (line_symbols old.inner) s count can
+      levels_are = subst (λ v. AreLevelsOf new.states (has_symbol v) new.levels.items) (sym symbols)
+          (subst (λ v. AreLevelsOf new.states (listed_in old.symbols) v) (sym levels)
+          (λ count s level can at_count at_s. can_kept old.states new.states more (listed_in old.symbols) s count can
           (is.levels_are count s level can at_count at_s)));
     };
     more = more;
-    inner = inner;
+    symbols = symbols;
     start = start;
   }
 
@@ -274,7 +277,7 @@ entry_added old count can was now at_count grown k level at_k = by (set_cases ol
 
 -- the state that a symbol leads to
 pub step_reported : (table : Table) → IsStateTable table → (c s j t : ℕ) (row : Vec ℕ Global)
-    → line_symbols table.inner c ≡ true → IsLastUpTo table.starts.items (sort_key c) j
+    → listed_in table.symbols c ≡ true → IsLastUpTo table.starts.items (sort_key c) j
     → slice_get table.rows.items s ≡ Some row → slice_get row.items j ≡ Some t → IsStep table s c t
 step_reported table is c s j t row symbol last at_s at_j = record { symbol = symbol; next = led }
   where
@@ -282,7 +285,7 @@ step_reported table is c s j t row symbol last at_s at_j = record { symbol = sym
     led =
         let start = last.start in
         let le = last.within in
-        let g = class_of_symbol (grammar_of table.states) (line_symbols table.inner) table.starts.items
+        let g = class_of_symbol (grammar_of table.states) (listed_in table.symbols) table.starts.items
         is.starts_are start
         (sort_key c - start) c last.last (omega (arith, le)) symbol in
         let b : symbol_of start ≡ g.0 = ap symbol_of (sym g.1) ∙ key_symbol g.0 in

@@ -11,7 +11,8 @@ use Rattle.rulelines.specs.FirstLines.{shorter, sort_key}
 use Rattle.rulelines.specs.Samples.{symbol_of}
 use Rattle.rulelines.specs.declared.list.search.Change.{Change}
 use Rattle.rulelines.specs.declared.list.table.Table.{Table}
-use Rattle.rulelines.specs.StateTables.{HasNoNextRestIn, line_symbols, IsChange, IsChangedTo, IsFilledBy}
+use Rattle.rulelines.specs.ListedSets.{listed_in}
+use Rattle.rulelines.specs.StateTables.{HasNoNextRestIn, IsChange, IsChangedTo, IsFilledBy}
 use Rattle.rulelines.specs.StateTables.{IsFirstKeyIn}
 use Rattle.rulelines.specs.StateTables.{IsFirstRestIn, IsLastChange, IsNextBy, IsNextRestIn, IsStep}
 use Rattle.rulelines.proofs.FirstKeyLemmas.{IsState, step_leads}
@@ -69,7 +70,7 @@ module _ (table : Table) where
     on = λ left e u h. subst (λ v. IsFirstRestIn table first count v) (sym (append_assoc f.taken (c ∷ []) u))
         (f.on (left + 1) (omega (arith, e)) (c ∷ u)
         (subst (λ v. IsFirstRestIn table f.here (left + 1) (v ∷ u)) (sym is)
-        (first_more (grammar_of table.states) (last_in table.states) (line_symbols table.inner) f.here step.next.to left
+        (first_more (grammar_of table.states) (last_in table.states) (listed_in table.symbols) f.here step.next.to left
         (left + 1) key (omega arith)
         (subst (λ v. IsFirstKeyIn table f.here 0 v (Some key)) (omega (arith, e, size)) (found f.here f.is))
         (subst (λ v. IsNext (grammar_of table.states) (last_in table.states) (Contains f.here.stacks) v
@@ -85,7 +86,7 @@ module _ (table : Table) where
     f.taken,
     subst (λ v. IsFirstRestIn table first count v) (append-nil f.taken)
         (f.on 0 (omega (arith, size)) []
-        (first_ended (grammar_of table.states) (last_in table.states) (line_symbols table.inner) f.here
+        (first_ended (grammar_of table.states) (last_in table.states) (listed_in table.symbols) f.here
         (sym (reported f.here f.is) ∙ is))),
     f.word_is,
   )
@@ -141,7 +142,7 @@ module _ (table : Table) where
       on = λ v h. subst (λ x. IsNextRestIn table first line x)
           (sym (append_assoc (take at line) (c ∷ []) v) ∙ ap (λ x. x ++ v) (sym (take_at line at c at_c)))
           (walk_on (c ∷ v)
-          (next_on (grammar_of table.states) (last_in table.states) (line_symbols table.inner) w.here step.next.to c
+          (next_on (grammar_of table.states) (last_in table.states) (listed_in table.symbols) w.here step.next.to c
           Left step_on step.symbol v h));
       best_is = reported;
     }
@@ -150,7 +151,7 @@ module _ (table : Table) where
         → HasNoNextRestIn table step.next.to Left → IsLastChange table first line best
     same_best never none =
         w.best_is (subst (λ x. HasNoNextRestIn table w.here x) (sym left_is)
-        (none_next (grammar_of table.states) (last_in table.states) (line_symbols table.inner) w.here step.next.to c
+        (none_next (grammar_of table.states) (last_in table.states) (listed_in table.symbols) w.here step.next.to c
         Left step_on step.symbol none
         (subst (λ x. IsFirstKeyIn table w.here (sort_key c + 1) x None) rest_is (never w.here w.is))))
 
@@ -169,7 +170,7 @@ module _ (table : Table) where
               (sym same)
               (subst (λ x. IsNextRestIn table first line (take x line ++ symbol_of key ∷ u)) (sym here)
               (walk_on (symbol_of key ∷ u)
-              (changed_next (grammar_of table.states) (last_in table.states) (line_symbols table.inner) w.here
+              (changed_next (grammar_of table.states) (last_in table.states) (listed_in table.symbols) w.here
               step.next.to c Left step_on step.symbol key on.next.to u none
               (subst (λ x. IsFirstKeyIn table w.here (sort_key c + 1) x (Some key)) rest_is reported.3)
               (subst (λ v. Leads w.here v on.next.to) same

@@ -2,12 +2,12 @@ pub mod StatePairs
 pub mod StackSets
 pub mod FirstLines
 pub mod FoundPairs
-pub mod CountsWithin
 pub mod Samples
 pub mod Search
 pub mod Alone
 pub mod LineBytes
 pub mod LineSets
+pub mod ListedSets
 pub mod Rests
 pub mod Starts
 pub mod StateTables
@@ -17,3 +17,4 @@ pub mod MissSearch
 pub mod MissLists
 pub mod Seeds
 pub mod CutSearch
+pub mod SampleLines

@@ -1,5 +1,6 @@
 -- The lines that a rule derives, and the line after another.
-use Rattle.std.specs.Prelude.{◌↔◌, ℕ, ◌≤◌, Bool, ◌&&◌, not, List, length, eqb}
+use Rattle.std.specs.Prelude.{◌↔◌, ℕ, ◌≤◌, Bool, true, ◌&&◌, not, List, length, eqb, Option, None, Some}
+use Rattle.std.specs.List.{list_any}
 use Rattle.abnfread.specs.Element.{Rule}
 use Rattle.abnfcheck.specs.Derivable.{AreLetters, RuleDerives}
 use Rattle.flatgrammar.specs.Flat.{Flat}
@@ -8,22 +9,36 @@ use Rattle.ruletable.specs.Letters.{has}
 use Rattle.ruletable.specs.declared.alphabet.Alphabet.{Alphabet}
 use Rattle.rulelines.specs.declared.list.lines.NextLine.{NextLine}
 use Rattle.rulelines.specs.declared.list.lines.NextLine.TheVariants.{Line, Done}
-use Rattle.rulelines.specs.FirstLines.{ComesFirst, HasNoLine, IsFirstLine, IsShortlexBefore}
+use Rattle.rulelines.specs.FirstLines.{ComesFirst, HasNoLine, IsFirstLine, IsShortlexBefore, sort_key}
 
 -- whether a number is a symbol of the alphabet, and not the one that ends a line
 abbrev pub is_line_symbol : Alphabet → ℕ → ℕ → Bool
 is_line_symbol alphabet terminator c = has alphabet c && not (eqb c terminator)
 
+-- symbols of lines: those of the alphabet without the one that ends a line, or of them those of these keys
+pub record SymbolSet : Type 0 where
+  pub alphabet : Alphabet
+  pub terminator : ℕ
+  pub only : Option (List ℕ)
+
+-- whether a key is among these, if there are any
+abbrev pub allows_key : Option (List ℕ) → ℕ → Bool
+allows_key None key = true
+allows_key (Some keys) key = list_any (λ k. eqb k key) keys
+
+-- whether a number is one of the symbols
+abbrev pub has_symbol : SymbolSet → ℕ → Bool
+has_symbol set c = allows_key set.only (sort_key c) && is_line_symbol set.alphabet set.terminator c
+
 -- a flat grammar, and the symbols and the greatest length of its lines
 pub record LineSet : Type 0 where
   pub flat : Flat
-  pub alphabet : Alphabet
-  pub terminator : ℕ
+  pub symbols : SymbolSet
   pub limit : ℕ
 
 -- the flat grammar derives a line
 pub record IsLineIn (set : LineSet) (w : List ℕ) : Type 0 where
-  pub symbols : AreLetters (is_line_symbol set.alphabet set.terminator) w
+  pub symbols : AreLetters (has_symbol set.symbols) w
   pub within : length w ≤ set.limit
   pub derives : DerivesLine set.flat w
 

@@ -13,7 +13,8 @@ use Rattle.rulelines.specs.declared.list.lines.NextLine.{NextLine}
 use Rattle.rulelines.specs.declared.list.lines.NextLine.TheVariants.{Line, Done}
 use Rattle.rulelines.specs.declared.list.search.Change.{Change}
 use Rattle.rulelines.specs.declared.list.table.Table.{Table}
-use Rattle.rulelines.specs.LineSets.{is_line_symbol, LineSet}
+use Rattle.rulelines.specs.LineSets.{is_line_symbol, LineSet, SymbolSet}
+use Rattle.rulelines.specs.ListedSets.{listed_in, symbol_set}
 use Rattle.rulelines.specs.Rests.{HasNoNextRest, HasRest, IsFirstKey, IsFirstRest, IsNextRest, IsRest, TakesKey}
 use Rattle.rulelines.specs.Starts.{AreClassStarts}
 
@@ -54,52 +55,52 @@ pub record IsStateTable (table : Table) : Type 0 where
   pub grammar : AreOfGrammar (grammar_of table.states) table.states
   pub begins : IsStartState table.states table.start
   pub seen : table.seen ≤ length table.states.states
-  pub starts_are : AreClassStarts (grammar_of table.states) (line_symbols table.inner) table.starts.items
+  pub starts_are : AreClassStarts (grammar_of table.states) (listed_in table.symbols) table.starts.items
   pub rise : IsStrictlyIncreasing table.starts.items
   pub rows_are : AreRowsOf table.states table.starts.items table.rows.items
-  pub levels_are : AreLevelsOf table.states (line_symbols table.inner) table.levels.items
+  pub levels_are : AreLevelsOf table.states (listed_in table.symbols) table.levels.items
 
 -- .. of this one
-pub record IsTableFor (flat : Flat) (inner : LineSymbols) (table : Table) : Type 0 where
+pub record IsTableFor (flat : Flat) (set : SymbolSet) (table : Table) : Type 0 where
   pub is : IsStateTable table
   pub grammar : grammar_of table.states ≡ flat
-  pub symbols : table.inner ≡ inner
+  pub symbols : symbol_set table.symbols ≡ set
 
 -- a table has grown
 pub record IsTableGrown (old new : Table) : Type 0 where
   pub is : IsStateTable new
   pub more : AreMoreStates old.states new.states
-  pub inner : new.inner ≡ old.inner
+  pub symbols : symbol_set new.symbols ≡ symbol_set old.symbols
   pub start : new.start ≡ old.start
 
 -- a symbol of a line leads from one state to another
 pub record IsStep (table : Table) (s c t : ℕ) : Type 0 where
-  pub symbol : line_symbols table.inner c ≡ true
+  pub symbol : listed_in table.symbols c ≡ true
   pub next : IsNextState table.states c s t
 
 abbrev pub IsCan : Table → ℕ → ℕ → Bool → Type 0
-IsCan table = IsCanOf table.states (line_symbols table.inner)
+IsCan table = IsCanOf table.states (listed_in table.symbols)
 
 abbrev pub IsRestIn : Table → StateSet → ℕ → List ℕ → Type 0
-IsRestIn table = IsRest (grammar_of table.states) (last_in table.states) (line_symbols table.inner)
+IsRestIn table = IsRest (grammar_of table.states) (last_in table.states) (listed_in table.symbols)
 
 abbrev pub HasRestIn : Table → StateSet → ℕ → Type 0
-HasRestIn table = HasRest (grammar_of table.states) (last_in table.states) (line_symbols table.inner)
+HasRestIn table = HasRest (grammar_of table.states) (last_in table.states) (listed_in table.symbols)
 
 abbrev pub TakesKeyIn : Table → StateSet → ℕ → ℕ → Type 0
-TakesKeyIn table = TakesKey (grammar_of table.states) (last_in table.states) (line_symbols table.inner)
+TakesKeyIn table = TakesKey (grammar_of table.states) (last_in table.states) (listed_in table.symbols)
 
 abbrev pub IsFirstKeyIn : Table → StateSet → ℕ → ℕ → Option ℕ → Type 0
-IsFirstKeyIn table = IsFirstKey (grammar_of table.states) (last_in table.states) (line_symbols table.inner)
+IsFirstKeyIn table = IsFirstKey (grammar_of table.states) (last_in table.states) (listed_in table.symbols)
 
 abbrev pub IsFirstRestIn : Table → StateSet → ℕ → List ℕ → Type 0
-IsFirstRestIn table = IsFirstRest (grammar_of table.states) (last_in table.states) (line_symbols table.inner)
+IsFirstRestIn table = IsFirstRest (grammar_of table.states) (last_in table.states) (listed_in table.symbols)
 
 abbrev pub IsNextRestIn : Table → StateSet → List ℕ → List ℕ → Type 0
-IsNextRestIn table = IsNextRest (grammar_of table.states) (last_in table.states) (line_symbols table.inner)
+IsNextRestIn table = IsNextRest (grammar_of table.states) (last_in table.states) (listed_in table.symbols)
 
 abbrev pub HasNoNextRestIn : Table → StateSet → List ℕ → Type 0
-HasNoNextRestIn table = HasNoNextRest (grammar_of table.states) (last_in table.states) (line_symbols table.inner)
+HasNoNextRestIn table = HasNoNextRest (grammar_of table.states) (last_in table.states) (listed_in table.symbols)
 
 -- each of the first states has a row, which leads each start to a state that was reached
 abbrev pub AreRowsClosed : Table → ℕ → Type 0
@@ -147,12 +148,15 @@ IsChangedTo table line change word = (t : StateSet) → slice_get table.states.s
     → (u : List ℕ) × IsFirstRestIn table t (length line - 1 - change.at) u
     × (word ≡ take change.at line ++ change.symbol ∷ u)
 
+-- the lines of a flat grammar
+abbrev pub flat_lines : Flat → SymbolSet → ℕ → LineSet
+flat_lines flat symbols limit = record { flat = flat; symbols = symbols; limit = limit }
+
 -- the lines of a table
 abbrev pub table_lines : Table → ℕ → LineSet
 table_lines table limit = record {
   flat = grammar_of table.states;
-  alphabet = table.inner.alphabet;
-  terminator = table.inner.terminator;
+  symbols = symbol_set table.symbols;
   limit = limit;
 }
 

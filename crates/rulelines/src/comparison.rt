@@ -6,8 +6,7 @@ ghost use Rattle.rulelines.specs.Alone.{DerivesAsRule, IsKnownOf};
 ghost use Rattle.rulelines.specs.FirstLines.{IsOfOldAlone};
 
 use crate::alone::{Alone, old_alone};
-use crate::counts::are_rules_within;
-use abnfcheck::SoundAbnf;
+use abnfcheck::{SoundAbnf, are_rules_within, reached_grammar, unrolled_grammar};
 use flatgrammar::Flat;
 use lowering::lower;
 use ruletable::{Alphabet, Memory};
@@ -26,15 +25,18 @@ pub struct Comparison {
     pub new_alone: Alone,
 }
 
-// Lowers a grammar for lines of any length; `None` if a repeat count is too great. `Memory` if an allocation fails.
+// Lowers the rules that the judged one of a grammar reaches, for lines of any length; `None` if a repeat count is too
+// great. `Memory` if an allocation fails.
 fn lower_any(alloc: Global, grammar: &SoundAbnf) -> Result<Option<Flat>, Memory>
     ensures { IfOk result (λ reported. IfSome reported (λ flat. (has : ℕ → Bool) → DerivesAsRule has
         (rules_of grammar.now.rules) grammar.now.judged flat)) }
 {
-    if !are_rules_within(grammar.rules(), GREATEST) {
+    let kept = reached_grammar(alloc, grammar)?;
+    let unrolled = unrolled_grammar(alloc, &kept)?;
+    if !are_rules_within(unrolled.rules(), GREATEST) {
         return Ok(None);
     }
-    let flat = lower(alloc, grammar, GREATEST)?;
+    let flat = lower(alloc, &unrolled, GREATEST)?;
     Ok(Some(flat))
 }
 

@@ -3,7 +3,6 @@
 
 mod alone;
 mod comparison;
-mod counts;
 mod cuts;
 mod list;
 mod miss;

@@ -1,7 +1,9 @@
 //! The lines that a rule derives, in order.
 
+mod firsts;
 pub(crate) mod keys;
 mod lines;
+mod listed;
 mod lots;
 mod over;
 mod random;

@@ -3,7 +3,7 @@
 mod lines;
 mod prefixes;
 mod search;
-mod symbols;
+pub(crate) mod symbols;
 mod wrong;
 
 pub use lines::Misses;

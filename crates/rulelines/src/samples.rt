@@ -61,8 +61,8 @@ fn add_key(alphabet: Alphabet, number: u32, keys: &mut Vec<u32>) -> Result<(), M
     Ok(())
 }
 
-// Returns the keys of the bounds that are symbols. `Memory` if an allocation fails.
-fn keys_of(alloc: Global, alphabet: Alphabet, bounds: &[u32]) -> Result<Vec<u32>, Memory>
+/// Returns the keys of the bounds that are symbols. `Memory` if an allocation fails.
+pub(crate) fn keys_of(alloc: Global, alphabet: Alphabet, bounds: &[u32]) -> Result<Vec<u32>, Memory>
     ensures { IfOk result (λ keys. AreKeysOf (has alphabet) bounds.now keys.items) }
 {
     let mut keys = Vec::new(alloc);

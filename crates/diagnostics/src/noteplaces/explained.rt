@@ -10,7 +10,7 @@ use crate::noteplaces::lines::{heads_named, push_by_heads};
 use crate::noteplaces::mentions::mentions_of;
 use crate::noteplaces::name_index::index_names;
 use crate::noteplaces::positions::Positions;
-use crate::noteplaces::prose::push_first_prose;
+use crate::noteplaces::prose::{first_prose, push_prose};
 use crate::noteplaces::sign::Signs;
 use crate::noteplaces::uses::push_used;
 use lexer::{Kind, Token, one_list};
@@ -75,7 +75,10 @@ fn push_lines(
 {
     match kind {
         NoteKind::Undefined => push_used(alloc, out, positions, start, name),
-        NoteKind::Prose => push_first_prose(alloc, out, positions, name),
+        NoteKind::Prose => {
+            let found = first_prose(alloc, positions, name)?;
+            push_prose(out, found)
+        }
         _ => {
             let heads = heads_named(alloc, positions, name)?;
             push_by_heads(alloc, out, &heads, kind)

@@ -1,11 +1,12 @@
 //! The first prose of a rule.
-ghost use Rattle.std.specs.Prelude.{◌≡◌, ◌++◌, ◌&&◌, None, map, option_map, OnOk};
+ghost use Rattle.std.specs.Prelude.{◌≡◌, ◌++◌, ◌&&◌, map, option_map, IfOk, OnOk};
 ghost use Rattle.std.specs.List.{find};
 ghost use Rattle.diagnostics.specs.BodyMentions.{is_kind as same_kind, mentioned_at};
 ghost use Rattle.diagnostics.specs.DefinitionHeads.{defined_at};
+ghost use Rattle.diagnostics.specs.ExplainedNotes.{prose_by};
 ghost use Rattle.diagnostics.specs.FirstMentions.{is_standing};
 ghost use Rattle.diagnostics.specs.NameIndexes.{Rises, starts_of};
-ghost use Rattle.diagnostics.specs.UseLines.{prose_line, prose_lines};
+ghost use Rattle.diagnostics.specs.UseLines.{prose_line};
 
 use crate::noteplaces::heads::Head;
 use crate::noteplaces::mentions::{Mention, MentionKind, is_kind};
@@ -32,7 +33,7 @@ fn is_standing_prose(heads: &[Head], rule: &Head, mention: &Mention) -> bool
 }
 
 // The first of the mentions that is prose in a definition that begins the rule or adds to it.
-fn first_prose<'a>(heads: &[Head], rule: &Head, mentions: &[&'a Mention]) -> Option<&'a Mention>
+fn standing_prose<'a>(heads: &[Head], rule: &Head, mentions: &[&'a Mention]) -> Option<&'a Mention>
     requires { Rises 0 (starts_of heads.now) }
     ensures { option_map (λ m. mentioned_at m.now) result ≡ find (λ m. same_kind MentionKind.Prose m.kind
         && is_standing (map defined_at heads.now) (defined_at rule.now) m.within)
@@ -46,8 +47,26 @@ fn first_prose<'a>(heads: &[Head], rule: &Head, mentions: &[&'a Mention]) -> Opt
     None
 }
 
-// Adds the line of prose.
-fn push_prose(out: &mut Vec<u8>, found: Option<&Mention>) -> Result<(), Memory>
+/// Returns the first prose of the rule of a name: in the definition that begins it, or in one that adds to it.
+///
+/// # Errors
+/// `Memory` if an allocation fails.
+pub fn first_prose<'a>(
+    alloc: Global,
+    positions: &'a Positions,
+    name: &[u8],
+) -> Result<Option<&'a Mention>, Memory>
+    ensures { IfOk result (λ found. option_map (λ m. mentioned_at m.now) found ≡ prose_by positions.now name.now) }
+{
+    let Some(rule) = rule_of_name(positions, name)? else {
+        return Ok(None);
+    };
+    let mentions = mentions_under(alloc, positions, name)?;
+    Ok(standing_prose(&positions.heads, rule, &mentions))
+}
+
+/// Adds the line of prose.
+pub(crate) fn push_prose(out: &mut Vec<u8>, found: Option<&Mention>) -> Result<(), Memory>
     ensures { OnOk result (out.new.items
         ≡ out.old.items ++ prose_line (option_map (λ m. mentioned_at m.now) found.entry)) }
 {
@@ -59,21 +78,4 @@ fn push_prose(out: &mut Vec<u8>, found: Option<&Mention>) -> Result<(), Memory>
         out.extend_from_slice(b"\n")?;
     }
     Ok(())
-}
-
-/// Adds the line of the first prose of a rule.
-pub(crate) fn push_first_prose(
-    alloc: Global,
-    out: &mut Vec<u8>,
-    positions: &Positions,
-    name: &[u8],
-) -> Result<(), Memory>
-    ensures { OnOk result (out.new.items ≡ out.old.items ++ prose_lines positions.now.names
-        (map defined_at positions.now.heads.items) (map mentioned_at positions.now.mentions.items) None name.now) }
-{
-    let Some(rule) = rule_of_name(positions, name)? else {
-        return Ok(());
-    };
-    let mentions = mentions_under(alloc, positions, name)?;
-    push_prose(out, first_prose(&positions.heads, rule, &mentions))
 }

@@ -67,8 +67,8 @@ fn farthest_of(kept: KeptFailures) -> Option<Farthest>
 /// comparison outside of `!` fails, with all leaves that were expected there. The window is taken as the whole rest of
 /// the input, whether the start rule succeeds on it or not.
 ///
-/// It stores the results of keys alone. No clause counts its evaluations. The clauses `sound` and `numbered` repeat those
-/// of `SoundPeg::start`.
+/// It stores the results of keys alone. No clause counts its evaluations. The clauses `sound` and `numbered` repeat
+/// those of `SoundPeg::start`.
 ///
 /// # Errors
 /// `Memory` if an allocation fails, or after 2^64 - 1 steps.

@@ -1,11 +1,13 @@
 //! The frames of the tasks under way.
 ghost use Rattle.std.specs.Prelude.{◌≡◌, [], ◌∷◌, IfSome, IfNone, OnOk};
+ghost use Rattle.matchfailure.specs.PackedTaskFrames.{frame_of};
 ghost use Rattle.matchfailure.specs.declared.tasks.frames.TaskFrame.{TaskFrame};
 
-use memo::MatchTask;
+use memo::{MatchTask, PackedTask};
 use ruletable::Memory;
 use std::alloc::Global;
 use std::marker::Model;
+use std::mem::size_of;
 
 /// An entry of the parsing stack: a task under way.
 #[derive(Clone, Copy)]
@@ -18,20 +20,35 @@ pub(crate) struct TaskFrame {
     pub(crate) stores: bool,
 }
 
+/// A frame in numbers of 32 bits.
+#[derive(Clone, Copy)]
+pub(crate) struct PackedTaskFrame {
+    /// The task.
+    pub(crate) task: PackedTask,
+    /// Whether it stands outside of `!`.
+    pub(crate) outside: bool,
+    /// Whether it awaits its own result.
+    pub(crate) stores: bool,
+}
+
+// A frame is to stay small: deep nesting takes the memory of its frames.
+const _: () = prove!(size_of::<PackedTaskFrame>() <= 20);
+
 /// The parsing stack. Contracts see its frames, the top first.
 #[derive(Drop)]
 pub(crate) struct TaskFrames {
     /// The frames, the top last.
-    frames: Vec<TaskFrame>,
+    frames: Vec<PackedTaskFrame>,
 }
 
 impl Model for TaskFrames {
-    ghost use Rattle.std.specs.Prelude.{List, reverse};
+    ghost use Rattle.std.specs.Prelude.{List, map, reverse};
+    ghost use Rattle.matchfailure.specs.PackedTaskFrames.{frame_of};
     ghost use Rattle.matchfailure.specs.declared.tasks.frames.TaskFrame.{TaskFrame};
 
     ghost Value = { List TaskFrame };
 
-    ghost view = { λ m. reverse m.frames.items };
+    ghost view = { λ m. map frame_of (reverse m.frames.items) };
 }
 
 impl TaskFrames {
@@ -47,12 +64,17 @@ impl TaskFrames {
     /// Pushes a frame.
     ///
     /// # Errors
-    /// `Memory` if an allocation fails.
+    /// `Memory` if an allocation fails, or if a number does not fit in 32 bits.
     #[inline(always)]
     pub(crate) fn push(&mut self, frame: TaskFrame) -> Result<(), Memory>
         ensures { OnOk result (self.new ≡ frame ∷ self.old) }
     {
-        self.frames.push(frame)?;
+        let task = PackedTask::of(frame.task)?;
+        self.frames.push(PackedTaskFrame {
+            task,
+            outside: frame.outside,
+            stores: frame.stores,
+        })?;
         Ok(())
     }
 
@@ -62,6 +84,13 @@ impl TaskFrames {
         ensures some { IfSome result (λ frame. self.old ≡ frame ∷ self.new) }
         ensures none { IfNone result (self.old ≡ []) }
     {
-        self.frames.pop()
+        match self.frames.pop() {
+            Some(packed) => Some(TaskFrame {
+                task: packed.task.task(),
+                outside: packed.outside,
+                stores: packed.stores,
+            }),
+            None => None,
+        }
     }
 }

@@ -90,10 +90,12 @@ fn explain_token(alloc: Global, text: &[u8]) -> Result<Vec<u8>, Memory>
     ensures { IfOk result (λ why. Why text.now why.items) }
 {
     tokens_make_up::<Kind>();
-    match deciding_token(text) {
-        Some(Decision::Hopeless(position, token)) => hopeless_lines(alloc, text, position, token),
-        Some(Decision::TooDeep(token)) => deep_lines(alloc, text, token),
-        None => unreachable!(),
+    let Some(decided) = deciding_token(text) else {
+        unreachable!()
+    };
+    match decided.decision {
+        Decision::Hopeless(position, token) => hopeless_lines(alloc, text, position, token),
+        Decision::TooDeep(token) => deep_lines(alloc, text, token),
     }
 }
 
@@ -102,7 +104,7 @@ fn explain_token(alloc: Global, text: &[u8]) -> Result<Vec<u8>, Memory>
 ///
 /// # Errors
 /// `Memory` if an allocation fails.
-pub fn explain_fault(alloc: Global, text: &[u8], fault: ReadFault) -> Result<Vec<u8>, Memory>
+pub(crate) fn explain_fault(alloc: Global, text: &[u8], fault: ReadFault) -> Result<Vec<u8>, Memory>
     requires { IsFaultOf text.now fault }
     ensures { IfOk result (λ why. Explains text.now fault why.items) }
 {

@@ -1,16 +1,16 @@
-//! Laws of what explains a fault: a fault has one text, and no kind of token is left out.
+//! Laws of what explains faults: they have one text, and no kind of token is left out.
 ghost use Rattle.std.specs.Prelude.{◌≡◌, ℕ, List};
 ghost use Rattle.ruletable.specs.declared.fault.ReadFault.{ReadFault};
 ghost use Rattle.diagnostics.specs.ReportedPhrases.{AreAllReported, ReportAll};
 ghost use Rattle.pegread.specs.Reading.{IsHopeless};
 ghost use Rattle.pegread.specs.Tokens.{Tok};
 ghost use Rattle.pegprint.specs.PegExpected.{CanStand, phrases};
-ghost use Rattle.pegprint.specs.PegExplained.{Explains};
+ghost use Rattle.pegprint.specs.PegAllFaults.{ExplainsAll};
 
-/// Says that at most one text explains a fault of a grammar's text.
+/// Says that at most one text explains the faults of a grammar's text.
 pub fn one_explanation()
-    ensures { (text : List ℕ) (fault : ReadFault) (a b : List ℕ) → Explains text fault a → Explains text fault b
-        → a ≡ b }
+    ensures { (text : List ℕ) (fault : ReadFault) (a b : List ℕ) → ExplainsAll text fault a
+        → ExplainsAll text fault b → a ≡ b }
 {}
 
 /// Says that an explanation leaves nothing out: a kind of token can stand in place of the token that decides exactly if

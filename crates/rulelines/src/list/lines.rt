@@ -2,15 +2,21 @@
 ghost use Rattle.std.specs.Prelude.{◌≡◌, IfOk, IfSome};
 ghost use Rattle.abnfread.specs.AbnfViews.{rules_of};
 ghost use Rattle.rulelines.specs.LineSets.{AreRuleLines, IsLineAfter, IsFirstStep, IsLineIn, IsSomeLine};
-ghost use Rattle.rulelines.specs.StateTables.{IsTableFor};
+ghost use Rattle.rulelines.specs.ListedSets.{listed_in, symbol_set};
+ghost use Rattle.rulelines.specs.SampleLines.{AreSampleLines};
+ghost use Rattle.rulelines.specs.Starts.{AreClassStarts};
+ghost use Rattle.rulelines.specs.StateTables.{IsTableFor, flat_lines};
+ghost use Rattle.std.specs.List.Sorted.{IsStrictlyIncreasing};
 
+use crate::list::firsts::first_keys;
 use crate::list::keys::LineSymbols;
+use crate::list::listed::ListedSymbols;
 use crate::list::lots::Lots;
 use crate::list::random::line_by_lot;
 use crate::list::search::{line_after, line_from};
 use crate::list::starts::find_starts;
 use crate::list::table::Table;
-use abnfcheck::SoundAbnf;
+use abnfcheck::{SoundAbnf, reached_grammar};
 use flatgrammar::Flat;
 use lazydfa::States;
 use lowering::lower;
@@ -27,7 +33,7 @@ pub enum NextLine {
 
 /// The lines over an alphabet that a rule derives, in their order: shorter lines first, and else by the first symbol
 /// that differs: %x21-7E, then the space, then others by number. They have at most `limit` symbols, and not the one
-/// that ends a line.
+/// that ends a line. They are all such lines, or those of some symbols alone.
 #[derive(Drop)]
 pub struct Lines {
     /// Allocates the table and the lines.
@@ -36,8 +42,8 @@ pub struct Lines {
     flat: Flat,
     /// The greatest length of a line.
     limit: u32,
-    /// The symbols of a line.
-    inner: LineSymbols,
+    /// The symbols of the lines.
+    symbols: ListedSymbols,
     /// The states that were reached; none after an allocation failed.
     table: Option<Table>,
 }
@@ -45,18 +51,18 @@ pub struct Lines {
 impl Model for Lines {
     ghost use Rattle.std.specs.Prelude.{IfSome};
     ghost use Rattle.rulelines.specs.LineSets.{LineSet};
+    ghost use Rattle.rulelines.specs.ListedSets.{listed_in, symbol_set};
     ghost use Rattle.rulelines.specs.StateTables.{IsTableFor};
 
     ghost Value = { LineSet };
 
     ghost view = { λ l. record {
       flat = l.flat;
-      alphabet = l.inner.alphabet;
-      terminator = l.inner.terminator;
+      symbols = symbol_set l.symbols;
       limit = l.limit;
     } };
 
-    ghost invariant = { λ l. IfSome l.table (IsTableFor l.flat l.inner) };
+    ghost invariant = { λ l. IfSome l.table (IsTableFor l.flat (symbol_set l.symbols)) };
 }
 
 // Returns the table of a flat grammar with its start state, with so much room for states and as much for entries.
@@ -65,12 +71,14 @@ impl Model for Lines {
 fn begin_table(
     alloc: Global,
     flat: &Flat,
-    inner: LineSymbols,
+    symbols: ListedSymbols,
+    starts: Vec<u32>,
     room: usize,
 ) -> Result<Option<Table>, Memory>
-    ensures { IfOk result (λ reported. IfSome reported (IsTableFor flat.now inner)) }
+    requires starts { AreClassStarts flat.now (listed_in symbols) starts.items }
+    requires rise { IsStrictlyIncreasing starts.items }
+    ensures { IfOk result (λ reported. IfSome reported (IsTableFor flat.now (symbol_set symbols))) }
 {
-    let starts = find_starts(alloc, inner, flat, false)?;
     let Some(mut states) = States::new(alloc, flat, room)? else {
         return Ok(None);
     };
@@ -78,7 +86,7 @@ fn begin_table(
         return Ok(None);
     };
     Ok(Some(Table {
-        inner,
+        symbols,
         states,
         start,
         seen: start.saturating_add(1),
@@ -90,10 +98,37 @@ fn begin_table(
     }))
 }
 
+// Returns the lines of these symbols that a flat grammar derives. `starts` are the keys at which classes of the symbols
+// start. `None` and `Memory` as `begin_table`.
+fn lines_of(
+    alloc: Global,
+    flat: Flat,
+    symbols: ListedSymbols,
+    starts: Vec<u32>,
+    limit: u32,
+    room: usize,
+) -> Result<Option<Lines>, Memory>
+    requires starts { AreClassStarts flat (listed_in symbols) starts.items }
+    requires rise { IsStrictlyIncreasing starts.items }
+    ensures { IfOk result (λ reported. IfSome reported (λ lines. lines ≡ flat_lines flat (symbol_set symbols) limit)) }
+{
+    let copy = symbols.copied(alloc)?;
+    let Some(table) = begin_table(alloc, &flat, copy, starts, room)? else {
+        return Ok(None);
+    };
+    Ok(Some(Lines {
+        alloc,
+        flat,
+        limit,
+        symbols,
+        table: Some(table),
+    }))
+}
+
 impl Lines {
     /// Returns the lines that the judged rule of a grammar derives, of at most `limit` symbols, with room for `room`
-    /// entries of states, and as many of the table. `None` if the grammar counts how often something nullable is
-    /// repeated, or there is no room. `Memory` if an allocation fails.
+    /// entries of states, and as many of the table. `None` if a rule that is reached bounds the repetitions of what may
+    /// be empty, or there is no room. `Memory` if an allocation fails.
     pub fn new(
         alloc: Global,
         grammar: &SoundAbnf,
@@ -106,21 +141,42 @@ impl Lines {
             (rules_of grammar.now.rules)
             grammar.now.judged)) }
     {
-        let flat = lower(alloc, grammar, limit as usize)?;
         let inner = LineSymbols {
             alphabet,
             terminator,
         };
-        let Some(table) = begin_table(alloc, &flat, inner, room)? else {
-            return Ok(None);
+        let kept = reached_grammar(alloc, grammar)?;
+        let flat = lower(alloc, &kept, limit as usize)?;
+        let starts = find_starts(alloc, inner, &flat, false)?;
+        let symbols = ListedSymbols { inner, only: None };
+        lines_of(alloc, flat, symbols, starts, limit, room)
+    }
+
+    /// Returns those of the lines of `new` that have only the first of symbols that no set distinguishes. The sets are
+    /// values, ranges, and the symbols that may stand for one of a text, in the rules that the judged one reaches.
+    /// `None` and `Memory` as `new`.
+    pub fn of_samples(
+        alloc: Global,
+        grammar: &SoundAbnf,
+        alphabet: Alphabet,
+        terminator: u8,
+        limit: u32,
+        room: usize,
+    ) -> Result<Option<Lines>, Memory>
+        ensures { IfOk result (λ reported. IfSome reported (AreSampleLines alphabet terminator limit
+            (rules_of grammar.now.rules)
+            grammar.now.judged)) }
+    {
+        let inner = LineSymbols {
+            alphabet,
+            terminator,
         };
-        Ok(Some(Lines {
-            alloc,
-            flat,
-            limit,
-            inner,
-            table: Some(table),
-        }))
+        let kept = reached_grammar(alloc, grammar)?;
+        let flat = lower(alloc, &kept, limit as usize)?;
+        let starts = first_keys(alloc, inner, &flat, kept.rules())?;
+        let only = Some(Vec::from_slice(alloc, &starts)?);
+        let symbols = ListedSymbols { inner, only };
+        lines_of(alloc, flat, symbols, starts, limit, room)
     }
 
     /// Returns the first line; `None` if there is no room for the states. `Memory` if an allocation fails, and `None`

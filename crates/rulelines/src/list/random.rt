@@ -77,7 +77,10 @@ fn draw_symbol(table: &Table, state: usize, rest: usize, lots: &mut Lots) -> Opt
     let class = draw_class(table, state, rest, lots)?;
     let start = table.starts.get(class).copied()?;
     let next = table.starts.get(class.saturating_add(1)).copied();
-    let count = class_end(table.inner, start, next).saturating_sub(start);
+    if table.symbols.only.is_some() {
+        return Some(symbol_at(start));
+    }
+    let count = class_end(table.symbols.inner, start, next).saturating_sub(start);
     Some(symbol_at(start.saturating_add(lots.below(count))))
 }
 

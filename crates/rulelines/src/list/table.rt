@@ -5,7 +5,7 @@ ghost use Rattle.rulelines.specs.StateTables.{HasRestIn, IsCan, IsEntryAdded, Is
 ghost use Rattle.rulelines.specs.StateTables.{IsStateTable};
 ghost use Rattle.rulelines.specs.StateTables.{IsStep, IsWholeRow, TakesKeyIn};
 
-use crate::list::keys::{LineSymbols, is_inner};
+use crate::list::listed::ListedSymbols;
 use crate::list::starts::start_up_to;
 use crate::samples::{key_of, symbol_at};
 use lazydfa::States;
@@ -16,8 +16,8 @@ use std::alloc::Global;
 /// that are asked for.
 #[derive(Drop)]
 pub(crate) struct Table {
-    /// The symbols of a line.
-    pub(crate) inner: LineSymbols,
+    /// The symbols of the lines that are listed.
+    pub(crate) symbols: ListedSymbols,
     /// The states.
     pub(crate) states: States,
     /// The number of the start state.
@@ -36,13 +36,13 @@ pub(crate) struct Table {
     pub(crate) room: usize,
 }
 
-/// Returns the number of the state that a symbol of a line leads to from another; `None` if it is none, or the table
-/// has no such entry.
+/// Returns the number of the state that a symbol that is listed leads to from another; `None` if it is none, or the
+/// table has no such entry.
 pub(crate) fn step(table: &Table, state: usize, symbol: u32) -> Option<usize>
     requires table { IsStateTable table.now }
     ensures { IfSome result (IsStep table.now state symbol) }
 {
-    if !is_inner(table.inner, symbol) {
+    if !table.symbols.has(symbol) {
         return None;
     }
     let class = start_up_to(&table.starts, key_of(symbol))?;
@@ -69,7 +69,7 @@ pub(crate) fn takes_key(table: &Table, state: usize, key: u32, rest: usize) -> O
         IsTrue takes ↔ TakesKeyIn table.now s key rest) }
 {
     let symbol = symbol_at(key);
-    if !is_inner(table.inner, symbol) || key_of(symbol) != key {
+    if !table.symbols.has(symbol) || key_of(symbol) != key {
         return Some(false);
     }
     let next = step(table, state, symbol)?;

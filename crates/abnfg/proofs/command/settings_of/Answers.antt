@@ -13,7 +13,8 @@ returns c = record {
   limit = c.number_of.ensures;
   count = c.number_of-2.ensures;
   nul = c.is_given.ensures;
-  edges = c.is_given-2.ensures;
-  explain = c.is_given-3.ensures;
+  alike = c.is_given-2.ensures;
+  edges = c.is_given-3.ensures;
+  explain = c.is_given-4.ensures;
   seed = c.seed_of.ensures;
 }

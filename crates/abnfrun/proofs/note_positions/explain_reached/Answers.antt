@@ -1,7 +1,4 @@
-use Rattle.std.proofs.Common.{length, ap, sym, ◌∙◌}
-use Rattle.std.proofs.lemmas.List.{length-map}
 use Rattle.std.specs.Prelude.{option_copied}
-use Rattle.abnfread.specs.AbnfViews.{rule_of}
 use Rattle.abnfexplain.specs.AbnfNoteLines.{sign_of}
 use Rattle.abnfread.specs.AbnfKinds.{ends_list}
 use Rattle.abnfread.specs.AbnfSlices.{White, First}
@@ -13,10 +10,7 @@ use Rattle.abnfrun.proofs.note_positions.explain_reached.Goals as goal
 
 pub returns : goal.returns
 returns c = λ text are.
-    let rules = c.args.positions.now.all.rules.rules in
-    let many = c.len.ensures.len ∙ sym (length-map rules rule_of) ∙ ap length are.all in
-    let w =
-    c.in_ok-push_after.ensures text (option_copied c.args.start) are.definitions are.reads are.chains many in
+    let w = c.in_ok-push_after.ensures text (option_copied c.args.start) are in
     record {
       lines = c.in_ok-why.why.items;
       line = w.0;

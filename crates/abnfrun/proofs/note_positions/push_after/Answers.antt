@@ -1,29 +1,28 @@
-use Rattle.std.proofs.Common.{refl, sym}
-use Rattle.abnfexplain.specs.ChainLines.{chain_reported}
-use Rattle.abnfrun.specs.AbnfNoted.{all_rules}
-use Rattle.abnfrun.proofs.AbnfExplainedNotesLemmas.{reach_stands, undefined_stands}
+use Rattle.std.proofs.Common.{ap, length, sym, ◌∙◌}
+use Rattle.std.proofs.lemmas.List.{length-map}
+use Rattle.std.proofs.lemmas.Result.{on_ok_weaker}
+use Rattle.abnfread.specs.AbnfViews.{rule_of}
+use Rattle.abnfrun.proofs.AbnfExplainedNotesLemmas.{prose_stands, undefined_stands}
 use Rattle.abnfrun.proofs.note_positions.push_after.Goals as goal
 
-pub returns-in_ok-push_undefined-in-Undefined : goal.returns-in_ok-push_undefined-in-Undefined
-returns-in_ok-push_undefined-in-Undefined c = λ text start definitions reads are many.
-    let w = c.in_ok-push_undefined-in-Undefined.ensures text start definitions reads are many in (
+pub returns-in-Undefined : goal.returns-in-Undefined
+returns-in-Undefined c = on_ok_weaker c.push_undefined.result
+    (λ pushed text start are.
+    let rules = c.args.found.now.all.rules.rules in
+    let many = c.len.ensures.len ∙ sym (length-map rules rule_of) ∙ ap length are.all in
+    let w = pushed text start are.definitions are.reads are.chains many in (
       w.0,
       undefined_stands text start c.args.note.now.kind c.args.note.now.name.items w.0 c.in-Undefined.is
-          (rw (sym c.as_slice.ensures.value) w.1),
+          (rw c.as_slice-name.ensures.value at w.1),
       w.2,
-    )
+    )) c.push_undefined.ensures
 
-pub returns-in_ok-push_reached-in-Prose : goal.returns-in_ok-push_reached-in-Prose
-returns-in_ok-push_reached-in-Prose c = λ text start definitions reads are many.
-    let w = c.in_ok-push_reached-in-Prose.ensures (all_rules definitions) start are in (
-      chain_reported w.0,
-      reach_stands text start c.args.note.now.kind c.args.note.now.name.items (chain_reported w.0) c.in-Prose.is
-          (record {
-            definitions = definitions;
-            reads = reads;
-            chain = w.0;
-            is_chain = rw (sym c.as_slice-in-Prose.ensures.value) w.1;
-            is = refl;
-          }),
+pub returns-in-Prose : goal.returns-in-Prose
+returns-in-Prose c = on_ok_weaker c.push_after_prose.result
+    (λ pushed text start are.
+    let w = pushed text start are in (
+      w.0,
+      prose_stands text start c.args.note.now.kind c.args.note.now.name.items w.0 c.in-Prose.is
+          (rw c.as_slice-name.ensures.value at w.1),
       w.2,
-    )
+    )) c.push_after_prose.ensures

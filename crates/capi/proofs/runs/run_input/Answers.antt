@@ -13,7 +13,7 @@ returns-clause-runs c =
       run.0,
       run.1,
       (λ settings by. planned_by_same (rules_of runner.peg.rules) runner.peg.start _ settings by.limit
-          by.style by.whole by.budget by.explain run.2),
+          by.style by.whole by.budget by.line_buffered by.explain run.2),
       run.3,
       run.4,
     )

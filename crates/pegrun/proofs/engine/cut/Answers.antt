@@ -10,7 +10,8 @@ use Rattle.pegrun.proofs.CutLemmas.{one_more_unit, stops_at_position, fails_ther
 use Rattle.pegrun.proofs.FollowsLemmas.{follows_front, front_is_first}
 use Rattle.matchfailure.specs.NoMatches.{unit_before}
 use Rattle.pegread.specs.PegViews.{rules_of}
-use Rattle.pegrun.specs.MatchCalls.{calls_of}
+use Rattle.pegrun.specs.MatchCalls.{calls_of, matches_for}
+use Rattle.pegrun.proofs.MatchCallsLemmas.{few_at_stop, few_before_stop, few_with_one}
 use Rattle.pegrun.specs.PastUnits.{Follows}
 use Rattle.pegrun.specs.StopsExplained.{UnitBefore}
 use Rattle.pegrun.proofs.PassedCutLemmas.{agrees_before, consumed_after, consumed_now, cut_at_fault, cut_at_write_fault}
@@ -134,7 +135,7 @@ loop-n-preserved g c =
                   λ asked kept. unit_kept _ _ _ input _ _ _ c.loop-n.start front.0 0 front.1 front.2 n is
                       c.pass.new.self so_far.0 items so_far.1 c.loop-n.past.next (let f = so_far.2 asked in f.next)
                       (c.pass.ensures.at asked) (c.pass.ensures.bytes asked kept) le,
-                  omega (arith, front.4, c.in-Ok-Takes.ensures.twice, longer.3),
+                  few_with_one (matches_for c.args.settings.now) _ _ _ _ _ front.4 c.in-Ok-Takes.ensures.few longer.3,
                 ),
           );
     }
@@ -179,7 +180,8 @@ returns-in-Ok-Broken-clause-units g c =
               within = omega (arith, length-append first (bytes_of c.skip.new.self ++ p.more), here);
               text = longer.0;
               units = longer.1;
-              few = omega (arith, front.4, c.in-Ok-Takes.ensures.twice, longer.3);
+              few = few_before_stop (matches_for c.args.settings.now) _ _ _
+                  (few_with_one (matches_for c.args.settings.now) _ _ _ _ _ front.4 c.in-Ok-Takes.ensures.few longer.3);
             },
           ),
     )
@@ -222,7 +224,8 @@ returns-in-Err-pass_known-clause-units g c =
               within = omega (arith, length-append first (bytes_of c.skip.new.self ++ p.more), here);
               text = longer.0;
               units = longer.1;
-              few = omega (arith, front.4, c.in-Ok-Takes.ensures.twice, longer.3);
+              few = few_before_stop (matches_for c.args.settings.now) _ _ _
+                  (few_with_one (matches_for c.args.settings.now) _ _ _ _ _ front.4 c.in-Ok-Takes.ensures.few longer.3);
             },
           ),
     )
@@ -268,17 +271,19 @@ returns-in-Ok-Stops-clause-units g c =
       λ input b.
           let a = rw same.flow at b in
           let front = so_far.4 input (agrees_earlier _ _ _ grew so_far.0 input a) in
-          let step = c.in-Ok-Stops.ensures.follows so_far.0 input so_far.1 a in (
+          let step = c.in-Ok-Stops.ensures.follows so_far.0 input so_far.1 a in
+          let took = (rw c.in-Ok-Stops.field-0-is at step.1) in (
             stops_at_position _ _ _ input _ _ _ c.loop-n.start front.0 (length (so_far.0 ++ items)) front.1 front.2
-                c.loop-n.past so_far.0 items a.more so_far.1 a.bytes step.1 front.3
+                c.loop-n.past so_far.0 items a.more so_far.1 a.bytes took front.3
                 c.in-Ok-Stops.stop c.ending_at.result (rw c.in-Ok-Stops.field-0-is at step.0) c.ending_at.ensures.plain
-                (λ asked. c.ending_at.ensures.reported asked so_far.0 (so_far.2 asked)) step.1,
+                (λ asked. c.ending_at.ensures.reported asked so_far.0 (so_far.2 asked)) took,
             record {
               position = c.loop-n.start;
               within = omega (arith, length-append so_far.0 items, so_far.1);
               text = front.0;
               units = front.1;
-              few = omega (arith, front.4, c.in-Ok-Stops.ensures.twice);
+              few = rw c.forget.ensures.calls
+                  (few_at_stop (matches_for c.args.settings.now) _ _ _ _ front.4 c.in-Ok-Stops.ensures.few);
             },
           ),
     )
@@ -304,13 +309,13 @@ returns-in-Err-clause-units g c =
           let front = so_far.4 input (agrees_earlier _ _ _ grew so_far.0 input a) in
           let step = c.in-Err.ensures.follows so_far.0 input so_far.1 a in (
             fails_there _ _ _ input _ _ _ c.loop-n.start front.0 (length (so_far.0 ++ items)) front.1 front.2
-                c.in-Err.fault step.0 step.1,
+                c.in-Err.fault step.0 step.1.0,
             record {
               position = c.loop-n.start;
               within = omega (arith, length-append so_far.0 items, so_far.1);
               text = front.0;
               units = front.1;
-              few = omega (arith, front.4, c.in-Err.ensures.twice);
+              few = few_at_stop (matches_for c.args.settings.now) _ _ _ _ front.4 c.in-Err.ensures.few;
             },
           ),
     )

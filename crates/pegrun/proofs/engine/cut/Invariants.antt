@@ -12,7 +12,7 @@ use Rattle.toolrun.specs.Input.{Input}
 use Rattle.pegrun.specs.ByteUnits.{AreByteUnits}
 use Rattle.pegrun.specs.PastUnits.{Follows}
 use Rattle.pegrun.specs.StopsExplained.{UnitBefore}
-use Rattle.pegrun.specs.MatchCalls.{calls_of}
+use Rattle.pegrun.specs.MatchCalls.{calls_of, matches_for}
 use Rattle.pegrun.specs.Units.{Units, unit_count}
 use Rattle.pegrun.proofs.engine.cut.Given as goal
 
@@ -35,7 +35,7 @@ invariant-loop-n g l = record {
       (l.settings.explain ≡ true → l.past.lost ≡ false → UnitBefore (rules_of l.peg.rules) l.peg.start l.settings input
       l.start (unit_before l.past.at.byte (length l.past.bytes.items))) ×
       (calls_of g.M.Matcher.matches l.counted.matcher ≤ calls_of g.M.Matcher.matches l.fn.counted.matcher
-      + 2 * unit_count (rules_of l.peg.rules) l.peg.start l.settings input units));
+      + matches_for l.settings * unit_count (rules_of l.peg.rules) l.peg.start l.settings input units));
 }
 
 abbrev pub decreases-loop-n : goal.decreases-loop-n

@@ -1,5 +1,5 @@
 -- What was let go and read, by how the run goes on.
-use Rattle.std.proofs.Common.{arith, ap, rules, ◌∙◌}
+use Rattle.std.proofs.Common.{arith, ap, refl, rules, ◌∙◌}
 use Rattle.std.proofs.lemmas.Result.{err_from_is_err_and}
 use Rattle.pegrun.specs.PassedUnits.{can_run}
 use Rattle.pegrun.proofs.PassedLemmas.{nothing_passed, passed_all, passed_to_fault, passed_to_write_fault}
@@ -7,6 +7,11 @@ use Rattle.pegrun.proofs.passed.pass_known.Goals as goal
 
 pub returns-then-settings-clause-passed : goal.returns-then-settings-clause-passed
 returns-then-settings-clause-passed g c =
+    nothing_passed g.R.Source.remaining c.args.units.now c.args.settings.now c.args.feed.now
+    (g.O.Sink.contents c.args.out.now)
+
+pub returns-then-options-2-clause-passed : goal.returns-then-options-2-clause-passed
+returns-then-options-2-clause-passed g c =
     nothing_passed g.R.Source.remaining c.args.units.now c.args.settings.now c.args.feed.now
     (g.O.Sink.contents c.args.out.now)
 
@@ -22,7 +27,8 @@ returns-in_err-write-clause-passed g c =
     c.skip.new.self
     c.fill-why.new.self c.in-Some.bytes.items c.in-Some.ensures.some c.in-Some.ensures.first c.in-Some.ensures.known
     c.len-count.result (search rules)
-    (let l = c.if-settings-eq0.false in omega (arith, l), c.if-settings-2.false, search rules) c.requires.capacity
+    (let l = c.if-settings-eq0.false in omega (arith, l), c.if-options.false, search rules)
+    (rw c.if-options-2.false refl) c.requires.capacity
     c.skip.ensures.bytes
     c.skip.ensures.reader c.skip.ensures.flow c.skip.ensures.allowance c.skip.ensures.capacity
     c.fill-why.ensures.grows c.fill-why.result c.fill-why.ensures.held
@@ -36,7 +42,8 @@ returns-then-run-count-clause-passed g c =
     passed_to_fault g.R.Source.remaining c.args.units.now c.args.settings.now c.args.feed.now c.skip.new.self
     c.fill-why.new.self c.in-Some.bytes.items c.in-Some.ensures.some c.in-Some.ensures.first c.in-Some.ensures.known
     c.len-count.result (search rules)
-    (let l = c.if-settings-eq0.false in omega (arith, l), c.if-settings-2.false, search rules) c.requires.capacity
+    (let l = c.if-settings-eq0.false in omega (arith, l), c.if-options.false, search rules)
+    (rw c.if-options-2.false refl) c.requires.capacity
     c.skip.ensures.bytes
     c.skip.ensures.reader c.skip.ensures.flow c.skip.ensures.allowance c.skip.ensures.capacity
     c.fill-why.ensures.grows c.fill-why.result c.fill-why.ensures.held
@@ -50,7 +57,8 @@ returns-clause-passed g c =
     passed_all g.R.Source.remaining c.args.units.now c.args.settings.now c.args.feed.now c.skip.new.self
     c.fill-why.new.self c.in-Some.bytes.items c.in-Some.ensures.some c.in-Some.ensures.first c.in-Some.ensures.known
     c.len-count.result (search rules)
-    (let l = c.if-settings-eq0.false in omega (arith, l), c.if-settings-2.false, search rules) c.requires.capacity
+    (let l = c.if-settings-eq0.false in omega (arith, l), c.if-options.false, search rules)
+    (rw c.if-options-2.false refl) c.requires.capacity
     c.skip.ensures.bytes
     c.skip.ensures.reader c.skip.ensures.flow c.skip.ensures.allowance c.skip.ensures.capacity
     c.fill-why.ensures.grows c.fill-why.result c.fill-why.ensures.held

@@ -4,10 +4,10 @@ use Rattle.std.proofs.lemmas.Result.{on_ok_weaker}
 use Rattle.std.specs.Prelude.{option_copied}
 use Rattle.diagnostics.specs.BodyMentions.{mentioned_at}
 use Rattle.diagnostics.specs.DefinitionHeads.{defined_at}
-use Rattle.diagnostics.specs.ExplainedNotes.{AreReportedBy}
+use Rattle.diagnostics.specs.ExplainedNotes.{AreReportedBy, prose_by}
 use Rattle.diagnostics.specs.FirstMentions.{RuleMention, uses_of}
 use Rattle.diagnostics.specs.NoteLines.{lines_of, named}
-use Rattle.diagnostics.specs.UseLines.{lines_by, prose_lines}
+use Rattle.diagnostics.specs.UseLines.{lines_by, prose_line}
 use Rattle.diagnostics.specs.declared.noteplaces.positions.Positions.{Positions}
 use Rattle.diagnostics.proofs.FirstMentionLemmas.{first-some}
 use Rattle.ruletable.specs.Notes.{said}
@@ -34,19 +34,18 @@ module _ (positions : Positions) (start : Option (List ℕ)) (kind : NoteKind) (
   other-lines Prose n p first = absurd (p refl)
   other-lines k n p first = refl
 
-pub returns-in-Prose : goal.returns-in-Prose
-returns-in-Prose c =
+pub returns-in_ok-found-in-Prose : goal.returns-in_ok-found-in-Prose
+returns-in_ok-found-in-Prose c =
     let positions = c.args.positions.now in
     let name : List ℕ = c.args.name.now in
-    on_ok_weaker c.push_first_prose.result
+    on_ok_weaker c.push_prose.result
     (λ e. (
-      prose_lines positions.names (map defined_at positions.heads.items) (map mentioned_at positions.mentions.items)
-          (option_copied c.args.start) name,
+      prose_line (prose_by positions name),
       reported-after positions (option_copied c.args.start) c.args.kind name _ (λ first.
           ap (reported positions (option_copied c.args.start) c.args.kind name first) (sym c.in-Prose.is)),
-      e,
+      e ∙ ap (λ m. c.args.out.now.items ++ prose_line m) c.in_ok-found-in-Prose.ensures,
     ))
-    c.push_first_prose.ensures
+    c.push_prose.ensures
 
 pub returns-in_ok-heads-in_default : goal.returns-in_ok-heads-in_default
 returns-in_ok-heads-in_default c =

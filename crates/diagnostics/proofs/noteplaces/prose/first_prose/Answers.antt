@@ -1,37 +1,29 @@
-use Rattle.std.proofs.Common.{sym, ap, ◌∙◌}
-use Rattle.std.specs.Borrow.{Bor}
+use Rattle.std.proofs.Common.{◌≡◌, ◌∙◌, Some, None, ap, map, sym, Option}
+use Rattle.std.specs.Prelude.{option_map}
 use Rattle.diagnostics.specs.BodyMentions.{mentioned_at}
 use Rattle.diagnostics.specs.DefinitionHeads.{defined_at}
-use Rattle.diagnostics.specs.declared.noteplaces.mentions.Mention.{Mention}
-use Rattle.diagnostics.proofs.StandingProseLemmas.{is_prose_in}
+use Rattle.diagnostics.specs.FirstMentions.{rule_named}
+use Rattle.diagnostics.proofs.StandingProseLemmas.{prose_found, prose_nowhere, starts_rise_too}
 use Rattle.diagnostics.proofs.noteplaces.prose.first_prose.Goals as goal
-use Rattle.std.proofs.Common.{◌≡◌, ℕ, ◌<◌, Bool, true, false, List, length, get_or, drop, map, refl, Some, ◌+◌, add-one}
-use Rattle.std.proofs.Math.Seq.{drop-cons}
-use Rattle.std.specs.List.{find}
 
--- the first that passes, among those from a position on
-module _ {A B : Type 0} (f : A → B) (p : B → Bool) (xs : List A) (i : ℕ) (d : A) (lt : i < length xs) where
-  find-passed : p (f (get_or xs i d)) ≡ false → find p (map f (drop i xs)) ≡ find p (map f (drop (i + 1) xs))
-  find-passed e = rw (add-one, drop-cons xs i d lt, e) refl
+pub standing_prose-requires : goal.standing_prose-requires
+standing_prose-requires c = rw c.deref.ensures.value c.args.positions.now.rise
 
-  find-there : p (f (get_or xs i d)) ≡ true → find p (map f (drop i xs)) ≡ Some (f (get_or xs i d))
-  find-there e = rw (drop-cons xs i d lt, e) refl
+pub returns-in_default : goal.returns-in_default
+returns-in_default c =
+    let positions = c.args.positions.now in
+    let definitions = map defined_at positions.heads.items in
+    let none : rule_named positions.names definitions c.args.name.now ≡ None =
+    sym c.in_ok-rule.ensures ∙ ap (option_map (λ h. defined_at h.now)) c.in_default.is in
+    sym (prose_nowhere positions.names c.args.name.now definitions (map mentioned_at positions.mentions.items) none)
 
-pub returns-then-is_standing_prose : goal.returns-then-is_standing_prose
-returns-then-is_standing_prose c =
-    let test = is_prose_in (map defined_at c.args.heads.now) (defined_at c.args.rule.now) in
-    ap (λ (m : Bor Mention). Some (mentioned_at m.now)) c.mention-item.is
-    ∙ sym (find-there (λ m. mentioned_at m.now) test c.args.mentions.now c.loop-mention.mention-index
-    c.mention-item.result c.loop-mention-test.true
-    (ap (λ (m : Bor Mention). test (mentioned_at m.now)) (sym c.mention-item.is)
-    ∙ sym c.is_standing_prose.ensures ∙ c.if-is_standing_prose.true))
-    ∙ c.loop-mention.invariant
-
-pub loop-mention-preserved : goal.loop-mention-preserved
-loop-mention-preserved c =
-    let test = is_prose_in (map defined_at c.args.heads.now) (defined_at c.args.rule.now) in
-    sym (find-passed (λ m. mentioned_at m.now) test c.args.mentions.now c.loop-mention.mention-index
-    c.mention-item.result c.loop-mention-test.true
-    (ap (λ (m : Bor Mention). test (mentioned_at m.now)) (sym c.mention-item.is)
-    ∙ sym c.is_standing_prose.ensures ∙ c.if-is_standing_prose.false))
-    ∙ c.loop-mention.invariant
+pub returns : goal.returns
+returns c =
+    let positions = c.args.positions.now in
+    let definitions = map defined_at positions.heads.items in
+    let own : rule_named positions.names definitions c.args.name.now ≡ Some (defined_at c.in-Some.rule.now) =
+    sym c.in_ok-rule.ensures ∙ ap (option_map (λ h. defined_at h.now)) c.in-Some.is in
+    let found = (let k = c.standing_prose.ensures in
+    rw (c.deref.ensures.value, c.deref-2.ensures.value, c.in_ok-mentions.ensures) at k) in
+    found ∙ prose_found positions.names c.args.name.now definitions (defined_at c.in-Some.rule.now)
+    (map mentioned_at positions.mentions.items) (starts_rise_too 0 positions.heads.items positions.rise) own

@@ -1,4 +1,4 @@
--- The command of both tools has five more options.
+-- The command of both tools has six more options.
 use Rattle.std.proofs.Common.{◌≡◌, refl}
 use Rattle.std.specs.Prelude.{IfOk, Result}
 use Rattle.clap.specs.Words.{App, app_of}

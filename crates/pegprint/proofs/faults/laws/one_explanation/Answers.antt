@@ -1,5 +1,5 @@
-use Rattle.pegprint.proofs.PegWhyLemmas.{one-explanation}
+use Rattle.pegprint.proofs.PegAllFaultLemmas.{all-one}
 use Rattle.pegprint.proofs.faults.laws.one_explanation.Goals as goal
 
 pub returns : goal.returns
-returns c = one-explanation
+returns c = all-one

@@ -1,5 +1,5 @@
 use Rattle.std.proofs.Common.{refl}
-use Rattle.rulelines.specs.StateTables.{line_symbols}
+use Rattle.rulelines.specs.ListedSets.{listed_in}
 use Rattle.rulelines.proofs.StateTableLemmas.{kept_trans, level_begun, levels_changed}
 use Rattle.rulelines.proofs.list.table.add_level.Goals as goal
 
@@ -9,7 +9,7 @@ loop-count-init c =
     let first = c.in_ok-explore_all.ensures in
     kept_trans c.args.table.now mid _ first
     (levels_changed mid _ first.is refl refl refl refl refl refl
-    (level_begun mid.states (line_symbols mid.inner) mid.levels.items c.push.new.self.items c.new.result
+    (level_begun mid.states (listed_in mid.symbols) mid.levels.items c.push.new.self.items c.new.result
     c.new.ensures.items c.in_ok-push.ensures.items first.is.levels_are))
 
 pub loop-count-preserved : goal.loop-count-preserved

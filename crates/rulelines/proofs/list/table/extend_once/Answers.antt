@@ -1,7 +1,8 @@
 use Rattle.std.proofs.Common.{◌≡◌, sym, ◌∙◌, ap, arith, length, subst, refl}
 use Rattle.std.specs.Prelude.{slice_get, Some}
 use Rattle.std.proofs.lemmas.Option.{slice_get-get_or}
-use Rattle.rulelines.specs.StateTables.{line_symbols, IsCan}
+use Rattle.rulelines.specs.StateTables.{IsCan}
+use Rattle.rulelines.specs.ListedSets.{listed_in}
 use Rattle.rulelines.proofs.StateTableLemmas.{entry_can, entry_levels, levels_changed}
 use Rattle.rulelines.proofs.list.table.extend_once.Goals as goal
 
@@ -15,7 +16,7 @@ returns c =
     let size : c.len-state.result ≡ length level.items =
     (let a = c.len-state.ensures in let b = level.ok.0 in omega (arith, a, b)) in
     levels_changed table _ c.requires.table refl refl refl refl refl refl
-    (entry_levels table.states (line_symbols table.inner) table.levels.items c.add_entry.new.levels.items c.args.count
+    (entry_levels table.states (listed_in table.symbols) table.levels.items c.add_entry.new.levels.items c.args.count
     can level
     (subst (λ v. slice_get v c.args.count ≡ Some level) c.deref.ensures.value
     (slice_get-get_or c.deref.result.now c.args.count level

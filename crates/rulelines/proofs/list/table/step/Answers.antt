@@ -9,7 +9,7 @@ pub returns : goal.returns
 returns c =
     let table = c.args.table.now in
     step_reported table c.requires.table c.args.symbol c.args.state c.in_ok-class.class c.in_ok-next.next.now
-    c.in_ok-row.row.now (sym c.is_inner.ensures ∙ c.if-not-is_inner.false)
+    c.in_ok-row.row.now (sym c.has.ensures ∙ c.if-not-has.false)
     (subst (λ v. IsLastUpTo table.starts.items v c.in_ok-class.class) c.key_of.ensures
     (subst (λ v. IsLastUpTo v c.key_of.result c.in_ok-class.class) c.deref.ensures.value c.in_ok-class.ensures))
     (subst (λ v. slice_get v c.args.state ≡ Some c.in_ok-row.row.now) c.deref-2.ensures.value

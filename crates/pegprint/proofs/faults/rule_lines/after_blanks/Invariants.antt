@@ -1,0 +1,12 @@
+use Rattle.std.proofs.Common.{◌≡◌, ◌≤◌, length}
+use Rattle.pegprint.specs.PegRuleLines.{past_blanks}
+use Rattle.pegprint.proofs.faults.rule_lines.after_blanks.Given as goal
+
+abbrev pub invariant-loop-first : goal.invariant-loop-first
+invariant-loop-first l = record {
+  same : past_blanks l.rest ≡ past_blanks l.text;
+  within : length l.rest ≤ length l.text;
+}
+
+abbrev pub decreases-loop-first : goal.decreases-loop-first
+decreases-loop-first l = length l.rest
