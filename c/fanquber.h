@@ -209,8 +209,10 @@ enum {
     FANQUBER_DERIVED = 0, /* those that the rule derives: shorter ones first, in the order of abnfg(1), each once */
     FANQUBER_MISSED = 1,  /* near ones that it does not derive, as abnfg(1) lists them with `-m miss` */
     FANQUBER_EDGES = 2,   /* near ones as abnfg(1) lists them with `-m miss -e` */
-    FANQUBER_RANDOM = 3   /* lines that it derives, drawn by the seed as with `-m random`: they may come again, and have
+    FANQUBER_RANDOM = 3,  /* lines that it derives, drawn by the seed as with `-m random`: they may come again, and have
                            * no end if there is one */
+    FANQUBER_SAMPLES = 4, /* of those that it derives, the ones that abnfg(1) lists with `-a` */
+    FANQUBER_COVER = 5    /* lines that it derives and that reach each alternative and bound, as with `-m cover` */
 };
 
 /* Lines of a rule, one after another. They begin as FANQUBER_LINES, which is closed. The fields belong to the library. They

@@ -50,6 +50,10 @@ fn listed_lines() -> Result<(), Error> {
     assert_eq!(edges.collect::<Result<Vec<_>, _>>()?, ["", "!", "\x1F"].map(str::as_bytes));
     let mut drawn = Lines::open(b"d = %x30\n", &Settings { seed: 7, ..settings }, Listed::Random)?.expect("a grammar");
     assert_eq!((drawn.next(), drawn.next()), (Some(Ok(b"0".to_vec())), Some(Ok(b"0".to_vec()))));
+    let samples = Lines::open(b"a = ALPHA DIGIT\n", &settings, Listed::Samples)?.expect("a grammar");
+    assert_eq!(samples.collect::<Result<Vec<_>, _>>()?, ["A0", "a0"].map(str::as_bytes));
+    let cover = Lines::open(b"d = 1*2%x30-39 [\",\" d]\n", &settings, Listed::Cover)?.expect("a grammar");
+    assert_eq!(cover.collect::<Result<Vec<_>, _>>()?, ["0,0", "00", "9"].map(str::as_bytes));
     assert!(Lines::open(b"d = )\n", &settings, Listed::Missed)?.is_err_and(|notes| notes == b"line 1: syntax error\n"));
     Ok(())
 }

@@ -653,6 +653,10 @@ pub enum Listed {
     Edges,
     /// Some that it derives, by lot. They have no end if there is one.
     Random,
+    /// Those that it derives and that have only the first of letters that no set distinguishes.
+    Samples,
+    /// Lines that it derives and that reach each alternative and each bound, longer ones first.
+    Cover,
 }
 
 /// Lines of a grammar in ABNF, one after another. They stay on their thread.

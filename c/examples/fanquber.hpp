@@ -264,8 +264,8 @@ private:
 /// Lines of a grammar in ABNF, one after another. They stay on the thread that opens them.
 class lines {
 public:
-    /// `which` is FANQUBER_DERIVED, FANQUBER_MISSED, FANQUBER_EDGES or FANQUBER_RANDOM. Throws as the constructor of judge
-    /// does.
+    /// `which` is FANQUBER_DERIVED, FANQUBER_MISSED, FANQUBER_EDGES, FANQUBER_RANDOM, FANQUBER_SAMPLES or FANQUBER_COVER.
+    /// Throws as the constructor of judge does.
     explicit lines(const grammar &of, int which = FANQUBER_DERIVED)
         : notes_(1024, '\0'), line_(of.settings_.limit * (of.settings_.letters == FANQUBER_UTF8 ? 4 : 1), '\0') {
         for (;;) {

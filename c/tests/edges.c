@@ -183,7 +183,7 @@ static void older_settings(void) {
     CHECK(got.status == FANQUBER_DONE && result.status == FANQUBER_DONE);
     CHECK(fanquber_abnf_open(settings, TEXT(LETTER_X), TEXT(""), &judge, err, ROOM).status == FANQUBER_DONE);
     CHECK(fanquber_peg_open(settings, TEXT("a <- ."), TEXT(""), &runner, err, ROOM).status == FANQUBER_DONE);
-    for (uint8_t which = FANQUBER_DERIVED; which <= FANQUBER_RANDOM; which++) {
+    for (uint8_t which = FANQUBER_DERIVED; which <= FANQUBER_COVER; which++) {
         got = fanquber_lines_open(settings, which, TEXT(LETTER_X), TEXT(""), &lines, err, ROOM);
         CHECK(got.status == FANQUBER_DONE && lines.is_open);
         fanquber_lines_close(&lines);
@@ -507,6 +507,14 @@ static void listed_lines(void) {
         { "a = %x09 / %x20 / %x22 / %xFF", FANQUBER_EDGES, FANQUBER_BYTES, false, 1, "|!|#|\x08|\x1F|\xFE|",
           FANQUBER_NO_MATCH },
         { "a = 3\"x\"", FANQUBER_RANDOM, FANQUBER_BYTES, false, 2, "", FANQUBER_NO_MATCH },
+        { "a = ALPHA DIGIT", FANQUBER_SAMPLES, FANQUBER_BYTES, false, 256, "A0|a0|", FANQUBER_NO_MATCH },
+        { "a = %x80-10FFFF", FANQUBER_SAMPLES, FANQUBER_UTF8, false, 256, "\xC2\x80|", FANQUBER_NO_MATCH },
+        { "a = %x00-0A %xFF", FANQUBER_SAMPLES, FANQUBER_BYTES, true, 256, "\x01\xFF|", FANQUBER_NO_MATCH },
+        { "a = a \"b\" / \"c\"", FANQUBER_SAMPLES, FANQUBER_BYTES, false, 9, "", FANQUBER_NOT_KNOWN },
+        { "d = 1*2%x30-39 [\",\" d]", FANQUBER_COVER, FANQUBER_BYTES, false, 9, "0,0|00|9|", FANQUBER_NO_MATCH },
+        { "k = \"no\" / %s\"Yes\"", FANQUBER_COVER, FANQUBER_BYTES, false, 9, "Yes|no|NO|", FANQUBER_NO_MATCH },
+        { "a = \"(\" *a \")\"", FANQUBER_COVER, FANQUBER_BYTES, false, 6, "(())|", FANQUBER_NO_MATCH },
+        { "a = 3\"x\"", FANQUBER_COVER, FANQUBER_BYTES, false, 2, "", FANQUBER_NO_MATCH },
     };
     fanquber_settings settings = FANQUBER_SETTINGS;
     for (size_t at = 0; at < sizeof rows / sizeof *rows; at++) {
@@ -569,7 +577,7 @@ static void unlisted_lines(void) {
         CHECK(fanquber_lines_next(&lines, out, room).status == FANQUBER_NO_MATCH && holds(out, room, "12", 2));
         fanquber_lines_close(&lines);
     }
-    got = fanquber_lines_open(&settings, 4, TEXT(grammar), TEXT("b"), &lines, err, ROOM);
+    got = fanquber_lines_open(&settings, FANQUBER_COVER + 1, TEXT(grammar), TEXT("b"), &lines, err, ROOM);
     CHECK(got.status == FANQUBER_BAD_SETTINGS && !lines.is_open);
     got = fanquber_lines_open(&settings, FANQUBER_MISSED, TEXT(grammar), TEXT("\xff"), &lines, err, ROOM);
     CHECK(got.status == FANQUBER_BAD_SETTINGS && !lines.is_open);

@@ -236,5 +236,7 @@ int main(int count, char **words) {
     sweep_compare();
     sweep_lines(FANQUBER_DERIVED, "n|ys|");
     sweep_lines(FANQUBER_MISSED, "|!|n!|y|y!|");
+    sweep_lines(FANQUBER_SAMPLES, "n|ys|");
+    sweep_lines(FANQUBER_COVER, "ys|n|");
     return wrong;
 }

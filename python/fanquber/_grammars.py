@@ -285,6 +285,8 @@ class Abnf(_PerThread):
 
         `Listed.MISSED` asks for near lines that the rule does not derive, `Listed.EDGES` for these with wrong letters
         next to those that can follow. `Listed.RANDOM` draws derived lines by `seed`, and they may come again.
+        `Listed.SAMPLES` asks for the derived lines that have only the first of letters that no set distinguishes,
+        `Listed.COVER` for derived lines that reach each alternative and each bound; longer ones come first.
 
         The grammar is opened for the first line. `ValueError` if `limit` is not from 1 to 16777216, `count` not from 1
         to 4294967295, or `seed` not from 0 to 18446744073709551615. The iterator raises `GrammarError` if the grammar

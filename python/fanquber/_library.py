@@ -53,6 +53,8 @@ class Listed(enum.IntEnum):
     MISSED = 1
     EDGES = 2
     RANDOM = 3
+    SAMPLES = 4
+    COVER = 5
 
 
 class Reply(NamedTuple):

@@ -91,6 +91,9 @@ class AbnfTest(unittest.TestCase):
         for seed in (-1, 2**64):
             with self.assertRaises(ValueError):
                 k.lines(which=Listed.RANDOM, seed=seed)
+        self.assertEqual(list(Abnf("a = ALPHA DIGIT").lines(which=Listed.SAMPLES)), [b"A0", b"a0"])
+        cover = Abnf('d = 1*2%x30-39 ["," d]').lines(which=Listed.COVER, limit=9)
+        self.assertEqual(list(cover), [b"0,0", b"00", b"9"])
 
     def test_many_lines(self):
         lines = [f"{year:04}-01-01" for year in range(10000)]

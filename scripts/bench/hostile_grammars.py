@@ -35,6 +35,9 @@ def cases():
     words = [b'"%06d"' % it for it in range(count)]
     yield Case("keywords", [], filled(b"s = ", words), [(b"000000\n%06d\n%06d\nx\n" % (count - 1, count), 1)],
                b"yes\nyes\nno\nno\n", 1)
+    texts = b"".join(it.strip(b'"') for it in words)
+    yield Case("keywords, repeated", LONG, b"s = *( " + b" / ".join(words) + b" )\n",
+               [(texts + b"\n" + texts + b"0\n", 1)], b"yes\nno\n", 1)
     count = SIZE // 16
     chain = b"".join(b"r%d = r%d\n" % (it, it + 1) for it in range(count))
     yield Case("a chain of names", [], chain + b'r%d = "a"\n' % count, [(b"a\nb\na\n", 1)], b"yes\nno\nyes\n", 1)

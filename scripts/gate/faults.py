@@ -85,6 +85,11 @@ FAULTS_EXPLAINED = peg("two faults explained", b"S <- |\nT <- )\n", b"a", [],
 ABNF_EXPLAINED = abnf("a fault of ABNF explained", b'my_rule = "x"\n', b"a\n", [],
                       b'line 1: syntax error\n  my_rule = "x"\n    ^\n  column 3: expected "=" or "=/"\n'
                       b'  names hold letters, digits and "-"\n', 2, words=["-x"])
+ABNF_FAULTS_EXPLAINED = abnf("two faults of ABNF explained", b"a = |\nb = )\n", b"a\n", [],
+                             b"line 1: syntax error\n  a = |\n      ^\n  column 5: expected an element\n"
+                             b'  alternatives have "/" between them\n'
+                             b"line 2: syntax error\n  b = )\n      ^\n  column 5: expected an element\n", 2,
+                             words=["-x"])
 AGAIN_EXPLAINED = peg("notes explained", b"S <- 'a' U\nT <- 'b'\nS <- T\n", b"a", [],
                       b"rule 'S' redefined\n  line 1: 'S' is defined\n  line 3: 'S' is defined again\n"
                       b"rule 'U' used but not defined\n  line 1: used in rule 'S'\n"
@@ -172,6 +177,7 @@ GROWING = [
     EXPLAINED,
     FAULTS_EXPLAINED,
     ABNF_EXPLAINED,
+    ABNF_FAULTS_EXPLAINED,
     AGAIN_EXPLAINED,
     EARLY_EXPLAINED,
     REACHED_EXPLAINED,

@@ -78,15 +78,15 @@ PROGRAMS = {
 }
 # The most functions that a crate has, and the crates that have more: so many each. Tests count for nothing.
 LARGEST_CRATE = 105
-# lazydfa: `States`, its cuts, `expected` and `prune` need what `Automaton` has, and a crate of their own would make it
-# public.
+# lazydfa: `States`, its cuts, `expected`, `prune` and `kernels` need what `Automaton` has, and a crate of their own
+# would make it public.
 # abnftexts: its functions on values and on the list need what `Gathered` has.
-LARGER = {"lazydfa": 136, "abnftexts": 130}
+LARGER = {"lazydfa": 144, "abnftexts": 130}
 # The most entries that a folder has, and the folders that have more.
 LARGEST_FOLDER = 40
 WIDER = {
     "crates": MOST_CRATES, "docs/crates": MOST_CRATES, "must-fail": MOST_CRATES, "crates/fixpoint/proofs": 44,
-    "scripts/oracles/rfc_texts": 48,
+    "crates/lazydfa/proofs": 41, "scripts/oracles/rfc_texts": 48,
 }
 # Folders that hold no sources.
 BUILT = {".git", "__pycache__", "bin", "out"}

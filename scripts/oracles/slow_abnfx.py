@@ -215,7 +215,7 @@ def fault(some):
     text = b"".join(line[min(size, margin(line)):] + b"\n" for _, line, _ in some)
     if len(text) > MAX_GRAMMAR:
         return "grammar too long"
-    reported = slow_faults.abnf(text)
+    reported = slow_faults.first_of_abnf(text)
     return reported and reported.partition("\n")[0]
 
 
@@ -224,7 +224,7 @@ def explained(some):
     text = text_of(some)
     if len(text) > MAX_GRAMMAR:
         return f"  a grammar has at most {MAX_GRAMMAR} bytes\n"
-    return slow_faults.abnf(text).partition("\n")[2]
+    return slow_faults.first_of_abnf(text).partition("\n")[2]
 
 
 def is_cut(some, count):

@@ -363,10 +363,10 @@ def mistake(text, tokens, number):
     return None
 
 
-def abnf_decision(text, start=0):
-    """Returns the tokens of a text from a place on, the number of the first with which they are no grammar in ABNF, the
-    prefixes before it, and what is wrong with it; the last three are None if they are a grammar."""
-    tokens, prefixes, depth = tokens_of(text, ABNF_WHITE, ABNF_TOKENS, False, start), Prefixes(ABNF_RULES), 0
+def abnf_decision(text):
+    """Returns the tokens of a text, the number of the first with which they are no grammar in ABNF, the prefixes before
+    it, and what is wrong with it; the last three are None if they are a grammar."""
+    tokens, prefixes, depth = tokens_of(text, ABNF_WHITE, ABNF_TOKENS, False), Prefixes(ABNF_RULES), 0
     tokens = marked(text, tokens)
     for number, token in enumerate(tokens):
         depth += opens(token)
@@ -378,23 +378,38 @@ def abnf_decision(text, start=0):
     return tokens, None, None, None
 
 
-def abnf_from(text, start):
-    """Returns the report on the first fault of a grammar in ABNF where it is read from a place on, which it explains,
+def abnf_from(whole, start):
+    """Returns the report on the first fault of a grammar in ABNF where it is read from a place on as a text of its own,
     and from where on the next rule line is looked for; None if there is no fault."""
-    tokens, number, prefixes, fault = abnf_decision(text, start)
+    text = whole[start:]
+    tokens, number, prefixes, fault = abnf_decision(text)
     if number is None:
         return None
     token = tokens[number]
-    line, where = text.count(b"\n", 0, token.start) + 1, place(text, token, rb"\r?\n")
+    line, where = whole.count(b"\n", 0, start + token.start) + 1, place(text, token, rb"\r?\n")
     facts = {"number too large": "above 4294967295\n", "nested too deeply": "200 brackets are open before it\n"}
     if fault not in facts:
         reported = mistake(text, tokens, number)
         facts = bad_fact(token, text, ABNF_FACTS) + line_facts(text, tokens, number)
         facts = {fault: expected(prefixes, ABNF_PHRASES) + (f"  {reported}\n" if reported else facts)}
-    return f"line {line}: {fault}\n{where}{facts[fault]}", token.start
+    return f"line {line}: {fault}\n{where}{facts[fault]}", start + token.start
+
+
+def abnf_rule_lines(text):
+    """Returns where the rule lines of a grammar in ABNF begin that have the margin of its first line, and where the
+    words in them do."""
+    form = re.compile(rb"([ \t]*)[^ \t\r\n;\"<>=/()\[\]:]+[ \t]*:{0,2}=")
+    starts = [0, *(it.end() for it in re.finditer(rb"\n", text))]
+    found = [it for at in starts if (it := form.match(text, at))]
+    return [(it.start(), it.end(1)) for it in found if len(it[1]) == margin_of(text)]
 
 
 def abnf(text):
-    """Returns the report on the fault of a grammar for abnfi, and explains it; None if it has none."""
+    """Returns the reports on the faults of a grammar for abnfi, and explains them; None if it has none."""
+    return all_faults(text, abnf_from, abnf_rule_lines)
+
+
+def first_of_abnf(text):
+    """Returns the report on the first of these faults, and explains it; None if there is none."""
     found = abnf_from(text, 0)
     return found and found[0]

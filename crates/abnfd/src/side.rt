@@ -7,7 +7,8 @@ ghost use Rattle.ruletable.specs.Notes.{note_text, said_of};
 
 use abnfcheck::{AllRules, JudgedAbnf, SoundAbnf, judge_abnf};
 use abnfread::{Abnf, read_abnf};
-use ruletable::{Memory, Note, ReadFault, SinkOf, write_fault, write_note};
+use diagnostics::fault_message;
+use ruletable::{Memory, Note, ReadFault, SinkOf, write_note};
 use std::alloc::Global;
 
 /// A grammar that is compared, and the messages on it.
@@ -25,17 +26,6 @@ fn note_line(alloc: Global, note: &Note) -> Result<Vec<u8>, Memory>
 {
     let mut text = SinkOf::new(Vec::new(alloc));
     match write_note(note, &mut text) {
-        Ok(()) => Ok(text.into_inner()),
-        Err(_) => Err(Memory),
-    }
-}
-
-// Returns the line of a fault. `Memory` if an allocation fails.
-fn fault_line(alloc: Global, fault: &ReadFault) -> Result<Vec<u8>, Memory>
-    ensures { IfOk result (λ text. text.items ≡ fault_text fault.now) }
-{
-    let mut text = SinkOf::new(Vec::new(alloc));
-    match write_fault(fault, &mut text) {
         Ok(()) => Ok(text.into_inner()),
         Err(_) => Err(Memory),
     }
@@ -90,7 +80,7 @@ fn checked_side(alloc: Global, side: &[u8], abnf: Abnf, rule: Option<&str>) -> R
 pub(crate) fn faulty_text(alloc: Global, side: &[u8], fault: &ReadFault) -> Result<Vec<u8>, Memory>
     ensures { IfOk result (λ reported. reported.items ≡ side.now ++ fault_text fault.now) }
 {
-    let line = fault_line(alloc, fault)?;
+    let line = fault_message(alloc, fault)?;
     let mut reported = Vec::new(alloc);
     reported.extend_from_slice(side)?;
     reported.extend_from_slice(line.as_slice())?;

@@ -7,3 +7,4 @@ pub mod TakenMarksLemmas
 mod ReportsFormsLemmas
 pub mod AbnfExplainedLemmas
 pub mod AbnfWhyLemmas
+pub mod AbnfAllFaultLemmas

@@ -1,6 +1,8 @@
 -- Which token of a text decides that it is no grammar.
 use Rattle.std.specs.Prelude.{◌≡◌, ℕ, ◌⊎◌, true, false, slice_get, take, List, [], ◌∷◌, Option, Some, None}
 use Rattle.std.specs.Option.{option_map}
+use Rattle.ruletable.specs.declared.fault.ReadFault.{ReadFault}
+use Rattle.ruletable.specs.declared.fault.ReadFault.TheVariants as faults
 use Rattle.abnfread.specs.AbnfReading.{is_bracket}
 use Rattle.abnfread.specs.AbnfSays.{IsHopeless, IsOver}
 use Rattle.lexer.specs.TokenLists.{Tok}
@@ -47,6 +49,17 @@ abbrev pub Decides : List ℕ → Decision → Type 0
 Decides text (Hopeless r) = IsTokenOf text (marked_of r.token) (IsRefused r)
 Decides text (TooDeep t) = IsTokenOf text (marked_of t) (λ ms i. IsOver ms i × (is_bracket (marked_of t) ≡ true))
 Decides text (TooLarge t) = IsTokenOf text (marked_of t) (λ ms i. IsOver ms i × (is_bracket (marked_of t) ≡ false))
+
+abbrev pub token_of : Decision → Marked
+token_of (Hopeless r) = marked_of r.token
+token_of (TooDeep t) = marked_of t
+token_of (TooLarge t) = marked_of t
+
+-- the fault on that line
+abbrev pub fault_of : Decision → ℕ → ReadFault
+fault_of (Hopeless r) line = faults.Syntax line
+fault_of (TooDeep t) line = faults.Depth line
+fault_of (TooLarge t) line = faults.NumberTooLarge line
 
 -- that token of the text decides: with it the tokens begin no grammar, or pass a limit
 pub record IsFaultToken (text : List ℕ) (x : Tok AbnfKind) : Type 0 where

@@ -9,3 +9,5 @@ pub mod LargeRuns
 pub mod AbnfNoteLines
 pub mod AbnfMistakes
 pub mod AbnfMistakeRows
+pub mod AbnfRuleLines
+pub mod AbnfAllFaults

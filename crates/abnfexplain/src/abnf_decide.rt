@@ -1,14 +1,14 @@
 //! The token that decides that a text is no grammar in ABNF.
 ghost use Rattle.std.specs.Prelude.{IfOk, List, MatchOption, ◌≡◌};
 ghost use Rattle.lexer.specs.TokenLists.{Tok, tok_of};
-ghost use Rattle.abnfread.specs.MarkedTokens.{AreTokens};
-ghost use Rattle.abnfexplain.specs.AbnfDecisions.{Decides, IsFaultToken, NoneDecides};
+ghost use Rattle.abnfread.specs.MarkedTokens.{AreTokens, marked_of};
+ghost use Rattle.abnfexplain.specs.AbnfDecisions.{Decides, IsFaultToken, NoneDecides, fault_of, token_of};
 
 use crate::abnf_stand::{Form, Position};
 use crate::large::is_large;
 use abnfread::{AbnfKind, MarkedToken, abnf_tokens};
 use lexer::{MAX_OPEN, Token, have_tokens};
-use ruletable::Memory;
+use ruletable::{Memory, ReadFault};
 use std::alloc::Global;
 
 /// The first token with which the tokens begin no grammar any more, and its surroundings.
@@ -32,6 +32,29 @@ pub(crate) enum Decision<'a> {
     TooDeep(MarkedToken<'a>),
     /// It is a number over its limit.
     TooLarge(MarkedToken<'a>),
+}
+
+impl<'a> Decision<'a> {
+    /// Returns the token.
+    pub(crate) fn token(&self) -> MarkedToken<'a>
+        ensures { marked_of result ≡ token_of self.now }
+    {
+        match self {
+            Decision::Hopeless(refused) => refused.token,
+            Decision::TooDeep(token) | Decision::TooLarge(token) => *token,
+        }
+    }
+
+    /// Returns the fault on that line.
+    pub(crate) fn fault(&self, line: usize) -> ReadFault
+        ensures { result ≡ fault_of self.now line }
+    {
+        match self {
+            Decision::Hopeless(_) => ReadFault::Syntax { line },
+            Decision::TooDeep(_) => ReadFault::Depth { line },
+            Decision::TooLarge(_) => ReadFault::NumberTooLarge { line },
+        }
+    }
 }
 
 /// Returns the token of a text that decides that it is no grammar, if one does.

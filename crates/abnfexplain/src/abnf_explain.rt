@@ -8,7 +8,7 @@ ghost use Rattle.diagnostics.specs.PhraseLists.{listed};
 ghost use Rattle.diagnostics.specs.ReportedPhrases.{AreAllReported};
 ghost use Rattle.abnfread.specs.AbnfReading.{IsFaultOf};
 ghost use Rattle.abnfread.specs.MarkedTokens.{AreTokens, marked_of};
-ghost use Rattle.abnfexplain.specs.AbnfDecisions.{NoneDecides};
+ghost use Rattle.abnfexplain.specs.AbnfDecisions.{Decides, NoneDecides};
 ghost use Rattle.abnfexplain.specs.AbnfExpected.{phrases};
 ghost use Rattle.abnfexplain.specs.AbnfExplained.{bad_rows, token_position, bad_fact, indent, line_fact, name_fact};
 ghost use Rattle.abnfexplain.specs.AbnfExplained.{is_later_name as later_name, other_facts, token_facts};
@@ -73,8 +73,8 @@ fn push_bad_fact(out: &mut Vec<u8>, token: MarkedToken<'_>) -> Result<(), Memory
     }
 }
 
-// How many bytes stand before the token on its line.
-fn indent_of(text: &[u8], token: MarkedToken<'_>) -> usize
+/// Returns how many bytes stand before the token on its line.
+pub(crate) fn indent_of(text: &[u8], token: MarkedToken<'_>) -> usize
     requires { token.token.span.start ≤ length text.now }
     ensures { result ≡ indent text.now (marked_of token.entry) }
 {
@@ -246,21 +246,35 @@ fn limit_lines(
     Ok(out)
 }
 
-// The lines on the token that decides.
+/// Returns the lines on the token that decides.
+pub(crate) fn token_lines(
+    alloc: Global,
+    text: &[u8],
+    decision: &Decision<'_>,
+) -> Result<Vec<u8>, Memory>
+    requires within { length text.now ≤ max_grammar }
+    requires decides { Decides text.now decision.now }
+    ensures { IfOk result (λ why. Why text.now why.items) }
+{
+    tokens_make_up::<AbnfKind>();
+    match decision {
+        Decision::Hopeless(refused) => hopeless_lines(alloc, text, refused),
+        Decision::TooDeep(token) => {
+            limit_lines(alloc, text, *token, b"200 brackets are open before it\n")
+        }
+        Decision::TooLarge(token) => limit_lines(alloc, text, *token, b"above 4294967295\n"),
+    }
+}
+
+// The lines on the token of a text that decides.
 fn explain_token(alloc: Global, text: &[u8]) -> Result<Vec<u8>, Memory>
     requires within { length text.now ≤ max_grammar }
     requires tokens { (ts : List (Tok AbnfKind)) × AreTokens text.now ts }
     requires decided { NoneDecides text.now → ⊥ }
     ensures { IfOk result (λ why. Why text.now why.items) }
 {
-    tokens_make_up::<AbnfKind>();
-    let decision = deciding_token(alloc, text)?;
-    match decision {
-        Some(Decision::Hopeless(refused)) => hopeless_lines(alloc, text, &refused),
-        Some(Decision::TooDeep(token)) => {
-            limit_lines(alloc, text, token, b"200 brackets are open before it\n")
-        }
-        Some(Decision::TooLarge(token)) => limit_lines(alloc, text, token, b"above 4294967295\n"),
+    match deciding_token(alloc, text)? {
+        Some(decision) => token_lines(alloc, text, &decision),
         None => unreachable!(),
     }
 }

@@ -1,5 +1,5 @@
 //! The usual mistakes in a grammar in ABNF.
-ghost use Rattle.std.specs.Prelude.{◌≡◌, codes, map};
+ghost use Rattle.std.specs.Prelude.{◌≡◌, ◌≤◌, codes, length, map};
 ghost use Rattle.std.specs.Option.{option_map};
 ghost use Rattle.diagnostics.specs.CodePoints.{quote_rows};
 ghost use Rattle.diagnostics.specs.FactRows.{row_of};
@@ -150,9 +150,10 @@ fn has_marks(marks: TokenMarks, gap: bool, first: bool) -> bool
     }
 }
 
-// Returns a text without the spaces and tabs before it.
-fn bytes_after_blanks(text: &[u8]) -> &[u8]
-    ensures { result.now ≡ bytes_after_blanks text.now }
+/// Returns a text without the spaces and tabs before it.
+pub(crate) fn bytes_after_blanks(text: &[u8]) -> &[u8]
+    ensures same { result.now ≡ bytes_after_blanks text.now }
+    ensures within { length result.now ≤ length text.now }
 {
     let mut rest = text;
     while let [b' ' | b'\t', others @ ..] = rest {

@@ -12,7 +12,7 @@ use Rattle.abnfread.specs.CoreRules.{core_list}
 use Rattle.abnfread.specs.Element.{Definition, Rule, body_of}
 use Rattle.abnfread.proofs.AbnfFaultLemmas.{one-reading, one-fault, no-fault}
 use Rattle.abnfcheck.proofs.AbnfNotesLemmas.{notes_same, those_same}
-use Rattle.abnfexplain.specs.AbnfExplained.{Explains}
+use Rattle.abnfexplain.specs.AbnfAllFaults.{ExplainsAll}
 use Rattle.abnfrun.specs.AbnfExplainedNotes.{ExplainsAbnfNote}
 use Rattle.abnfrun.specs.AbnfAnswers.{AbnfStates, refused, unexplained, noted, checked, judges, cut_notes}
 use Rattle.abnfrun.specs.AbnfAnswers.{again, cut_again, printed, no_memory}
@@ -57,8 +57,8 @@ one_again definitions a b g h =
 
 -- what explains a fault is one text
 abbrev ExplanationsAreOne : Type 0
-ExplanationsAreOne = (text : List ℕ) (fault : ReadFault) (a b : List ℕ) → Explains text fault a
-    → Explains text fault b → a ≡ b
+ExplanationsAreOne = (text : List ℕ) (fault : ReadFault) (a b : List ℕ) → ExplainsAll text fault a
+    → ExplainsAll text fault b → a ≡ b
 
 -- what explains a note is one text
 abbrev NotesAreOne : Type 0
@@ -96,7 +96,7 @@ module _ (settings : AbnfSettings) (input : Input) where
 
   module _ (text : List ℕ) where
     abbrev IsStated : List ℕ → Reply → Type 0
-    IsStated = Stated (IsFaultOf text) (λ fault. Explained settings (Explains text fault)) (Reads text)
+    IsStated = Stated (IsFaultOf text) (λ fault. Explained settings (ExplainsAll text fault)) (Reads text)
         (λ definitions. AreNotesOn definitions (rule_given settings))
         (λ definitions notes. IsRefusedFor definitions (rule_given settings))
         (λ definitions notes. IsRefusedFor definitions (rule_given settings) → ⊥) AreAgain
@@ -166,14 +166,14 @@ module _ (settings : AbnfSettings) (input : Input) where
         b → a.status ≢ 5
         → b.status ≢ 5 → (notes ≡ others) × (a ≡ b)
     one_of_text explained reported hints one free = one_stated (IsFaultOf text)
-        (λ fault. Explained settings (Explains text fault)) (Reads text)
+        (λ fault. Explained settings (ExplainsAll text fault)) (Reads text)
         (λ definitions. AreNotesOn definitions (rule_given settings))
         (λ definitions notes. IsRefusedFor definitions (rule_given settings))
         (λ definitions notes. IsRefusedFor definitions (rule_given settings) → ⊥) AreAgain
         (HintedNotes settings (ExplainsAbnfNote text) (AreTextHints text settings))
         (ReportedNotes settings (ExplainsAbnfNote text)) PlainOf
         (λ definitions. printed_rules (file_rules definitions)) settings.mode (one-reading text) (one-fault text)
-        (λ fault. one-explained settings (Explains text fault) (explained text fault)) (no-fault text) notes_are_one
+        (λ fault. one-explained settings (ExplainsAll text fault) (explained text fault)) (no-fault text) notes_are_one
         one_again
         (hinted-one settings (ExplainsAbnfNote text) (AreTextHints text settings) one_line (hints text settings))
         (λ notes. reported-one one_line)
@@ -205,13 +205,13 @@ long-unread long r = let within = r.size in omega arith
 -- a text that is too long is reported so, whatever memory does
 pub long_is_reported : (text : List ℕ) (settings : AbnfSettings) (input : Input) (notes : List ℕ) (reply : Reply)
     → IsFaultOf text TooLong → AbnfStates text settings input notes reply
-    → (notes ≡ []) × IsLongReply settings (Explains text TooLong) reply
+    → (notes ≡ []) × IsLongReply settings (ExplainsAll text TooLong) reply
 long_is_reported text settings input notes reply long (refused fault why f other reported) =
     let is : fault ≡ TooLong = one-fault text fault TooLong f long other (λ e. cc) in (
       refl,
       inl (
         why,
-        subst (λ (f : ReadFault). Explained settings (Explains text f) why) is reported,
+        subst (λ (f : ReadFault). Explained settings (ExplainsAll text f) why) is reported,
         ap (λ f. refusal f why) is,
       ),
     )

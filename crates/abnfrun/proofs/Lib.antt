@@ -6,5 +6,6 @@ pub mod AreRedefinitionsLemmas
 mod AbnfExplainedByLemmas
 pub mod IsAnswerOnLemmas
 pub mod IsAnswerToLemmas
+pub mod JudgedAlikeLemmas
 pub mod OpenAbnfLemmas
 pub mod SpellsLengthLemmas

@@ -3,7 +3,7 @@ use Rattle.std.specs.Prelude.{◌≡◌, ◌≢◌, ℕ, true, List, []}
 use Rattle.ruletable.specs.Notes.{Said}
 use Rattle.ruletable.specs.declared.fault.ReadFault.{ReadFault}
 use Rattle.ruletable.specs.declared.fault.ReadFault.TheVariants.{Memory}
-use Rattle.abnfexplain.specs.AbnfExplained.{Explains}
+use Rattle.abnfexplain.specs.AbnfAllFaults.{ExplainsAll}
 use Rattle.abnfrun.specs.AbnfExplainedNotes.{ExplainsAbnfNote}
 use Rattle.abnfread.specs.AbnfReading.{Reads, IsFaultOf}
 use Rattle.abnfread.specs.Element.{Definition}
@@ -23,7 +23,7 @@ use Rattle.abnfrun.specs.AbnfSettings.{AbnfSettings}
 pub data AbnfStates (text : List ℕ) (settings : AbnfSettings) (input : Input) : List ℕ → Reply → Type 0 where
   -- the text has a fault, which is reported, and explained if that is asked
   refused : (fault : ReadFault) (why : List ℕ) → IsFaultOf text fault → fault ≢ Memory
-      → Explained settings (Explains text fault) why → AbnfStates text settings input [] (refusal fault why)
+      → Explained settings (ExplainsAll text fault) why → AbnfStates text settings input [] (refusal fault why)
   -- its fault is reported, and an allocation failed in explaining it
   unexplained : (fault : ReadFault) → IsFaultOf text fault → fault ≢ Memory → settings.explain ≡ true
       → AbnfStates text settings input [] (unexplained_fault fault)

@@ -6,6 +6,7 @@ use Rattle.abnfcheck.specs.AbnfGrammar.{Grammar}
 use Rattle.flatgrammar.specs.Flat.{Flat}
 use Rattle.lowering.specs.Lowered.{IsLowered}
 use Rattle.lowering.specs.GivenPrefixes.{GivesPrefixes}
+use Rattle.abnfrun.specs.JudgedAlike.{AreJudgedAlike}
 use Rattle.ruletable.specs.Letters.{has}
 use Rattle.ruletable.specs.declared.alphabet.Alphabet.{Alphabet}
 
@@ -18,12 +19,12 @@ pub record OpenJudge : Type 0 where
   pub budget : Option ℕ
   pub limit : ℕ
 
--- The flat grammar is that of the grammar, for what is asked of lines; the automaton, if there is one, is of it.
+-- The flat grammar is that of the grammar, for what is asked of lines. The automaton, if there is one, judges alike.
 pub record IsReadyFor (grammar : Grammar) (letters : Alphabet) (viable : Bool) (flat : Flat) (automaton : Option Flat)
     : Type 0 where
   pub lowered : viable ≡ false → IsLowered (rules_of grammar.rules) grammar.judged flat
   pub prefixes : viable ≡ true → GivesPrefixes (has letters) (rules_of grammar.rules) grammar.judged flat
-  pub same : IfSome automaton (λ a. a ≡ flat)
+  pub alike : IfSome automaton (AreJudgedAlike (has letters) viable flat)
 
 -- The flat grammar answers for the viable prefixes of lines of one symbol more than so many. It explains rejected lines
 -- of so many.

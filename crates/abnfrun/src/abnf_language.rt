@@ -1,7 +1,7 @@
 //! The language of ABNF, whose grammars judge the lines of an input.
 ghost use Rattle.std.specs.Prelude.{IfOk, Some, map};
 ghost use Rattle.ruletable.specs.Notes.{said_of};
-ghost use Rattle.abnfexplain.specs.AbnfExplained.{Explains};
+ghost use Rattle.abnfexplain.specs.AbnfAllFaults.{ExplainsAll};
 ghost use Rattle.abnfexplain.specs.AbnfNoteLines.{AreAbnfPositions};
 ghost use Rattle.abnfread.specs.AbnfReading.{IsFaultOf};
 ghost use Rattle.abnfread.specs.AbnfViews.{rules_of};
@@ -22,7 +22,7 @@ use crate::line_judge::{
 use crate::note_positions::{explain_reached, note_positions};
 use crate::options::{AbnfOptions, AbnfSettings};
 use abnfcheck::{AllRules, JudgedAbnf, SoundAbnf, judge_abnf};
-use abnfexplain::{AbnfText, explain_abnf_fault, read_abnf_text};
+use abnfexplain::{AbnfText, explain_abnf_faults, read_abnf_text};
 use abnfprint::print_abnf;
 use abnfread::{Abnf, read_abnf};
 use diagnostics::Positions;
@@ -66,7 +66,7 @@ impl Language for AbnfLanguage {
 
     ghost has_fault = { IsFaultOf };
 
-    ghost explains = { Explains };
+    ghost explains = { ExplainsAll };
 
     ghost are_text_positions = { AreAbnfPositions };
 
@@ -114,7 +114,7 @@ impl Language for AbnfLanguage {
     }
 
     fn explain_fault(alloc: Global, text: &[u8], fault: ReadFault) -> Result<Vec<u8>, Memory> {
-        explain_abnf_fault(alloc, text, fault)
+        explain_abnf_faults(alloc, text, fault)
     }
 
     fn positions(
@@ -184,7 +184,7 @@ impl Language for AbnfLanguage {
             return Ok(Ending::Plain(Stop::NoMemory));
         };
         let explainer = explainer_of(alloc, grammar, settings);
-        let mut work = Work::new(alloc, &flat, settings.options.budget);
+        let mut work = Work::new(alloc, grammar, settings, &flat);
         let explainer = explainer.as_ref();
         let judge = LineJudge {
             grammar,

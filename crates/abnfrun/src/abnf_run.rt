@@ -18,7 +18,8 @@ use toolrun::{Status, run_tool};
 /// - The grammar is in ABNF (RFC 5234, RFC 7405). If it has a fault, `err` gets the line of that fault, status
 ///   `Refused`, and nothing is read. If the settings ask for explanations, that line is followed by those that explain
 ///   it: a picture of the token that decides, its column, exactly the kinds of tokens that could stand there, and a
-///   usual mistake.
+///   usual mistake. Faults of the readings from the next lines that begin rules follow in the same form, at most 16 in
+///   all.
 /// - If it is to be printed, its canonical text is written on `out`, `Done`; but if it defines a rule again, the notes
 ///   on that are written on `err`, `Refused`. Nothing is read, and no other check is made.
 /// - Else the notes on it are written on `err`. If they reject it, or it is only to be checked, that is all: `Refused`,

@@ -1,7 +1,9 @@
-//! The two judges of symbols: an automaton, which is asked first, and a chart. Both judge by a flat grammar.
+//! The two judges of symbols: an automaton, which is asked first, and a chart. The chart judges by a flat grammar, and
+//! the automaton by the same or by another that judges alike.
 ghost use Rattle.std.specs.Prelude.{◌≡◌, ◌↔◌, ◌≤◌, Some, length, map, IfErr, IfOk, IfSome, IsTrue};
 ghost use Rattle.earleyitems.specs.ChartSets.{HaveMoreItems};
 ghost use Rattle.flatgrammar.specs.FlatVerdicts.{DerivesLine, IsFlatVerdict};
+ghost use Rattle.flatgrammar.specs.declared.verdict.Verdict.{Verdict as the_verdict};
 ghost use Rattle.linejudge.specs.InputLines.{IsNoAnswer};
 
 use earley::{Chart, judge, judge_few, viable, viable_few};
@@ -10,7 +12,8 @@ use lazydfa::Automaton;
 use linejudge::NoAnswer;
 use ruletable::Letter;
 
-/// The two judges of a flat grammar. The automaton is fast, but may give no answer; then the chart answers.
+/// The two judges of symbols. The automaton is fast, but may give no answer; then the chart answers. The flat grammar
+/// of the automaton may have loops where that of the chart is left recursive.
 #[derive(Drop)]
 pub(crate) struct Engines {
     /// The Earley judge.
@@ -30,8 +33,9 @@ impl Engines {
         line: &[L],
     ) -> Result<bool, NoAnswer>
         requires within { length line.now ≤ flat.now.limit }
-        requires flat { IfSome self.old.automaton (λ a. a ≡ flat.now) }
-        ensures flat { IfSome self.new.automaton (λ a. a ≡ flat.now) }
+        requires alike { IfSome self.old.automaton (λ a. DerivesLine a (map L.number line.now)
+            ↔ DerivesLine flat.now (map L.number line.now)) }
+        ensures same { self.new.automaton ≡ self.old.automaton }
         ensures answer { IfOk result (λ yes. IsTrue yes ↔ DerivesLine flat.now (map L.number line.now)) }
         ensures costly { IfErr result (IsNoAnswer (λ n. (budget ≡ Some n)
             × HaveMoreItems flat.now (map L.number line.now) n)) }
@@ -60,8 +64,9 @@ impl Engines {
         line: &[L],
     ) -> Result<Verdict, NoAnswer>
         requires within { length line.now ≤ flat.now.limit }
-        requires flat { IfSome self.old.automaton (λ a. a ≡ flat.now) }
-        ensures flat { IfSome self.new.automaton (λ a. a ≡ flat.now) }
+        requires alike { IfSome self.old.automaton (λ a. (said : the_verdict)
+            → IsFlatVerdict a (map L.number line.now) said → IsFlatVerdict flat.now (map L.number line.now) said) }
+        ensures same { self.new.automaton ≡ self.old.automaton }
         ensures verdict { IfOk result (IsFlatVerdict flat.now (map L.number line.now)) }
         ensures costly { IfErr result (IsNoAnswer (λ n. (budget ≡ Some n)
             × HaveMoreItems flat.now (map L.number line.now) n)) }

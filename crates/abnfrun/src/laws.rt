@@ -1,7 +1,7 @@
 //! Laws of what is stated for a grammar in ABNF and an input: there is at most one answer.
 ghost use Rattle.std.specs.Prelude.{◌≡◌, ◌≢◌, ℕ, Bool, true, List, [], None};
 ghost use Rattle.ruletable.specs.declared.fault.ReadFault.{ReadFault};
-ghost use Rattle.abnfexplain.specs.AbnfExplained.{Explains};
+ghost use Rattle.abnfexplain.specs.AbnfAllFaults.{ExplainsAll};
 ghost use Rattle.abnfread.specs.AbnfReading.{IsFaultOf, Reads};
 ghost use Rattle.abnfread.specs.Element.{Definition, Rule};
 ghost use Rattle.abnfrun.specs.AbnfAnswers.{AbnfStates};
@@ -12,7 +12,7 @@ ghost use Rattle.toolrun.specs.Reply.{Reply, SameButWhy};
 ghost use Rattle.abnfrun.specs.AbnfSettings.{AbnfSettings};
 
 use abnfcheck::{furthest_is_found, one_name_chain};
-use abnfexplain::{one_explanation_of_abnf, one_note_explanation_of_abnf};
+use abnfexplain::{one_explanation_of_abnf_faults, one_note_explanation_of_abnf};
 use abnfhints::one_text_of_abnf_hints;
 use abnfread::one_reading;
 use refusedlines::refusal_is_one;
@@ -46,9 +46,9 @@ pub fn one_statement_of_abnf()
         (notes ≡ others) × SameButWhy settings.explain a b }
     ensures long { (text : List ℕ) (settings : AbnfSettings) (input : Input) (notes : List ℕ) (reply : Reply) →
         IsFaultOf text ReadFault.TooLong → AbnfStates text settings input notes reply →
-        (notes ≡ []) × IsLongReply settings (Explains text ReadFault.TooLong) reply }
+        (notes ≡ []) × IsLongReply settings (ExplainsAll text ReadFault.TooLong) reply }
 {
-    one_explanation_of_abnf();
+    one_explanation_of_abnf_faults();
     one_note_explanation_of_abnf();
     one_name_chain();
     one_text_of_abnf_hints();

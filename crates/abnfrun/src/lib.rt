@@ -8,6 +8,7 @@ mod engines;
 mod hints;
 mod laws;
 mod line_judge;
+mod loops;
 mod note_positions;
 mod open_law;
 mod opened;

@@ -6,6 +6,7 @@ ghost use Rattle.abnfread.specs.AbnfViews.{rules_of};
 ghost use Rattle.abnfcheck.specs.Derivable.{AreLetters};
 ghost use Rattle.abnfrun.specs.AbnfReply.{HaveMoreThan, IsAnswerTo, NeedsMoreItems, form_of, judged_size};
 ghost use Rattle.abnfrun.specs.AbnfReply.{unit_for};
+ghost use Rattle.abnfrun.specs.JudgedAlike.{AreJudgedAlike};
 ghost use Rattle.abnfrun.specs.OpenJudge.{ExplainsLines};
 ghost use Rattle.abnfrun.specs.LetterAnswers.{IsAnswerOn, torn};
 ghost use Rattle.lowering.specs.Lowered.{IsLowered};
@@ -17,6 +18,7 @@ ghost use Rattle.linejudge.specs.declared.answers.Answer.{Answer};
 ghost use Rattle.refusedlines.specs.Refusals.{IsRefusalReported};
 
 use crate::engines::Engines;
+use crate::loops::loop_grammar;
 use crate::options::AbnfSettings;
 use abnfcheck::{SoundAbnf, derivation_is_decided, furthest_is_found};
 use earley::Chart;
@@ -71,9 +73,21 @@ pub struct Work {
 }
 
 impl Work {
-    /// Returns the memory that lines are judged in by a flat grammar. A budget bounds its automaton too.
-    pub(crate) fn new(alloc: Global, flat: &Flat, budget: Option<usize>) -> Work
-        ensures flat { IfSome result.engines.automaton (λ a. a ≡ flat.now) }
+    /// Returns the memory that lines are judged in by the flat grammar of a grammar. A budget bounds its automaton too.
+    pub(crate) fn new(
+        alloc: Global,
+        grammar: &SoundAbnf,
+        settings: &AbnfSettings<'_>,
+        flat: &Flat,
+    ) -> Work
+        requires limit { flat.now.limit ≡ judged_size settings.now settings.now.limit }
+        requires lowered { settings.now.options.viable ≡ false →
+            IsLowered (rules_of grammar.now.rules) grammar.now.judged flat.now }
+        requires prefixes { settings.now.options.viable ≡ true →
+            GivesPrefixes (has settings.now.options.letters) (rules_of grammar.now.rules) grammar.now.judged
+            flat.now }
+        ensures alike { IfSome result.engines.automaton
+            (AreJudgedAlike (has settings.now.options.letters) settings.now.options.viable flat.now) }
         ensures none { result.explainer ≡ None }
     {
         Work {
@@ -81,7 +95,7 @@ impl Work {
             explainer: None,
             engines: Engines {
                 chart: Chart::new(alloc),
-                automaton: automaton_of(alloc, flat, budget),
+                automaton: automaton_for(alloc, grammar, settings, flat),
             },
             points: Vec::new(alloc),
         }
@@ -108,8 +122,9 @@ fn judge_letters<L: Letter>(
 ) -> Result<Answer, NoAnswer>
     requires letters { AreLetters (has judges.now.letters) (map L.number line.now) }
     requires within { length line.now ≤ judges.now.flat.now.limit }
-    requires flat { IfSome engines.old.automaton (λ a. a ≡ judges.now.flat.now) }
-    ensures flat { IfSome engines.new.automaton (λ a. a ≡ judges.now.flat.now) }
+    requires alike { IfSome engines.old.automaton
+        (AreJudgedAlike (has judges.now.letters) judges.now.viable judges.now.flat.now) }
+    ensures same { engines.new.automaton ≡ engines.old.automaton }
     ensures answer { IfOk result (IsAnswerOn (has judges.now.letters) judges.now.viable
         (rules_of judges.now.grammar.now.rules) judges.now.grammar.now.judged (map L.number line.now)) }
     ensures costly { IfErr result (IsNoAnswer (HaveMoreThan judges.now.budget judges.now.letters judges.now.viable
@@ -147,8 +162,9 @@ fn judge_torn(judges: &LineJudge<'_>, work: &mut Work, line: &[u8]) -> Result<An
     requires viable { judges.now.viable ≡ true }
     requires torn { IsText line.now → ⊥ }
     requires within { length line.now ≤ judges.now.flat.now.limit }
-    requires flat { IfSome work.old.engines.automaton (λ a. a ≡ judges.now.flat.now) }
-    ensures flat { IfSome work.new.engines.automaton (λ a. a ≡ judges.now.flat.now) }
+    requires alike { IfSome work.old.engines.automaton
+        (AreJudgedAlike (has judges.now.letters) judges.now.viable judges.now.flat.now) }
+    ensures same { work.new.engines.automaton ≡ work.old.engines.automaton }
     ensures explainer { work.new.explainer ≡ work.old.explainer }
     ensures answer { IfOk result (IsAnswerTo Alphabet.Utf8 judges.now.viable (rules_of judges.now.grammar.now.rules)
         judges.now.grammar.now.judged line.now) }
@@ -168,8 +184,9 @@ fn judge_torn(judges: &LineJudge<'_>, work: &mut Work, line: &[u8]) -> Result<An
 fn judge_points(judges: &LineJudge<'_>, work: &mut Work, line: &[u8]) -> Result<Answer, NoAnswer>
     requires letters { judges.now.letters ≡ Alphabet.Utf8 }
     requires within { length line.now ≤ judges.now.flat.now.limit }
-    requires flat { IfSome work.old.engines.automaton (λ a. a ≡ judges.now.flat.now) }
-    ensures flat { IfSome work.new.engines.automaton (λ a. a ≡ judges.now.flat.now) }
+    requires alike { IfSome work.old.engines.automaton
+        (AreJudgedAlike (has judges.now.letters) judges.now.viable judges.now.flat.now) }
+    ensures same { work.new.engines.automaton ≡ work.old.engines.automaton }
     ensures explainer { work.new.explainer ≡ work.old.explainer }
     ensures answer { IfOk result (IsAnswerTo Alphabet.Utf8 judges.now.viable (rules_of judges.now.grammar.now.rules)
         judges.now.grammar.now.judged line.now) }
@@ -250,7 +267,7 @@ impl Judge<Work> for LineJudge<'_> {
 
     ghost served = { λ j. j.flat.now.limit };
 
-    ghost works_in = { λ j work. IfSome work.engines.automaton (λ a. a ≡ j.flat.now)
+    ghost works_in = { λ j work. IfSome work.engines.automaton (AreJudgedAlike (has j.letters) j.viable j.flat.now)
         × IfSome j.explainer (λ more. ExplainsLines (rules_of j.grammar.now.rules) j.grammar.now.judged j.letters
         j.flat.now.limit more.now × IfSome work.explainer (λ a. a ≡ more.now)) };
 
@@ -351,6 +368,36 @@ fn automaton_of(alloc: Global, flat: &Flat, budget: Option<usize>) -> Option<Aut
     };
     match Automaton::with_room(alloc, flat, room) {
         Ok(made) => made,
+        Err(Memory) => None,
+    }
+}
+
+/// Returns an automaton that judges lines as the flat grammar of a grammar does. It is one of that flat grammar, or of
+/// one with loops, where rules are left recursive. `None` if it has none, or an allocation fails.
+fn automaton_for(
+    alloc: Global,
+    grammar: &SoundAbnf,
+    settings: &AbnfSettings<'_>,
+    flat: &Flat,
+) -> Option<Automaton>
+    requires limit { flat.now.limit ≡ judged_size settings.now settings.now.limit }
+    requires lowered { settings.now.options.viable ≡ false →
+        IsLowered (rules_of grammar.now.rules) grammar.now.judged flat.now }
+    requires prefixes { settings.now.options.viable ≡ true →
+        GivesPrefixes (has settings.now.options.letters) (rules_of grammar.now.rules) grammar.now.judged flat.now }
+    ensures { IfSome result
+        (AreJudgedAlike (has settings.now.options.letters) settings.now.options.viable flat.now) }
+{
+    items_decide();
+    let budget = settings.options.budget;
+    match loop_grammar(alloc, grammar) {
+        Ok(Some(loops)) => {
+            let Ok(fast) = lowered(alloc, &loops, settings) else {
+                return None;
+            };
+            automaton_of(alloc, &fast, budget)
+        }
+        Ok(None) => automaton_of(alloc, flat, budget),
         Err(Memory) => None,
     }
 }

@@ -121,7 +121,7 @@ fn judge_by(
     }) }
 {
     let flat = lowered(alloc, &grammar, settings)?;
-    let work = Work::new(alloc, &flat, settings.options.budget);
+    let work = Work::new(alloc, &grammar, settings, &flat);
     Ok(AbnfJudge {
         grammar,
         letters: settings.options.letters,

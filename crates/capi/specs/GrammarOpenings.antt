@@ -1,6 +1,6 @@
 -- What the grammars of each tool are opened as.
 use Rattle.std.specs.Prelude.{◌≡◌, ℕ, List, Option, Some, None}
-use Rattle.abnfexplain.specs.AbnfExplained.{Explains as ExplainsAbnf}
+use Rattle.abnfexplain.specs.AbnfAllFaults.{ExplainsAll as ExplainsAbnf}
 use Rattle.abnfread.specs.AbnfReading.{IsFaultOf as IsAbnfFault}
 use Rattle.abnfrun.specs.AbnfExplainedNotes.{ExplainsAbnfNote}
 use Rattle.abnfrun.specs.AbnfSettings.{AbnfSettings}

@@ -1,7 +1,7 @@
 -- What two grammars are opened as for a comparison, and what is found of them.
 use Rattle.std.specs.Prelude.{◌≡◌, ℕ, List, Option, Some, None, MatchOption}
 use Rattle.abnfcheck.specs.AbnfGrammar.{Grammar}
-use Rattle.abnfexplain.specs.AbnfExplained.{Explains}
+use Rattle.abnfexplain.specs.AbnfAllFaults.{ExplainsAll}
 use Rattle.abnfread.specs.AbnfReading.{IsFaultOf, Reads}
 use Rattle.abnfread.specs.AbnfViews.{rules_of}
 use Rattle.abnfread.specs.Element.{Definition}
@@ -46,7 +46,7 @@ opened_code None = 2
 
 -- a grammar in ABNF is opened for its rules
 abbrev pub IsGrammarOpening : List ℕ → AbnfSettings → List ℕ → Option Grammar → ℕ → Type 0
-IsGrammarOpening text settings = IsOpening (IsFaultOf text) (Explains text) (ExplainsAbnfNote text)
+IsGrammarOpening text settings = IsOpening (IsFaultOf text) (ExplainsAll text) (ExplainsAbnfNote text)
     (AreTextHints text settings) (IsOpenGrammar text settings) settings
 
 -- what is found is known of the lines that each of two rules alone derives

@@ -41,11 +41,12 @@ fn open_lines(
 /// Reads and checks a grammar in ABNF, and puts lines of its judged rule into an empty handle. `which` is 0 for the
 /// lines that the rule derives, shorter ones first, and 1 for near ones that it does not derive. It is 2 for these with
 /// each symbol that cannot follow a prefix, next to one that can, and 3 for some that the rule derives, by lot from the
-/// seed of the settings. They have at most as many letters as the limit of the settings, and not the byte that ends
-/// lines. Lays the messages on the grammar into the buffer, as much as there is room for. A rejected grammar leaves the
-/// handle empty. The mode must be valid, and has no other effect.
+/// seed of the settings. It is 4 for derived lines that have only the first of symbols that no set distinguishes, and 5
+/// for derived lines that reach each goal. They have at most as many letters as the limit of the settings, and not the
+/// byte that ends lines. Lays the messages on the grammar into the buffer, as much as there is room for. A rejected
+/// grammar leaves the handle empty. The mode must be valid, and has no other effect.
 ///
-/// Returns `BAD_SETTINGS` and does nothing where the settings are invalid, `which` is above 3, or the handle is not
+/// Returns `BAD_SETTINGS` and does nothing where the settings are invalid, `which` is above 5, or the handle is not
 /// empty. Settings are invalid if the size is unknown, a number is out of its range, or the name is not UTF-8.
 pub fn lines_open(
     alloc: Global,

@@ -2,16 +2,22 @@
 ghost use Rattle.std.specs.Prelude.{◌≡◌, ◌≤◌, IfOk, IfSome, None, Some};
 ghost use Rattle.abnfread.specs.AbnfViews.{rules_of};
 ghost use Rattle.capi.specs.NextLineCall.{IsLineCall, c_line_status};
-ghost use Rattle.capi.specs.LineLists.{IsListFor, IsListingFor, IsNextListed, kind_by, line_end};
+ghost use Rattle.capi.specs.LineLists.{AreCoverLines, IsListFor, IsListingFor, IsNextListed, IsTaken, kind_by};
+ghost use Rattle.capi.specs.LineLists.{line_end, symbols_of};
 ghost use Rattle.rulelines.specs.MissLists.{AreMissesOf};
 ghost use Rattle.rulelines.specs.LineSets.{AreRuleLines, IsFirstStep, IsLineAfter, IsLineIn, IsSomeLine};
+ghost use Rattle.rulelines.specs.SampleLines.{AreSampleLines};
+ghost use Rattle.coverlines.specs.CoverLines.{line_items};
+ghost use Rattle.std.specs.Vec.Iter.{into_iter_items};
 
 use abnfcheck::SoundAbnf;
 use abnfrun::{AbnfSettings, Alphabet};
+use coverlines::{CoverLine, LineBounds, cover_lines};
 use memoryrun::lay;
 use rulelines::{Lines, Lots, MissSet, Misses, NextLine, line_bytes};
 use ruletable::Memory;
 use std::alloc::Global;
+use std::vec::IntoIter;
 use toolrun::Status;
 
 /// How many entries the states of a grammar may have.
@@ -37,6 +43,10 @@ pub(crate) enum ListKind {
     Missed(bool),
     /// Some that it derives, by lot from this seed.
     Drawn(u64),
+    /// Those that it derives and that have only the first of symbols that no set distinguishes.
+    Sampled,
+    /// Some that it derives: one of them reaches each goal.
+    Covering,
 }
 
 /// Lines of a rule, one after another.
@@ -48,6 +58,8 @@ pub enum LineList {
     Missed(Misses),
     /// Some that it derives, by lot.
     Drawn(Lines, Lots),
+    /// Those of a list that are left.
+    Listed(IntoIter<Vec<u32>>),
 }
 
 /// Lines that C lists.
@@ -70,6 +82,8 @@ pub(crate) fn kind_of(which: u8, seed: u64) -> Option<ListKind>
         1 => Some(ListKind::Missed(false)),
         2 => Some(ListKind::Missed(true)),
         3 => Some(ListKind::Drawn(seed)),
+        4 => Some(ListKind::Sampled),
+        5 => Some(ListKind::Covering),
         _ => None,
     }
 }
@@ -103,6 +117,21 @@ fn derived_lines(
     Lines::new(alloc, grammar, settings.options.letters, end, limit, ROOM)
 }
 
+/// Returns those of the lines of `derived_lines` that have only the first of symbols that no set distinguishes, before
+/// the first one; `None` if the grammar has too many states. `Memory` if an allocation fails.
+fn sampled_lines(
+    alloc: Global,
+    grammar: &SoundAbnf,
+    settings: &AbnfSettings<'_>,
+) -> Result<Option<Lines>, Memory>
+    ensures { IfOk result (λ reported. IfSome reported (AreSampleLines settings.now.options.letters
+        (line_end settings.now.options.nul) settings.now.limit (rules_of grammar.now.rules) grammar.now.judged)) }
+{
+    let end = end_byte(settings);
+    let limit = settings.limit as u32;
+    Lines::of_samples(alloc, grammar, settings.options.letters, end, limit, ROOM)
+}
+
 /// Returns near lines that the judged rule of a grammar does not derive, as settings ask, before the first one; `None`
 /// if it has too many states. `Memory` if an allocation fails.
 fn missed_lines(
@@ -122,6 +151,37 @@ fn missed_lines(
         edges,
     };
     Misses::new(alloc, grammar, set, ROOM)
+}
+
+/// Returns lines without the goals that they reach. `Memory` if an allocation fails.
+fn without_goals(alloc: Global, lines: Vec<CoverLine<'_>>) -> Result<Vec<Vec<u32>>, Memory>
+    ensures { IfOk result (λ all. symbols_of all.items ≡ line_items lines.entry.items) }
+{
+    let mut all = Vec::with_capacity(alloc, lines.len())?;
+    for line in lines {
+        all.push(line.line)?;
+    }
+    Ok(all)
+}
+
+/// Returns lines that the judged rule of a grammar derives, as settings ask: one of them reaches each goal that some
+/// line reaches. `Memory` if an allocation fails.
+fn covering_lines(
+    alloc: Global,
+    grammar: &SoundAbnf,
+    settings: &AbnfSettings<'_>,
+) -> Result<Vec<Vec<u32>>, Memory>
+    ensures { IfOk result (λ all. AreCoverLines settings.now.options.letters
+        (line_end settings.now.options.nul) settings.now.limit (rules_of grammar.now.rules) grammar.now.judged
+        (symbols_of all.items)) }
+{
+    let bounds = LineBounds {
+        alphabet: settings.options.letters,
+        terminator: u32::from(end_byte(settings)),
+        limit: settings.limit,
+    };
+    let cover = cover_lines(alloc, grammar, bounds)?;
+    without_goals(alloc, cover.lines)
 }
 
 /// Returns the lines that settings ask for of a grammar, before the first one; `None` if it has too many states.
@@ -148,6 +208,14 @@ fn list_of(
             Some(lines) => Ok(Some(LineList::Drawn(lines, Lots::new(seed)))),
             None => Ok(None),
         },
+        ListKind::Sampled => match sampled_lines(alloc, grammar, settings)? {
+            Some(lines) => Ok(Some(LineList::Derived(lines))),
+            None => Ok(None),
+        },
+        ListKind::Covering => {
+            let lines = covering_lines(alloc, grammar, settings)?;
+            Ok(Some(LineList::Listed(lines.into_iter())))
+        }
     }
 }
 
@@ -181,6 +249,16 @@ fn derived_step(lines: &mut Lines, last: &Option<Vec<u32>>) -> Result<Option<Nex
     }
 }
 
+/// Returns the next of the lines of a list that are left.
+fn listed_step(left: &mut IntoIter<Vec<u32>>) -> NextLine
+    ensures { IsTaken (into_iter_items left.old) (into_iter_items left.new) result }
+{
+    match left.next() {
+        Some(line) => NextLine::Line(line),
+        None => NextLine::Done,
+    }
+}
+
 /// Returns the next line of a list. `None` if there is no room for the states. `Memory` if an allocation fails.
 fn step(list: &mut LineList, last: &Option<Vec<u32>>) -> Result<Option<NextLine>, Memory>
     ensures { IfOk result (λ reported. IfSome reported (IsNextListed list.old last.now list.new)) }
@@ -189,6 +267,7 @@ fn step(list: &mut LineList, last: &Option<Vec<u32>>) -> Result<Option<NextLine>
         LineList::Derived(lines) => derived_step(lines, last),
         LineList::Missed(misses) => misses.next(),
         LineList::Drawn(lines, lots) => lines.by_lot(lots),
+        LineList::Listed(left) => Ok(Some(listed_step(left))),
     }
 }
 

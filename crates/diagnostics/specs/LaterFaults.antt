@@ -1,5 +1,16 @@
 -- The faults of a text that is read anew after each of them, from the next line on that begins a rule by its form. Own.
 use Rattle.std.specs.Prelude.{◌≡◌, ℕ, suc, ◌<◌, ◌≤◌, Bool, true, false, List, [], ◌++◌, Option, Some, None}
+use Rattle.ruletable.specs.declared.fault.ReadFault.{ReadFault}
+use Rattle.ruletable.specs.declared.fault.ReadFault.TheVariants as faults
+
+-- the same fault on another line
+abbrev pub on_line : ℕ → ReadFault → ReadFault
+on_line line (faults.Syntax _) = faults.Syntax line
+on_line line (faults.Depth _) = faults.Depth line
+on_line line (faults.CodePredicate _) = faults.CodePredicate line
+on_line line (faults.NumberTooLarge _) = faults.NumberTooLarge line
+on_line line faults.TooLong = faults.TooLong
+on_line line faults.Memory = faults.Memory
 
 -- a position is the first one from another one on for which a test holds, and it lies before a third one
 pub record IsFirstThere (test : ℕ → Bool) (from to found : ℕ) : Type 0 where

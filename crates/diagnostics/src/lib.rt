@@ -1,10 +1,13 @@
-//! Parts of diagnostics: lines of text with a caret below them, the positions that notes name, and near names.
+//! Parts of diagnostics: messages of faults, lines of text with a caret below them, the positions that notes name, and
+//! near names.
 #![tactic(auto)]
 
+mod fault_messages;
 mod near;
 mod noteplaces;
 mod picture;
 
+pub use fault_messages::fault_message;
 pub use near::{is_early, push_meant};
 pub use noteplaces::{
     Head, Mention, MentionKind, Positions, Sign, Signs, add_number, explain_note, first_mention,

@@ -21,12 +21,11 @@ use Rattle.lazydfa.specs.declared.cache.Cell.{Cell}
 use Rattle.lazydfa.specs.declared.cache.Cell.TheVariants.{Unknown, Over, Dead, To, Push}
 use Rattle.lazydfa.specs.Conts.{stack_of, AreKept, IsStackOf, GoesOn, here, on, ReadsOn, ReadsFrom, IsTransition}
 use Rattle.lazydfa.specs.Conts.{TopReads}
-use Rattle.lazydfa.specs.Cached.{IsStart, AreGrown, IsStateOf, IsInterned, IsStep, IsPush, IsCell, AreCached}
+use Rattle.lazydfa.specs.Cached.{IsStart, AreGrown, IsStateOf, IsInterned, IsCell, AreCached}
 use Rattle.lazydfa.specs.Cached.{AreAddedUnknown}
 use Rattle.lazydfa.specs.Domination.{Dominates, IsPruned, LeadsTo}
 use Rattle.lazydfa.specs.StackSuffixes.{IsSplitOff}
-use Rattle.lazydfa.proofs.ContsLemmas.{kept_stack, kept_within, kept_same, kept_both}
-use Rattle.lazydfa.proofs.IsClosureLemmas.{stands_at}
+use Rattle.lazydfa.proofs.ContsLemmas.{kept_stack, kept_within, kept_same}
 
 module _ (old new : List Cont) (kept : AreKept old new) where
   module _ (tops : List ℕ) (within : (id : ℕ) → Contains tops id → id ≤ length old) where
@@ -290,31 +289,6 @@ module _ (tables : code_flat.Tables) (samples : List ℕ) where
           (subst (λ v. IsCell tables d conts states (at_i / (length samples + 1)) v) same
           (is d (subst (λ v. slice_get samples (v % (length samples + 1)) ≡ Some d) (sym here) sample)))
 
-module _ (tables : code_flat.Tables) (c : ℕ) (conts : List Cont) (ids : List ℕ) where
-  abbrev pub NoneReads : ℕ → Type 0
-  NoneReads count = (k id : ℕ) → k < count → slice_get ids k ≡ Some id → (stack : List Dot)
-      → ReadsOn tables c (stack_of conts id) stack → ⊥
-
-  pub none_more : (count id : ℕ) → slice_get ids count ≡ Some id
-      → ((stack : List Dot) → ReadsOn tables c (stack_of conts id) stack → ⊥) → NoneReads count
-      → NoneReads (count + 1)
-  none_more count id is never none k other lt at_k stack h = by (cases_lt k count)
-    where
-      by : (k < count) ⊎ (count ≤ k) → ⊥
-      by (inl less) = none k other less at_k stack h
-      by (inr le) =
-          let here : k ≡ count = omega (arith, le, lt) in
-          let both : Some other ≡ Some id = sym at_k ∙ (ap (λ v. slice_get ids v) here ∙ is) in
-          let same : other ≡ id = cc both in
-          never stack (subst (λ v. ReadsOn tables c (stack_of conts v) stack) same h)
-
-  pub none_all : (count : ℕ) → length ids ≤ count → NoneReads count → (stack : List Dot)
-      → ReadsFrom tables c conts ids stack → ⊥
-  none_all count le none stack r =
-      let t = stands_at ids r.id r.stands in
-      none t.position r.id (let w = slice_get_within ids t.position r.id t.is in omega (arith, w, le)) t.is stack
-      r.reads
-
 pub interned_found : (states : List State) (tops : List ℕ) (ended : Bool) (t : ℕ) → IsStateOf states tops ended t
     → IsInterned states states tops ended t
 interned_found states tops ended t is = record { grown = grown_same states; only = λ s state h. inl h; is = is }
@@ -387,68 +361,3 @@ module _ (tables : code_flat.Tables) (samples : List ℕ) (conts mid new : List 
       (cached_state tables samples mid states more cells filled next ended t interned unknown within
       (λ none. absurd (let w = slice_get_within states s from at_s in omega (arith, w, none)))
       (cached_conts tables samples conts mid states cells kept cached))
-
--- a transition to a state over a suffix
-module _ (tables : code_flat.Tables) (conts mid apart new : List Cont) (states more : List State) (from : State)
-    (tops read base : List ℕ) (ended : Bool) (s t v suffix : ℕ)
-    (within : (id : ℕ) → Contains from.tops.items id → id ≤ length conts) (kept : AreKept conts mid)
-    (moved : AreKept mid apart) (same : new ≡ apart) (interned : IsInterned states more base false t)
-    (at_s : slice_get states s ≡ Some from) (tops_are : tops ≡ from.tops.items) (runs : ended ≡ false)
-    (is : LeadsTo tables v conts tops mid read ended) (split : IsSplitOff tables apart read base suffix) where
-  both_kept : AreKept conts apart
-  both_kept = kept_both conts mid apart kept moved
-
-  pub led_push : (stack : List Dot) × ReadsFrom tables v conts tops stack → (d : ℕ) → v ≡ d
-      → IsPush tables d new more s t suffix
-  led_push some d is_d =
-      subst (λ v. IsPush tables v new more s t suffix) is_d (subst (λ c. IsPush tables v c more s t suffix) (sym same)
-      (record {
-        from = from;
-        to = interned.is.state;
-        read = read;
-        from_is = grown_at states more interned.grown s from at_s;
-        to_is = interned.is.is;
-        is = leads_kept tables v conts apart mid apart from.tops.items read false both_kept moved within
-            (subst (λ w. LeadsTo tables v conts w mid read false) tops_are
-            (subst (λ w. LeadsTo tables v conts tops mid read w) runs is));
-        some = (
-          some.0,
-          reads_on conts apart both_kept from.tops.items within tables v some.0
-              (subst (λ w. ReadsFrom tables v conts w some.0) tops_are some.1),
-        );
-        split = subst (λ w. IsSplitOff tables apart read w suffix) (sym interned.is.tops_are) split;
-        runs = interned.is.ended_is;
-      }))
-
--- a transition to a state that was added
-module _ (tables : code_flat.Tables) (samples : List ℕ) (conts mid new : List Cont) (states more : List State)
-    (cells filled : List Cell) (from : State) (tops next : List ℕ) (ended : Bool) (s t v : ℕ)
-    (cached : AreCached tables samples conts states cells) (kept : AreKept conts mid) (same : new ≡ mid)
-    (interned : IsInterned states more next ended t) (unknown : AreAddedUnknown cells filled)
-    (at_s : slice_get states s ≡ Some from) (tops_are : tops ≡ from.tops.items)
-    (is : LeadsTo tables v conts tops mid next ended) where
-  pub led_cached : AreCached tables samples new more filled
-  led_cached =
-      grown_cached tables samples conts mid new states more cells filled from next ended s t cached kept same interned
-      unknown at_s (leads_within is)
-
-  pub led_step : (stack : List Dot) × ReadsFrom tables v conts tops stack → (d : ℕ) → v ≡ d
-      → IsStep tables d new more s t
-  led_step some d is_d =
-      subst (λ v. IsStep tables v new more s t) is_d (subst (λ c. IsStep tables v c more s t) (sym same) (record {
-        from = from;
-        to = interned.is.state;
-        from_is = grown_at states more interned.grown s from at_s;
-        to_is = interned.is.is;
-        is = leads_kept tables v conts mid mid mid from.tops.items interned.is.state.tops.items
-            interned.is.state.ended kept (kept_same mid) (cached.within s from at_s)
-            (subst (λ w. LeadsTo tables v conts w mid interned.is.state.tops.items interned.is.state.ended)
-            tops_are
-            (subst (λ w. LeadsTo tables v conts tops mid w interned.is.state.ended) (sym interned.is.tops_are)
-            (subst (λ w. LeadsTo tables v conts tops mid next w) (sym interned.is.ended_is) is)));
-        some = (
-          some.0,
-          reads_on conts mid kept from.tops.items (cached.within s from at_s) tables v some.0
-              (subst (λ w. ReadsFrom tables v conts w some.0) tops_are some.1),
-        );
-      }))

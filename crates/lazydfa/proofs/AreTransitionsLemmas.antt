@@ -20,9 +20,11 @@ use Rattle.lazydfa.specs.Transitions.{
   IsTransitionTo,
 }
 use Rattle.lazydfa.specs.Transitions.{last_word}
+use Rattle.lazydfa.specs.Kernels.{AreLeads}
 use Rattle.lazydfa.specs.Memos.{AreResumes, IsMemo}
 use Rattle.lazydfa.specs.declared.memo.Memo.{Memo}
 use Rattle.lazydfa.proofs.AreCachedLemmas.{cached_none, cell_kept, grown_at, row_is, class_is}
+use Rattle.lazydfa.proofs.KernelsLemmas.{leads_grown, leads_none}
 use Rattle.lazydfa.proofs.IsOverLemmas.{resumes_kept, resumes_none}
 
 -- growth keeps a word
@@ -179,8 +181,9 @@ module _ (tables : code_flat.Tables) (samples : List ℕ) (conts : List Cont) (s
 -- what is kept beside a cache that grew
 pub memo_kept : (tables : code_flat.Tables) (samples : List ℕ) (old new : Memo) → IsMemo tables samples old
     → IsCache tables samples new.cache → Grows old.cache new.cache → new.resumes.items ≡ old.resumes.items
-    → new.transitions.items ≡ old.transitions.items → IsMemo tables samples new
-memo_kept tables samples old new memo cached grows same same_transitions = record {
+    → new.transitions.items ≡ old.transitions.items → new.leads.items.items ≡ old.leads.items.items
+    → IsMemo tables samples new
+memo_kept tables samples old new memo cached grows same same_transitions same_leads = record {
   cached = cached;
   resumes = subst (λ v. AreResumes tables new.cache.conts.items.items new.cache.states.items v) (sym same)
       (resumes_kept tables old.cache.conts.items.items new.cache.conts.items.items old.cache.states.items
@@ -189,16 +192,20 @@ memo_kept tables samples old new memo cached grows same same_transitions = recor
       (sym same_transitions)
       (transitions_kept tables samples old.cache.conts.items.items new.cache.conts.items.items old.cache.states.items
       new.cache.states.items grows.conts grows.states memo.cached.within old.transitions.items memo.transitions);
+  leads = subst (λ v. AreLeads tables new.cache.conts.items.items new.cache.states.items v) (sym same_leads)
+      (leads_grown tables old.cache.conts.items.items new.cache.conts.items.items old.cache.states.items
+      new.cache.states.items old.leads.items.items grows.conts grows.states memo.leads);
 }
 
 -- a memo with nothing in it
 pub memo_none : (tables : code_flat.Tables) (samples : List ℕ) (memo : Memo) → memo.cache.conts.items.items ≡ []
     → memo.cache.states.items ≡ [] → memo.cache.cells.items ≡ [] → memo.transitions.items ≡ [] → memo.resumes.items ≡ []
-    → IsMemo tables samples memo
-memo_none tables samples memo no_conts no_states no_cells no_transitions no_resumes = record {
+    → memo.leads.items.items ≡ [] → IsMemo tables samples memo
+memo_none tables samples memo no_conts no_states no_cells no_transitions no_resumes no_leads = record {
   cached = cached_none tables samples memo.cache.conts.items.items memo.cache.states.items memo.cache.cells.items
       no_conts no_states no_cells;
   resumes = resumes_none tables memo.cache.conts.items.items memo.cache.states.items memo.resumes.items no_resumes;
   transitions = transitions_none tables samples memo.cache.conts.items.items memo.cache.states.items
       memo.transitions.items no_transitions;
+  leads = leads_none tables memo.cache.conts.items.items memo.cache.states.items memo.leads.items.items no_leads;
 }

@@ -1,6 +1,6 @@
 -- Tops without those that others dominate.
 -- Serves: judge, viable, expected.
-use Rattle.std.proofs.Common.{◌≡◌, ℕ, zero, suc, ◌+◌, ◌-◌, refl, ◌<◌, ◌≤◌, Bool, List, [], ◌∷◌, ◌++◌, length, reverse}
+use Rattle.std.proofs.Common.{◌≡◌, ℕ, zero, suc, ◌+◌, ◌-◌, refl, ◌<◌, ◌≤◌, List, [], ◌∷◌, ◌++◌, length, reverse}
 use Rattle.std.proofs.Common.{sym, ◌∙◌, ap, subst}
 use Rattle.std.proofs.Common.{arith, ◌⊎◌, inl, inr}
 use Rattle.std.proofs.lemmas.Bool.{cases_lt}
@@ -15,8 +15,8 @@ use Rattle.flatgrammar.proofs.CallOfLemmas.{get_map}
 use Rattle.flatgrammar.specs.NodeSteps.{flat_of}
 use Rattle.flatgrammar.specs.declared.tables.Tables as code_flat
 use Rattle.lazydfa.specs.declared.conts.Cont.{Cont}
-use Rattle.lazydfa.specs.Conts.{stack_of, IsTransition}
-use Rattle.lazydfa.specs.Domination.{Dominates, IsAhead, IsPruned, IsTopTaken, LeadsTo}
+use Rattle.lazydfa.specs.Conts.{stack_of}
+use Rattle.lazydfa.specs.Domination.{Dominates, IsAhead, IsPruned, IsTopTaken}
 use Rattle.lazydfa.proofs.DominatesLemmas.{dominates_self, dominates_both}
 use Rattle.lazydfa.proofs.IsClosureLemmas.{contains_at, stands_at}
 
@@ -156,12 +156,3 @@ ahead_fewer tables n m few many node same is least most operand rep enough fewer
 pub entry_within : (entry n : ℕ) → (entry ≡ 0 → ⊥) → entry ≤ n → entry - 1 < n
 entry_within zero n some le = absurd (some refl)
 entry_within (suc k) n some le = omega (arith, le)
-
-pub leads_pruned : (tables : code_flat.Tables) (c : ℕ) (first : List Cont) (tops : List ℕ) (conts : List Cont)
-    (read next : List ℕ) (before ended : Bool) → IsTransition tables c first tops conts read before
-    → IsPruned tables conts read next → ended ≡ before → LeadsTo tables c first tops conts next ended
-leads_pruned tables c first tops conts read next before ended is pruned same = record {
-  read = read;
-  is = subst (λ v. IsTransition tables c first tops conts read v) (sym same) is;
-  pruned = pruned;
-}

@@ -7,6 +7,7 @@ pub mod MoveLemmas
 pub mod TransitionLemmas
 pub mod ReportLemmas
 pub mod AreCachedLemmas
+pub mod KernelsLemmas
 pub mod IsAtLemmas
 pub mod IsMoveOnLemmas
 pub mod IsSplitOffLemmas

@@ -67,7 +67,7 @@ starts_at (name_starts is at_r e) = let h = starts_at e in
       begun = h.begun;
     }
 
-last_suffixes : (called : Option (ℕ × ℕ)) (done : Bool) (set : Option Set) → last_by called done set ≡ true
+pub last_suffixes : (called : Option (ℕ × ℕ)) (done : Bool) (set : Option Set) → last_by called done set ≡ true
     → (called ≡ None) × (done ≡ true) × (set ≡ None)
 last_suffixes None true None h = (refl, refl, refl)
 last_suffixes None true (Some set) h = absurd (cc h)

@@ -14,7 +14,8 @@ use Rattle.flatgrammar.specs.TableViews.{read_of}
 use Rattle.flatgrammar.specs.declared.tables.Tables as code_flat
 use Rattle.lazydfa.specs.declared.conts.Cont.{Cont}
 use Rattle.lazydfa.specs.Conts.{stack_of, AreKept, Adds, IsAdded, IsIdOf, ReadsOn, ReadsFrom, TopReads, AreReaders}
-use Rattle.lazydfa.specs.Conts.{IsTransition, IsClosure, IsStackOf, GoesOn, here, on}
+use Rattle.lazydfa.specs.Conts.{IsTransition, IsStackOf, GoesOn, here, on}
+use Rattle.lazydfa.specs.Kernels.{AreClosedTops}
 use Rattle.lazydfa.proofs.ContsLemmas.{adds_none, adds_one, kept_id, kept_stack, kept_within}
 use Rattle.lazydfa.proofs.IsClosureLemmas.{contains_at, stands_at}
 
@@ -141,15 +142,18 @@ module _ (tables : code_flat.Tables) (c : ℕ) where
       (adds.sound id (subst (λ v. Contains v id) (adds.grown ∙ ap (λ v. v ++ adds.added) none) h)).0
 
   -- what was read, closed, and of that what reads
-  pub is_transition : (first mid conts : List Cont) (tops ids all next : List ℕ) (ended : Bool) → ids ≡ []
-      → (read : List ℕ) → Adds mid (ReadsFrom tables c first tops) ids read → IsClosure tables mid read conts all ended
-      → AreReaders tables conts all next → IsTransition tables c first tops conts next ended
-  is_transition first mid conts tops ids all next ended none read adds closure readers = record {
-    within = λ id h. closure.within id (readers.only id h).0;
-    tops_are = λ stack. (λ s. there s, λ h. back stack h.0 h.1);
+  pub is_transition : (first mid conts : List Cont) (tops ids next : List ℕ) (ended : Bool) → ids ≡ []
+      → (read : List ℕ) → Adds mid (ReadsFrom tables c first tops) ids read
+      → AreClosedTops tables mid read conts next ended → IsTransition tables c first tops conts next ended
+  is_transition first mid conts tops ids next ended none read adds closed = record {
+    within = closed.within;
+    tops_are = λ stack. (
+      λ s. let r = (closed.tops_are stack).0 s in (r.0, from_given r.1),
+      λ h. (closed.tops_are stack).1 (h.0, to_given h.1),
+    );
     ended_is = (
-      λ h. let e = closure.ended_is.0 h in (e.0, from_given ((closure.stacks e.0).0 e.1), e.2),
-      λ h. closure.ended_is.1 (h.0, (closure.stacks h.0).1 (to_given h.1), h.2),
+      λ h. let e = closed.ended_is.0 h in (e.0, from_given e.1, e.2),
+      λ h. closed.ended_is.1 (h.0, to_given h.1, h.2),
     );
   }
     where
@@ -167,24 +171,6 @@ module _ (tables : code_flat.Tables) (c : ℕ) where
       to_given (here {stack = s} h) = let w = adds.whole s h in
           here (record { id = w.0; stands = w.1; is = sym w.2.is })
       to_given (on h g) = on (to_given h) g
-
-      there : {stack : List Dot} → IsStackOf conts next stack → TopReads tables stack
-          × GoesOn tables (ReadsFrom tables c first tops) stack
-      there {stack} s =
-          let o = readers.only s.id s.stands in (
-            subst (λ v. TopReads tables v) (sym s.is) o.1,
-            from_given ((closure.stacks stack).0 (record { id = s.id; stands = o.0; is = s.is })),
-          )
-
-      back : (stack : List Dot) → TopReads tables stack → GoesOn tables (ReadsFrom tables c first tops) stack
-          → IsStackOf conts next stack
-      back stack reads h =
-          let s = (closure.stacks stack).1 (to_given h) in
-          record {
-            id = s.id;
-            stands = readers.all s.id s.stands (subst (λ v. TopReads tables v) s.is reads);
-            is = s.is;
-          }
 
 module _ (tables : code_flat.Tables) (conts : List Cont) (ids : List ℕ) where
   pub record ReadersFirst (count : ℕ) (readers : List ℕ) : Type 0 where

@@ -2,6 +2,7 @@ pub mod Cached
 pub mod Conts
 pub mod Domination
 pub mod ExpectedSets
+pub mod Kernels
 pub mod Transitions
 pub mod Memos
 pub mod RunVerdicts

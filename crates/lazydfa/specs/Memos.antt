@@ -13,6 +13,7 @@ use Rattle.lazydfa.specs.declared.run.RunStep.TheVariants.{To, Dead, Over}
 use Rattle.lazydfa.specs.Conts.{last_of}
 use Rattle.lazydfa.specs.Cached.{IsCache, IsAt}
 use Rattle.flatgrammar.specs.ClassBounds.{AreClasses}
+use Rattle.lazydfa.specs.Kernels.{AreLeads}
 use Rattle.lazydfa.specs.Transitions.{AreTransitions}
 use Rattle.lazydfa.specs.StackSuffixes.{IsSplitOff, PutsBack, AreSuffixes, below_of}
 use Rattle.lazydfa.specs.RunVerdicts.{IsReached}
@@ -56,6 +57,7 @@ pub record IsMemo (tables : code_flat.Tables) (samples : List ℕ) (memo : Memo)
   pub resumes : AreResumes tables memo.cache.conts.items.items memo.cache.states.items memo.resumes.items
   pub transitions : AreTransitions tables samples memo.cache.conts.items.items memo.cache.states.items
       memo.transitions.items
+  pub leads : AreLeads tables memo.cache.conts.items.items memo.cache.states.items memo.leads.items.items
 
 -- a state is the closure after the first j symbols, over the suffixes
 pub record IsOver (tables : code_flat.Tables) (conts : List Cont) (states : List State) (suffixes : List ℕ) (s : ℕ)

@@ -17,6 +17,7 @@ use crate::chains::HashChains;
 use crate::close::Ids;
 use crate::conts::Conts;
 use crate::expected::{Expected, dots_of};
+use crate::kernels::KernelLeads;
 use crate::memo::{Memo, forget_all};
 use crate::run::{ClassTable, run, verdict_at};
 use flatgrammar::{Classes, DottedRule, Flat, Node, Tables, Verdict, find_classes};
@@ -127,6 +128,7 @@ pub(crate) fn empty_memo(alloc: Global, tables: &Tables, room: usize) -> Memo
     ensures cells { result.cache.cells.items ≡ [] }
     ensures transitions { result.transitions.items ≡ [] }
     ensures resumes { result.resumes.items ≡ [] }
+    ensures leads { result.leads.items.items ≡ [] }
 {
     let nodes = tables.nodes.len();
     let most = nodes.saturating_mul(4).saturating_add(16_384);
@@ -150,6 +152,10 @@ pub(crate) fn empty_memo(alloc: Global, tables: &Tables, room: usize) -> Memo
         transitions: Vec::new(alloc),
         resumes: Vec::new(alloc),
         chains: HashChains::new(alloc),
+        leads: KernelLeads {
+            items: Vec::new(alloc),
+            chains: HashChains::new(alloc),
+        },
         suffixes: Vec::new(alloc),
     }
 }

@@ -1,18 +1,13 @@
 //! States and cells that are made when first asked for, and kept.
-ghost use Rattle.std.specs.Prelude.{◌≡◌, ◌↔◌, ◌≤◌, ◌<◌, ◌+◌, ◌*◌, ◌∷◌, ℕ, true, false, List, [], IsTrue, IfOk};
-ghost use Rattle.std.specs.Prelude.{IfSome, length, slice_get, Some, Contains};
-ghost use Rattle.flatgrammar.specs.Flat.{Dot};
-ghost use Rattle.lazydfa.specs.Conts.{AreKept, AreOlder, ReadsOn, ReadsFrom, stack_of};
-ghost use Rattle.lazydfa.specs.Cached.{AreCached, IsCache, IsCell, IsStart, IsStateOf, IsInterned, AreGrown};
-ghost use Rattle.lazydfa.specs.Cached.{AreAddedUnknown, Grows};
+ghost use Rattle.std.specs.Prelude.{◌≡◌, [], IsTrue, IfOk, IfSome, slice_get, Some};
+ghost use Rattle.lazydfa.specs.Cached.{IsStateOf, IsInterned, AreAddedUnknown};
 ghost use Rattle.lazydfa.specs.declared.cache.State.{State};
 
 use crate::budget::Budget;
 use crate::chains::HashChains;
-use crate::close::{Ids, cont_at};
+use crate::close::Ids;
 use crate::conts::Conts;
 use crate::transition::Closure;
-use flatgrammar::{Item, Tables, reads};
 use ruletable::Memory;
 
 /// A state of the automaton: the set of return stacks that the symbols so far lead to.
@@ -75,47 +70,6 @@ pub(crate) fn forget(cache: &mut Cache)
     cache.cells.clear();
 }
 
-/// Returns whether a continuation reads a symbol.
-fn cont_reads(tables: &Tables, id: usize, value: u32, conts: &Conts) -> bool
-    requires within { id ≤ length conts.now.items.items }
-    requires older { AreOlder conts.now.items.items }
-    ensures some { result ≡ true → (stack : List Dot) × ReadsOn tables.now value (stack_of conts.now.items.items id)
-        stack }
-    ensures none { result ≡ false → (stack : List Dot) → ReadsOn tables.now value (stack_of conts.now.items.items id)
-        stack → ⊥ }
-{
-    if id == 0 {
-        return false;
-    }
-    let cont = cont_at(conts, id);
-    reads(
-        tables,
-        Item {
-            node: cont.node,
-            step: cont.step,
-            origin: 0,
-        },
-        value,
-    )
-}
-
-/// Returns whether one of the continuations reads a symbol.
-pub(crate) fn any_reads(tables: &Tables, tops: &[usize], value: u32, conts: &Conts) -> bool
-    requires within { (id : ℕ) → Contains tops.now id → id ≤ length conts.now.items.items }
-    requires older { AreOlder conts.now.items.items }
-    ensures some { result ≡ true → (stack : List Dot) × ReadsFrom tables.now value conts.now.items.items tops.now
-        stack }
-    ensures none { result ≡ false → (stack : List Dot) → ReadsFrom tables.now value conts.now.items.items tops.now
-        stack → ⊥ }
-{
-    for top in tops {
-        if cont_reads(tables, *top, value, conts) {
-            return true;
-        }
-    }
-    false
-}
-
 /// Returns whether a state has these tops, and has ended or not.
 pub(crate) fn is_same(state: &State, tops: &[usize], ended: bool) -> bool
     ensures { IsTrue result → (state.now.tops.items ≡ tops.now) × (state.now.ended ≡ ended) }
@@ -134,8 +88,8 @@ pub(crate) fn has_ended(cache: &Cache, state: usize) -> bool
     }
 }
 
-// Returns the hash of a state with these tops.
-fn hash_of_tops(tops: &[usize]) -> usize {
+/// Returns the hash of a state with these tops, or of a kernel.
+pub(crate) fn hash_of_tops(tops: &[usize]) -> usize {
     let mut mixed = 0usize;
     for top in tops {
         mixed = mixed.wrapping_mul(0x9E37_79B9).wrapping_add(*top);

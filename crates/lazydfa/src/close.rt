@@ -96,7 +96,7 @@ pub(crate) fn enter(
 }
 
 /// Returns whether nothing is left to do at a dotted rule.
-fn is_last(tables: &Tables, node: usize, step: usize) -> bool
+pub(crate) fn is_last(tables: &Tables, node: usize, step: usize) -> bool
     ensures { result ≡ last_of tables.now (Dot.at node step) }
 {
     let operation = operation_of(

@@ -12,6 +12,7 @@ mod cuts;
 mod expected;
 mod fill;
 mod glide;
+mod kernels;
 mod memo;
 mod prune;
 mod run;

@@ -7,6 +7,7 @@ ghost use Rattle.lazydfa.specs.declared.cache.State.{State};
 use crate::cache::{Cache, forget, state_of};
 use crate::chains::HashChains;
 use crate::fill::may_fill;
+use crate::kernels::KernelLeads;
 use crate::suffixes::{put_back, split_off};
 use crate::transition::Closure;
 use flatgrammar::Tables;
@@ -44,6 +45,8 @@ pub(crate) struct Memo {
     pub(crate) resumes: Vec<ResumedState>,
     /// Hash chains that find a resumed state.
     pub(crate) chains: HashChains,
+    /// The states that kernels lead to.
+    pub(crate) leads: KernelLeads,
     /// The ids of the shared suffixes below the state of this line, the topmost last.
     pub(crate) suffixes: Vec<usize>,
 }
@@ -55,11 +58,14 @@ pub(crate) fn forget_all(memo: &mut Memo)
     ensures cells { memo.new.cache.cells.items ≡ [] }
     ensures transitions { memo.new.transitions.items ≡ [] }
     ensures resumes { memo.new.resumes.items ≡ [] }
+    ensures leads { memo.new.leads.items.items ≡ [] }
 {
     forget(&mut memo.cache);
     memo.transitions.clear();
     memo.resumes.clear();
     memo.chains.clear();
+    memo.leads.items.clear();
+    memo.leads.chains.clear();
 }
 
 // Returns the hash of a state and a suffix.

@@ -120,7 +120,7 @@ fn fill_at(
         memo.new.cache.states.items s cell) }
 {
     let state = row / (samples.len() + 1);
-    let cell = fill(alloc, tables, samples, &mut memo.cache, state, class)?;
+    let cell = fill(alloc, tables, samples, memo, state, class)?;
     let Cell::To(t) = cell else {
         return Ok(cell);
     };
@@ -260,6 +260,7 @@ fn prepare(memo: &mut Memo, letters: usize)
     ensures cells { memo.new.cache.cells ≡ memo.old.cache.cells }
     ensures transitions { memo.new.transitions ≡ memo.old.transitions }
     ensures resumes { memo.new.resumes ≡ memo.old.resumes }
+    ensures leads { memo.new.leads ≡ memo.old.leads }
     ensures suffixes { memo.new.suffixes.items ≡ [] }
 {
     memo.suffixes.clear();
@@ -345,6 +346,23 @@ fn go_on<L: Letter>(
     Ok(Some(track))
 }
 
+/// Returns whether the next symbol of a line cannot follow, if its cell says so.
+#[inline(always)]
+fn dies_at<L: Letter>(classes: ClassTable<'_>, memo: &Memo, line: &[L], at: Track) -> bool
+    requires within { at.at < length line.now }
+    ensures { IsTrue result → (tables : the_tables) → GiveTargets (flat_of tables) tables.targets.items
+        → AreClasses (flat_of tables) classes.entry.low.now classes.entry.samples.now
+        → IsMemo tables classes.entry.samples.now memo.now
+        → IsTrack tables classes.entry.samples.now memo.now (map L.number line.now) at
+        → IsRunStop tables classes.entry.samples.now memo.now (map L.number line.now) at }
+{
+    let class = class_of(classes.low, classes.samples, line[at.at].value());
+    match look(&memo.cache, at.row, class) {
+        Cell::Dead => true,
+        Cell::Unknown | Cell::Over | Cell::To(_) | Cell::Push(_, _) => false,
+    }
+}
+
 /// Runs over a line. Returns where that stops: at the end of the line, or after its longest viable prefix; `None` if it
 /// exceeds a bound. `Memory` if an allocation fails.
 #[inline(always)]
@@ -369,6 +387,9 @@ fn follow<L: Letter>(
     }
     let track = glide(memo, classes.low, samples, line, Track { row: 0, at: 0 });
     if track.at < line.len() {
+        if dies_at(classes, memo, line, track) {
+            return Ok(Some(track));
+        }
         return go_on(alloc, tables, classes, memo, line, track);
     }
     Ok(Some(track))

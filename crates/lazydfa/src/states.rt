@@ -6,12 +6,13 @@ ghost use Rattle.lazydfa.specs.StackCuts.{IsCutState, IsStateWithin};
 ghost use Rattle.lazydfa.specs.StateSets.{AreMoreStates, AreStatesOf, IsLed, IsNextState, IsStartState, StateSet};
 
 use crate::automaton::{are_served, empty_memo};
-use crate::cache::{Cache, any_reads, forget, has_ended, state_of};
+use crate::cache::{Cache, forget, has_ended, state_of};
 use crate::cuts::{StateCut, are_among, cut_whole};
 use crate::fill::may_fill;
 use crate::run::begin;
+use crate::suffixes::entry;
 use crate::transition::{Closure, transition};
-use flatgrammar::{Flat, Tables};
+use flatgrammar::{Flat, Item, Tables, reads};
 use ruletable::Memory;
 use std::alloc::Global;
 use std::marker::Model;
@@ -176,10 +177,22 @@ impl States {
 
     /// Returns whether a symbol is read on top of a stack of a state. No contract relies on it.
     pub fn reads(&self, state: usize, value: u32) -> bool {
-        match self.cache.states.get(state) {
-            Some(got) => any_reads(&self.tables, &got.tops, value, &self.cache.conts),
-            None => false,
+        let Some(got) = self.cache.states.get(state) else {
+            return false;
+        };
+        for top in &got.tops {
+            if let Some(cont) = entry(&self.cache.conts, *top) {
+                let item = Item {
+                    node: cont.node,
+                    step: cont.step,
+                    origin: 0,
+                };
+                if reads(&self.tables, item, value) {
+                    return true;
+                }
+            }
         }
+        false
     }
 
     /// Returns whether the augmented start may end in a state.

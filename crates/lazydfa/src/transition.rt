@@ -3,6 +3,7 @@ ghost use Rattle.std.specs.Prelude.{◌≡◌, ◌↔◌, ◌≤◌, ◌++◌, �
 ghost use Rattle.std.specs.Prelude.{Contains};
 ghost use Rattle.lazydfa.specs.Conts.{AreKept, AreOlder, Adds, ReadsOn, ReadsFrom, TopReads, AreReaders, IsTransition};
 ghost use Rattle.lazydfa.specs.Conts.{stack_of};
+ghost use Rattle.lazydfa.specs.Kernels.{AreClosedTops};
 
 use crate::close::{Ids, add, close, cont_at, empty};
 use crate::conts::{Cont, Conts, id_of};
@@ -130,6 +131,27 @@ pub(crate) fn readers(
     Ok(tops)
 }
 
+/// Returns the closure of ids; `None` if that visits more ids than it may. `Memory` if an allocation fails.
+pub(crate) fn close_on(
+    alloc: Global,
+    tables: &Tables,
+    conts: &mut Conts,
+    ids: &mut Ids,
+) -> Result<Option<Closure>, Memory>
+    requires within { (id : ℕ) → Contains ids.old.items.items id → id ≤ length conts.old.items.items }
+    requires older { AreOlder conts.old.items.items }
+    ensures kept { IfOk result (λ reported. AreKept conts.old.items.items conts.new.items.items) }
+    ensures is { IfOk result (λ reported. IfSome reported (λ closure. AreClosedTops tables.now conts.old.items.items
+        ids.old.items.items
+        conts.new.items.items closure.tops.items closure.ended)) }
+{
+    let Some(ended) = close(tables, conts, ids)? else {
+        return Ok(None);
+    };
+    let tops = readers(alloc, tables, conts, &ids.items)?;
+    Ok(Some(Closure { tops, ended }))
+}
+
 /// Returns the closure after stacks read a symbol; `None` if that visits more ids than it may. `Memory` if an
 /// allocation fails.
 pub(crate) fn transition(
@@ -150,9 +172,5 @@ pub(crate) fn transition(
 {
     empty(ids);
     read_all(tables, tops, value, conts, ids)?;
-    let Some(ended) = close(tables, conts, ids)? else {
-        return Ok(None);
-    };
-    let tops = readers(alloc, tables, conts, &ids.items)?;
-    Ok(Some(Closure { tops, ended }))
+    close_on(alloc, tables, conts, ids)
 }

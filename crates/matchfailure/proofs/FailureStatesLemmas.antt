@@ -213,7 +213,7 @@ module _ (g : Grammar) (x : List ℕ) where
 
     pub ready_asks : IsSoundGrammar g → (asked : Option Visit) (a : MatchTask) (outside : Bool) (k q : ℕ)
         (denied : Bool) → IsReady g x log frames kept asked a outside (step.Asks k q denied)
-        → Stands g x log (record { task = a; outside = outside; stores = false } ∷ frames) kept
+        → Stands g x log (record { task = a; outside = outside; stores = false; cost = 0 } ∷ frames) kept
         (Ask (Eval k q) (side_under denied outside))
     ready_asks sound asked a outside k q denied r = record {
       stored = r.stored;
@@ -261,9 +261,10 @@ module _ (g : Grammar) (x : List ℕ) where
           );
         }
 
-    pub enters_pushed : (a : MatchTask) (outside : Bool) → Stands g x log frames kept (Ask a outside)
-        → Stands g x log (record { task = a; outside = outside; stores = true } ∷ frames) kept (Ask a outside)
-    enters_pushed a outside s = record {
+    pub enters_pushed : (a : MatchTask) (outside : Bool) (cost : ℕ) → Stands g x log frames kept (Ask a outside)
+        → Stands g x log (record { task = a; outside = outside; stores = true; cost = cost } ∷ frames) kept
+        (Ask a outside)
+    enters_pushed a outside cost s = record {
       stored = s.stored;
       failures = s.failures;
       next = (
@@ -302,20 +303,31 @@ module _ (g : Grammar) (x : List ℕ) where
       pub top_well : IsWell g x frame.task
       top_well = (stack_top s.next.2).0.well
 
+      ends_key : frame.stores ≡ true → IsResult g x kept frame.task frame.outside f
+      ends_key stores =
+          let top = stack_top s.next.2 in
+          let w = subst (λ v. Awaits g x kept v frame.task frame.outside s.next.0 s.next.1) stores top.0.awaits in
+          passes_result kept f w.0 (subst (λ v. IsResult g x kept s.next.0 v f) w.1 s.next.3)
+
+      pub resumes_unstored : frame.stores ≡ true → Stands g x log frames kept (Answer f)
+      resumes_unstored stores = record {
+        stored = s.stored;
+        failures = s.failures;
+        next = (frame.task, frame.outside, (stack_top s.next.2).1, ends_key stores);
+      }
+
       pub resumes_stored : frame.stores ≡ true → (mark : ℕ) → (mark ≡ 1 → frame.outside ≡ true) → (new : LogView)
           → new.stored ≡ record { task = frame.task; given = record { found = f; events = mark } } ∷ log.stored
           → new.rows ≡ log.rows → Stands g x new frames kept (Answer f)
       resumes_stored stores mark marks new is rows =
-          let top = stack_top s.next.2 in
-          let w = subst (λ v. Awaits g x kept v frame.task frame.outside s.next.0 s.next.1) stores top.0.awaits in
-          let result = passes_result kept f w.0 (subst (λ v. IsResult g x kept s.next.0 v f) w.1 s.next.3) in
+          let result = ends_key stores in
           record {
             stored = record {
               rows = rows ∙ s.stored.rows;
               right = λ t there. by result t (subst (IsIn t) is there);
             };
             failures = s.failures;
-            next = (frame.task, frame.outside, top.1, result);
+            next = (frame.task, frame.outside, (stack_top s.next.2).1, result);
           }
         where
           by : IsResult g x kept frame.task frame.outside f → (t : Stored)

@@ -27,7 +27,7 @@ pub(crate) fn counted_skips(begun: u64, evals: u32) -> u64
 
 /// Returns how many evaluations are begun with those of a node that a byte decides.
 #[inline(always)]
-pub(crate) fn counted_known(begun: u64, evals: u16) -> u64
+pub(crate) fn counted_known(begun: u64, evals: u32) -> u64
     requires { begun + 2 ^ 33 ≤ 2 ^ 64 }
     ensures { result ≡ begun + evals }
 {

@@ -79,6 +79,7 @@ fn summed(a: u128, b: u128) -> Option<u128>
 
 /// Finds the iterations, of a repetition of this operand, that the bytes from a position on decide. `None` if they
 /// decide neither an iteration nor the end.
+#[inline(always)]
 pub(crate) fn find_iterations(
     peg: &SoundPeg,
     window: &[u8],
@@ -206,9 +207,9 @@ pub(crate) fn wait_turned(
     Ok(())
 }
 
-/// Stores the result of a repetition at its position and after its iterations, up to the last one. Few repetitions end
-/// so, so it stands out of line.
-#[inline(never)]
+/// Stores the result of a repetition at its position and after its iterations, up to the last one. It is inlined
+/// wholly: a task whose address goes to a call is written to memory at each pass of the loop.
+#[inline(always)]
 pub(crate) fn put_turned(
     log: &mut KeyLog,
     star: MatchTask,

@@ -15,7 +15,7 @@ use pegnodes::{ByteVerdict, Decided};
 #[derive(Clone, Copy)]
 pub(crate) struct Known {
     pub(crate) found: Found,
-    pub(crate) evals: u16,
+    pub(crate) evals: u32,
 }
 
 /// A repetition of one or more, at a position whose byte its operand takes.
@@ -84,8 +84,37 @@ pub(crate) fn known_at(
     let decided = decided_at(peg, window, more, node, position)?;
     Some(Known {
         found: found_at(decided.verdict, position),
-        evals: decided.count,
+        evals: u32::from(decided.count),
     })
+}
+
+/// Returns the outcome of a repetition that takes nothing: its operand is no key, and the byte at the position decides
+/// that the operand fails.
+#[inline(always)]
+pub(crate) fn ended_at(
+    peg: &SoundPeg,
+    window: &[u8],
+    more: bool,
+    star: usize,
+    operand: usize,
+    position: usize,
+) -> Option<Known>
+    requires some { WasEnough window.now more 0 }
+    requires at { slice_get (shapes_of peg.now.nodes) star ≡ Some (Star operand) }
+    ensures { IfSome result (IsKnownAt peg.now window.now more peg.now.keys star position) }
+{
+    if peg.is_key_node(operand) {
+        return None;
+    }
+    let decided = decided_at(peg, window, more, star, position)?;
+    match decided.verdict {
+        ByteVerdict::Fails => Some(Known {
+            found: Found::Took(position),
+            evals: 1 + u32::from(decided.count),
+        }),
+        ByteVerdict::Takes => None,
+        ByteVerdict::Stays => None,
+    }
 }
 
 /// Returns how many evaluations begin with the operand of a repetition, if the byte at the position decides that the

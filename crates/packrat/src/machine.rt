@@ -106,7 +106,8 @@ fn stored_tail(
     })
 }
 
-// Ends a task with this result, which it stores if the task is a key.
+// Ends a task with this result, which it stores if the task is a key. It is inlined wholly: a task whose address goes
+// to a call is written to memory at each pass of the loop.
 #[inline(always)]
 fn close(log: &mut KeyLog, task: MatchTask, key: bool, given: Given) -> Result<(), Memory>
     requires { row_of task < log.old.rows }
@@ -119,21 +120,6 @@ fn close(log: &mut KeyLog, task: MatchTask, key: bool, given: Given) -> Result<(
         log.put(task, given)?;
     }
     Ok(())
-}
-
-// Ends a task that returns its first child's result, likewise, and answers with that. Few of these are keys, so it
-// stands out of line.
-#[inline(never)]
-fn answer_same(log: &mut KeyLog, task: MatchTask, key: bool, given: Given) -> Result<Next, Memory>
-    requires { row_of task < log.old.rows }
-    ensures rows { log.new.rows ≡ log.old.rows }
-    ensures closed { OnOk result ((peg : Grammar) (window : List ℕ) (more : Bool) (marks : Marks) (links : List Link) →
-        key ≡ key_of marks task →
-        IsClosed peg window more marks links task given log.old.stored log.new.stored) }
-    ensures answer { IfOk result (λ n. iteration_of n ≡ Answer given) }
-{
-    close(log, task, key, given)?;
-    Ok(Next::Answer(given))
 }
 
 // Pushes a frame that awaits a task's last child, if it is a key or has events: with the head of its events.
@@ -293,6 +279,7 @@ impl Machine {
     }
 
     // Goes over iterations that bytes decide, to the repetition's end or to its evaluation after them.
+    #[inline(always)]
     fn run_iterations(&mut self, peg: &SoundPeg, iterations: Iterations) -> Result<Next, Memory>
         requires sound { IsSoundGrammar peg.now }
         requires keyed { IsKeyed peg.now }
@@ -599,7 +586,10 @@ impl Machine {
                 close(&mut self.log, task, key, own)?;
                 Ok(Next::Answer(own))
             }
-            Onward::Same => Ok(answer_same(&mut self.log, task, key, given)?),
+            Onward::Same => {
+                close(&mut self.log, task, key, given)?;
+                Ok(Next::Answer(given))
+            }
             Onward::Passes { node, position } => {
                 wait_last(&mut self.frames, task, key, given.events)?;
                 Ok(Next::Ask { node, position })

@@ -7,12 +7,12 @@ ghost use Rattle.pegnodes.specs.Nodes.{Shape, shapes_of};
 ghost use Rattle.gramcheck.specs.Outcome.{Event};
 ghost use Rattle.pegmatch.specs.Answers.{WasEnough};
 ghost use Rattle.memo.specs.declared.task.MatchTask.{MatchTask};
-ghost use Rattle.packrat.specs.Begins.{AfterNone, IsLeaf};
+ghost use Rattle.packrat.specs.Begins.{AfterNone, IsLeaf, IsRepeated};
 ghost use Rattle.packrat.specs.Onward.{IsWell, IsLed, AfterOne, entering_of};
 ghost use Rattle.packrat.specs.TaskGives.{TaskYields};
 ghost use Rattle.packrat.specs.TaskSteps.{IsFirst};
 
-use crate::known::{Known, Taken, known_at, taken_at};
+use crate::known::{Known, Taken, ended_at, known_at, taken_at};
 use crate::skips::{Skips, skips_at};
 use gramcheck::SoundPeg;
 use memo::{Found, MatchTask};
@@ -154,6 +154,31 @@ fn tested(
     }
 }
 
+// Returns how a repetition of an operand begins at a position.
+#[inline(always)]
+fn begin_star(
+    peg: &SoundPeg,
+    window: &[u8],
+    more: bool,
+    star: usize,
+    operand: usize,
+    position: usize,
+) -> Begun
+    requires some { WasEnough window.now more 0 }
+    requires is { IsRepeated peg.now window.now more
+        (record { star = star; operand = operand; position = position }) }
+    ensures { AfterNone peg.now window.now more (MatchTask.Eval star position) result }
+{
+    match ended_at(peg, window, more, star, operand, position) {
+        Some(known) => Begun::Knows(known),
+        None => Begun::Repeats(Repeated {
+            star,
+            operand,
+            position,
+        }),
+    }
+}
+
 /// Returns how a node begins at a position: its result, or the child that it asks for first.
 #[inline(always)]
 pub(crate) fn begin_node(
@@ -186,11 +211,7 @@ pub(crate) fn begin_node(
         Node::Choice(alternatives) => {
             Begun::Skips(skips_at(peg, window, more, node, alternatives, position))
         }
-        Node::Star(operand) => Begun::Repeats(Repeated {
-            star: node,
-            operand: *operand,
-            position,
-        }),
+        Node::Star(operand) => begin_star(peg, window, more, node, *operand, position),
         Node::Not(operand) => tested(peg, window, more, node, *operand, position),
         Node::Plus { operand, star } => match taken_at(peg, window, more, *star, position) {
             Some(evals) => Begun::Takes(Taken {

@@ -8,7 +8,7 @@ use Rattle.std.proofs.lemmas.List.{length-drop}
 use Rattle.std.specs.Option.{option_map_or}
 use Rattle.lexer.specs.TokenLists.{start_of}
 use Rattle.diagnostics.proofs.LaterFaultLemmas.{first-one, later-one}
-use Rattle.diagnostics.specs.LaterFaults.{AreLaterFaults, IsFirstAt, enough, it_reads, no_line, one_more}
+use Rattle.diagnostics.specs.LaterFaults.{AreLaterFaults, IsFirstAt, enough, it_reads, no_line, on_line, one_more}
 use Rattle.ruletable.specs.Faults.{fault_text}
 use Rattle.ruletable.specs.Lines.{line_at}
 use Rattle.ruletable.specs.declared.fault.ReadFault.{ReadFault}
@@ -19,7 +19,7 @@ use Rattle.pegread.specs.Reading.{IsFaultOf, Reads}
 use Rattle.pegread.specs.Tokens.{Tok}
 use Rattle.pegread.proofs.IsFaultOfLemmas.{no-fault, one-fault}
 use Rattle.pegprint.specs.PegAllFaults.{AreFurther, AreOthers, ExplainsAll, DecidesAfter, IsDeciding, IsFaultFrom}
-use Rattle.pegprint.specs.PegAllFaults.{last_start, name_from, on_line}
+use Rattle.pegprint.specs.PegAllFaults.{last_start, name_from}
 use Rattle.pegprint.specs.PegExplained.{Explains}
 use Rattle.pegprint.specs.PegRuleLines.{IsMost, IsNext, goes_next, indent, is_rule_line}
 use Rattle.pegprint.proofs.PegWhyLemmas.{one-explanation, one-token}

@@ -1,7 +1,7 @@
 -- What explains a fault of a grammar's text, with the faults after it.
 use Rattle.std.specs.Prelude.{◌≡◌, ◌≢◌, ◌⊎◌, ℕ, ◌+◌, List, [], ◌∷◌, ◌++◌, drop, take}
 use Rattle.lexer.specs.TokenLists.{tok, start_of}
-use Rattle.diagnostics.specs.LaterFaults.{AreLaterFaults}
+use Rattle.diagnostics.specs.LaterFaults.{AreLaterFaults, on_line}
 use Rattle.pegread.specs.declared.kind.Kind.TheVariants.{Arrow}
 use Rattle.pegread.specs.Reading.{IsFaultOf, IsHopeless, IsTooDeep}
 use Rattle.pegread.specs.Tokens.{Tok}
@@ -35,15 +35,6 @@ pub record IsDeciding (text : List ℕ) (token : Tok) (ahead : ℕ) : Type 0 whe
   pub before : ℕ
   pub is_after : DecidesAfter text token before
   pub is : ahead ≡ name_from before token
-
--- the same fault on another line
-abbrev pub on_line : ℕ → ReadFault → ReadFault
-on_line line (faults.Syntax _) = faults.Syntax line
-on_line line (faults.Depth _) = faults.Depth line
-on_line line (faults.CodePredicate _) = faults.CodePredicate line
-on_line line (faults.NumberTooLarge _) = faults.NumberTooLarge line
-on_line line faults.TooLong = faults.TooLong
-on_line line faults.Memory = faults.Memory
 
 -- The text has a fault if it is read from a position on: the message of the fault and the lines that explain it. The
 -- name of the next rule can stand so many bytes after that position.

@@ -18,6 +18,8 @@ pub(crate) struct TaskFrame {
     pub(crate) outside: bool,
     /// Whether it awaits its own result, to store it. Else it awaits that of the node that it asks for.
     pub(crate) stores: bool,
+    /// If it awaits its own result: the machine's cost before it.
+    pub(crate) cost: u8,
 }
 
 /// A frame in numbers of 32 bits.
@@ -29,6 +31,8 @@ pub(crate) struct PackedTaskFrame {
     pub(crate) outside: bool,
     /// Whether it awaits its own result.
     pub(crate) stores: bool,
+    /// The machine's cost before it.
+    pub(crate) cost: u8,
 }
 
 // A frame is to stay small: deep nesting takes the memory of its frames.
@@ -74,6 +78,7 @@ impl TaskFrames {
             task,
             outside: frame.outside,
             stores: frame.stores,
+            cost: frame.cost,
         })?;
         Ok(())
     }
@@ -89,8 +94,28 @@ impl TaskFrames {
                 task: packed.task.task(),
                 outside: packed.outside,
                 stores: packed.stores,
+                cost: packed.cost,
             }),
             None => None,
+        }
+    }
+
+    /// Returns whether the last frame awaits its own result, that of this node.
+    #[inline(always)]
+    pub(crate) fn awaits_node(&self, node: usize) -> bool {
+        match self.frames.last() {
+            Some(last) => match last.task {
+                PackedTask::Eval {
+                    node: own,
+                    position: _,
+                } => last.stores && own as usize == node,
+                PackedTask::Tail {
+                    node: _,
+                    index: _,
+                    position: _,
+                } => false,
+            },
+            None => false,
         }
     }
 }

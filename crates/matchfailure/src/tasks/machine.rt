@@ -2,6 +2,7 @@
 ghost use Rattle.std.specs.Prelude.{◌≡◌, ◌<◌, ◌↔◌, ℕ, ◌∷◌, [], Bool, List, Option, true, slice_get, Some, IfOk, OnOk};
 ghost use Rattle.std.specs.Prelude.{IfSome, IfNone};
 ghost use Rattle.gramcheck.specs.Grammar.{Grammar, IsSoundGrammar};
+ghost use Rattle.memo.specs.KeyLog.{row_of};
 ghost use Rattle.memo.specs.Parts.{IsIn};
 ghost use Rattle.memo.specs.declared.key_log.Given.{Given};
 ghost use Rattle.memo.specs.declared.task.MatchTask.{MatchTask};
@@ -19,6 +20,7 @@ use crate::tasks::runs::{ByteRun, run_at};
 use crate::tasks::steps::{TaskStep, begin_task, go_on};
 use gramcheck::SoundPeg;
 use memo::{Found, Given, KeyLog, MatchTask};
+use pegnodes::Node;
 use ruletable::Memory;
 use std::alloc::Global;
 
@@ -29,13 +31,26 @@ pub(crate) enum NextTask {
     Answer(Found),
 }
 
-/// The machine. It evaluates a key at most twice, once in a `!` and once outside.
+// A result is stored if more than so many tasks begin to find it again. Fewer take no longer than a look-up.
+const FEW_TASKS: u8 = 8;
+
+// A repetition that goes on is stored after so many tasks.
+const MANY_TASKS: u8 = 32;
+
+// The comparison of so many bytes is one task.
+const FEW_BYTES: usize = 32;
+
+/// The machine. It stores the result of a key if it costs much to find it again. So it evaluates a key again at a
+/// position where that begins few tasks, and else at most twice: in a `!`, and outside.
 #[derive(Drop)]
 pub(crate) struct FailureMachine {
     /// The memo table. A result is marked by the number 1 if it was found outside of `!`.
     log: KeyLog,
     /// The tasks under way.
     frames: TaskFrames,
+    /// How many tasks were begun since the last frame was pushed that awaits its own result, 255 if more. Those below a
+    /// stored result are left out.
+    cost: u8,
     /// The farthest failing comparisons outside of `!`.
     pub(crate) kept: KeptFailures,
 }
@@ -110,6 +125,20 @@ fn is_key(peg: &SoundPeg, task: MatchTask) -> bool
     }
 }
 
+// Returns what a task costs that begins: 1, or more if its node is a long literal.
+#[inline(always)]
+fn cost_of(peg: &SoundPeg, task: MatchTask) -> u8
+    requires { (window : List ℕ) × IsWell peg.now window task }
+{
+    match task {
+        MatchTask::Eval { node, position: _ } => match peg.node(node) {
+            Node::Bytes(bytes) => { if bytes.len() > FEW_BYTES { u8::MAX } else { 1 } }
+            _ => 1,
+        },
+        MatchTask::Tail { .. } => 1,
+    }
+}
+
 impl FailureMachine {
     /// Returns a machine that holds nothing; it takes no memory.
     pub(crate) fn new(alloc: Global) -> FailureMachine
@@ -120,6 +149,7 @@ impl FailureMachine {
         FailureMachine {
             log: KeyLog::new(alloc),
             frames: TaskFrames::new(alloc),
+            cost: 0,
             kept: KeptFailures::new(alloc),
         }
     }
@@ -144,7 +174,22 @@ impl FailureMachine {
         recall(&mut self.log, task, outside)
     }
 
-    // Pushes a frame that stores the result of a task, if the task is a key.
+    // Returns whether a task is the next iteration of a repetition whose frame is the last one and was pushed few tasks
+    // before, and no later position of the repetition is stored.
+    #[inline(always)]
+    fn is_next_iteration(&self, task: MatchTask) -> bool {
+        match task {
+            MatchTask::Eval { node, position } => {
+                self.cost <= MANY_TASKS
+                    && self.frames.awaits_node(node)
+                    && self.log.is_new(node, position)
+            }
+            MatchTask::Tail { .. } => false,
+        }
+    }
+
+    // Pushes a frame that awaits the result of a task, if the task is a key. A repetition that goes on has one for many
+    // iterations.
     #[inline(always)]
     fn enter(&mut self, peg: &SoundPeg, task: MatchTask, outside: bool) -> Result<(), Memory>
         ensures kept { self.new.kept ≡ self.old.kept }
@@ -152,24 +197,27 @@ impl FailureMachine {
             self.old.kept (Ask task outside) → Stands peg.now window self.new.log self.new.frames self.new.kept
             (Ask task outside)) }
     {
-        if is_key(peg, task) {
+        if is_key(peg, task) && !self.is_next_iteration(task) {
             self.frames.push(TaskFrame {
                 task,
                 outside,
                 stores: true,
+                cost: self.cost,
             })?;
+            self.cost = 0;
         }
         Ok(())
     }
 
-    // Stores the result of a run, which is that at each of its positions, if the repetition is a key.
+    // Ends a run. Stores its result, which is that at each of its positions, if the repetition is a key and it is long.
     fn store_run(&mut self, peg: &SoundPeg, run: ByteRun, outside: bool) -> Result<NextTask, Memory>
         requires { run.star < self.old.log.rows }
         ensures { (g : Grammar) (window : List ℕ) (task : MatchTask) → IsRunPassed g window self.old.log self.old.frames
             self.old.kept task outside run → IfOk result (Stands g window self.new.log self.new.frames self.new.kept) }
     {
         let found = Found::Took(run.end);
-        if peg.is_key_node(run.star) {
+        self.cost = self.cost.saturating_add(1);
+        if peg.is_key_node(run.star) && run.end.saturating_sub(run.from) > FEW_BYTES {
             let given = Given {
                 found,
                 events: mark_of(outside),
@@ -198,6 +246,7 @@ impl FailureMachine {
                     task,
                     outside,
                     stores: false,
+                    cost: 0,
                 })?;
                 let task = MatchTask::Eval { node, position };
                 if denied {
@@ -235,6 +284,7 @@ impl FailureMachine {
             }
             None => {
                 self.enter(peg, task, outside)?;
+                self.cost = self.cost.saturating_add(cost_of(peg, task));
                 note_stop(&mut self.kept, peg, window, task, outside)?;
                 self.follow(task, outside, begin_task(peg, window, task))
             }
@@ -260,6 +310,27 @@ impl FailureMachine {
         }
     }
 
+    // Ends the task of the frame that was the last one. Stores its result if it costs much.
+    #[inline(always)]
+    fn leave(&mut self, frame: TaskFrame, found: Found) -> Result<NextTask, Memory>
+        requires row { row_of frame.task < self.old.log.rows }
+        requires stores { frame.stores ≡ true }
+        ensures { (g : Grammar) (window : List ℕ) → Stands g window self.old.log (frame ∷ self.old.frames)
+            self.old.kept (Answer found) → IfOk result (Stands g window self.new.log self.new.frames self.new.kept) }
+    {
+        if self.cost <= FEW_TASKS {
+            self.cost = self.cost.saturating_add(frame.cost);
+            return Ok(NextTask::Answer(found));
+        }
+        self.cost = frame.cost;
+        let given = Given {
+            found,
+            events: mark_of(frame.outside),
+        };
+        self.log.put(frame.task, given)?;
+        Ok(NextTask::Answer(found))
+    }
+
     // Returns a result to the frame that was the last one.
     #[inline(always)]
     fn resume(&mut self, peg: &SoundPeg, frame: TaskFrame, found: Found) -> Result<NextTask, Memory>
@@ -270,12 +341,7 @@ impl FailureMachine {
             (Answer found) → IfOk result (Stands peg.now window self.new.log self.new.frames self.new.kept) }
     {
         if frame.stores {
-            let given = Given {
-                found,
-                events: mark_of(frame.outside),
-            };
-            self.log.put(frame.task, given)?;
-            return Ok(NextTask::Answer(found));
+            return self.leave(frame, found);
         }
         let step = go_on(peg, frame.task, found);
         self.follow(frame.task, frame.outside, step)

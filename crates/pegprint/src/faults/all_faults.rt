@@ -1,19 +1,19 @@
 //! Explanations of all faults of a text.
 ghost use Rattle.std.specs.Prelude.{◌≡◌, ◌≢◌, ◌≤◌, ◌++◌, ℕ, List, length, drop, IfOk, OnOk};
 ghost use Rattle.lexer.specs.GrammarLimits.{max_grammar};
-ghost use Rattle.ruletable.specs.Faults.{fault_text};
+ghost use Rattle.diagnostics.specs.LaterFaults.{on_line as moved};
 ghost use Rattle.ruletable.specs.declared.fault.ReadFault.{ReadFault as AnyFault};
 ghost use Rattle.pegread.specs.Reading.{IsFaultOf};
 ghost use Rattle.pegprint.specs.PegAllFaults.{AreOthers, ExplainsAll, IsFaultFrom, name_from as name_offset};
-ghost use Rattle.pegprint.specs.PegAllFaults.{on_line as moved};
 ghost use Rattle.pegprint.specs.PegDecisions.{NoneDecides, token_of};
 
 use crate::faults::deciding_token::{DecidingToken, deciding_token};
 use crate::faults::explain::explain_fault;
 use crate::faults::rule_lines::{greatest_indent, next_rule_line};
+use diagnostics::fault_message;
 use lexer::tokens_make_up;
 use pegread::{Kind, one_reading, read_peg};
-use ruletable::{LineRule, Memory, ReadFault, SinkOf, line_of, write_fault};
+use ruletable::{LineRule, Memory, ReadFault, line_of};
 use std::alloc::Global;
 
 /// How many faults of a text are reported.
@@ -29,17 +29,6 @@ fn on_line(line: usize, fault: ReadFault) -> ReadFault
         ReadFault::CodePredicate { .. } => ReadFault::CodePredicate { line },
         ReadFault::NumberTooLarge { .. } => ReadFault::NumberTooLarge { line },
         ReadFault::TooLong | ReadFault::Memory => fault,
-    }
-}
-
-// Returns the message of a fault.
-fn fault_message(alloc: Global, fault: &ReadFault) -> Result<Vec<u8>, Memory>
-    ensures { IfOk result (λ text. text.items ≡ fault_text fault.now) }
-{
-    let mut text = SinkOf::new(Vec::new(alloc));
-    match write_fault(fault, &mut text) {
-        Ok(()) => Ok(text.into_inner()),
-        Err(_) => Err(Memory),
     }
 }
 

@@ -1,9 +1,11 @@
 -- The flat grammar answers whether the judged rule derives the symbols, and what their longest viable prefix is.
 use Rattle.std.proofs.Common.{map, arith}
 use Rattle.std.proofs.lemmas.List.{length-map}
+use Rattle.std.proofs.lemmas.Option.{IfSome_then}
 use Rattle.std.proofs.lemmas.Result.{err_from_is_err_and}
 use Rattle.abnfread.specs.AbnfViews.{rules_of}
 use Rattle.abnfrun.proofs.IsAnswerOnLemmas.{judge_says, letters_costly, verdict_says}
+use Rattle.abnfrun.proofs.JudgedAlikeLemmas.{verdict_alike}
 use Rattle.abnfrun.proofs.line_judge.judge_letters.Goals as goal
 use Rattle.ruletable.specs.Letters.{has}
 
@@ -68,3 +70,12 @@ returns-in_err-yes-clause-costly g c =
     rw (none.1, none.2) (letters_costly j.budget j.letters j.viable (rules_of j.grammar.now.rules)
     j.grammar.now.judged j.flat.now (map g.L.Letter.number c.args.line.now) j.lowered j.prefixes _
     c.in_err-yes.ensures.costly)
+
+pub viable-requires-clause-alike : goal.viable-requires-clause-alike
+viable-requires-clause-alike g c =
+    let j = c.args.judges.now in
+    let short = c.requires.within in
+    let size = length-map c.args.line.now g.L.Letter.number in
+    IfSome_then c.args.engines.now.automaton c.requires.alike (λ a alike.
+    verdict_alike (has j.letters) j.viable j.flat.now a c.if-judges.true alike
+    (map g.L.Letter.number c.args.line.now) (omega (arith, short, size)) c.requires.letters)

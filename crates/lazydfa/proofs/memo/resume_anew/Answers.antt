@@ -3,13 +3,14 @@ use Rattle.std.specs.Prelude.{IfSome}
 use Rattle.lazydfa.specs.Memos.{IsResumedBy}
 use Rattle.lazydfa.proofs.IsOverLemmas.{resumed_self, resumes_kept, resumes_pushed}
 use Rattle.lazydfa.proofs.AreTransitionsLemmas.{transitions_kept, memo_kept}
+use Rattle.lazydfa.proofs.KernelsLemmas.{leads_grown}
 use Rattle.lazydfa.proofs.memo.resume_anew.Goals as goal
 
 pub returns-in_default-clause-memo : goal.returns-in_default-clause-memo
 returns-in_default-clause-memo c =
     memo_kept c.args.tables.now c.args.samples.now c.args.memo.now
     (record c.args.memo.now { cache = c.state_over.new.cache }) c.requires.memo c.in_ok-reported.ensures.cached
-    c.in_ok-reported.ensures.grows refl refl
+    c.in_ok-reported.ensures.grows refl refl refl
 
 pub returns-clause-memo : goal.returns-clause-memo
 returns-clause-memo c = record {
@@ -29,4 +30,8 @@ returns-clause-memo c = record {
       c.state_over.new.cache.conts.items.items c.args.memo.now.cache.states.items
       c.state_over.new.cache.states.items c.in_ok-reported.ensures.grows.conts c.in_ok-reported.ensures.grows.states
       c.requires.memo.cached.within c.args.memo.now.transitions.items c.requires.memo.transitions;
+  leads = leads_grown c.args.tables.now c.args.memo.now.cache.conts.items.items
+      c.state_over.new.cache.conts.items.items c.args.memo.now.cache.states.items
+      c.state_over.new.cache.states.items c.args.memo.now.leads.items.items c.in_ok-reported.ensures.grows.conts
+      c.in_ok-reported.ensures.grows.states c.requires.memo.leads;
 }

@@ -55,6 +55,7 @@ returns-in_ok-push-in-Push-clause-memo c = record {
   cached = c.in_ok-t.ensures.memo.cached;
   resumes = c.in_ok-t.ensures.memo.resumes;
   transitions = c.in_ok-t.ensures.memo.transitions;
+  leads = c.in_ok-t.ensures.memo.leads;
 }
 
 pub returns-in_ok-push-in-Push-clause-taken : goal.returns-in_ok-push-in-Push-clause-taken

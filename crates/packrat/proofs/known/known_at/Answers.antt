@@ -9,6 +9,6 @@ returns c =
       here = d.here;
       last = d.last;
       verdict = c.in_ok-decided.decided.verdict;
-      decides = d.decides;
+      decides = rw c.from.ensures d.decides;
       found = c.found_at.ensures;
     }

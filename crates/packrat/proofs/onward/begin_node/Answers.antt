@@ -82,12 +82,12 @@ skips_at-requires-clause-at c =
     let here = shape_at c.args.peg.now.nodes c.args.node _ (c.node.ensures ∙ ap Some c.in-Choice.is) in
     rw c.deref-in-Choice.ensures.value here
 
-pub returns-in-Star : goal.returns-in-Star
-returns-in-Star c =
+pub begin_star-requires-clause-is : goal.begin_star-requires-clause-is
+begin_star-requires-clause-is c =
     let here = shape_at c.args.peg.now.nodes c.args.node _ (c.node.ensures ∙ ap Some c.in-Star.is) in
     let well = c.requires.well in
     let like = has_shape _ _ well.0.1 (shape.Star c.in-Star.operand) here in
-    (refl, (here, ((shape.Star c.in-Star.operand, here, refl), ((like.0, like.2), well.1))))
+    (here, ((shape.Star c.in-Star.operand, here, refl), ((like.0, like.2), well.1)))
 
 pub tested-requires-clause-tabled : goal.tested-requires-clause-tabled
 tested-requires-clause-tabled c = (

@@ -13,8 +13,8 @@ close-requires c =
     let w = c.requires.well in
     subst (λ v. row_of c.args.task < v) (sym c.requires.rows) (row_within c.args.peg.now w.0 c.args.task w.1)
 
-pub answer_same-requires : goal.answer_same-requires
-answer_same-requires c =
+pub close-requires-in-Same : goal.close-requires-in-Same
+close-requires-in-Same c =
     let w = c.requires.well in
     subst (λ v. row_of c.args.task < v) (sym c.requires.rows) (row_within c.args.peg.now w.0 c.args.task w.1)
 
@@ -33,23 +33,20 @@ returns-in_ok-close-in-Gives-clause-less c = λ window more some root s bytes.
     M.less_up c.args.peg.now bytes (record { task = c.args.task; key = c.args.key; wait = First })
     (record { found = c.in-Gives.found; events = 0 }) c.args.given c.args.self.now.frames c.args.self.now.begun
 
-pub returns-in_ok-answer_same-in-Same-clause-stands : goal.returns-in_ok-answer_same-in-Same-clause-stands
-returns-in_ok-answer_same-in-Same-clause-stands c = λ window more some root s.
+pub returns-in_ok-close-in-Same-clause-stands : goal.returns-in_ok-close-in-Same-clause-stands
+returns-in_ok-close-in-Same-clause-stands c = λ window more some root s.
     let well = L.level_well c.args.peg.now window more c.args.peg.now.keys root
     (record { task = c.args.task; key = c.args.key; wait = First }) c.args.given c.args.self.now.frames
     c.args.self.now.log.stored c.args.self.now.events c.args.self.now.begun s in
-    rw c.in_ok-answer_same-in-Same.ensures.answer
-    (L.stands_same c.args.peg.now window more c.args.peg.now.keys root c.args.task c.args.given
+    L.stands_same c.args.peg.now window more c.args.peg.now.keys root c.args.task c.args.given
     c.args.self.now.frames c.args.self.now.log.stored c.args.self.now.events c.args.self.now.begun c.args.key s
-    c.answer_same.new.log.stored (c.in-Same.ensures window more well some)
-    (c.in_ok-answer_same-in-Same.ensures.closed c.args.peg.now window more c.args.peg.now.keys
-    c.args.self.now.events))
+    c.close-in-Same.new.log.stored (c.in-Same.ensures window more well some)
+    (c.in_ok-close-in-Same.ensures.closed c.args.peg.now window more c.args.peg.now.keys c.args.self.now.events)
 
-pub returns-in_ok-answer_same-in-Same-clause-less : goal.returns-in_ok-answer_same-in-Same-clause-less
-returns-in_ok-answer_same-in-Same-clause-less c = λ window more some root s bytes.
-    rw c.in_ok-answer_same-in-Same.ensures.answer
-    (M.less_up c.args.peg.now bytes (record { task = c.args.task; key = c.args.key; wait = First })
-    c.args.given c.args.given c.args.self.now.frames c.args.self.now.begun)
+pub returns-in_ok-close-in-Same-clause-less : goal.returns-in_ok-close-in-Same-clause-less
+returns-in_ok-close-in-Same-clause-less c = λ window more some root s bytes.
+    M.less_up c.args.peg.now bytes (record { task = c.args.task; key = c.args.key; wait = First })
+    c.args.given c.args.given c.args.self.now.frames c.args.self.now.begun
 
 pub returns-in_ok-wait_last-in-Passes-clause-stands : goal.returns-in_ok-wait_last-in-Passes-clause-stands
 returns-in_ok-wait_last-in-Passes-clause-stands c = λ window more some root s.

@@ -21,7 +21,7 @@ pub returns-then-denied : goal.returns-then-denied
 returns-then-denied c = λ g window asked sound ready.
     rw c.in_ok-push-in-Asks.ensures
     (subst (λ v. Stands g window c.args.self.now.log
-    (record { task = c.args.task; outside = c.args.outside; stores = false } ∷ c.args.self.now.frames)
+    (record { task = c.args.task; outside = c.args.outside; stores = false; cost = 0 } ∷ c.args.self.now.frames)
     c.args.self.now.kept (Ask (Eval c.in-Asks.node c.in-Asks.position) (side_under v c.args.outside)))
     c.if-denied.true (ready_asks g window _ _ _ sound asked _ _ _ _ _
     (subst (IsReady g window c.args.self.now.log c.args.self.now.frames c.args.self.now.kept asked c.args.task
@@ -31,7 +31,7 @@ pub returns-else-denied : goal.returns-else-denied
 returns-else-denied c = λ g window asked sound ready.
     rw c.in_ok-push-in-Asks.ensures
     (subst (λ v. Stands g window c.args.self.now.log
-    (record { task = c.args.task; outside = c.args.outside; stores = false } ∷ c.args.self.now.frames)
+    (record { task = c.args.task; outside = c.args.outside; stores = false; cost = 0 } ∷ c.args.self.now.frames)
     c.args.self.now.kept (Ask (Eval c.in-Asks.node c.in-Asks.position) (side_under v c.args.outside)))
     c.if-denied.false (ready_asks g window _ _ _ sound asked _ _ _ _ _
     (subst (IsReady g window c.args.self.now.log c.args.self.now.frames c.args.self.now.kept asked c.args.task

@@ -1,20 +1,19 @@
 use Rattle.std.proofs.Common.{◌<◌, Some, sym, subst}
 use Rattle.memo.specs.KeyLog.{row_of}
-use Rattle.matchfailure.proofs.FailureStatesLemmas.{is_resumed, resumes_stored, row_within, top_well}
+use Rattle.matchfailure.proofs.FailureStatesLemmas.{is_resumed, row_within, top_well}
 use Rattle.matchfailure.proofs.tasks.machine.FailureMachine.resume.Goals as goal
 
-pub put-requires : goal.put-requires
-put-requires c =
+pub leave-requires : goal.leave-requires
+leave-requires c =
     let s = c.requires.stands in
     record {
       row = subst (λ v. row_of c.args.frame.task < v) (sym s.1.stored.rows)
           (row_within c.args.peg.now s.0 c.args.frame.task (top_well c.args.peg.now s.0 _ _ _ _ _ s.1));
+      stores = c.if-frame.true;
     }
 
 pub returns-then-frame : goal.returns-then-frame
-returns-then-frame c = λ window s.
-    resumes_stored c.args.peg.now window _ _ _ _ _ s c.if-frame.true c.mark_of.result c.mark_of.ensures.0 _
-    c.in_ok-put.ensures.stored c.in_ok-put.ensures.rows
+returns-then-frame c = λ window s. c.leave.ensures c.args.peg.now window s
 
 pub returns : goal.returns
 returns c = λ window s.
