@@ -11,14 +11,14 @@ use Rattle.flatgrammar.specs.ItemClosures.{item_at}
 use Rattle.flatgrammar.specs.NodeSteps.{flat_of}
 use Rattle.flatgrammar.specs.OldItems as old_items
 use Rattle.flatgrammar.specs.OldItems.{HasPart, IsNameNode, IsOld}
-use Rattle.flatgrammar.specs.Parts.{AreAwaited, IsPartOf}
+use Rattle.flatgrammar.specs.CalledParts.{AreAwaited, IsPartOf}
 use Rattle.flatgrammar.specs.Positions.{In, now, on}
 use Rattle.flatgrammar.specs.Stacks.{node_at}
 use Rattle.flatgrammar.specs.TableViews.{callee_of, name_of}
 use Rattle.flatgrammar.specs.declared.closure.DottedRule.{DottedRule}
 use Rattle.flatgrammar.specs.declared.tables.Tables as code_flat
 use Rattle.flatgrammar.proofs.InLemmas.{among_more, at_end, at_index_in, before_end, from_front, in_front, in_left}
-use Rattle.flatgrammar.proofs.PartsLemmas.{callee_calls, calls_callee, has_part_of, node_named, not_named, part_has}
+use Rattle.flatgrammar.proofs.CalledPartsLemmas.{callee_calls, calls_callee, has_part_of, node_named, not_named, part_has}
 use Rattle.earleyitems.specs.ChartSets.{AreDotsOf, AreOlderDotsOf, IsSet}
 use Rattle.earley.specs.OldDots as dots_of
 use Rattle.earley.specs.OldDots.{AddsNode, AreOldDots, ArePartsOf, Enters, EntersFrom, IsOldDot, IsPartOfSome}
@@ -178,8 +178,11 @@ module _ (tables : code_flat.Tables) (dots : List DottedRule) (q : DottedRule) (
       added = adds.added;
       grown = adds.grown;
       sound = λ s h. let g = (adds.are s).0 h in (
-        record { next = next; callee = subst (λ v. callee_of tables (item_at 0 q) ≡ Some (v, next)) (sym g.1) is;
-            no_name = subst (λ v. name_of tables v ≡ false) (sym g.1) is_false },
+        record {
+          next = next;
+          callee = subst (λ v. callee_of tables (item_at 0 q) ≡ Some (v, next)) (sym g.1) is;
+          no_name = subst (λ v. name_of tables v ≡ false) (sym g.1) is_false;
+        },
         g.0,
       );
       kept = λ m h. subst (λ v. In m v) (sym grown) (in_left (node ∷ []) h);

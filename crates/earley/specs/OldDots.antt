@@ -1,7 +1,7 @@
 -- The dotted rules of an item set that belong to what began before, and their parts.
 use Rattle.std.specs.Prelude.{◌≡◌, ◌↔◌, ◌⊎◌, ℕ, false, List, ◌++◌, Some}
 use Rattle.flatgrammar.specs.ItemClosures.{item_at}
-use Rattle.flatgrammar.specs.Parts.{IsPartOf}
+use Rattle.flatgrammar.specs.CalledParts.{IsPartOf}
 use Rattle.flatgrammar.specs.Positions.{In}
 use Rattle.flatgrammar.specs.TableViews.{callee_of, name_of}
 use Rattle.flatgrammar.specs.declared.closure.DottedRule.{DottedRule}

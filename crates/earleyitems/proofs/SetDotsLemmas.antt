@@ -59,8 +59,7 @@ in_pairs_at [] s i h = elim h [ ]
 in_pairs_at (b ∷ items) s i (now same) =
     let position : at s.node s.step ≡ at b.node b.step = ap (λ v. v.0) same in
     let node : b.node ≡ s.node = sym (ap node_at position) in
-    let step : b.step ≡ s.step = sym (ap step_at position) in
-    (
+    let step : b.step ≡ s.step = sym (ap step_at position) in (
       record { item = b; stands = now refl; is = λ k. record { node = node k; step = step k } },
       sym (ap (λ v. v.1) same),
     )

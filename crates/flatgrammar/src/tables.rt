@@ -2,7 +2,7 @@
 ghost use Rattle.std.specs.Prelude.{◌≡◌, ◌≢◌, ◌↔◌, ◌+◌, ◌^◌, ◌<◌, Some, None, IsTrue};
 ghost use Rattle.flatgrammar.specs.NodeSteps.{IfSomeSet};
 ghost use Rattle.flatgrammar.specs.TableViews.{call_of, callee_of, done_of, name_of, null_of, takes_of, read_of, rooted, start_target};
-ghost use Rattle.flatgrammar.specs.Parts.{IsPartOf};
+ghost use Rattle.flatgrammar.specs.CalledParts.{IsPartOf};
 ghost use Rattle.flatgrammar.specs.declared.closure.DottedRule.{DottedRule as the_dot};
 ghost use Rattle.flatgrammar.specs.ItemClosures.{closure_of, inlined_of, lists_of, readers_of as the_readers_of};
 

@@ -19,7 +19,7 @@ use Rattle.flatgrammar.specs.declared.flat_node.Node as code_node
 use Rattle.flatgrammar.specs.declared.tables.Tables as code_flat
 use Rattle.flatgrammar.proofs.CallOfLemmas.{begin_below, get_map, get_unmap}
 use Rattle.flatgrammar.proofs.NodeStepsLemmas.{begins_is}
-use Rattle.flatgrammar.proofs.PartsLemmas.{callee_calls, calls_callee, named_node, no_name, node_named, not_named}
+use Rattle.flatgrammar.proofs.CalledPartsLemmas.{callee_calls, calls_callee, named_node, no_name, node_named, not_named}
 use Rattle.lazydfa.specs.declared.conts.Cont.{Cont}
 use Rattle.lazydfa.specs.Conts.{after, last_of, Adds, AreKept, Begun, IsAdded, IsIdOf, LedBy, here, on}
 use Rattle.lazydfa.specs.NameWalks.{WalkCalls, enters, passes, WalkGoes}

@@ -6,7 +6,7 @@ use Rattle.std.proofs.lemmas.Bool.{cases_lt}
 use Rattle.std.proofs.lemmas.Option.{slice_get_within}
 use Rattle.std.specs.Prelude.{slice_get, Option, Some}
 use Rattle.flatgrammar.specs.Flat.{Dot, at}
-use Rattle.flatgrammar.specs.Parts.{IsPartOf}
+use Rattle.flatgrammar.specs.CalledParts.{IsPartOf}
 use Rattle.flatgrammar.specs.Positions.{In}
 use Rattle.flatgrammar.specs.declared.closure.DottedRule.{DottedRule}
 use Rattle.flatgrammar.specs.declared.tables.Tables as code_flat

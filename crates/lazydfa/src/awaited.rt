@@ -1,7 +1,7 @@
 //! The parts of rules that can come next, by walks from the stacks that a symbol leads to.
 ghost use Rattle.std.specs.Prelude.{◌≡◌, ◌↔◌, ◌⊎◌, ◌<◌, ◌≤◌, ℕ, true, List, [], IfOk, IfSome, length, slice_get, Some};
 ghost use Rattle.std.specs.Prelude.{Contains};
-ghost use Rattle.flatgrammar.specs.Parts.{IsPartOf};
+ghost use Rattle.flatgrammar.specs.CalledParts.{IsPartOf};
 ghost use Rattle.flatgrammar.specs.Positions.{In};
 ghost use Rattle.flatgrammar.specs.declared.closure.DottedRule.{DottedRule as the_dot};
 ghost use Rattle.flatgrammar.specs.declared.tables.Tables.{Tables as the_tables};

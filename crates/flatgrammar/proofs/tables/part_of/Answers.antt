@@ -1,5 +1,5 @@
 use Rattle.std.proofs.Common.{sym, ◌∙◌}
-use Rattle.flatgrammar.proofs.PartsLemmas.{name_part, reader_part}
+use Rattle.flatgrammar.proofs.CalledPartsLemmas.{name_part, reader_part}
 use Rattle.flatgrammar.proofs.tables.part_of.Goals as goal
 
 pub returns-then-operation_of : goal.returns-then-operation_of

@@ -1,7 +1,7 @@
 use Rattle.std.proofs.Common.{◌+◌, ◌/◌, ◌++◌, ◌∷◌, [], ap, length, map, subst, sym, refl, arith, ◌∙◌}
 use Rattle.std.proofs.lemmas.List.{length-map, map-append}
 use Rattle.std.specs.Prelude.{IfSome}
-use Rattle.flatgrammar.specs.Parts.{AreAwaited}
+use Rattle.flatgrammar.specs.CalledParts.{AreAwaited}
 use Rattle.flatgrammar.specs.Stacks.{Lifted}
 use Rattle.lazydfa.specs.Conts.{LedBy, ReadsFrom}
 use Rattle.lazydfa.specs.Memos.{IsMemo, IsRunStop}
