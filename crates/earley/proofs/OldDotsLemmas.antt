@@ -18,7 +18,8 @@ use Rattle.flatgrammar.specs.TableViews.{callee_of, name_of}
 use Rattle.flatgrammar.specs.declared.closure.DottedRule.{DottedRule}
 use Rattle.flatgrammar.specs.declared.tables.Tables as code_flat
 use Rattle.flatgrammar.proofs.InLemmas.{among_more, at_end, at_index_in, before_end, from_front, in_front, in_left}
-use Rattle.flatgrammar.proofs.CalledPartsLemmas.{callee_calls, calls_callee, has_part_of, node_named, not_named, part_has}
+use Rattle.flatgrammar.proofs.CalledPartsLemmas.{callee_calls, calls_callee, has_part_of, node_named, not_named}
+use Rattle.flatgrammar.proofs.CalledPartsLemmas.{part_has}
 use Rattle.earleyitems.specs.ChartSets.{AreDotsOf, AreOlderDotsOf, IsSet}
 use Rattle.earley.specs.OldDots as dots_of
 use Rattle.earley.specs.OldDots.{AddsNode, AreOldDots, ArePartsOf, Enters, EntersFrom, IsOldDot, IsPartOfSome}
@@ -124,8 +125,11 @@ module _ (dots : List DottedRule) (node : ℕ) (old : List DottedRule) where
 
         to : (s : DottedRule) → In s a.added ⊎ (s ≡ one) → In s (take (count + 1) dots) × (s.node ≡ node)
         to s (inl h) = let g = (a.are s).0 h in (wider g.0, g.1)
-        to s (inr same) =
-            (subst (λ v. In v (take (count + 1) dots)) (sym same) (here_take dots count d lt), ap (λ v. v.node) same ∙ at_node)
+        to s (inr same) = (
+          subst (λ v. In v (take (count + 1) dots)) (sym same) (here_take dots count d lt),
+          ap (λ v. v.node) same
+              ∙ at_node,
+        )
 
         back : (s : DottedRule) → In s (take count dots) ⊎ (s ≡ one) → s.node ≡ node → In s (a.added ++ one ∷ [])
         back s (inl h) same = in_left (one ∷ []) ((a.are s).1 (h, same))
@@ -167,7 +171,8 @@ module _ (tables : code_flat.Tables) (dots : List DottedRule) (q : DottedRule) (
 
     pub calls_name : name_of tables node ≡ true → (m : ℕ) → Enters tables q m → In m entered
     calls_name is_true m e =
-        let is_false = subst (λ v. name_of tables v ≡ false) (sym (same_node e)) e.no_name in absurd (cc (is_true, is_false))
+        let is_false = subst (λ v. name_of tables v ≡ false) (sym (same_node e)) e.no_name in
+        absurd (cc (is_true, is_false))
 
     pub was_entered : In node entered → (m : ℕ) → Enters tables q m → In m entered
     was_entered h m e = subst (λ v. In v entered) (same_node e) h
@@ -261,12 +266,14 @@ module _ (tables : code_flat.Tables) (n : ℕ) (older dots : List DottedRule) wh
       next = omega arith
 
       less : count < length new
-      less = let le = subst (λ v. length old ≤ length v) (sym e.grown) (length_more old e.added) in omega (arith, lt, le)
+      less = let le = subst (λ v. length old ≤ length v) (sym e.grown) (length_more old e.added) in
+          omega (arith, lt, le)
 
       from : (s : DottedRule) → In s old ⊎ In s e.added → IsOldDot tables n older dots s
       from s (inl h) = w.sound s h
       from s (inr h) =
-          let g = e.sound s h in dots_of.entered (w.sound (slice_index_or old count d) (at_index_in old count d lt)) g.0 g.1
+          let g = e.sound s h in dots_of.entered (w.sound (slice_index_or old count d) (at_index_in old count d lt)) g.0
+          g.1
 
       kept : (s : DottedRule) → In s old → In s new
       kept s h = subst (λ v. In s v) (sym e.grown) (in_left e.added h)
@@ -323,7 +330,8 @@ module _ (tables : code_flat.Tables) (dots : List DottedRule) where
   pub no_parts : (none : List DottedRule) → none ≡ [] → ArePartsOf tables (take 0 dots) none
   no_parts none is s = (λ h. absurd (not_in (subst (λ v. In s v) is h)), λ p. absurd (not_in p.stands))
 
-  pub all_parts : (count : ℕ) (parts : List DottedRule) → length dots ≤ count → ArePartsOf tables (take count dots) parts
+  pub all_parts : (count : ℕ) (parts : List DottedRule) → length dots ≤ count
+      → ArePartsOf tables (take count dots) parts
       → ArePartsOf tables dots parts
   all_parts count parts le are s = (
     λ h. let p = (are s).0 h in record { dot = p.dot; stands = from_front p.dot dots count p.stands; part = p.part },
@@ -356,7 +364,8 @@ module _ (tables : code_flat.Tables) (dots : List DottedRule) where
 
 -- of an item set
 module _ (tables : code_flat.Tables) (x : List ℕ) (n : ℕ) (set : List (Dot × ℕ))
-    (is_set : IsSet (flat_of tables) x n set) (older dots old : List DottedRule) (are_older : AreOlderDotsOf set n older)
+    (is_set : IsSet (flat_of tables) x n set) (older dots old : List DottedRule)
+    (are_older : AreOlderDotsOf set n older)
     (are_dots : AreDotsOf set dots) (are : AreOldDots tables n older dots old) where
   abbrev flat : Flat
   flat = flat_of tables
@@ -406,7 +415,8 @@ module _ (tables : code_flat.Tables) (x : List ℕ) (n : ℕ) (set : List (Dot �
         g.1,
         at_origin g.0 s.node (origin_most (at s.node s.step) g.0 g.1)
             (λ same. old_items.entered from.1 from.2 (callee_calls tables q.node q.step e.callee)
-            (λ name. let is_true = node_named tables s.node name in let is_false = e.no_name in cc (is_true, is_false))),
+            (λ name. let is_true = node_named tables s.node name in let is_false = e.no_name in
+            cc (is_true, is_false))),
       )
 
   whole : {s i : ℕ} → IsOld flat x n s i → (p : DottedRule) → p.node ≡ s → Holds flat x n (at p.node p.step) i

@@ -1,10 +1,10 @@
 -- The parts of dotted rules, by the tables.
 -- Serves: part_of; awaited of lazydfa, awaited_at of earley.
-use Rattle.std.proofs.Common.{◌≡◌, ◌⊎◌, inl, inr, ℕ, zero, suc, ◌<◌, Bool, true, false, List, [], ◌∷◌, length}
-use Rattle.std.proofs.Common.{refl, sym, ◌∙◌, ap, subst, arith}
+use Rattle.std.proofs.Common.{◌≡◌, ◌⊎◌, inl, inr, ℕ, zero, suc, ◌<◌, Bool, true, false, List, [], ◌∷◌, length, refl}
+use Rattle.std.proofs.Common.{sym, ◌∙◌, ap, subst, arith}
 use Rattle.std.specs.Prelude.{◌≢◌, slice_get, Option, Some, None}
-use Rattle.flatgrammar.specs.Flat.{Dot, at, Node, Letters, Concat, Alt, Rep, Iterations, Opt, Name, Nothing, Set}
-use Rattle.flatgrammar.specs.Flat.{Calls, calls}
+use Rattle.flatgrammar.specs.Flat.{Dot, at, Node, Letters, Concat, Alt, Rep, Iterations, Opt, Name, Nothing, Set, Calls}
+use Rattle.flatgrammar.specs.Flat.{calls}
 use Rattle.flatgrammar.specs.FlatViews.{node_of}
 use Rattle.flatgrammar.specs.Holds.{Holds}
 use Rattle.flatgrammar.specs.ItemClosures.{item_at, dot}
@@ -76,7 +76,8 @@ module _ (tables : code_flat.Tables) where
       → Calls (flat_of tables) (at n k) s (at n next)
   callee_calls n k {s = s} {next = next} h = by (slice_get tables.nodes.items n) refl
     where
-      by : (o : Option code_node.Node) → slice_get tables.nodes.items n ≡ o → Calls (flat_of tables) (at n k) s (at n next)
+      by : (o : Option code_node.Node) → slice_get tables.nodes.items n ≡ o
+          → Calls (flat_of tables) (at n k) s (at n next)
       by None is = let none = ap (λ v. callee_in v k) (sym is) in absurd (cc (none, h))
       by (Some node) is =
           let there : callee (node_of node) k ≡ Some (s, next) = ap (λ v. callee_in v k) (sym is) ∙ h in

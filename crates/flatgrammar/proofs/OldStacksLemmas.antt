@@ -1,11 +1,10 @@
 -- Old items are on top of the stacks that a walk leads to after a symbol.
 -- Serves: stacks_decide.
-use Rattle.std.proofs.Common.{◌≡◌, ◌⊎◌, inl, inr, ℕ, ◌+◌, ◌<◌, ◌≤◌, List, [], ◌∷◌, refl, sym, ◌∙◌}
-use Rattle.std.proofs.Common.{subst, arith}
+use Rattle.std.proofs.Common.{◌≡◌, ◌⊎◌, inl, inr, ℕ, ◌+◌, ◌<◌, ◌≤◌, List, [], ◌∷◌, refl, sym, ◌∙◌, subst, arith}
 use Rattle.std.proofs.lemmas.Bool.{cases_lt}
 use Rattle.std.specs.Prelude.{slice_get, Bool, true, false, Option, Some, None}
-use Rattle.flatgrammar.specs.Flat.{Flat, Node, Name, Dot, Has, Starts, starts, name_starts, Ends}
-use Rattle.flatgrammar.specs.Flat.{ends, name_ends, Calls}
+use Rattle.flatgrammar.specs.Flat.{Flat, Node, Name, Dot, Has, Starts, starts, name_starts, Ends, ends, name_ends}
+use Rattle.flatgrammar.specs.Flat.{Calls}
 use Rattle.flatgrammar.specs.Holds.{Holds, begins, called, has_read, returned}
 use Rattle.flatgrammar.specs.Stacks as st
 use Rattle.flatgrammar.specs.Stacks.{node_at, AreUncounted, IsDoneAt, MarksLast, call, tail_call, Reach, ReadBy}
@@ -13,8 +12,8 @@ use Rattle.flatgrammar.specs.OldItems as old
 use Rattle.flatgrammar.specs.OldItems.{IsNameNode, IsOld, Walks}
 use Rattle.flatgrammar.proofs.FlatNullableLemmas.{ends_null, goes_through, passes_where_begun}
 use Rattle.flatgrammar.proofs.StacksLemmas.{bool_cases, IsBegin, calls_node, reads_node, EndsAs, own_starts, starts_end}
-use Rattle.flatgrammar.proofs.StacksLemmas.{ends_start, starts_begin, ends_done, origin_before, return_held, Under, bottom}
-use Rattle.flatgrammar.proofs.StacksLemmas.{frame, hidden, chain_under, back_ends, hidden_end, IsBegun, IsAt}
+use Rattle.flatgrammar.proofs.StacksLemmas.{ends_start, starts_begin, ends_done, origin_before, return_held, Under}
+use Rattle.flatgrammar.proofs.StacksLemmas.{bottom, frame, hidden, chain_under, back_ends, hidden_end, IsBegun, IsAt}
 use Rattle.flatgrammar.proofs.StacksLemmas.{climb_up, began_so, base_of}
 
 module _ (flat : Flat) (uncounted : AreUncounted flat) (x : List ℕ) (last : Dot → Bool) (reports : MarksLast flat last)

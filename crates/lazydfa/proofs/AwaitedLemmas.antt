@@ -1,10 +1,9 @@
 -- The parts that can come next after a symbol, by walks from the stacks that it leads to.
 -- Serves: awaited.
-use Rattle.std.proofs.Common.{◌≡◌, ◌⊎◌, inl, inr, ℕ, zero, suc, ◌+◌, ◌/◌, ◌<◌, ◌≤◌, Bool, true, false, List, []}
-use Rattle.std.proofs.Common.{◌∷◌, ◌++◌, length, refl, sym, ◌∙◌, ap, subst, arith}
+use Rattle.std.proofs.Common.{◌≡◌, ◌⊎◌, inl, inr, ℕ, zero, suc, ◌+◌, ◌/◌, ◌<◌, ◌≤◌, Bool, true, false, List, [], ◌∷◌}
+use Rattle.std.proofs.Common.{◌++◌, length, refl, sym, ◌∙◌, ap, subst, arith}
 use Rattle.std.specs.Prelude.{slice_get, Option, Some, None, Contains, IfSome}
-use Rattle.flatgrammar.specs.Flat.{Flat, Dot, at, Letters, Set, Starts, Reads, reads}
-use Rattle.flatgrammar.specs.Flat.{Reading}
+use Rattle.flatgrammar.specs.Flat.{Flat, Dot, at, Letters, Set, Starts, Reads, reads, Reading}
 use Rattle.flatgrammar.specs.FlatViews.{node_of}
 use Rattle.flatgrammar.specs.Holds.{Holds}
 use Rattle.flatgrammar.specs.ItemClosures.{item_at, dot}
@@ -226,7 +225,8 @@ module _ (tables : code_flat.Tables) (targets : GiveTargets (flat_of tables) tab
         by (inl h) = absurd (not_in s h)
         by (inr p) = has_part s p
 
-    walk_of : (p : Dot) (i : ℕ) → last_of tables p ≡ false → Holds flat x (j + 1) p i → IsOld flat x (j + 1) (node_at p) i
+    walk_of : (p : Dot) (i : ℕ) → last_of tables p ≡ false → Holds flat x (j + 1) p i
+        → IsOld flat x (j + 1) (node_at p) i
         → (rest : List Dot) × Walks flat (last_of tables) Before (p ∷ rest)
     walk_of p i is_false h is_old = old_walked flat uncounted x (last_of tables) marks j c letter h is_old is_false
 
@@ -259,7 +259,8 @@ module _ (tables : code_flat.Tables) (targets : GiveTargets (flat_of tables) tab
     whole_at s n k p same (old.reads {i = i} {sets = sets} h is_old is lt) st =
         let set = get_some sets k lt in
         let rd : Reads flat (at n k) set.0 (at n (k + 1)) = reads is (Reading.letter set.1) in
-        let w = walk_of (at n k) i (not_last (at n k) (λ is_true. marks.no_read (at n k) (at n (k + 1)) set.0 is_true rd)) h is_old in
+        let w = walk_of (at n k) i (not_last (at n k) (λ is_true. marks.no_read (at n k) (at n (k + 1)) set.0 is_true
+        rd)) h is_old in
         let r = reader_walked flat (last_of tables) marks Before Cover covers w.1 rd in
         let u = get_unmap node_of tables.nodes.items n (Letters sets) is in
         let there : read_of tables (item_at 0 (dot n k)) ≡ Some set.0 =

@@ -1,10 +1,9 @@
 -- Walks by the tables are those of stacks, and how they come about.
 -- Serves: awaited.
-use Rattle.std.proofs.Common.{◌≡◌, ◌⊎◌, inl, inr, ℕ, ◌<◌, Bool, true, false, List, [], ◌∷◌, refl}
-use Rattle.std.proofs.Common.{sym, ◌∙◌, ap, subst, arith}
+use Rattle.std.proofs.Common.{◌≡◌, ◌⊎◌, inl, inr, ℕ, ◌<◌, Bool, true, false, List, [], ◌∷◌, refl, sym, ◌∙◌, ap, subst}
+use Rattle.std.proofs.Common.{arith}
 use Rattle.std.specs.Prelude.{slice_get, Option, Some, None}
-use Rattle.flatgrammar.specs.Flat.{Dot, at}
-use Rattle.flatgrammar.specs.Flat.{Starts, starts, name_starts, Calls}
+use Rattle.flatgrammar.specs.Flat.{Dot, at, Starts, starts, name_starts, Calls}
 use Rattle.flatgrammar.specs.FlatViews.{node_of}
 use Rattle.flatgrammar.specs.ItemClosures as closures
 use Rattle.flatgrammar.specs.ItemClosures.{item_at, dot}
@@ -13,8 +12,7 @@ use Rattle.flatgrammar.specs.Nullable.{Nullable}
 use Rattle.flatgrammar.specs.OldItems as old
 use Rattle.flatgrammar.specs.OldItems.{IsNameNode, Walks}
 use Rattle.flatgrammar.specs.Stacks.{IsDoneAt}
-use Rattle.flatgrammar.specs.TableViews.{AreNulls, GiveTargets, callee_of, count_in, name_of}
-use Rattle.flatgrammar.specs.TableViews.{null_in, null_of}
+use Rattle.flatgrammar.specs.TableViews.{AreNulls, GiveTargets, callee_of, count_in, name_of, null_in, null_of}
 use Rattle.flatgrammar.specs.declared.flat_node.Node as code_node
 use Rattle.flatgrammar.specs.declared.tables.Tables as code_flat
 use Rattle.flatgrammar.proofs.CallOfLemmas.{begin_below, get_map, get_unmap}
@@ -86,9 +84,11 @@ module _ (tables : code_flat.Tables) where
         by : (last_of tables (at n next) ≡ true) ⊎ (last_of tables (at n next) ≡ false)
             → Walked from (at s begun.step ∷ after tables n next below)
         by (inl last) =
-            rw last (old.enters_last w (callee_calls tables n k is) (no_name tables s is_false) (begun_start s begun.step begun.begins) last)
+            rw last (old.enters_last w (callee_calls tables n k is) (no_name tables s is_false)
+            (begun_start s begun.step begun.begins) last)
         by (inr last) =
-            rw last (old.enters w (callee_calls tables n k is) (no_name tables s is_false) (begun_start s begun.step begun.begins) last)
+            rw last (old.enters w (callee_calls tables n k is) (no_name tables s is_false)
+            (begun_start s begun.step begun.begins) last)
     step_walked {from = from} (at n k ∷ below) w (inl (passes {s = s} {next = next} is name null there)) =
         subst (λ v. Walked from v) (sym there)
         (old.passes w (callee_calls tables n k is) (named_node tables s name) (null_there s null))

@@ -1,7 +1,7 @@
 -- Walks over suffixes, and the parts on top of them.
 -- Serves: awaited.
-use Rattle.std.proofs.Common.{◌≡◌, ◌⊎◌, inl, inr, ◌↔◌, ℕ, zero, suc, ◌+◌, ◌<◌, ◌≤◌, Bool, true, false, List, []}
-use Rattle.std.proofs.Common.{◌∷◌, ◌++◌, length, refl, sym, ◌∙◌, ap, subst, arith, take}
+use Rattle.std.proofs.Common.{◌≡◌, ◌⊎◌, inl, inr, ◌↔◌, ℕ, zero, suc, ◌+◌, ◌<◌, ◌≤◌, Bool, true, false, List, [], ◌∷◌}
+use Rattle.std.proofs.Common.{◌++◌, length, refl, sym, ◌∙◌, ap, subst, arith, take}
 use Rattle.std.specs.Prelude.{slice_get, Some, Contains}
 use Rattle.flatgrammar.specs.Flat.{Dot, at}
 use Rattle.flatgrammar.specs.Positions.{In}
@@ -138,7 +138,8 @@ module _ (tables : code_flat.Tables) where
     pub over_led : {a : List Dot} → (a ≡ [] → ⊥) → IsOver a → LedBy (WalkGoes tables) (Lifted tops under) a
     over_led {a = a} full (inl g) =
         subst (λ v. LedBy (WalkGoes tables) (Lifted tops under) v) (sym g.stack_is) (all_lifted g.is)
-    over_led {a = a} full (inr g) = led_by_all (λ b same. subst (λ v. LedBy (WalkGoes tables) (Lifted tops under) v) same
+    over_led {a = a} full (inr g) = led_by_all (λ b same. subst (λ v. LedBy (WalkGoes tables) (Lifted tops under) v)
+        same
         (past_end g.0.0 g.0.1 g.0.2 (λ none. full (nothing_led g.1 none)))) g.1
 
     -- the parts over what is below
@@ -307,7 +308,8 @@ module _ (tables : code_flat.Tables) (first : List Cont) (given suffixes : List 
         last s (inr p) = which s (split_parts tables (IsStackOf conts ids) under some p)
 
     pub not_ended : ended ≡ false → AddsParts tables (IsWalkedOver tables first given suffixes) before added
-    not_ended is_false = down_done (λ s e p. let is_true = (walk_ends tables conts new ids more ended walked).1 e in cc (is_true, is_false))
+    not_ended is_false = down_done (λ s e p. let is_true = (walk_ends tables conts new ids more ended walked).1 e in
+        cc (is_true, is_false))
 
     pub none_left : left ≡ 0 → AddsParts tables (IsWalkedOver tables first given suffixes) before added
     none_left none = down_done (λ s e p. nothing_has tables

@@ -18,9 +18,9 @@ use Rattle.flatgrammar.specs.OldItems as oi
 use Rattle.flatgrammar.specs.OldItems.{IsNameNode, IsOld, HasPart}
 use Rattle.flatgrammar.specs.Holds.{Holds, begins, called, has_read}
 use Rattle.flatgrammar.specs.Stacks.{node_at}
-use Rattle.lowering.specs.Lowered.{letter_set, capped_most, Spells, spells, Shows, shows_text, shows_values, shows_range}
-use Rattle.lowering.specs.Lowered.{shows_concat, shows_alt, shows_rep, shows_iterations, shows_opt, shows_name, SpellAll}
-use Rattle.lowering.specs.Lowered.{shows_reversed, spell_more, IsLowered}
+use Rattle.lowering.specs.Lowered.{letter_set, capped_most, Spells, spells, Shows, shows_text, shows_values}
+use Rattle.lowering.specs.Lowered.{shows_range, shows_concat, shows_alt, shows_rep, shows_iterations, shows_opt}
+use Rattle.lowering.specs.Lowered.{shows_name, SpellAll, shows_reversed, spell_more, IsLowered}
 use Rattle.lowering.specs.AwaitedParts as w
 use Rattle.lowering.specs.Lowered.{ArePlaced, OperandAt}
 use Rattle.lowering.specs.AwaitedParts.{Spans, Awaits, AwaitsNext, AwaitsSome, Begun, IsAwaited, StandsIn, itself}
@@ -411,7 +411,8 @@ module _ (has : ℕ → Bool) (rules : List Rule) (judged : ℕ) (flat : Flat) (
       of_part (oi.calls h old c name) (spells at_s (shows_name found)) =
           λ q st. called h c (name_starts at_s (subst (λ k. slice_get flat.bodies k ≡ Some top) (sym found) is) st)
 
-      of_body : {body : Element} {v z : List ℕ} (s : ℕ) → AreStarted s i → Awaits has rules body v z (e.Name m) 0 → Spelt s body
+      of_body : {body : Element} {v z : List ℕ} (s : ℕ) → AreStarted s i → Awaits has rules body v z (e.Name m) 0
+          → Spelt s body
           → Lies x i v j → AreStarted top j
       of_body s inner w.name (spells at_s (shows_name found)) l =
           let count = lies_count x l in
@@ -459,7 +460,8 @@ module _ (has : ℕ → Bool) (rules : List Rule) (judged : ℕ) (flat : Flat) (
       started : AreStarted node.node a.start
       started = begun_started a.begun node.node node.at
 
-      in_body : {body p : Element} {v site : List ℕ} {k : ℕ} (b : Bool) → is_name body ≡ b → Awaits has rules body v site p k
+      in_body : {body p : Element} {v site : List ℕ} {k : ℕ} (b : Bool) → is_name body ≡ b
+          → Awaits has rules body v site p k
           → Spelt node.node body → Lies x a.start v n → a.start < n
           → HasPartIn n (IsOld flat x n) early into node.node site p k
       in_body false plain b sp l lt =

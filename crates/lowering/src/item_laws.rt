@@ -15,9 +15,9 @@ ghost use Rattle.lowering.specs.Verdicts.{IsVerdict};
 /// Returns nothing. Its contract is a law: on lines within its limit a flat grammar answers for the judged rule.
 ///
 /// The flat grammar of `lower` derives a line exactly if the rule does. The verdict of the flat grammar of
-/// `lower_viable` is that of the rule, with the longest viable prefix. A name or terminal at a site of a rule's body can
-/// come next after a prefix exactly if an item of its last set, of a rule that began before, calls or reads it. It is the
-/// element at that site.
+/// `lower_viable` is that of the rule, with the longest viable prefix. A name or terminal at a site of a rule's body
+/// can come next after a prefix exactly if an item of its last set, of a rule that began before, calls or reads it. It
+/// is the element at that site.
 /// One list of rules is left of rules without what derives nothing, and a flat grammar of it gives the prefixes of the
 /// rules.
 pub fn items_decide()
