@@ -102,11 +102,11 @@ module _ (dots : List DottedRule) (node : ℕ) (old : List DottedRule) where
     abbrev one : DottedRule
     one = slice_index_or dots count d
 
-    wider : {s : DottedRule} → In s (take count dots) → In s (take (count + 1) dots)
-    wider h = wider_take dots count h
+    wider_first : {s : DottedRule} → In s (take count dots) → In s (take (count + 1) dots)
+    wider_first h = wider_take dots count h
 
-    which : (s : DottedRule) → In s (take (count + 1) dots) → In s (take count dots) ⊎ (s ≡ one)
-    which s h = among_more s dots count d lt (subst (λ v. In s (take v dots)) next h)
+    which_first : (s : DottedRule) → In s (take (count + 1) dots) → In s (take count dots) ⊎ (s ≡ one)
+    which_first s h = among_more s dots count d lt (subst (λ v. In s (take v dots)) next h)
       where
         next : count + 1 ≡ suc count
         next = omega arith
@@ -116,7 +116,7 @@ module _ (dots : List DottedRule) (node : ℕ) (old : List DottedRule) where
     first_more more is at_node = record {
       added = a.added ++ one ∷ [];
       grown = is ∙ (ap (λ v. v ++ one ∷ []) a.grown ∙ assoc old a.added);
-      are = λ s. (λ h. to s (before_end s one a.added h), λ h. back s (which s h.0) h.1);
+      are = λ s. (λ h. to s (before_end s one a.added h), λ h. back s (which_first s h.0) h.1);
     }
       where
         assoc : (xs ys : List DottedRule) → (xs ++ ys) ++ one ∷ [] ≡ xs ++ (ys ++ one ∷ [])
@@ -124,7 +124,7 @@ module _ (dots : List DottedRule) (node : ℕ) (old : List DottedRule) where
         assoc (x ∷ xs) ys = ap (λ v. x ∷ v) (assoc xs ys)
 
         to : (s : DottedRule) → In s a.added ⊎ (s ≡ one) → In s (take (count + 1) dots) × (s.node ≡ node)
-        to s (inl h) = let g = (a.are s).0 h in (wider g.0, g.1)
+        to s (inl h) = let g = (a.are s).0 h in (wider_first g.0, g.1)
         to s (inr same) = (
           subst (λ v. In v (take (count + 1) dots)) (sym same) (here_take dots count d lt),
           ap (λ v. v.node) same
@@ -140,8 +140,8 @@ module _ (dots : List DottedRule) (node : ℕ) (old : List DottedRule) where
       added = a.added;
       grown = a.grown;
       are = λ s. (
-        λ h. let g = (a.are s).0 h in (wider g.0, g.1),
-        λ h. back s (which s h.0) h.1,
+        λ h. let g = (a.are s).0 h in (wider_first g.0, g.1),
+        λ h. back s (which_first s h.0) h.1,
       );
     }
       where
@@ -395,12 +395,12 @@ module _ (tables : code_flat.Tables) (x : List ℕ) (n : ℕ) (set : List (Dot �
       by (inr ge) =
           let same : i ≡ n = omega (arith, le, ge) in subst (λ v. IsOld flat x n s v) (sym same) (now_old same)
 
-  sound : {s : DottedRule} → IsOldDot tables n older dots s → (i : ℕ) × Holds flat x n (at s.node s.step) i
+  old_held : {s : DottedRule} → IsOldDot tables n older dots s → (i : ℕ) × Holds flat x n (at s.node s.step) i
       × IsOld flat x n s.node i
-  sound (dots_of.older {s = s} h) =
+  old_held (dots_of.older {s = s} h) =
       let g = (are_older s).0 h in
       (g.origin, is_set.held (at s.node s.step) g.origin g.stands, old_items.before g.older)
-  sound (dots_of.whole {s = s} zero_is h same) =
+  old_held (dots_of.whole {s = s} zero_is h same) =
       let g = dot_held s h in
       let none : g.0 ≡ 0 = (let le = origin_most (at s.node s.step) g.0 g.1 in omega (arith, le, zero_is)) in (
         g.0,
@@ -408,8 +408,8 @@ module _ (tables : code_flat.Tables) (x : List ℕ) (n : ℕ) (set : List (Dot �
         subst (λ v. IsOld flat x n v g.0) (sym same)
             (subst (λ v. IsOld flat x n flat.start v) (sym none) (old_items.whole zero_is)),
       )
-  sound (dots_of.entered {q = q} {s = s} o e h) =
-      let from = sound o in
+  old_held (dots_of.entered {q = q} {s = s} o e h) =
+      let from = old_held o in
       let g = dot_held s h in (
         g.0,
         g.1,
@@ -419,16 +419,16 @@ module _ (tables : code_flat.Tables) (x : List ℕ) (n : ℕ) (set : List (Dot �
             cc (is_true, is_false))),
       )
 
-  whole : {s i : ℕ} → IsOld flat x n s i → (p : DottedRule) → p.node ≡ s → Holds flat x n (at p.node p.step) i
+  old_listed : {s i : ℕ} → IsOld flat x n s i → (p : DottedRule) → p.node ≡ s → Holds flat x n (at p.node p.step) i
       → IsOldDot tables n older dots p
-  whole (old_items.before {i = i} lt) p same h =
+  old_listed (old_items.before {i = i} lt) p same h =
       dots_of.older ((are_older p).1 (record { origin = i; older = lt; stands = is_set.all (at p.node p.step) i h }))
-  whole (old_items.whole zero_is) p same h = dots_of.whole zero_is (held_dot p 0 h) same
-  whole (old_items.entered {q = q} {r = r} {i = i} {s = s} g o c other) p same h =
+  old_listed (old_items.whole zero_is) p same h = dots_of.whole zero_is (held_dot p 0 h) same
+  old_listed (old_items.entered {q = q} {r = r} {i = i} {s = s} g o c other) p same h =
       let e = calls_callee tables c in
       let from : DottedRule = record { node = e.0; step = e.1 } in
       dots_of.entered
-      (whole o from (ap (λ v. node_at v) (sym e.3)) (subst (λ v. Holds flat x n v i) e.3 g))
+      (old_listed o from (ap (λ v. node_at v) (sym e.3)) (subst (λ v. Holds flat x n v i) e.3 g))
       (subst (λ v. Enters tables from v) (sym same)
       (record { next = e.2; callee = e.5; no_name = not_named tables s other })) (held_dot p n h)
 
@@ -436,13 +436,13 @@ module _ (tables : code_flat.Tables) (x : List ℕ) (n : ℕ) (set : List (Dot �
   parts_awaited parts found = record {
     sound = λ s h.
         let p = (found s).0 h in
-        let o = sound ((are p.dot).0 p.stands) in
+        let o = old_held ((are p.dot).0 p.stands) in
         part_has tables x n (IsOld flat x n) p.dot.node p.dot.step s p.part o.0 o.1 o.2;
     whole = λ s p h st.
         let part = has_part_of tables x n (IsOld flat x n) s h in
         (found s).1 (record {
           dot = part.dot;
-          stands = (are part.dot).1 (whole part.old part.dot refl part.held);
+          stands = (are part.dot).1 (old_listed part.old part.dot refl part.held);
           part = part.part;
         });
   }

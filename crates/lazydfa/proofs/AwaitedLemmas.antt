@@ -163,8 +163,8 @@ module _ (tables : code_flat.Tables) (targets : GiveTargets (flat_of tables) tab
     abbrev flat : Flat
     flat = flat_of tables
 
-    marks : MarksLast (flat_of tables) (last_of tables)
-    marks = marks_last tables targets
+    marks_are : MarksLast (flat_of tables) (last_of tables)
+    marks_are = marks_last tables targets
 
     abbrev Before : List Dot → Type 0
     Before = ReadBy flat (last_of tables) (Reach flat (last_of tables) x j) c
@@ -200,24 +200,24 @@ module _ (tables : code_flat.Tables) (targets : GiveTargets (flat_of tables) tab
             }
 
     -- what is on top of a walk is held
-    held : (n k : ℕ) (rest : List Dot)
+    top_held : (n k : ℕ) (rest : List Dot)
         → LedBy (WalkGoes tables) (Lifted (ReadsFrom tables c conts tops) below) (at n k ∷ rest)
         → (i : ℕ) × Holds flat x (j + 1) (at n k) i × IsOld flat x (j + 1) n i
-    held n k rest h =
-        walked_old flat uncounted x (last_of tables) marks j c letter
-        (walks_more flat (last_of tables) marks
-        (λ a g. read_back flat (last_of tables) marks x j c (IsStackOf conts tops) below cover a (read_cover a g))
+    top_held n k rest h =
+        walked_old flat uncounted x (last_of tables) marks_are j c letter
+        (walks_more flat (last_of tables) marks_are
+        (λ a g. read_back flat (last_of tables) marks_are x j c (IsStackOf conts tops) below cover a (read_cover a g))
         (led_walked tables targets nulls h))
 
     has_part : (s : DottedRule) → IsPartOnTop tables
         (λ v. LedBy (WalkGoes tables) (Lifted (ReadsFrom tables c conts tops) below) v) s
         → HasPart flat x (j + 1) (IsOld flat x (j + 1)) s.node s.step
     has_part s p =
-        let h = held p.node p.step p.below p.is in
+        let h = top_held p.node p.step p.below p.is in
         part_has tables x (j + 1) (IsOld flat x (j + 1)) p.node p.step s p.part h.0 h.1 h.2
 
-    sound : (s : DottedRule) → In s parts → HasPart flat x (j + 1) (IsOld flat x (j + 1)) s.node s.step
-    sound s stands = by ((found s).0 stands)
+    parts_sound : (s : DottedRule) → In s parts → HasPart flat x (j + 1) (IsOld flat x (j + 1)) s.node s.step
+    parts_sound s stands = by ((found s).0 stands)
       where
         by : In s [] ⊎ IsPartOnTop tables (λ v. LedBy (WalkGoes tables)
             (Lifted (ReadsFrom tables c conts tops) below) v) s
@@ -228,10 +228,10 @@ module _ (tables : code_flat.Tables) (targets : GiveTargets (flat_of tables) tab
     walk_of : (p : Dot) (i : ℕ) → last_of tables p ≡ false → Holds flat x (j + 1) p i
         → IsOld flat x (j + 1) (node_at p) i
         → (rest : List Dot) × Walks flat (last_of tables) Before (p ∷ rest)
-    walk_of p i is_false h is_old = old_walked flat uncounted x (last_of tables) marks j c letter h is_old is_false
+    walk_of p i is_false h is_old = old_walked flat uncounted x (last_of tables) marks_are j c letter h is_old is_false
 
-    covers : (a : List Dot) → Before a → (b : List Dot) × Cover b × Dominates flat b a
-    covers a h = read_over flat (last_of tables) marks x j c (IsStackOf conts tops) below cover a h
+    covers_read : (a : List Dot) → Before a → (b : List Dot) × Cover b × Dominates flat b a
+    covers_read a h = read_over flat (last_of tables) marks_are x j c (IsStackOf conts tops) below cover a h
 
     back_led : {a : List Dot} → Walks flat (last_of tables) Cover a
         → LedBy (WalkGoes tables) (Lifted (ReadsFrom tables c conts tops) below) a
@@ -259,23 +259,23 @@ module _ (tables : code_flat.Tables) (targets : GiveTargets (flat_of tables) tab
     whole_at s n k p same (old.reads {i = i} {sets = sets} h is_old is lt) st =
         let set = get_some sets k lt in
         let rd : Reads flat (at n k) set.0 (at n (k + 1)) = reads is (Reading.letter set.1) in
-        let w = walk_of (at n k) i (not_last (at n k) (λ is_true. marks.no_read (at n k) (at n (k + 1)) set.0 is_true
-        rd)) h is_old in
-        let r = reader_walked flat (last_of tables) marks Before Cover covers w.1 rd in
+        let w = walk_of (at n k) i (not_last (at n k) (λ is_true. marks_are.no_read (at n k) (at n (k + 1)) set.0
+        is_true rd)) h is_old in
+        let r = reader_walked flat (last_of tables) marks_are Before Cover covers_read w.1 rd in
         let u = get_unmap node_of tables.nodes.items n (Letters sets) is in
         let there : read_of tables (item_at 0 (dot n k)) ≡ Some set.0 =
         ap (λ v. read_in v k) u.at ∙ (ap (λ v. read_at v k) u.is ∙ set.1) in
         stands_there s n k r.0 r.1 (parts_of.reads (λ none. cc (none, there)) same)
     whole_at s n k p same (old.calls {q = q} {r = r} {i = i} h is_old c name) st =
-        let w = walk_of q i (not_last q (λ is_true. marks.no_call q r p n is_true c st)) h is_old in
-        let g = call_walked flat (last_of tables) marks Before Cover covers w.1 c in
+        let w = walk_of q i (not_last q (λ is_true. marks_are.no_call q r p n is_true c st)) h is_old in
+        let g = call_walked flat (last_of tables) marks_are Before Cover covers_read w.1 c in
         let e = calls_callee tables g.4 in
         stands_there s e.0 e.1 g.2 (subst (λ v. Walks flat (last_of tables) Cover (v ∷ g.2)) e.3 g.3)
         (parts_of.calls e.5 (node_named tables n name) same)
 
     pub are_awaited : (n : ℕ) → n ≡ j + 1 → AreAwaited flat x n parts
     are_awaited n is = subst (λ v. AreAwaited flat x v parts) (sym is) (record {
-      sound = sound;
+      sound = parts_sound;
       whole = λ s p h st. whole_at s s.node s.step p refl h st;
     })
 
@@ -294,18 +294,18 @@ module _ (tables : code_flat.Tables) (targets : GiveTargets (flat_of tables) tab
     at_end : stop.at ≡ length x
     at_end = let within = is.within in omega (arith, within, whole)
 
-    there : slice_get memo.cache.states.items state
+    state_there : slice_get memo.cache.states.items state
         ≡ Some (at_stop tables targets uncounted one samples memo x stop is).state
-    there =
+    state_there =
         ap (λ v. slice_get memo.cache.states.items v)
         (state_is ∙ row_state is.tracks.state stop.row (length samples + 1) (length samples) refl is.tracks.row)
         ∙ (at_stop tables targets uncounted one samples memo x stop is).is
 
-    cover : IsPlainCover (flat_of tables) (last_of tables) (x ++ c ∷ []) (length x)
+    stop_cover : IsPlainCover (flat_of tables) (last_of tables) (x ++ c ∷ []) (length x)
         (IsStackOf memo.cache.conts.items.items
         (at_stop tables targets uncounted one samples memo x stop is).state.tops.items)
         (below_of memo.cache.conts.items.items memo.suffixes.items)
-    cover =
+    stop_cover =
         cover_on (flat_of tables) (last_of tables) x c
         (IsStackOf memo.cache.conts.items.items
         (at_stop tables targets uncounted one samples memo x stop is).state.tops.items)
@@ -322,8 +322,8 @@ module _ (tables : code_flat.Tables) (targets : GiveTargets (flat_of tables) tab
         (are_awaited tables targets nulls uncounted (x ++ c ∷ []) (length x) c
         (symbol_last (flat_of tables) (last_of tables) x c) memo.cache.conts.items.items
         (at_stop tables targets uncounted one samples memo x stop is).state.tops.items
-        (below_of memo.cache.conts.items.items memo.suffixes.items) cover parts
-        (found (at_stop tables targets uncounted one samples memo x stop is).state there) n n_is)
+        (below_of memo.cache.conts.items.items memo.suffixes.items) stop_cover parts
+        (found (at_stop tables targets uncounted one samples memo x stop is).state state_there) n n_is)
 
 -- what follows for a value, if there is one
 pub if_some : {T : Type 0} (found : Option T) (P Q : T → Type 0) → ((a : T) → P a → Q a) → IfSome found P

@@ -105,14 +105,14 @@ module _ (tables : code_flat.Tables) where
     led_walked (here h) = old.begun h
     led_walked (on {stack = stack} h g) = step_walked stack (led_walked h) g
 
-    returned : (p r : Dot) (below : List Dot) → IsDoneAt (flat_of tables) p
+    walk_returned : (p r : Dot) (below : List Dot) → IsDoneAt (flat_of tables) p
         → WalkGoes tables (p ∷ r ∷ below) (r ∷ below)
-    returned (at n k) r below d = inr (done_reported tables targets d, refl, λ none. cc none)
+    walk_returned (at n k) r below d = inr (done_reported tables targets d, refl, λ none. cc none)
 
-    entered : {s : ℕ} {p q r : Dot} (below next : List Dot) → Calls (flat_of tables) q s r
+    walk_entered : {s : ℕ} {p q r : Dot} (below next : List Dot) → Calls (flat_of tables) q s r
         → (IsNameNode (flat_of tables) s → ⊥) → Starts (flat_of tables) s p
         → ((n l : ℕ) → r ≡ at n l → after tables n l below ≡ next) → WalkGoes tables (q ∷ below) (p ∷ next)
-    entered {s = s} {p = p} {q = q} {r = r} below next c other st left =
+    walk_entered {s = s} {p = p} {q = q} {r = r} below next c other st left =
         let e = calls_callee tables c in
         let b = start_begun st other in
         subst (λ v. WalkGoes tables (v ∷ below) (p ∷ next)) (sym e.3)
@@ -136,11 +136,11 @@ module _ (tables : code_flat.Tables) where
 
     pub walked_led : {from : List Dot → Type 0} {a : List Dot} → Walked from a → LedBy (WalkGoes tables) from a
     walked_led (old.begun h) = here h
-    walked_led (old.returns {p = p} {r = r} {below = below} w d) = on (walked_led w) (returned p r below d)
+    walked_led (old.returns {p = p} {r = r} {below = below} w d) = on (walked_led w) (walk_returned p r below d)
     walked_led (old.enters {r = r} {below = below} w c other st is_false) =
-        on (walked_led w) (entered below (r ∷ below) c other st (kept_after below is_false))
+        on (walked_led w) (walk_entered below (r ∷ below) c other st (kept_after below is_false))
     walked_led (old.enters_last {below = below} w c other st is_true) =
-        on (walked_led w) (entered below below c other st (left_after below is_true))
+        on (walked_led w) (walk_entered below below c other st (left_after below is_true))
     walked_led (old.passes {s = s} {q = q} {r = r} {below = below} w c name null) =
         let e = calls_callee tables c in
         on (walked_led w) (subst (λ v. WalkGoes tables (v ∷ below) (r ∷ below)) (sym e.3)
