@@ -17,9 +17,9 @@ use Rattle.abnfcheck.specs.Derivable.{AreLetters, AtMost, Derives, DerivesAll, D
 use Rattle.abnfcheck.specs.Derivable.{all_done, then, this, later, no_more, one_more}
 use Rattle.abnfcheck.proofs.AbnfNotesLemmas.{id_most}
 use Rattle.abnfcheck.proofs.AimLemmas.{spelled_itself}
-use Rattle.abnfcheck.proofs.GraphLemmas.{body_below}
 use Rattle.abnfcheck.proofs.RuleIdLemmas.{body_at_id}
 use Rattle.abnfcheck.proofs.YieldsLemmas.{letters_both}
+use Rattle.flatgrammar.proofs.SliceGetLemmas.{get_below}
 use Rattle.lowering.specs.MoreMarks.{AreMoreMarks, DerivesMore, all_sources, may_iterate, source_demands, sources}
 use Rattle.lowering.specs.Pruned.{ArePruned, IsLeftBody, left_body, no_body, IsProductive, AreAllProductive, Keeps}
 use Rattle.lowering.specs.Pruned.{keep_text, keep_values, keep_range, keep_concat, keep_alt, keep_rep, empty_rep}
@@ -274,7 +274,10 @@ module _ (has : ℕ → Bool) (left : List Rule) where
   name_below n p = by p.derives
     where
       by : {w : List ℕ} → Derives has left (e.Name n) w → id_of left n < length left
-      by (der.name {e = b} found d) = body_below left (id_of left n) b (sym (body_at_id left n) ∙ found)
+      by (der.name found d) =
+          let below = get_below (bodies left) (id_of left n) (sym (body_at_id left n) ∙ found) in
+          let count = length-map left (λ rule. rule.body) in
+          omega (arith, below, count)
 
   name_more : (n : List ℕ) (m : ℕ) → IsProductive has left (e.Name n) → id_of left n ≡ m → IsGiven m
       → GivesMore (e.Name n)

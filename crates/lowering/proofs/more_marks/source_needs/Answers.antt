@@ -3,8 +3,8 @@ use Rattle.std.proofs.Common.{◌++◌, ◌∷◌, ◌∙◌, [], ap, arith, map
 use Rattle.std.proofs.lemmas.List.{length-map, map-append, take_all}
 use Rattle.fixpoint.specs.Demands.{All, One, owned_demand_of}
 use Rattle.abnfread.specs.AbnfViews.{element_of, rule_of, rules_of}
-use Rattle.abnfcheck.proofs.NameIdsLemmas.{body_shown}
 use Rattle.lowering.specs.MoreMarks.{sources}
+use Rattle.lowering.proofs.FlatCutLemmas.{body_at}
 use Rattle.lowering.proofs.MoreMarksLemmas.{needs_next}
 use Rattle.lowering.proofs.more_marks.source_needs.Goals as goal
 
@@ -12,7 +12,7 @@ pub loop-id-preserved : goal.loop-id-preserved
 loop-id-preserved c =
     rw (c.in_ok-push.ensures.items, map-append, c.loop-id.invariant, c.in_ok-row.ensures)
     (sym (needs_next (sources (rules_of c.args.rules.now)) (rules_of c.args.rules.now) c.loop-id.id
-    (element_of c.body.result.now) (body_shown c.args.rules.now.rules c.loop-id.id c.body.result.now c.body.ensures)))
+    (element_of c.body.result.now) (body_at c.args.rules.now.rules c.loop-id.id c.body.result.now c.body.ensures)))
 
 pub returns : goal.returns
 returns c =
