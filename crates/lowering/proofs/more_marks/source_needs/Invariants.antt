@@ -7,4 +7,5 @@ use Rattle.lowering.proofs.more_marks.source_needs.Given as goal
 
 abbrev pub invariant-loop-id : goal.invariant-loop-id
 invariant-loop-id l =
-    owned_demands_of l.needs.items ≡ map (λ rule. One (sources (rules_of l.rules) rule.body)) (take l.id (rules_of l.rules))
+    owned_demands_of l.needs.items ≡ map (λ rule. One (sources (rules_of l.rules) rule.body))
+    (take l.id (rules_of l.rules))
