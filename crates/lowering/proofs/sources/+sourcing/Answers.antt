@@ -3,7 +3,7 @@ use Rattle.std.proofs.Common.{◌==◌, ◌∙◌, ap, sym}
 use Rattle.std.proofs.lemmas.List.{length-map}
 use Rattle.abnfread.specs.AbnfViews.{rule_of}
 use Rattle.abnfread.proofs.ElementLemmas.{element-Text, element-Values, element-Range, element-Concat, element-Alt}
-use Rattle.abnfread.proofs.ElementLemmas.{element-Rep, element-Opt, element-Name}
+use Rattle.abnfread.proofs.ElementLemmas.{element-Opt, element-Name}
 use Rattle.abnfcheck.proofs.RuleIdLemmas.{id_found}
 use Rattle.lowering.proofs.sources.+sourcing.Goals as goal
 

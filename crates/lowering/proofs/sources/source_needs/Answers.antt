@@ -1,7 +1,7 @@
 -- The need of one more rule, and that of the terminals.
-use Rattle.std.proofs.Common.{◌++◌, ◌∷◌, ◌∙◌, [], ap, arith, map, sym}
+use Rattle.std.proofs.Common.{◌++◌, ◌∷◌, [], ap, arith, map, sym}
 use Rattle.std.proofs.lemmas.List.{length-map, map-append, take_all}
-use Rattle.fixpoint.specs.Demands.{All, One, owned_demand_of}
+use Rattle.fixpoint.specs.Demands.{All, One}
 use Rattle.abnfread.specs.AbnfViews.{element_of, rule_of, rules_of}
 use Rattle.lowering.specs.MoreMarks.{sources}
 use Rattle.lowering.proofs.FlatCutLemmas.{body_at}
