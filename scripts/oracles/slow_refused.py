@@ -3,6 +3,7 @@
 A letter can follow the longest viable prefix of a line if that prefix with the symbol after it is viable. All
 letters between two that the rules name behave alike, so that one of them is tried for all.
 """
+import functools
 import re
 import string
 
@@ -34,11 +35,23 @@ class Following:
     def __init__(self, rules, key, is_utf8):
         self.rules, self.key, self.is_utf8 = rules, key, is_utf8
         self.bounds = boundaries(rules)
+        self.some = slow_abnf.Deriver(rules, [], self.may_follow)
+        self.some.derives(key)
+
+    def may_follow(self, low, high):
+        return any(slow_abnf.is_letter(it, self.is_utf8) for it in (low, max(low, 0xE000)) if it <= high)
 
     def is_viable(self, letters):
-        def may_follow(low, high):
-            return any(slow_abnf.is_letter(it, self.is_utf8) for it in (low, max(low, 0xE000)) if it <= high)
-        return slow_abnf.Deriver(self.rules, letters, may_follow).derives(self.key)
+        return slow_abnf.Deriver(self.rules, letters, self.may_follow).derives(self.key)
+
+    def is_productive(self, e):
+        """Returns whether an element derives some list of symbols."""
+        return bool(self.some.after(e, 1))
+
+    @functools.cache
+    def is_more(self, key):
+        """Returns whether a rule derives a list that is not empty."""
+        return bool(Following(self.rules, key, self.is_utf8).runs([]))
 
     def runs(self, front):
         """Returns the maximal runs of letters that can follow, each by its first and its last."""
@@ -140,6 +153,109 @@ def letters_text(runs, is_utf8):
     return " / ".join(reported[:MOST]) + (f" and {len(reported) - MOST} more" if len(reported) > MOST else "")
 
 
+def leaf_sets(e):
+    """Returns of a terminal what may stand for each of its symbols, as ranges."""
+    if e[0] == "range":
+        return [[(e[1], e[2])]]
+    if e[0] == "values":
+        return [[(it, it)] for it in e[1]]
+    return [[(c, c)] if e[2] or not chr(c).isalpha() else sorted((it, it) for it in {c, ord(chr(c).swapcase())})
+            for c in e[1]]
+
+
+def set_text(ranges, is_utf8):
+    """Returns the text for the symbols of ranges, those that are letters."""
+    spans = [(0, 0xD7FF), (0xE000, 0x10FFFF)] if is_utf8 else [(0, 0xFF)]
+    return letters_text([(max(low, first), min(high, last)) for low, high in ranges for first, last in spans
+                         if max(low, first) <= min(high, last)], is_utf8)
+
+
+def printed(e):
+    """Returns a terminal of several symbols as `-m print` writes it."""
+    if e[0] == "values":
+        return "%x" + ".".join(f"{it:02X}" for it in e[1])
+    return "%s" * e[2] + '"' + e[1].decode("ascii") + '"'
+
+
+class Awaited:
+    """The parts that can come next after the longest viable prefix of a line: in the rules that began before its end,
+    names, and terminals with the number of their symbols that are read.
+    """
+
+    def __init__(self, following, front):
+        self.following, self.rules, self.front, self.size = following, following.rules, front, len(front)
+        self.whole = slow_abnf.Deriver(self.rules, front)
+        self.whole.derives(following.key)
+
+    def steps(self, e, places):
+        """Yields the elements right inside an element, each with its number and the places where it may begin."""
+        if e[0] == "concat":
+            for number, it in enumerate(e[1]):
+                yield number, it, places
+                places = self.whole.after(it, places)
+        if e[0] == "alt":
+            for number, it in enumerate(e[1]):
+                yield number, it, places
+        if e[0] == "opt":
+            yield 0, e[1], places
+        if e[0] == "rep":
+            turn, seen = 0, set()
+            while (e[2] is None or turn < e[2]) and places not in seen:
+                yield 0, e[3], places
+                seen.add(places)
+                turn, places = turn + 1, self.whole.after(e[3], places)
+
+    def inside(self, e, places, site=()):
+        """Yields the names and terminals in an element, each with its site and the places where it may begin."""
+        if not places or not self.following.is_productive(e):
+            return
+        if e[0] in ("name", "text", "values", "range"):
+            yield e, site, places
+        for number, it, starts in self.steps(e, places):
+            yield from self.inside(it, starts, (*site, number))
+
+    def begun(self):
+        """Returns the rules under way, each with the place where it begins."""
+        found, left = set(), {(self.following.key, 0)}
+        while left:
+            found |= left
+            left = {(e[1].upper(), it) for key, place in left
+                    for e, _, places in self.inside(self.rules.all[key], 1 << place) if e[0] == "name"
+                    for it in range(self.size + 1) if places >> it & 1} - found
+        return found
+
+    def counts(self, e, places):
+        """Yields how many symbols of a name or a terminal that begins there may be read before the end, but not all."""
+        if e[0] == "name" and places >> self.size & 1 and self.following.is_more(e[1].upper()):
+            yield 0
+        sets = [] if e[0] == "name" else leaf_sets(e)
+        for count in range(min(len(sets), self.size + 1)):
+            read = zip(self.front[self.size - count:], sets)
+            if places >> self.size - count & 1 and all(any(low <= c <= high for low, high in it) for c, it in read):
+                yield count
+
+    def text(self, e, count):
+        """Returns the text for a part."""
+        if e[0] == "name":
+            return slow_stops.cut(self.rules.spelled.get(e[1].upper(), e[1].upper()))
+        sets = leaf_sets(e)
+        if len(sets) == 1:
+            return set_text(sets[0], self.following.is_utf8)
+        leaf = slow_stops.cut(printed(e))
+        return f"{set_text(sets[count], self.following.is_utf8)} of {leaf}" if count else leaf
+
+    def parts(self):
+        """Returns the parts, each `TEXT in RULE`, by the order of rules and bodies."""
+        order, found = list(self.rules.all), {}
+        for key, place in self.begun():
+            if place < self.size or (key, place) == (self.following.key, 0):
+                for e, site, places in self.inside(self.rules.all[key], 1 << place):
+                    found.update({(order.index(key), site, count): e for count in self.counts(e, places)})
+        texts = [f"{self.text(e, count)} in {slow_stops.cut(self.rules.spelled.get(order[rule], order[rule]))}"
+                 for (rule, _, count), e in sorted(found.items(), key=lambda it: it[0])]
+        return list(dict.fromkeys(texts))
+
+
 def place_in_record(line, front, before):
     """Returns a position of a record: its line and column there, the bytes of that line, and how many are before it."""
     start, stop = line[:before].rfind(b"\n") + 1, line.find(b"\n", before)
@@ -156,7 +272,9 @@ def refusal(following, name, line, number, unit="line"):
     ends = slow_abnf.Deriver(following.rules, front).derives(following.key)
     if not runs and not ends:
         return f"{unit} {number}: rule '{slow_stops.cut(name)}' derives nothing\n"
-    expected = letters_text(runs, following.is_utf8)
+    expected, parts = letters_text(runs, following.is_utf8), Awaited(following, front).parts()
+    if len(parts) == 1 and parts[0].startswith((f"{expected} in ", f"{expected} of ")):
+        expected, parts = parts[0], []
     if ends:
         expected += f" or the end of the {unit}" if runs else f"the end of the {unit}"
     before = len("".join(map(chr, front)).encode()) if following.is_utf8 else after
@@ -167,7 +285,10 @@ def refusal(following, name, line, number, unit="line"):
     at = f"{place}: expected "
     if after == len(letters):
         at = f"{ended} ends too early: expected " if is_text else f"{place}: not UTF-8, expected "
-    return at + expected + "\n" + (slow_stops.picture(line, before) if line else "")
+    picture = slow_stops.picture(line, before) if line else ""
+    listed = "".join(f"  {it}\n" for it in parts[:MOST])
+    more = f"  and {len(parts) - MOST} more\n" if len(parts) > MOST else ""
+    return at + expected + "\n" + picture + listed + more
 
 
 def after_notes(grammar, given, limit, judged, is_utf8, end, is_kept=False):

@@ -12,3 +12,4 @@ pub mod LenLemmas
 pub mod RowMembersLemmas
 pub mod RowSetsLemmas
 pub mod WordInLemmas
+mod OldDotsLemmas

@@ -4,3 +4,4 @@ pub mod RowCharts
 pub mod RowIndexes
 pub mod RowMembers
 pub mod RowSets
+pub mod OldDots

@@ -1,6 +1,6 @@
 -- Item sets as rows: of each dotted rule, by number, its origins.
 use Rattle.std.specs.Prelude.{◌≡◌, ◌↔◌, ◌⊎◌, ℕ, ◌+◌, ◌<◌, List, [], ◌∷◌, ◌++◌, length, map, Some, slice_get, Contains}
-use Rattle.earley.specs.RowSets.{Rows, HasAt, HasSome}
+use Rattle.earley.specs.RowSets.{Rows, HasAt}
 use Rattle.earleyitems.specs.ItemSets.{IsAdvanced, waiting_in}
 use Rattle.flatgrammar.specs.ItemClosures.{item_at, dot}
 use Rattle.flatgrammar.specs.NodeSteps.{IfSomeSet}
@@ -67,13 +67,13 @@ pub record IsScannedFor (flat : code_flat.Tables) (c : ℕ) (by a : Item) : Type
   pub step : a.step ≡ by.step + 1
   pub origin : a.origin ≡ by.origin
 
--- the dotted rule of a dotted rule below n that has a number
-pub record HasDotBelow (dots : List DottedRule) (rows : List (List ℕ)) (n : ℕ) (s : DottedRule) : Type 0 where
+-- the dotted rule with a number of Q below n
+pub record HasDotBelow (dots : List DottedRule) (Q : ℕ → Type 0) (n : ℕ) (s : DottedRule) : Type 0 where
   pub position : ℕ
   pub under : position < n
   pub is : slice_get dots position ≡ Some s
-  pub some : HasSome rows position
+  pub some : Q position
 
--- the dotted rules of such dotted rules
-abbrev pub AreDotsBelow : List DottedRule → List (List ℕ) → ℕ → List DottedRule → Type 0
-AreDotsBelow dots rows n found = (s : DottedRule) → In s found ↔ HasDotBelow dots rows n s
+-- the dotted rules with such numbers
+abbrev pub AreDotsBelow : List DottedRule → (ℕ → Type 0) → ℕ → List DottedRule → Type 0
+AreDotsBelow dots Q n found = (s : DottedRule) → In s found ↔ HasDotBelow dots Q n s

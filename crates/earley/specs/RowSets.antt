@@ -18,6 +18,10 @@ HasAt rows p k = Contains (slice_index_or rows p []) k
 abbrev pub HasSome : List (List ℕ) → ℕ → Type 0
 HasSome rows p = (k : ℕ) × HasAt rows p k
 
+-- dotted rule p has some number below n
+abbrev pub HasOlder : List (List ℕ) → ℕ → ℕ → Type 0
+HasOlder rows n p = (k : ℕ) × HasAt rows p k × (k < n)
+
 -- each dotted rule with something pending stands in the queue
 pub record AreQueued (all pending : List (List ℕ)) (queue : List ℕ) : Type 0 where
   pub count : length pending ≡ length all

@@ -1,12 +1,12 @@
 //! Charts of item sets, and the line judge.
 ghost use Rattle.std.specs.Prelude.{◌≡◌, ◌↔◌, ◌*◌, ◌+◌, ◌≤◌, ℕ, List, [], IsTrue, IfOk, IfSome, IfNone, OnErr};
 ghost use Rattle.std.specs.Prelude.{length, map};
-ghost use Rattle.earleyitems.specs.ChartSets.{set_at, AreDotsOf, HaveMoreItems, IsSet};
+ghost use Rattle.earleyitems.specs.ChartSets.{set_at, AreDotsOf, AreOlderDotsOf, HaveMoreItems, IsSet};
 ghost use Rattle.flatgrammar.specs.FlatVerdicts.{DerivesLine};
 ghost use Rattle.flatgrammar.specs.Positions.{positions};
 
 use crate::row_chart::judge_rows;
-use crate::row_dots::row_dots;
+use crate::row_dots::{row_dots, row_older_dots};
 use crate::row_sets::RowChart;
 use earleyitems::judge_within;
 use flatgrammar::{DottedRule, Flat};
@@ -80,6 +80,20 @@ impl Chart {
             None => self.items.dots(j),
             Some(rows) => match rows.sets.get(j) {
                 Some(set) => row_dots(self.alloc, &rows.table.dots, &set.rows),
+                None => Ok(Vec::new(self.alloc)),
+            },
+        }
+    }
+
+    /// Returns the dotted rules of the items of set `j` with origins before `j`, each once or more; none if there is no
+    /// such set. `Memory` if an allocation fails.
+    pub fn older_dots(&self, j: usize) -> Result<Vec<DottedRule>, Memory>
+        ensures { IfOk result (λ dots. AreOlderDotsOf (set_at self.now j) j dots.items) }
+    {
+        match &self.rows {
+            None => self.items.older_dots(j),
+            Some(rows) => match rows.sets.get(j) {
+                Some(set) => row_older_dots(self.alloc, &rows.table.dots, &set.rows, j),
                 None => Ok(Vec::new(self.alloc)),
             },
         }

@@ -1,10 +1,12 @@
 -- A chart as contracts see it: of each set its items, each a dotted rule with its origin.
-use Rattle.std.specs.Prelude.{◌≡◌, ◌↔◌, ℕ, ◌<◌, List, [], map, slice_get, slice_index_or, length, sum_by, Option}
-use Rattle.std.specs.Prelude.{Some, None}
+use Rattle.std.specs.Prelude.{◌≡◌, ◌↔◌, ℕ, ◌<◌, nat_lt, if◌then◌else◌, List, [], ◌∷◌, map, slice_get, slice_index_or}
+use Rattle.std.specs.Prelude.{length, sum_by, Option, Some, None}
+use Rattle.std.specs.List.{flat_map}
 use Rattle.std.proofs.Common.{Global}
 use Rattle.std.specs.declared.rc.Rc.{Rc}
 use Rattle.flatgrammar.specs.Flat.{Flat, Dot, at}
 use Rattle.flatgrammar.specs.Holds.{Holds}
+use Rattle.flatgrammar.specs.ItemClosures.{dot}
 use Rattle.flatgrammar.specs.Positions.{In, AreDifferent}
 use Rattle.flatgrammar.specs.declared.closure.DottedRule.{DottedRule}
 use Rattle.flatgrammar.specs.declared.flat_item.Item.{Item}
@@ -33,6 +35,23 @@ pub record HasDot (set : List (Dot × ℕ)) (s : DottedRule) : Type 0 where
 -- the dotted rules are those of the items of a set
 abbrev pub AreDotsOf : List (Dot × ℕ) → List DottedRule → Type 0
 AreDotsOf set dots = (s : DottedRule) → In s dots ↔ HasDot set s
+
+-- an item of a set has this dotted rule, and an origin before n
+pub record HasOlderDot (set : List (Dot × ℕ)) (n : ℕ) (s : DottedRule) : Type 0 where
+  pub origin : ℕ
+  pub older : origin < n
+  pub stands : In {A = Dot × ℕ} (at s.node s.step, origin) set
+
+-- the dotted rules are those of the items with origins before n
+abbrev pub AreOlderDotsOf : List (Dot × ℕ) → ℕ → List DottedRule → Type 0
+AreOlderDotsOf set n dots = (s : DottedRule) → In s dots ↔ HasOlderDot set n s
+
+-- the dotted rule of an item with an origin before n
+abbrev pub older_dot : ℕ → Item → List DottedRule
+older_dot n a = if nat_lt a.origin n then dot a.node a.step ∷ [] else []
+
+abbrev pub older_dots : ℕ → List Item → List DottedRule
+older_dots n items = flat_map (older_dot n) items
 
 -- a list is exactly the items of set j, each once
 pub record IsSet (flat : Flat) (x : List ℕ) (j : ℕ) (set : List (Dot × ℕ)) : Type 0 where

@@ -4,7 +4,8 @@ ghost use Rattle.std.specs.Prelude.{IfNone, OnOk, OnErr, length, map, slice_get,
 ghost use Rattle.flatgrammar.specs.NodeSteps.{flat_of};
 ghost use Rattle.flatgrammar.specs.TableViews.{GiveTargets, AreNulls};
 ghost use Rattle.earleyitems.specs.Charts.{IsAfter, IsExact};
-ghost use Rattle.earleyitems.specs.ChartSets.{chart_of, set_at, IsSet, AreSized, AreDotsOf, HaveMoreItems};
+ghost use Rattle.earleyitems.specs.ChartSets.{chart_of, set_at, IsSet, AreSized, AreDotsOf, AreOlderDotsOf};
+ghost use Rattle.earleyitems.specs.ChartSets.{HaveMoreItems};
 ghost use Rattle.flatgrammar.specs.ItemClosures.{AreExact, closure_of, item_at, AreTables, AreAlone, AreOwners};
 ghost use Rattle.flatgrammar.specs.ItemClosures.{AreDotLists};
 ghost use Rattle.earleyitems.specs.ItemOwners.{prediction_rows, AreItemsOwned, AreReadersOwned};
@@ -24,7 +25,7 @@ use crate::items::Items;
 use crate::postdot::{OwnedItem, Postdot};
 use crate::predictions::Predictions;
 use crate::scan::scan;
-use crate::set_dots::{push_items, push_predictions};
+use crate::set_dots::{push_items, push_older_items, push_predictions};
 use crate::sets::{Filled, Record, Sets};
 use flatgrammar::{DottedRule, Flat, Item, Tables, dots, start_target};
 use ruletable::{Letter, Memory};
@@ -120,6 +121,24 @@ impl ItemChart {
                 Some(kept_set) => {
                     push_predictions(tables, kept_set.records(), &mut dots)?;
                     push_items(kept_set.items(), &mut dots)?;
+                    Ok(dots)
+                }
+            },
+        }
+    }
+
+    /// Returns the dotted rules of the items of set `j` with origins before `j`, each once or more; none if there is no
+    /// such set. `Memory` if an allocation fails.
+    pub fn older_dots(&self, j: usize) -> Result<Vec<DottedRule>, Memory>
+        ensures { IfOk result (λ dots. AreOlderDotsOf (set_at self.now j) j dots.items) }
+    {
+        let mut dots = Vec::new(self.alloc);
+        match &self.tables {
+            None => Ok(dots),
+            Some(_) => match self.sets.get(j) {
+                None => Ok(dots),
+                Some(kept_set) => {
+                    push_older_items(kept_set.items(), j, &mut dots)?;
                     Ok(dots)
                 }
             },

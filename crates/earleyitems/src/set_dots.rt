@@ -2,6 +2,7 @@
 ghost use Rattle.std.specs.Prelude.{◌≡◌, ◌++◌, map, OnOk};
 ghost use Rattle.std.specs.List.{flat_map};
 ghost use Rattle.flatgrammar.specs.ItemClosures.{closure_of, dot};
+ghost use Rattle.earleyitems.specs.ChartSets.{older_dot, older_dots};
 ghost use Rattle.earleyitems.specs.declared.sets.Record.{Record as the_record};
 
 use crate::sets::Record;
@@ -32,6 +33,33 @@ pub(crate) fn push_items(items: &[Item], out: &mut Vec<DottedRule>) -> Result<()
             node: item.node,
             step: item.step,
         })?;
+    }
+    Ok(())
+}
+
+// Adds the dotted rule of an item, if its origin is before `n`.
+fn push_older_item(item: Item, n: usize, out: &mut Vec<DottedRule>) -> Result<(), Memory>
+    ensures { OnOk result (out.new.items ≡ out.old.items ++ older_dot n item) }
+{
+    if item.origin < n {
+        out.push(DottedRule {
+            node: item.node,
+            step: item.step,
+        })?;
+    }
+    Ok(())
+}
+
+/// Adds the dotted rules of the items with origins before `n`.
+pub(crate) fn push_older_items(
+    items: &[Item],
+    n: usize,
+    out: &mut Vec<DottedRule>,
+) -> Result<(), Memory>
+    ensures { OnOk result (out.new.items ≡ out.old.items ++ older_dots n items.now) }
+{
+    for item in items {
+        push_older_item(*item, n, out)?;
     }
     Ok(())
 }

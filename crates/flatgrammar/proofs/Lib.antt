@@ -15,3 +15,5 @@ pub mod StacksLemmas
 pub mod LeadOnLemmas
 pub mod LiftLemmas
 pub mod StackClosureLemmas
+pub mod OldStacksLemmas
+pub mod CalledPartsLemmas

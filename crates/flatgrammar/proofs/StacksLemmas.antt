@@ -13,36 +13,36 @@ use Rattle.flatgrammar.specs.Stacks as st
 use Rattle.flatgrammar.specs.Stacks.{node_at, AreUncounted, IsDoneAt, is_done, MarksLast, Moves, call, tail_call}
 use Rattle.flatgrammar.specs.Stacks.{Reach, Accepts}
 
-bool_cases : (b : Bool) → (b ≡ true) ⊎ (b ≡ false)
+pub bool_cases : (b : Bool) → (b ≡ true) ⊎ (b ≡ false)
 bool_cases true = inl refl
 bool_cases false = inr refl
 
 module _ (flat : Flat) where
   -- where a node begins
-  data IsBegin : Dot → Type 0 where
+  pub data IsBegin : Dot → Type 0 where
     is_begin : {s k : ℕ} {node : Node} → slice_get flat.nodes s ≡ Some node → Begins node k → IsBegin (at s k)
 
-  calls_node : {q r : Dot} {s : ℕ} → Calls flat q s r → node_at r ≡ node_at q
+  pub calls_node : {q r : Dot} {s : ℕ} → Calls flat q s r → node_at r ≡ node_at q
   calls_node (calls is c) = refl
 
-  reads_node : {q r : Dot} {set : Set} → Reads flat q set r → node_at r ≡ node_at q
+  pub reads_node : {q r : Dot} {set : Set} → Reads flat q set r → node_at r ≡ node_at q
   reads_node (reads is c) = refl
 
   -- what is done in node t ends s
-  abbrev EndsAs : ℕ → ℕ → Type 0
+  abbrev pub EndsAs : ℕ → ℕ → Type 0
   EndsAs s t = (p : Dot) → node_at p ≡ t → IsDoneAt flat p → Ends flat p s
 
   -- where node t begins s starts
-  abbrev StartsAs : ℕ → ℕ → Type 0
+  abbrev pub StartsAs : ℕ → ℕ → Type 0
   StartsAs s t = (p : Dot) → node_at p ≡ t → IsBegin p → Starts flat s p
 
   own_ends : (s : ℕ) → EndsAs s s
   own_ends s p same (is_done {s = t} {k = k} is d) = subst (λ v. Ends flat (at t k) v) same (ends is d)
 
-  own_starts : (s : ℕ) → StartsAs s s
+  pub own_starts : (s : ℕ) → StartsAs s s
   own_starts s p same (is_begin {s = t} {k = k} is b) = subst (λ v. Starts flat v (at t k)) same (starts is b)
 
-  starts_end : {s : ℕ} {p : Dot} → Starts flat s p → EndsAs s (node_at p)
+  pub starts_end : {s : ℕ} {p : Dot} → Starts flat s p → EndsAs s (node_at p)
   starts_end (starts {s = s} is b) = own_ends s
   starts_end (name_starts is at_r st) = λ p same d. name_ends is at_r (starts_end st p same d)
 
@@ -50,15 +50,15 @@ module _ (flat : Flat) where
   starts_start (starts {s = s} is b) = own_starts s
   starts_start (name_starts is at_r st) = λ p same d. name_starts is at_r (starts_start st p same d)
 
-  ends_start : {s : ℕ} {p : Dot} → Ends flat p s → StartsAs s (node_at p)
+  pub ends_start : {s : ℕ} {p : Dot} → Ends flat p s → StartsAs s (node_at p)
   ends_start (ends {s = s} is b) = own_starts s
   ends_start (name_ends is at_r e) = λ p same d. name_starts is at_r (ends_start e p same d)
 
-  starts_begin : {s : ℕ} {p : Dot} → Starts flat s p → IsBegin p
+  pub starts_begin : {s : ℕ} {p : Dot} → Starts flat s p → IsBegin p
   starts_begin (starts is b) = is_begin is b
   starts_begin (name_starts is at_r st) = starts_begin st
 
-  ends_done : {s : ℕ} {p : Dot} → Ends flat p s → IsDoneAt flat p
+  pub ends_done : {s : ℕ} {p : Dot} → Ends flat p s → IsDoneAt flat p
   ends_done (ends is d) = is_done is d
   ends_done (name_ends is at_r e) = ends_done e
 
@@ -87,14 +87,14 @@ module _ (flat : Flat) where
         by is Calling.operand = inl (λ t. elim (takes_node is t) [ ])
 
     module _ (x : List ℕ) where
-      origin_before : {j i : ℕ} {p : Dot} → Holds flat x j p i → i ≤ j
+      pub origin_before : {j i : ℕ} {p : Dot} → Holds flat x j p i → i ≤ j
       origin_before (begins st) = omega arith
       origin_before (called h c st) = omega arith
       origin_before (has_read h r is lies) = let le = origin_before h in omega (arith, le)
       origin_before (returned h e g c takes) =
           let le = origin_before h in let under = origin_before g in omega (arith, le, under)
 
-      return_held : {j k i s : ℕ} {p q r : Dot} → Holds flat x j p k → Ends flat p s → Holds flat x k q i
+      pub return_held : {j k i s : ℕ} {p q r : Dot} → Holds flat x j p k → Ends flat p s → Holds flat x k q i
           → Calls flat q s r → Holds flat x j r i
       return_held {j} {k} {i} {s} {p} {q} {r} h e g c = by (takes_or c)
         where
@@ -111,28 +111,28 @@ module _ (flat : Flat) where
 
       module _ (last : Dot → Bool) (reports : MarksLast flat last) where
         -- what was called as s in set i goes on in these dotted rules
-        data Under : ℕ → ℕ → List Dot → Type 0 where
+        pub data Under : ℕ → ℕ → List Dot → Type 0 where
           bottom : Under 0 flat.start []
           frame : {i k s u : ℕ} {q r : Dot} {below : List Dot} → Holds flat x i q k → Calls flat q s r
               → EndsAs u (node_at q) → Under k u below → Under i s (r ∷ below)
           hidden : {i k s u : ℕ} {q r : Dot} {below : List Dot} → Holds flat x i q k → Calls flat q s r
               → EndsAs u (node_at q) → Under k u below → last r ≡ true → Under i s below
 
-        record Stands (j : ℕ) (p : Dot) (below : List Dot) : Type 0 where
-          origin : ℕ
-          called_as : ℕ
-          held : Holds flat x j p origin
-          ends_as : EndsAs called_as (node_at p)
-          under : Under origin called_as below
+        pub record Stands (j : ℕ) (p : Dot) (below : List Dot) : Type 0 where
+          pub origin : ℕ
+          pub called_as : ℕ
+          pub held : Holds flat x j p origin
+          pub ends_as : EndsAs called_as (node_at p)
+          pub under : Under origin called_as below
 
-        abbrev IsChain : ℕ → List Dot → Type 0
+        abbrev pub IsChain : ℕ → List Dot → Type 0
         IsChain j [] = ⊥
         IsChain j (p ∷ below) = Stands j p below
 
-        back_ends : {u s : ℕ} {q r : Dot} → Calls flat q s r → EndsAs u (node_at q) → EndsAs u (node_at r)
+        pub back_ends : {u s : ℕ} {q r : Dot} → Calls flat q s r → EndsAs u (node_at q) → EndsAs u (node_at r)
         back_ends c ea = λ p same d. ea p (same ∙ calls_node c) d
 
-        hidden_end : {u s : ℕ} {q r : Dot} → Calls flat q s r → EndsAs u (node_at q) → last r ≡ true → Ends flat r u
+        pub hidden_end : {u s : ℕ} {q r : Dot} → Calls flat q s r → EndsAs u (node_at q) → last r ≡ true → Ends flat r u
         hidden_end {r = r} c ea is = ea r (calls_node c) (reports.done r is)
 
         pop_into : {i s j : ℕ} {p r : Dot} {below : List Dot} → Holds flat x j p i → Ends flat p s
@@ -163,7 +163,7 @@ module _ (flat : Flat) where
         }
         move_chain j (st.return {p = p} done) g = pop_into g.held (g.ends_as p refl done) g.under
 
-        chain_under : {j : ℕ} {a : List Dot} → Reach flat last x j a → IsChain j a
+        pub chain_under : {j : ℕ} {a : List Dot} → Reach flat last x j a → IsChain j a
         chain_under (Reach.begins st) = record {
           origin = 0;
           called_as = flat.start;
@@ -214,11 +214,11 @@ module _ (flat : Flat) where
               let g = chain_under a.reached in fall_down g.held (g.ends_as a.position refl a.done) g.under refl
 
         -- what stands when the top is taken away
-        abbrev IsPopped : ℕ → List Dot → Type 0
+        abbrev pub IsPopped : ℕ → List Dot → Type 0
         IsPopped j [] = Accepts flat last x j
         IsPopped j (r ∷ below) = Reach flat last x j (r ∷ below)
 
-        abbrev IsAt : ℕ → Dot → List Dot → Type 0
+        abbrev pub IsAt : ℕ → Dot → List Dot → Type 0
         IsAt j p below = Reach flat last x j (p ∷ below) ⊎ ((last p ≡ true) × IsPopped j below)
 
         pop_all : {j : ℕ} {p : Dot} (below : List Dot) → Reach flat last x j (p ∷ below) → IsDoneAt flat p
@@ -231,15 +231,15 @@ module _ (flat : Flat) where
         at_done below (inr h) d = h.1
 
         -- node t stands, where it begins, over these dotted rules
-        abbrev IsBegun : ℕ → ℕ → List Dot → Type 0
+        abbrev pub IsBegun : ℕ → ℕ → List Dot → Type 0
         IsBegun i t below = (p : Dot) → node_at p ≡ t → IsBegin p → Reach flat last x i (p ∷ below)
 
-        record Began (t : ℕ) : Type 0 where
-          position : Dot
-          node : node_at position ≡ t
-          begin : IsBegin position
+        pub record Began (t : ℕ) : Type 0 where
+          pub position : Dot
+          pub node : node_at position ≡ t
+          pub begin : IsBegin position
 
-        began_so : {j i : ℕ} {p : Dot} → Holds flat x j p i → Began (node_at p)
+        pub began_so : {j i : ℕ} {p : Dot} → Holds flat x j p i → Began (node_at p)
         began_so {p = p} (begins st) = record { position = p; node = refl; begin = starts_begin st }
         began_so {p = p} (called h c st) = record { position = p; node = refl; begin = starts_begin st }
         began_so (has_read h rd is lies) = let b = began_so h in
@@ -247,7 +247,7 @@ module _ (flat : Flat) where
         began_so (returned h e g c takes) = let b = began_so g in
             record { position = b.position; node = b.node ∙ sym (calls_node c); begin = b.begin }
 
-        climb_up : {j i : ℕ} {p : Dot} → Holds flat x j p i → (below : List Dot) → IsBegun i (node_at p) below
+        pub climb_up : {j i : ℕ} {p : Dot} → Holds flat x j p i → (below : List Dot) → IsBegun i (node_at p) below
             → IsAt j p below
         climb_up {p = p} (begins st) below b = inl (b p refl (starts_begin st))
         climb_up {p = p} (called h c st) below b = inl (b p refl (starts_begin st))
@@ -273,11 +273,11 @@ module _ (flat : Flat) where
             from up (inl a) (inr is) = inl (at_done (r ∷ below) (up (r ∷ below)
                 (λ p' same d. Reach.moved a (call c (ends_start e p' same d) is))) (ends_done e))
 
-        record Base (i t : ℕ) : Type 0 where
-          below : List Dot
-          begun : IsBegun i t below
+        pub record Base (i t : ℕ) : Type 0 where
+          pub below : List Dot
+          pub begun : IsBegun i t below
 
-        base_of : {j i : ℕ} {p : Dot} → Holds flat x j p i → Base i (node_at p)
+        pub base_of : {j i : ℕ} {p : Dot} → Holds flat x j p i → Base i (node_at p)
         base_of (begins st) = record { below = []; begun = λ p same d. Reach.begins (starts_start st p same d) }
         base_of (called {i = i} {j = j} {s = s} {p = p} {q = q} {r = r} h c st) =
             let b = base_of h in from b.below (climb_up h b.below b.begun) (bool_cases (last r))

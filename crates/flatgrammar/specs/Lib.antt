@@ -14,3 +14,5 @@ pub mod TableViews
 pub mod Ways
 pub mod ClassBounds
 pub mod Stacks
+pub mod OldItems
+pub mod CalledParts

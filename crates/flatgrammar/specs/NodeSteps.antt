@@ -65,6 +65,16 @@ callee (Opt m) k = if eqb k 0 then Some (m, 2) else None
 callee (Name r) k = None
 callee Nothing k = None
 
+abbrev pub is_name_node : Node → Bool
+is_name_node (Letters sets) = false
+is_name_node (Concat ms) = false
+is_name_node (Alt ms) = false
+is_name_node (Rep a b m) = false
+is_name_node (Iterations b m) = false
+is_name_node (Opt m) = false
+is_name_node (Name r) = true
+is_name_node Nothing = false
+
 -- the steps below this may call something
 abbrev pub call_count : Node → ℕ
 call_count (Letters sets) = 0

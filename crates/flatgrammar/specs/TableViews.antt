@@ -6,7 +6,7 @@ use Rattle.flatgrammar.specs.declared.flat_node.Node as code_node
 use Rattle.flatgrammar.specs.declared.tables.Tables as code_flat
 use Rattle.flatgrammar.specs.Flat.{Flat, Set}
 use Rattle.flatgrammar.specs.FlatViews.{node_of}
-use Rattle.flatgrammar.specs.NodeSteps.{begin_count, is_done, callee, takes, read_at}
+use Rattle.flatgrammar.specs.NodeSteps.{begin_count, is_done, is_name_node, callee, takes, read_at}
 use Rattle.flatgrammar.specs.Nullable.{Nullable}
 use Rattle.flatgrammar.specs.Targets.{Target}
 
@@ -31,6 +31,22 @@ called_by targets (Some node) k = rooted targets (callee (node_of node) k)
 -- the target that an item's dotted rule calls, and the step after it
 abbrev pub call_of : code_flat.Tables → Item → Option (ℕ × ℕ)
 call_of flat item = called_by flat.targets.items (slice_get flat.nodes.items item.node) item.step
+
+abbrev pub callee_in : Option code_node.Node → ℕ → Option (ℕ × ℕ)
+callee_in None k = None
+callee_in (Some node) k = callee (node_of node) k
+
+-- the node that an item's dotted rule calls, and the step after it
+abbrev pub callee_of : code_flat.Tables → Item → Option (ℕ × ℕ)
+callee_of flat item = callee_in (slice_get flat.nodes.items item.node) item.step
+
+abbrev pub is_name_in : Option code_node.Node → Bool
+is_name_in None = false
+is_name_in (Some node) = is_name_node (node_of node)
+
+-- a node is a name
+abbrev pub name_of : code_flat.Tables → ℕ → Bool
+name_of flat s = is_name_in (slice_get flat.nodes.items s)
 
 abbrev pub done_in : Option code_node.Node → ℕ → Bool
 done_in None k = false

@@ -25,9 +25,9 @@ pub use flat_item::Item;
 pub use flat_node::{Ends, Node, Set};
 pub use inlined::{Inlined, begin_steps};
 pub use item_laws::items_at_most;
-pub use stacks::{a_letter_leads_on, stacks_decide, suffixes_are_moved};
+pub use stacks::{a_letter_leads_on, stacks_decide, suffixes_are_moved, walks_find_old_items};
 pub use tables::{
-    Operation, Tables, asks, call, calls, dots, null, operation_of, passes, readers, reads,
-    sole_caller, start_target, takes_letter,
+    Operation, Tables, asks, call, called_node, calls, dots, is_name, null, operation_of, part_of,
+    passes, readers, reads, sole_caller, start_target, takes_letter,
 };
 pub use verdict::Verdict;

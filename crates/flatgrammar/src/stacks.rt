@@ -2,4 +2,4 @@
 
 mod laws;
 
-pub use laws::{a_letter_leads_on, stacks_decide, suffixes_are_moved};
+pub use laws::{a_letter_leads_on, stacks_decide, suffixes_are_moved, walks_find_old_items};

@@ -1,7 +1,10 @@
 //! The tables of a lowered grammar, by node.
-ghost use Rattle.std.specs.Prelude.{◌≡◌, ◌≢◌, ◌↔◌, ◌+◌, ◌^◌, ◌<◌, None, IsTrue};
+ghost use Rattle.std.specs.Prelude.{◌≡◌, ◌≢◌, ◌↔◌, ◌+◌, ◌^◌, ◌<◌, Some, None, IsTrue};
 ghost use Rattle.flatgrammar.specs.NodeSteps.{IfSomeSet};
-ghost use Rattle.flatgrammar.specs.TableViews.{call_of, done_of, null_of, takes_of, read_of, rooted, start_target};
+ghost use Rattle.flatgrammar.specs.TableViews.{call_of, callee_of, done_of, name_of, null_of, takes_of, read_of};
+ghost use Rattle.flatgrammar.specs.TableViews.{rooted, start_target};
+ghost use Rattle.flatgrammar.specs.CalledParts.{IsPartOf};
+ghost use Rattle.flatgrammar.specs.declared.closure.DottedRule.{DottedRule as the_dot};
 ghost use Rattle.flatgrammar.specs.ItemClosures.{closure_of, inlined_of, lists_of, readers_of as the_readers_of};
 
 use crate::closure::{DottedRule, ItemClosure};
@@ -56,6 +59,50 @@ pub fn call(flat: &Tables, item: Item) -> Option<(usize, usize)>
 {
     let node = flat.nodes.get(item.node)?;
     rooted(flat, callee(node, item.step))
+}
+
+/// Returns the node that an item's dotted rule calls, and the step after it. Where a name is called, that is the node
+/// of the name.
+pub fn called_node(flat: &Tables, item: Item) -> Option<(usize, usize)>
+    ensures { result ≡ callee_of flat.now item }
+{
+    match flat.nodes.get(item.node) {
+        None => None,
+        Some(node) => callee(node, item.step),
+    }
+}
+
+/// Returns whether a node is a name.
+pub fn is_name(flat: &Tables, node: usize) -> bool
+    ensures { result ≡ name_of flat.now node }
+{
+    match flat.nodes.get(node) {
+        None => false,
+        Some(node) => flat_node::is_name(node),
+    }
+}
+
+/// Returns the part of a dotted rule: the terminal that it reads, with the step there, or the name that it calls, at
+/// step 0.
+pub fn part_of(flat: &Tables, dot: DottedRule) -> Option<DottedRule>
+    ensures { (s : the_dot) → (result ≡ Some s) ↔ IsPartOf flat.now dot.node dot.step s }
+{
+    let item = Item {
+        node: dot.node,
+        step: dot.step,
+        origin: 0,
+    };
+    if operation_of(flat, item).reads {
+        return Some(dot);
+    }
+    let Some((node, _next)) = called_node(flat, item) else {
+        return None;
+    };
+    if is_name(flat, node) {
+        Some(DottedRule { node, step: 0 })
+    } else {
+        None
+    }
 }
 
 /// Returns whether what an item's dotted rule calls has to take a symbol.

@@ -13,6 +13,7 @@ use Rattle.flatgrammar.proofs.SliceGetLemmas.{push_cases}
 use Rattle.lazydfa.specs.declared.conts.Cont.{Cont}
 use Rattle.lazydfa.specs.Conts.{stack_back, stack_of, AreOlder, AreKept, IsIdOf, Adds, IsAdded, Begun, CallMoves}
 use Rattle.lazydfa.specs.Conts.{after, Goes, EndsAlone}
+use Rattle.lazydfa.specs.NameWalks.{WalkCalls, WalkGoes}
 use Rattle.flatgrammar.specs.ItemClosures.{begin_count, item_at, dot}
 use Rattle.flatgrammar.specs.TableViews.{call_of, done_of}
 use Rattle.flatgrammar.specs.declared.tables.Tables as code_flat
@@ -249,35 +250,64 @@ adds_end conts P Q a b c id le adds one sub here split =
     adds_one conts conts P Q a b c id (stack_of conts id) (kept_same conts) adds (record { within = le; is = refl }) one
     sub here split
 
+-- what a dotted rule calls, and what is below it, if its node is done
+module _ (tables : code_flat.Tables) (n k : ℕ) (below : List Dot) (calls : List Dot → Type 0) where
+  abbrev pub CallsOrReturns : List Dot → Type 0
+  CallsOrReturns s = calls s ⊎ ((done_of tables (item_at 0 (dot n k)) ≡ true) × (s ≡ below) × (below ≡ [] → ⊥))
+
+  pub calls_alone : (conts : List Cont) (a b : List ℕ)
+      → (done_of tables (item_at 0 (dot n k)) ≡ false) ⊎ (below ≡ []) → Adds conts calls a b
+      → Adds conts CallsOrReturns a b
+  calls_alone conts a b which adds =
+      adds_as conts calls CallsOrReturns a b (λ s m. inl m) (λ s g. by s g) adds
+    where
+      never : (done_of tables (item_at 0 (dot n k)) ≡ false) ⊎ (below ≡ [])
+          → done_of tables (item_at 0 (dot n k)) ≡ true → (below ≡ [] → ⊥) → ⊥
+      never (inl no_end) yes_end some = absurd (cc (no_end, yes_end))
+      never (inr none) yes_end some = some none
+
+      by : (s : List Dot) → CallsOrReturns s → calls s
+      by s (inl m) = m
+      by s (inr e) = absurd (never which e.0 e.2)
+
+  pub calls_and_returns : (conts : List Cont) (a b c : List ℕ) (id : ℕ) → done_of tables (item_at 0 (dot n k)) ≡ true
+      → (below ≡ [] → ⊥) → id ≤ length conts → stack_of conts id ≡ below → Adds conts calls a b → IsAdded b c id
+      → Adds conts CallsOrReturns a c
+  calls_and_returns conts a b c id done some le is adds one =
+      adds_end conts calls CallsOrReturns a b c id le adds one (λ s m. inl m) (inr (done, is, some)) (λ s g. by s g)
+    where
+      by : (s : List Dot) → CallsOrReturns s → calls s ⊎ (s ≡ stack_of conts id)
+      by s (inl m) = inl m
+      by s (inr e) = inr (e.1 ∙ sym is)
+
 module _ (tables : code_flat.Tables) (n k : ℕ) (below stack : List Dot) (stack_is : stack ≡ at n k ∷ below) where
   pub goes_call : (conts : List Cont) (a b : List ℕ)
       → (done_of tables (item_at 0 (dot n k)) ≡ false) ⊎ (below ≡ []) →
       Adds conts (CallMoves tables n k below) a b → Adds conts (Goes tables stack) a b
   goes_call conts a b which adds =
       subst (λ v. Adds conts (Goes tables v) a b) (sym stack_is)
-      (adds_as conts (CallMoves tables n k below) (Goes tables (at n k ∷ below)) a b (λ s m. inl m)
-      (λ s g. by s g) adds)
-    where
-      by : (s : List Dot) → Goes tables (at n k ∷ below) s → CallMoves tables n k below s
-      by s (inl m) = m
-      by s (inr e) = absurd (never which e.0 e.2)
-        where
-          never : (done_of tables (item_at 0 (dot n k)) ≡ false) ⊎ (below ≡ [])
-              → done_of tables (item_at 0 (dot n k)) ≡ true → (below ≡ [] → ⊥) → ⊥
-          never (inl no_end) yes_end some = absurd (cc (no_end, yes_end))
-          never (inr none) yes_end some = some none
+      (calls_alone tables n k below (CallMoves tables n k below) conts a b which adds)
 
   pub goes_end : (conts : List Cont) (a b c : List ℕ) (id : ℕ) → done_of tables (item_at 0 (dot n k)) ≡ true
       → (below ≡ [] → ⊥) → id ≤ length conts → stack_of conts id ≡ below →
       Adds conts (CallMoves tables n k below) a b → IsAdded b c id → Adds conts (Goes tables stack) a c
   goes_end conts a b c id done some le is adds one =
       subst (λ v. Adds conts (Goes tables v) a c) (sym stack_is)
-      (adds_end conts (CallMoves tables n k below) (Goes tables (at n k ∷ below)) a b c id le adds one (λ s m. inl m)
-      (inr (done, is, some)) (λ s g. by s g))
-    where
-      by : (s : List Dot) → Goes tables (at n k ∷ below) s → CallMoves tables n k below s ⊎ (s ≡ stack_of conts id)
-      by s (inl m) = inl m
-      by s (inr e) = inr (e.1 ∙ sym is)
+      (calls_and_returns tables n k below (CallMoves tables n k below) conts a b c id done some le is adds one)
+
+  pub walks_call : (conts : List Cont) (a b : List ℕ)
+      → (done_of tables (item_at 0 (dot n k)) ≡ false) ⊎ (below ≡ []) →
+      Adds conts (WalkCalls tables n k below) a b → Adds conts (WalkGoes tables stack) a b
+  walks_call conts a b which adds =
+      subst (λ v. Adds conts (WalkGoes tables v) a b) (sym stack_is)
+      (calls_alone tables n k below (WalkCalls tables n k below) conts a b which adds)
+
+  pub walks_end : (conts : List Cont) (a b c : List ℕ) (id : ℕ) → done_of tables (item_at 0 (dot n k)) ≡ true
+      → (below ≡ [] → ⊥) → id ≤ length conts → stack_of conts id ≡ below →
+      Adds conts (WalkCalls tables n k below) a b → IsAdded b c id → Adds conts (WalkGoes tables stack) a c
+  walks_end conts a b c id done some le is adds one =
+      subst (λ v. Adds conts (WalkGoes tables v) a c) (sym stack_is)
+      (calls_and_returns tables n k below (WalkCalls tables n k below) conts a b c id done some le is adds one)
 
   pub ends_not : (done_of tables (item_at 0 (dot n k)) ≡ false) ⊎ (below ≡ [] → ⊥) → EndsAlone tables stack → ⊥
   ends_not which e = by which (subst (λ v. EndsAlone tables v) stack_is e)
@@ -293,6 +323,11 @@ pub goes_nowhere : (tables : code_flat.Tables) (conts : List Cont) (stack : List
     → Adds conts (Goes tables stack) a a
 goes_nowhere tables conts stack a none =
     adds_none conts (Goes tables stack) a (λ s g. subst (λ v. Goes tables v s) none g)
+
+pub walks_nowhere : (tables : code_flat.Tables) (conts : List Cont) (stack : List Dot) (a : List ℕ) → stack ≡ []
+    → Adds conts (WalkGoes tables stack) a a
+walks_nowhere tables conts stack a none =
+    adds_none conts (WalkGoes tables stack) a (λ s g. subst (λ v. WalkGoes tables v s) none g)
 
 pub stack_none : (conts : List Cont) (id : ℕ) → id ≡ 0 → stack_of conts id ≡ []
 stack_none conts id none = ap (λ v. stack_of conts v) none ∙ by (reverse conts)

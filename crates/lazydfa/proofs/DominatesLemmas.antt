@@ -23,14 +23,14 @@ module _ (flat : Flat) where
   pub dominates_on : (p : Dot) (s t : List Dot) → Dominates flat s t → Dominates flat (p ∷ s) (p ∷ t)
   dominates_on p s t h = inr (p, t, refl, inl refl, h)
 
-  fewer_done : {p q : Dot} → IsFewer flat p q → IsDoneAt flat p
+  pub fewer_done : {p q : Dot} → IsFewer flat p q → IsDoneAt flat p
   fewer_done f =
       let within = f.within in
       let fewer = f.fewer in
       subst (λ v. IsDoneAt flat v) (sym f.p_is)
       (is_done f.node_is (fl.rep f.enough (omega (arith, within, fewer))))
 
-  ahead_done : {p q : Dot} → IsAhead flat p q → IsDoneAt flat q → IsDoneAt flat p
+  pub ahead_done : {p q : Dot} → IsAhead flat p q → IsDoneAt flat q → IsDoneAt flat p
   ahead_done (inl same) d = subst (λ v. IsDoneAt flat v) (sym same) d
   ahead_done (inr f) d = fewer_done f
 
@@ -147,10 +147,10 @@ module _ (flat : Flat) where
       × (r ≡ at s l) × (slice_get flat.nodes s ≡ Some node) × Calling node k n l
   caller_node (calls {s = s} {k = k} {l = l} {node = node} is c) = (s, k, l, node, refl, refl, is, c)
 
-  record NextAhead (p : Dot) (n : ℕ) (r : Dot) : Type 0 where
-    next : Dot
-    calling : Calls flat p n next
-    ahead : (next ≡ r) ⊎ ((f : IsFewer flat next r) × (f.operand ≡ n))
+  pub record NextAhead (p : Dot) (n : ℕ) (r : Dot) : Type 0 where
+    pub next : Dot
+    pub calling : Calls flat p n next
+    pub ahead : (next ≡ r) ⊎ ((f : IsFewer flat next r) × (f.operand ≡ n))
 
   fewer_call : {p q r : Dot} {n : ℕ} → IsFewer flat p q → Calls flat q n r → NextAhead p n r
   fewer_call {p} {q} {r} {n} f c =
@@ -215,14 +215,14 @@ module _ (flat : Flat) where
           let same : q ≡ p = f.q_is ∙ (ap (λ v. at f.node v) (sym count) ∙ sym f.p_is) in
           record { next = r; calling = subst (λ v. Calls flat v n r) same c; ahead = inl refl }
 
-  ahead_call : {p q r : Dot} {n : ℕ} → IsAhead flat p q → Calls flat q n r → NextAhead p n r
+  pub ahead_call : {p q r : Dot} {n : ℕ} → IsAhead flat p q → Calls flat q n r → NextAhead p n r
   ahead_call {p} {q} {r} {n} (inl same) c =
       record { next = r; calling = subst (λ v. Calls flat v n r) (sym same) c; ahead = inl refl }
   ahead_call (inr f) c = fewer_call f c
 
   module _ (last : Dot → Bool) (marks : MarksLast flat last) where
     -- where something is left to do, so it is after fewer iterations
-    fewer_not_last : {p q start : Dot} → (f : IsFewer flat p q) → Starts flat f.operand start → last p ≡ true
+    pub fewer_not_last : {p q start : Dot} → (f : IsFewer flat p q) → Starts flat f.operand start → last p ≡ true
         → last q ≡ false → ⊥
     fewer_not_last {p} {q} {start} f begins is not = by (cases_lt f.few f.many)
       where

@@ -52,7 +52,7 @@ module _ (tables : code_flat.Tables) (targets : GiveTargets (flat_of tables) tab
   none_below =
       plain_below memo.cache.conts.items.items memo.suffixes.items at_stop.state.ended is.tracks.runs.plain
 
-  plain_stop : IsPlainCover (flat_of tables) (last_of tables) x stop.at
+  pub plain_stop : IsPlainCover (flat_of tables) (last_of tables) x stop.at
       (IsStackOf memo.cache.conts.items.items at_stop.state.tops.items)
       (below_of memo.cache.conts.items.items memo.suffixes.items)
   plain_stop =

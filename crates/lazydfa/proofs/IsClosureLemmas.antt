@@ -10,8 +10,8 @@ use Rattle.std.specs.Prelude.{slice_get, Some, Contains, IsTrue}
 use Rattle.flatgrammar.specs.Flat.{Dot}
 use Rattle.flatgrammar.specs.declared.tables.Tables as code_flat
 use Rattle.lazydfa.specs.declared.conts.Cont.{Cont}
-use Rattle.lazydfa.specs.Conts.{stack_of, AreKept, Adds, Goes, EndsAlone, GoesOn, here, on, IsStackOf, IsClosing}
-use Rattle.lazydfa.specs.Conts.{IsClosure}
+use Rattle.lazydfa.specs.Conts.{stack_of, AreKept, Adds, EndsAlone, LedBy, here, on, IsStackOf, IsClosing}
+use Rattle.lazydfa.specs.Conts.{IsClosedBy}
 use Rattle.lazydfa.proofs.ContsLemmas.{kept_same, kept_both, kept_stack, kept_within}
 
 get_left : (xs ys : List ℕ) (k : ℕ) → k < length xs → slice_get (xs ++ ys) k ≡ slice_get xs k
@@ -32,9 +32,9 @@ pub record StandsAt (xs : List ℕ) (id : ℕ) : Type 0 where
 pub stands_at : (xs : List ℕ) (id : ℕ) → Contains xs id → StandsAt xs id
 stands_at xs id h = record { position = h.0; is = slice_get-get_or xs h.0 id h.1 ∙ ap (λ v. Some v) h.2 }
 
-module _ (tables : code_flat.Tables) (first : List Cont) (given : List ℕ) where
+module _ (tables : code_flat.Tables) (goes : List Dot → List Dot → Type 0) (first : List Cont) (given : List ℕ) where
   pub closing_none : ((id : ℕ) → Contains given id → id ≤ length first)
-      → IsClosing tables first given first given 0 false
+      → IsClosing tables goes first given first given 0 false
   closing_none within = record {
     kept = kept_same first;
     within = within;
@@ -45,9 +45,9 @@ module _ (tables : code_flat.Tables) (first : List Cont) (given : List ℕ) wher
   }
 
   pub closing_more : (conts new : List Cont) (ids more : List ℕ) (count id : ℕ) (ended now : Bool)
-      → IsClosing tables first given conts ids count ended → slice_get ids count ≡ Some id → AreKept conts new
-      → Adds new (Goes tables (stack_of conts id)) ids more → (IsTrue now ↔ EndsAlone tables (stack_of conts id))
-      → IsClosing tables first given new more (count + 1) (now || ended)
+      → IsClosing tables goes first given conts ids count ended → slice_get ids count ≡ Some id → AreKept conts new
+      → Adds new (goes (stack_of conts id)) ids more → (IsTrue now ↔ EndsAlone tables (stack_of conts id))
+      → IsClosing tables goes first given new more (count + 1) (now || ended)
   closing_more conts new ids more count id ended now c at_count kept adds reports = record {
     kept = kept_both first conts new c.kept kept;
     within = λ other h. within other (cases other h);
@@ -69,8 +69,8 @@ module _ (tables : code_flat.Tables) (first : List Cont) (given : List ℕ) wher
       at_id = contains_at ids count id at_count
 
       sound : (other : ℕ) → Contains ids other ⊎ Contains adds.added other
-          → GoesOn tables (IsStackOf first given) (stack_of new other)
-      sound other (inl h) = subst (λ v. GoesOn tables (IsStackOf first given) v)
+          → LedBy goes (IsStackOf first given) (stack_of new other)
+      sound other (inl h) = subst (λ v. LedBy goes (IsStackOf first given) v)
           (sym (kept_stack conts new kept other (c.within other h))) (c.sound other h)
       sound other (inr h) = on (c.sound id at_id) (adds.sound other h).1
 
@@ -96,11 +96,11 @@ module _ (tables : code_flat.Tables) (first : List Cont) (given : List ℕ) wher
           let both : Some id ≡ Some other = sym at_count ∙ subst (λ v. slice_get ids v ≡ Some other) here is in cc both
 
       closed : (k other : ℕ) → (k < count) ⊎ (count ≤ k) → k < count + 1 → slice_get ids k ≡ Some other
-          → (stack : List Dot) → Goes tables (stack_of new other) stack → IsStackOf new more stack
+          → (stack : List Dot) → goes (stack_of new other) stack → IsStackOf new more stack
       closed k other (inl less) lt is stack g =
-          moved (c.closed k other less is stack (subst (λ v. Goes tables v stack) (still k other is) g))
+          moved (c.closed k other less is stack (subst (λ v. goes v stack) (still k other is) g))
       closed k other (inr le) lt is stack g =
-          let w = adds.whole stack (subst (λ v. Goes tables v stack)
+          let w = adds.whole stack (subst (λ v. goes v stack)
           (still k other is ∙ ap (λ v. stack_of conts v) (sym (same_at k other le lt is))) g) in
           record { id = w.0; stands = w.1; is = sym w.2.is }
 
@@ -151,18 +151,18 @@ module _ (tables : code_flat.Tables) (first : List Cont) (given : List ℕ) wher
           or_left false b h = absurd (cc h)
 
   pub closing_done : (conts : List Cont) (ids : List ℕ) (count : ℕ) (ended : Bool)
-      → ((id : ℕ) → Contains given id → id ≤ length first) → IsClosing tables first given conts ids count ended
-      → length ids ≤ count → IsClosure tables first given conts ids ended
+      → ((id : ℕ) → Contains given id → id ≤ length first) → IsClosing tables goes first given conts ids count ended
+      → length ids ≤ count → IsClosedBy tables goes first given conts ids ended
   closing_done conts ids count ended within c le = record {
     within = c.within;
     stacks = λ stack. (
-      λ s. subst (λ v. GoesOn tables (IsStackOf first given) v) (sym s.is) (c.sound s.id s.stands),
+      λ s. subst (λ v. LedBy goes (IsStackOf first given) v) (sym s.is) (c.sound s.id s.stands),
       λ g. back g,
     );
     ended_is = (λ h. to_end (c.ended_is.0 h), λ h. from_end h.0 h.1 h.2);
   }
     where
-      back : {stack : List Dot} → GoesOn tables (IsStackOf first given) stack → IsStackOf conts ids stack
+      back : {stack : List Dot} → LedBy goes (IsStackOf first given) stack → IsStackOf conts ids stack
       back (here s) = record {
         id = s.id;
         stands = c.given_stand s.id s.stands;
@@ -172,7 +172,7 @@ module _ (tables : code_flat.Tables) (first : List Cont) (given : List ℕ) wher
           let s = back h in
           let t = stands_at ids s.id s.stands in
           c.closed t.position s.id (let w = slice_get_within ids t.position s.id t.is in omega (arith, w, le)) t.is next
-          (subst (λ v. Goes tables v next) s.is g)
+          (subst (λ v. goes v next) s.is g)
 
       to_end : (k : ℕ) × (id : ℕ) × (k < count) × (slice_get ids k ≡ Some id) × EndsAlone tables (stack_of conts id)
           → (stack : List Dot) × IsStackOf conts ids stack × EndsAlone tables stack

@@ -21,3 +21,8 @@ pub mod ExpectedLemmas
 pub mod AreUncountedLemmas
 pub mod StateSetsLemmas
 mod StackCutsLemmas
+pub mod WalksOverLemmas
+mod NameWalksLemmas
+mod WalkedOverLemmas
+mod TopPartLemmas
+mod AwaitedLemmas

@@ -89,10 +89,14 @@ abbrev pub EndsAlone : code_flat.Tables → List Dot → Type 0
 EndsAlone tables [] = ⊥
 EndsAlone tables (at n k ∷ below) = (done_of tables (item_at 0 (dot n k)) ≡ true) × (below ≡ [])
 
--- what is led to from stacks without a symbol
-pub data GoesOn (tables : code_flat.Tables) (from : List Dot → Type 0) : List Dot → Type 0 where
-  here : {stack : List Dot} → from stack → GoesOn tables from stack
-  on : {stack next : List Dot} → GoesOn tables from stack → Goes tables stack next → GoesOn tables from next
+-- what is led to from stacks step by step
+pub data LedBy (goes : List Dot → List Dot → Type 0) (from : List Dot → Type 0) : List Dot → Type 0 where
+  here : {stack : List Dot} → from stack → LedBy goes from stack
+  on : {stack next : List Dot} → LedBy goes from stack → goes stack next → LedBy goes from next
+
+-- .. without a symbol
+abbrev pub GoesOn : code_flat.Tables → (List Dot → Type 0) → List Dot → Type 0
+GoesOn tables from stack = LedBy (Goes tables) from stack
 
 -- the stacks of ids
 pub record IsStackOf (conts : List Cont) (ids : List ℕ) (stack : List Dot) : Type 0 where
@@ -100,24 +104,28 @@ pub record IsStackOf (conts : List Cont) (ids : List ℕ) (stack : List Dot) : T
   pub stands : Contains ids id
   pub is : stack ≡ stack_of conts id
 
--- the first so many ids go on to ids
-pub record IsClosing (tables : code_flat.Tables) (first : List Cont) (given : List ℕ) (conts : List Cont) (ids : List ℕ)
-    (count : ℕ) (ended : Bool) : Type 0 where
+-- the first so many ids are led on to ids
+pub record IsClosing (tables : code_flat.Tables) (goes : List Dot → List Dot → Type 0) (first : List Cont)
+    (given : List ℕ) (conts : List Cont) (ids : List ℕ) (count : ℕ) (ended : Bool) : Type 0 where
   pub kept : AreKept first conts
   pub within : (id : ℕ) → Contains ids id → id ≤ length conts
-  pub sound : (id : ℕ) → Contains ids id → GoesOn tables (IsStackOf first given) (stack_of conts id)
+  pub sound : (id : ℕ) → Contains ids id → LedBy goes (IsStackOf first given) (stack_of conts id)
   pub given_stand : (id : ℕ) → Contains given id → Contains ids id
   pub closed : (k id : ℕ) → k < count → slice_get ids k ≡ Some id → (stack : List Dot)
-      → Goes tables (stack_of conts id) stack → IsStackOf conts ids stack
+      → goes (stack_of conts id) stack → IsStackOf conts ids stack
   pub ended_is : (ended ≡ true) ↔ ((k : ℕ) × (id : ℕ) × (k < count) × (slice_get ids k ≡ Some id)
       × EndsAlone tables (stack_of conts id))
 
--- all that ids go on to without a symbol, and whether a dotted rule alone is done
-pub record IsClosure (tables : code_flat.Tables) (first : List Cont) (given : List ℕ) (conts : List Cont)
-    (ids : List ℕ) (ended : Bool) : Type 0 where
+-- all that ids are led on to, and whether a dotted rule alone is done
+pub record IsClosedBy (tables : code_flat.Tables) (goes : List Dot → List Dot → Type 0) (first : List Cont)
+    (given : List ℕ) (conts : List Cont) (ids : List ℕ) (ended : Bool) : Type 0 where
   pub within : (id : ℕ) → Contains ids id → id ≤ length conts
-  pub stacks : (stack : List Dot) → IsStackOf conts ids stack ↔ GoesOn tables (IsStackOf first given) stack
+  pub stacks : (stack : List Dot) → IsStackOf conts ids stack ↔ LedBy goes (IsStackOf first given) stack
   pub ended_is : (ended ≡ true) ↔ ((stack : List Dot) × IsStackOf conts ids stack × EndsAlone tables stack)
+
+-- .. without a symbol
+abbrev pub IsClosure : code_flat.Tables → List Cont → List ℕ → List Cont → List ℕ → Bool → Type 0
+IsClosure tables first given conts ids ended = IsClosedBy tables (Goes tables) first given conts ids ended
 
 -- what a stack comes to by a symbol
 abbrev pub ReadsOn : code_flat.Tables → ℕ → List Dot → List Dot → Type 0

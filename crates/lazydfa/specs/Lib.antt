@@ -10,3 +10,4 @@ pub mod Spines
 pub mod StackSuffixes
 pub mod StateSets
 pub mod StackCuts
+pub mod NameWalks

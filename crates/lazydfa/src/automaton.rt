@@ -1,14 +1,16 @@
 //! A lazily built automaton.
-ghost use Rattle.std.specs.Prelude.{◌≡◌, ◌↔◌, ◌∷◌, ℕ, [], IsTrue, IfOk, IfSome, map};
+ghost use Rattle.std.specs.Prelude.{◌≡◌, ◌↔◌, ◌∷◌, ℕ, [], IsTrue, IfOk, IfSome, length, map};
 ghost use Rattle.std.specs.Prelude.{Some};
 ghost use Rattle.flatgrammar.specs.Flat.{Concat, Iterations};
 ghost use Rattle.flatgrammar.specs.FlatVerdicts.{DerivesLine, IsFlatVerdict};
 ghost use Rattle.flatgrammar.specs.FlatViews.{node_of};
 ghost use Rattle.flatgrammar.specs.NodeSteps.{flat_of};
+ghost use Rattle.flatgrammar.specs.CalledParts.{AreAwaited};
 ghost use Rattle.flatgrammar.specs.Stacks.{AreUncounted};
 ghost use Rattle.lazydfa.specs.ExpectedSets.{IsExpected};
 ghost use Rattle.lazydfa.specs.RunVerdicts.{IsOne};
 
+use crate::awaited::parts_after;
 use crate::budget::{Budget, ROOM};
 use crate::cache::Cache;
 use crate::chains::HashChains;
@@ -16,9 +18,9 @@ use crate::close::Ids;
 use crate::conts::Conts;
 use crate::expected::{Expected, dots_of};
 use crate::kernels::KernelLeads;
-use crate::memo::Memo;
+use crate::memo::{Memo, forget_all};
 use crate::run::{ClassTable, run, verdict_at};
-use flatgrammar::{Classes, Flat, Node, Tables, Verdict, find_classes};
+use flatgrammar::{Classes, DottedRule, Flat, Node, Tables, Verdict, find_classes};
 use ruletable::{Letter, Memory};
 use std::alloc::Global;
 use std::marker::Model;
@@ -45,7 +47,7 @@ pub struct Automaton {
 impl Model for Automaton {
     ghost use Rattle.flatgrammar.specs.Flat as spec;
     ghost use Rattle.flatgrammar.specs.NodeSteps.{flat_of};
-    ghost use Rattle.flatgrammar.specs.TableViews.{GiveTargets};
+    ghost use Rattle.flatgrammar.specs.TableViews.{AreNulls, GiveTargets};
     ghost use Rattle.flatgrammar.specs.Stacks.{AreUncounted};
     ghost use Rattle.flatgrammar.specs.ClassBounds.{AreClasses};
     ghost use Rattle.lazydfa.specs.Memos.{IsMemo};
@@ -58,7 +60,8 @@ impl Model for Automaton {
     ghost invariant = { λ a. (GiveTargets (flat_of a.tables.value) a.tables.value.targets.items)
         × (AreUncounted (flat_of
         a.tables.value)) × (IsOne (flat_of a.tables.value)) × (AreClasses (flat_of a.tables.value)
-        a.classes.low a.classes.samples.items) × (IsMemo a.tables.value a.classes.samples.items a.memo) };
+        a.classes.low a.classes.samples.items) × (IsMemo a.tables.value a.classes.samples.items a.memo)
+        × (AreNulls (flat_of a.tables.value) a.tables.value.nulls.items) };
 }
 
 // Returns whether iterations that take a symbol are counted at a node.
@@ -244,5 +247,42 @@ impl Automaton {
             dots,
             ends: state.ended,
         }))
+    }
+
+    /// Finds the parts that can come next after a line, in what began before its end: terminals, each with the number
+    /// of its symbols that were read, and names, each at step 0. A part may stand more than once. `None` if the line is
+    /// empty or no viable prefix, and as `judge`. `Memory` as `judge`.
+    pub fn awaited<L: Letter>(&mut self, line: &[L]) -> Result<Option<Vec<DottedRule>>, Memory>
+        ensures same { self.new ≡ self.old }
+        ensures parts { IfOk result (λ reported. IfSome reported (λ parts. AreAwaited self.old (map L.number line.now)
+            (length line.now) parts.items)) }
+    {
+        let Some((last, before)) = line.split_last() else {
+            return Ok(None);
+        };
+        let classes = ClassTable {
+            low: &self.classes.low,
+            samples: &self.classes.samples,
+        };
+        let Some(stop) = run(self.alloc, &self.tables, classes, &mut self.memo, before)? else {
+            return Ok(None);
+        };
+        if stop.at < before.len() {
+            return Ok(None);
+        }
+        let state = stop.row / (classes.samples.len() + 1);
+        match parts_after(
+            self.alloc,
+            &self.tables,
+            &mut self.memo,
+            state,
+            last.value(),
+        ) {
+            Ok(reported) => Ok(reported),
+            Err(error) => {
+                forget_all(&mut self.memo);
+                Err(error)
+            }
+        }
     }
 }

@@ -111,7 +111,7 @@ pub(crate) fn is_last(tables: &Tables, node: usize, step: usize) -> bool
 }
 
 /// Returns the id of what is left to do in a node, before what is below.
-fn after(
+pub(crate) fn after(
     tables: &Tables,
     node: usize,
     next: usize,
@@ -205,7 +205,8 @@ fn expand(tables: &Tables, id: usize, conts: &mut Conts, ids: &mut Ids) -> Resul
     Ok(false)
 }
 
-fn either(a: bool, b: bool) -> bool
+/// Returns whether one of two facts holds.
+pub(crate) fn either(a: bool, b: bool) -> bool
     ensures { result ≡ (a || b) }
 {
     a || b

@@ -2,6 +2,7 @@
 #![tactic(auto)]
 
 mod automaton;
+mod awaited;
 mod budget;
 mod cache;
 mod chains;
@@ -20,6 +21,7 @@ mod states;
 mod suffixes;
 mod transition;
 mod transitions;
+mod walks;
 
 pub use automaton::Automaton;
 pub use cuts::StateCut;

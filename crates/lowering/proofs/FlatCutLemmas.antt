@@ -1,5 +1,5 @@
 -- The bodies of a grammar's rules, cut one by one.
--- Serves: lower.
+-- Serves: lower, lower_viable, more_marks.
 use Rattle.std.proofs.Common.{◌≡◌, ℕ, zero, suc, ◌+◌, Bool, List, [], ◌∷◌, ◌++◌, map, take, Some, refl, sym, ap}
 use Rattle.std.proofs.Common.{subst, arith, ⊎_elim, length-append}
 use Rattle.std.specs.Prelude.{slice_get}
@@ -14,7 +14,8 @@ use Rattle.flatgrammar.specs.declared.flat_node.Node as declared
 use Rattle.flatgrammar.specs.FlatViews.{nodes_of}
 use Rattle.lowering.specs.Numbers.{Numbers, AreCut}
 use Rattle.flatgrammar.proofs.SliceGetLemmas.{push_cases}
-use Rattle.lowering.proofs.SpellAllLemmas.{still_spells}
+use Rattle.lowering.proofs.ArePlantedLemmas.{none_planted, planted_more}
+use Rattle.lowering.proofs.SpellAllLemmas.{spells_below, still_spells}
 
 pub none_cut : (rules : List Rule) (limit : ℕ) (nodes : List declared.Node) (marks : List Bool) (numbers : List ℕ)
     → nodes ≡ [] → marks ≡ [] → numbers ≡ [] → AreCut rules limit 0 (nodes_of nodes) marks numbers
@@ -24,6 +25,7 @@ none_cut rules limit nodes marks numbers no_nodes no_marks no_numbers =
       spelled = λ id m h. absurd (cc h);
       sized = omega arith;
       ordered = record { before = λ s m node is h. absurd (cc is) };
+      planted = none_planted [];
       reported = record { long = refl; each = λ s mark is. absurd (cc is) };
     })
 
@@ -64,10 +66,12 @@ cut_more {rules} {limit} {i} {old} {new} {numbers} {n} {el} c at g = record {
   sized = let one = g.sized in let before = c.sized in let next = sizes_next limit (bodies rules) i el at in
       omega (arith, one, before, next);
   ordered = g.ordered c.ordered;
+  planted = planted_more [] old new numbers n (omega arith)
+      (λ id m is. spells_below rules limit old (c.spelled id m is).2) c.planted (g.planted c.ordered);
   reported = g.reported c.reported;
 }
 
-body_at : (rules : List (table.Rule Elem)) (i : ℕ) (e : Elem) → slice_get (map (λ rule. rule.body) rules) i ≡ Some e
+pub body_at : (rules : List (table.Rule Elem)) (i : ℕ) (e : Elem) → slice_get (map (λ rule. rule.body) rules) i ≡ Some e
     → slice_get (bodies (map rule_of rules)) i ≡ Some (element_of e)
 body_at [] i e h = absurd (cc h)
 body_at (rule ∷ rules) zero e h = let same : rule.body ≡ e = cc h in ap (λ v. Some (element_of v)) same

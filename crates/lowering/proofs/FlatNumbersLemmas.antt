@@ -13,15 +13,16 @@ use Rattle.lowering.proofs.SettlesLemmas.{none_settle, no_alternative_settles, n
 use Rattle.abnfread.specs.AbnfViews.{elements, elements_of, element_of}
 use Rattle.abnfread.specs.declared.elem.Elem.{Elem}
 use Rattle.flatgrammar.specs.Flat.{Node}
-use Rattle.lowering.specs.Lowered.{Spells, spells, Shows, SpellAll, spell_none, spell_more}
+use Rattle.lowering.specs.Lowered.{OperandAt, Spells, spells, Shows, SpellAll, spell_none, spell_more}
 use Rattle.flatgrammar.specs.Positions.{width, positions}
 use Rattle.lowering.specs.Sizes.{size, size_all, count}
 use Rattle.flatgrammar.specs.declared.flat_node.Node as declared
 use Rattle.flatgrammar.specs.FlatViews.{node_of, nodes_of}
-use Rattle.lowering.specs.Numbers.{Numbers, NumbersAll}
+use Rattle.lowering.specs.Numbers.{ArePlanted, Numbers, NumbersAll}
+use Rattle.lowering.proofs.ArePlantedLemmas.{none_planted, planted_more, planted_push}
 use Rattle.flatgrammar.specs.Operands.{IsOperand, AreOrdered}
 use Rattle.lowering.specs.Numbers.{IsNodeReported, AreNodesReported}
-use Rattle.lowering.proofs.SpellAllLemmas.{still_shows, still_spells, still_spell_all, positions_push}
+use Rattle.lowering.proofs.SpellAllLemmas.{still_shows, still_spells, still_spell_all, positions_push, all_below}
 use Rattle.lowering.proofs.SpellAllLemmas.{operand_below}
 use Rattle.flatgrammar.proofs.SliceGetLemmas.{push_cases}
 
@@ -78,13 +79,14 @@ module _ {rules : List Rule} {limit : ℕ} (nodes : List declared.Node) {more : 
     {marks more_marks : List Bool}
     {n : ℕ} {empty : Bool} {el : Element} (is_more : more ≡ nodes ++ v ∷ []) (is : n ≡ length nodes)
     (is_marked : more_marks ≡ marks ++ empty ∷ []) where
-  one_more : (first added : List Node) (were : List Bool) → nodes_of nodes ≡ first ++ added
-      → (AreOrdered first → AreOrdered (nodes_of nodes))
+  one_more : (first added : List Node) (were : List Bool) (tops : List ℕ) → nodes_of nodes ≡ first ++ added
+      → (AreOrdered first → AreOrdered (nodes_of nodes)) → (AreOrdered first → ArePlanted first (nodes_of nodes) tops)
+      → ((i m : ℕ) → OperandAt (node_of v) i m → slice_get tops i ≡ Some m)
       → (AreNodesReported rules limit first were → AreNodesReported rules limit (nodes_of nodes) marks)
       → positions (nodes_of nodes) + width (node_of v) ≤ positions first
       + size limit el → Shows rules limit (nodes_of nodes) (node_of v) el → Settles rules empty el →
       Numbers rules limit first (nodes_of more) were more_marks n empty el
-  one_more first added were grown ordered reported_before sized shown reported =
+  one_more first added were tops grown ordered planted operands reported_before sized shown reported =
       let number : n ≡ length (nodes_of nodes) = is ∙ sym (length-map nodes node_of) in
       let at = at_end (nodes_of nodes) (node_of v) in
       rw (nodes_pushed nodes more v is_more, is_marked) (record {
@@ -96,38 +98,50 @@ module _ {rules : List Rule} {limit : ℕ} (nodes : List declared.Node) {more : 
         settles = reported;
         ordered = λ o. ordered_push (nodes_of nodes) (node_of v) (ordered o)
             (λ m h. operand_below rules limit (nodes_of nodes) shown m h);
+        planted = λ o.
+            let long = length-append first added in
+            let whole = ap length grown in
+            subst (λ k. ArePlanted first (nodes_of nodes ++ node_of v ∷ []) (k ∷ [])) (sym number)
+            (planted_push first (nodes_of nodes) (node_of v) tops (omega (arith, long, whole))
+            (ordered_push (nodes_of nodes) (node_of v) (ordered o)
+            (λ m h. operand_below rules limit (nodes_of nodes) shown m h)) (planted o) operands);
         reported = λ t. reported_push rules limit (nodes_of nodes) marks (node_of v) empty el
             (reported_before t) shown reported;
       })
 
   -- a node without operands
-  pub leaf_numbers : width (node_of v) ≡ size limit el → Shows rules limit (nodes_of nodes) (node_of v) el
-      → Settles rules empty el → Numbers rules limit (nodes_of nodes) (nodes_of more) marks more_marks n empty el
-  leaf_numbers wide shown reported =
-      one_more (nodes_of nodes) [] marks (sym (append-nil (nodes_of nodes))) (λ o. o) (λ t. t) (omega (arith, wide))
-      shown reported
+  pub leaf_numbers : ((i m : ℕ) → OperandAt (node_of v) i m → ⊥) → width (node_of v) ≡ size limit el
+      → Shows rules limit (nodes_of nodes) (node_of v) el → Settles rules empty el
+      → Numbers rules limit (nodes_of nodes) (nodes_of more) marks more_marks n empty el
+  leaf_numbers none wide shown reported =
+      one_more (nodes_of nodes) [] marks [] (sym (append-nil (nodes_of nodes))) (λ o. o)
+      (λ o. none_planted (nodes_of nodes)) (λ i m h. absurd (none i m h)) (λ t. t) (omega (arith, wide)) shown reported
 
   -- a node over one operand
   pub numbers_over : {first : List Node} {were : List Bool} {k : ℕ} {c : Bool} {d : Element}
       → Numbers rules limit first (nodes_of nodes) were marks k c d
-      → width (node_of v) + size limit d ≤ size limit el →
+      → ((i m : ℕ) → OperandAt (node_of v) i m → (i ≡ 0) × (m ≡ k)) → width (node_of v) + size limit d ≤ size limit el →
       (Settles rules c d → Spells rules limit (nodes_of nodes) k d → Shows rules limit (nodes_of nodes) (node_of v) el)
       → (Settles rules c d → Settles rules empty el) → Numbers rules limit first
       (nodes_of more) were more_marks n empty el
-  numbers_over {first} {were} g wide shown reported = let sized = g.sized in
-      one_more first g.added were g.grown g.ordered g.reported (omega (arith, sized, wide)) (shown g.settles g.spelled)
-      (reported g.settles)
+  numbers_over {first} {were} {k = k} g operand wide shown reported = let sized = g.sized in
+      one_more first g.added were (k ∷ []) g.grown g.ordered g.planted
+      (λ i m h. let is = operand i m h in
+      subst (λ j. slice_get (k ∷ []) j ≡ Some m) (sym is.0) (ap (λ j. Some j) (sym is.1)))
+      g.reported (omega (arith, sized, wide)) (shown g.settles g.spelled) (reported g.settles)
 
   -- a node over members
   pub over_all : {first : List Node} {were : List Bool} {ks : List ℕ} {all any : Bool} {es : Elements}
       → NumbersAll rules limit first (nodes_of nodes) were marks ks all any es
+      → ((i m : ℕ) → OperandAt (node_of v) i m → slice_get ks i ≡ Some m)
       → (length ks ≡ count es → width (node_of v) + size_all limit es ≡ size limit el) →
       (SpellAll rules limit (nodes_of nodes) ks es → Shows rules limit (nodes_of nodes) (node_of v) el)
       → (SettlesAll rules all es → SettlesSome rules any es → Settles rules empty el)
       → Numbers rules limit first (nodes_of more) were more_marks n empty el
-  over_all {first} {were} g wide shown reported =
+  over_all {first} {were} {ks = ks} g operands wide shown reported =
       let sized = g.sized in let many = wide (counted g.spelled) in
-      one_more first g.added were g.grown g.ordered g.reported (omega (arith, sized, many)) (shown g.spelled)
+      one_more first g.added were ks g.grown g.ordered g.planted operands g.reported (omega (arith, sized, many))
+      (shown g.spelled)
       (reported g.settle_all g.settle_some)
     where
       counted : {ks : List ℕ} {es : Elements} → SpellAll rules limit (nodes_of nodes) ks es → length ks ≡ count es
@@ -156,6 +170,7 @@ no_members rules limit xs marks ns is = rw is (record {
   settle_all = none_settle rules;
   settle_some = no_alternative_settles rules;
   ordered = λ o. o;
+  planted = λ o. none_planted xs;
   reported = λ t. t;
 })
 
@@ -182,6 +197,12 @@ append_member {rules} {limit} {first} {mid} {new} {were} {between} {are} {ns} {n
   settle_all = next_settles rules all c es el g.settle_all h.settles;
   settle_some = next_alternative_settles rules any c es el g.settle_some h.settles;
   ordered = λ o. h.ordered (g.ordered o);
+  planted = λ o.
+      let long = length-append first g.added in
+      let whole = ap length g.grown in
+      planted_more first mid new ns n (omega (arith, long, whole))
+      (λ k m is. all_below rules limit mid g.spelled k m is)
+      (g.planted o) (h.planted (g.ordered o));
   reported = λ t. h.reported (g.reported t);
 }
 

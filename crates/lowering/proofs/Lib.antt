@@ -22,3 +22,10 @@ pub mod LiveLemmas
 pub mod NothingLemmas
 pub mod PruneLemmas
 pub mod PruneRulesLemmas
+pub mod AwaitedItemsLemmas
+pub mod AwaitsLemmas
+pub mod ArePlantedLemmas
+pub mod PrunedOneLemmas
+mod AwaitsElementLemmas
+mod MoreMarksLemmas
+mod RuleStartsLemmas

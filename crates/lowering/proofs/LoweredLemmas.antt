@@ -1,7 +1,7 @@
 -- A grammar whose bodies are cut, with the augmented start as its last node.
 -- Serves: lower, lower_viable, find_following.
 use Rattle.std.proofs.Common.{◌≡◌, ◌↔◌, ℕ, zero, suc, ◌+◌, ◌<◌, ◌≤◌, Bool, true, List, [], ◌∷◌, ◌++◌, length, take}
-use Rattle.std.proofs.Common.{get_or}
+use Rattle.std.proofs.Common.{get_or, ◌⊎◌, inl, inr}
 use Rattle.std.proofs.Common.{Vec, Global, Some, refl, sym, ◌∙◌, ap, subst, arith, length-append}
 use Rattle.std.specs.Prelude.{slice_get, IfOk, Result, Ok, Err}
 use Rattle.std.proofs.lemmas.List.{length-map}
@@ -12,7 +12,7 @@ use Rattle.abnfread.specs.Element.{Element, Rule, bodies}
 use Rattle.flatgrammar.specs.Flat as flat
 use Rattle.flatgrammar.specs.Flat.{Node, Flat, Dot}
 use Rattle.flatgrammar.specs.Holds.{Holds}
-use Rattle.lowering.specs.Lowered.{shows_concat, spell_none, spell_more, IsLowered}
+use Rattle.lowering.specs.Lowered.{shows_concat, spell_none, spell_more, ArePlaced, IsLowered, OperandAt}
 use Rattle.lowering.specs.NullElements.{Settles}
 use Rattle.flatgrammar.specs.Positions.{positions}
 use Rattle.lowering.specs.Sizes.{sizes}
@@ -25,6 +25,8 @@ use Rattle.flatgrammar.specs.declared.flat_node.Node.TheVariants as code
 use Rattle.lowering.specs.Numbers.{AreCut}
 use Rattle.flatgrammar.specs.Operands.{AreOrdered}
 use Rattle.flatgrammar.specs.FlatViews.{node_of, nodes_of}
+use Rattle.lowering.proofs.ArePlantedLemmas.{one_planted, planted_push}
+use Rattle.flatgrammar.proofs.SliceGetLemmas.{push_cases}
 use Rattle.lowering.proofs.FlatNumbersLemmas.{at_end, nodes_pushed, ordered_push, reported_push}
 use Rattle.lowering.proofs.SpellAllLemmas.{still_spells, positions_push, spells_below}
 
@@ -63,7 +65,46 @@ module _ (rules : List Rule) (limit : ℕ) (judged count n b d : ℕ) (old new :
         let here : n ≡ length (nodes_of old) = last ∙ sym (length-map old node_of) in
         subst (λ k. slice_get (nodes_of old ++ flat.Concat (b ∷ []) ∷ []) k ≡ Some (flat.Concat (b ∷ []))) (sym here)
         (at_end (nodes_of old) (flat.Concat (b ∷ []))));
+    placed = (
+        let long = cut.long in
+        let there : slice_get numbers judged ≡ Some b =
+        slice_get-get_or numbers judged d (omega (arith, within, all, long)) ∙ ap (λ v. Some v) (sym body) in
+        let here : n ≡ length (nodes_of old) = last ∙ sym (length-map old node_of) in
+        rw (is_bodies, shapes_of_whole, is_whole, here) (placed_whole there));
   }
+    where
+      above_one : (r m s i : ℕ) (node : Node) → slice_get numbers r ≡ Some m
+          → (slice_get (nodes_of old) s ≡ Some node) ⊎ ((s ≡ length (nodes_of old)) × (flat.Concat (b ∷ []) ≡ node))
+          → OperandAt node i m → s ≡ length (nodes_of old)
+      above_one r m s i node is (inl was) h = absurd ((cut.planted.fresh r m is).1 s i node was h)
+      above_one r m s i node is (inr new) h = new.0
+
+      one_below : (m k : ℕ) → slice_get (b ∷ []) k ≡ Some m → b < length (nodes_of old) → m < length (nodes_of old)
+      one_below m zero is lt = let same : b ≡ m = cc is in subst (λ v. v < length (nodes_of old)) same lt
+      one_below m (suc k) is lt = absurd (cc is)
+
+      placed_whole : slice_get numbers judged ≡ Some b → ArePlaced (record {
+        nodes = nodes_of old ++ flat.Concat (b ∷ []) ∷ [];
+        bodies = numbers;
+        start = length (nodes_of old);
+        limit = f.limit;
+      })
+      placed_whole there =
+          let whole = flat.Concat (b ∷ []) in
+          let below = λ (r m : ℕ) (is : slice_get numbers r ≡ Some m).
+          spells_below rules limit (nodes_of old) (cut.spelled r m is).2 in
+          let ordered = ordered_push (nodes_of old) whole cut.ordered
+          (λ m h. one_below m h.0 h.1 (below judged b there)) in
+          let planted = planted_push [] (nodes_of old) whole (b ∷ []) (omega arith) ordered
+          (one_planted [] (nodes_of old) numbers judged b cut.planted there) (λ i m h. h) in
+          record {
+            forest = planted.forest (λ s t i j m node other is. absurd (cc is));
+            apart = λ r q m is other. cut.planted.apart r q m is other;
+            above = λ r m s i node is at_s h.
+                above_one r m s i node is (push_cases (nodes_of old) whole s node at_s) h;
+            start = (planted.fresh 0 (length (nodes_of old)) refl).1;
+            no_body = λ r is. let lt = below r (length (nodes_of old)) is in absurd (omega (arith, lt));
+          }
 
   pub positions_sized : positions f.nodes ≤ sizes limit (bodies rules) + 2
   positions_sized =

@@ -185,18 +185,19 @@ module _ (has : ℕ → Bool) (rules : List Rule) (limit : ℕ) (flat : Flat)
     below : one < length ms
     steps : Steps (at s one) i (at s (length ms + one)) j
 
-  record Iterations (s a : ℕ) (b : Option ℕ) (t f i j : ℕ) : Type 0 where
-    to : ℕ
-    turned : Turned a b t to
-    steps : Steps (at s f) i (at s to) j
+  pub record Iterations (s a : ℕ) (b : Option ℕ) (t f i j : ℕ) : Type 0 where
+    pub to : ℕ
+    pub turned : Turned a b t to
+    pub steps : Steps (at s f) i (at s to) j
 
-  -- counted iterations
-  record Counted (s : ℕ) (b : Option ℕ) (f i j : ℕ) : Type 0 where
-    count : ℕ
-    to : ℕ
-    turned : Turned 0 b count to
-    within : der.AtMost count b
-    steps : Steps (at s f) i (at s to) j
+  -- counted iterations, at most so many
+  pub record Counted (s : ℕ) (b : Option ℕ) (most f i j : ℕ) : Type 0 where
+    pub count : ℕ
+    pub to : ℕ
+    pub turned : Turned 0 b count to
+    pub within : der.AtMost count b
+    pub fewer : count ≤ most
+    pub steps : Steps (at s f) i (at s to) j
 
   mutual
     pub node_runs : {el : Element} {w : List ℕ} → Derives has rules el w → (s i j : ℕ)
@@ -288,7 +289,7 @@ module _ (has : ℕ → Bool) (rules : List Rule) (limit : ℕ) (flat : Flat)
     run_some (later d) (spell_more sp all) s ms is k i j left l =
         let n = next_of ms k left in run_some d all s ms is (k + 1) i j n.rest l
 
-    run_times : {el : Element} {k : ℕ} {w : List ℕ} → DerivesTimes has rules el k w → (s a m : ℕ) (b : Option ℕ)
+    pub run_times : {el : Element} {k : ℕ} {w : List ℕ} → DerivesTimes has rules el k w → (s a m : ℕ) (b : Option ℕ)
         → slice_get flat.nodes s ≡ Some (Rep a b m) →
         Spells rules limit flat.nodes m el → (t f i j : ℕ) → Turned a b t f → der.AtMost (t + k) b → Lies x i w j
         → Iterations s a b (t + k) f i j
@@ -308,14 +309,23 @@ module _ (has : ℕ → Bool) (rules : List Rule) (limit : ℕ) (flat : Flat)
           steps = λ o h. on.steps o (once o h);
         }
 
-    run_iterations : {el : Element} {k : ℕ} {w : List ℕ} → DerivesTimes has rules el k w → (s m : ℕ) (b d : Option ℕ)
+    pub run_iterations : {el : Element} {k : ℕ} {w : List ℕ} → DerivesTimes has rules el k w
+        → (s m : ℕ) (b d : Option ℕ)
         → slice_get flat.nodes s ≡ Some (Node.Iterations d m) → d ≡ capped_most limit b →
         Spells rules limit flat.nodes m el → (t f i j : ℕ) → Turned 0 d t f → der.AtMost t d → der.AtMost (t + k) b
-        → t + length w ≤ limit → Lies x i w j → Counted s d f i j
+        → t + length w ≤ limit → Lies x i w j → Counted s d (t + k) f i j
     run_iterations no_more s m b d is most sp t f i j turned counted within under here =
-        record { count = t; to = f; turned = turned; within = counted; steps = λ o h. h }
+        record { count = t; to = f; turned = turned; within = counted; fewer = omega arith; steps = λ o h. h }
     run_iterations (one_more {k = k} {w = []} e ds) s m b d is most sp t f i j turned counted within under l =
-        run_iterations ds s m b d is most sp t f i j turned counted (fewer_within t k b within) under l
+        let on = run_iterations ds s m b d is most sp t f i j turned counted (fewer_within t k b within) under l in
+        record {
+          count = on.count;
+          to = on.to;
+          turned = on.turned;
+          within = on.within;
+          fewer = (let few = on.fewer in omega (arith, few));
+          steps = on.steps;
+        }
     run_iterations (one_more {k = k} {w = c ∷ w} {v = v} e ds) s m b d is most sp t f i j turned counted within under l
         =
         let all = length-append w v in
@@ -333,5 +343,6 @@ module _ (has : ℕ → Bool) (rules : List Rule) (limit : ℕ) (flat : Flat)
           to = on.to;
           turned = on.turned;
           within = on.within;
+          fewer = (let few = on.fewer in omega (arith, few));
           steps = λ o h. on.steps o (once o h);
         }

@@ -46,7 +46,7 @@ pub spells_below : (rules : List Rule) (limit : ℕ) (xs : List Node) {m : ℕ} 
     → m < length xs
 spells_below rules limit xs (spells {s = s} is shown) = get_below xs s is
 
-all_below : (rules : List Rule) (limit : ℕ) (xs : List Node) {ms : List ℕ} {es : Elements}
+pub all_below : (rules : List Rule) (limit : ℕ) (xs : List Node) {ms : List ℕ} {es : Elements}
     → SpellAll rules limit xs ms es → (k m : ℕ) → slice_get ms k ≡ Some m → m < length xs
 all_below rules limit xs spell_none k m h = absurd (cc h)
 all_below rules limit xs (spell_more {m = first} sp all) zero m h =

@@ -5,3 +5,5 @@ pub mod Sizes
 pub mod GivenPrefixes
 pub mod Verdicts
 pub mod Pruned
+pub mod AwaitedParts
+pub mod MoreMarks

@@ -59,9 +59,39 @@ pub record AreBodies (rules : List Rule) (limit : ℕ) (nodes : List Node) (bodi
   pub spelled : (id m : ℕ) → slice_get bodies id ≡ Some m → (el : Element) × (slice_get (e.bodies rules) id ≡ Some el)
       × Spells rules limit nodes m el
 
+-- the operand of that number in a node
+abbrev pub OperandAt : Node → ℕ → ℕ → Type 0
+OperandAt (Letters sets) i m = ⊥
+OperandAt (Concat ms) i m = slice_get ms i ≡ Some m
+OperandAt (Alt ms) i m = slice_get ms i ≡ Some m
+OperandAt (Rep a b d) i m = (i ≡ 0) × (m ≡ d)
+OperandAt (Iterations b d) i m = (i ≡ 0) × (m ≡ d)
+OperandAt (Opt d) i m = (i ≡ 0) × (m ≡ d)
+OperandAt (Name r) i m = ⊥
+OperandAt Nothing i m = ⊥
+
+-- a node is no operand
+abbrev pub IsRoot : List Node → ℕ → Type 0
+IsRoot nodes m = (s i : ℕ) (node : Node) → slice_get nodes s ≡ Some node → OperandAt node i m → ⊥
+
+-- no node is an operand twice
+abbrev pub AreTrees : List Node → Type 0
+AreTrees nodes = (s t i j m : ℕ) (node other : Node) → slice_get nodes s ≡ Some node → slice_get nodes t ≡ Some other
+    → OperandAt node i m → OperandAt other j m → (s ≡ t) × (i ≡ j)
+
+-- each node stands in one body at most, at one place
+pub record ArePlaced (flat : Flat) : Type 0 where
+  pub forest : AreTrees flat.nodes
+  pub apart : (r q m : ℕ) → slice_get flat.bodies r ≡ Some m → slice_get flat.bodies q ≡ Some m → r ≡ q
+  pub above : (r m s i : ℕ) (node : Node) → slice_get flat.bodies r ≡ Some m → slice_get flat.nodes s ≡ Some node
+      → OperandAt node i m → s ≡ flat.start
+  pub start : IsRoot flat.nodes flat.start
+  pub no_body : (r : ℕ) → slice_get flat.bodies r ≡ Some flat.start → ⊥
+
 -- the nodes spell the rules' bodies, and the augmented start is the judged rule's body alone
 pub record IsLowered (rules : List Rule) (judged : ℕ) (flat : Flat) : Type 0 where
   pub spelled : AreBodies rules flat.limit flat.nodes flat.bodies
   pub body : ℕ
   pub body_is : slice_get flat.bodies judged ≡ Some body
   pub whole : slice_get flat.nodes flat.start ≡ Some (Concat (body ∷ []))
+  pub placed : ArePlaced flat

@@ -1,5 +1,5 @@
 -- Elements and rules without the parts that derive no list of symbols.
-use Rattle.std.specs.Prelude.{◌≡◌, ℕ, ◌+◌, ◌≤◌, Bool, List, length, slice_get, Option, Some, None}
+use Rattle.std.specs.Prelude.{◌≡◌, ℕ, ◌+◌, ◌≤◌, Bool, List, [], length, map, slice_get, Option, Some, None}
 use Rattle.abnfread.specs.Element.{Element, Elements, Text, Values, Range, Concat, Alt, Rep, Opt, Name, Prose, none}
 use Rattle.abnfread.specs.Element.{more, Rule, bodies, id_of}
 use Rattle.abnfread.specs.AbnfViews.{element_of}
@@ -58,11 +58,13 @@ module _ (has : ℕ → Bool) (rules : List Rule) where
   -- the body of a rule that is not productive becomes one that derives nothing
   pub data IsLeftBody : Element → Element → Type 0 where
     left_body : {e d : Element} → Keeps e d → IsLeftBody e d
-    no_body : {e : Element} {t : List ℕ} → (IsProductive e → ⊥) → IsLeftBody e (Prose t)
+    no_body : {e : Element} → (IsProductive e → ⊥) → IsLeftBody e (Prose [])
 
 -- the same names with what is left of the bodies
 pub record ArePruned (has : ℕ → Bool) (rules left : List Rule) : Type 0 where
   pub count : length left ≡ length rules
+  pub names : map (λ rule. rule.name) left ≡ map (λ rule. rule.name) rules
+  pub spans : map (λ rule. rule.span) left ≡ map (λ rule. rule.span) rules
   pub ids : (n : List ℕ) → id_of left n ≡ id_of rules n
   pub left_of : (id : ℕ) (e d : Element) → slice_get (bodies rules) id ≡ Some e → slice_get (bodies left) id ≡ Some d
       → IsLeftBody has rules e d

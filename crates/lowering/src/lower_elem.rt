@@ -7,7 +7,7 @@ ghost use Rattle.abnfread.specs.Element.{Element, Rule, id_of};
 ghost use Rattle.abnfread.specs.AbnfViews.{element_of, elements_of, rules_of};
 ghost use Rattle.flatgrammar.specs.Flat as flat;
 ghost use Rattle.flatgrammar.specs.Flat.{Exactly, Between, capped, top};
-ghost use Rattle.lowering.specs.Lowered.{letter_set, capped_most, Spells, Shows};
+ghost use Rattle.lowering.specs.Lowered.{letter_set, capped_most, OperandAt, Spells, Shows};
 ghost use Rattle.lowering.specs.NullElements.{Settles};
 ghost use Rattle.flatgrammar.specs.Positions.{width};
 ghost use Rattle.flatgrammar.specs.FlatViews.{set_of, node_of, nodes_of};
@@ -161,6 +161,7 @@ fn repeat(limit: usize, least: u32, most: Option<u32>, made: Made) -> Node
         Settles rules made.empty el → Spells rules limit nodes made.number el → Shows rules limit nodes (node_of result)
         (e.Rep least most el) }
     ensures width { width (node_of result) ≤ capped limit (top least most) + 1 }
+    ensures operand { (i m : ℕ) → OperandAt (node_of result) i m → (i ≡ 0) × (m ≡ made.number) }
 {
     if is_reversed(least, most) {
         Node::Nothing

@@ -6,14 +6,31 @@ ghost use Rattle.flatgrammar.specs.Positions.{positions};
 ghost use Rattle.lowering.specs.Sizes.{sizes};
 ghost use Rattle.lowering.specs.GivenPrefixes.{GivesPrefixes};
 ghost use Rattle.ruletable.specs.Letters.{has};
-ghost use Rattle.lowering.specs.Pruned.{SpellsProductive};
+ghost use Rattle.lowering.specs.NullElements.{AreNullAlike};
+ghost use Rattle.lowering.specs.Pruned.{ArePruned, SpellsProductive};
 
 use crate::lowered::lower_rules;
 use crate::pruned::prune_rules;
 use abnfcheck::{SoundAbnf, productive};
+use abnfread::Elem;
 use flatgrammar::Flat;
-use ruletable::{Alphabet, Memory};
+use ruletable::{Alphabet, Memory, NameCase, RuleTable};
 use std::alloc::Global;
+
+/// Returns the rules of a grammar without the parts that derive no line over the alphabet, in the same order. A rule
+/// that derives no line gets empty prose in place of its body. `Memory` if an allocation fails.
+pub fn productive_rules(
+    alloc: Global,
+    grammar: &SoundAbnf,
+    alphabet: Alphabet,
+) -> Result<RuleTable<Elem>, Memory>
+    ensures folds { IfOk result (λ rules. rules.names ≡ NameCase.Fold) }
+    ensures pruned { IfOk result (λ rules. ArePruned (has alphabet) (rules_of grammar.now.rules) (rules_of rules)) }
+    ensures alike { IfOk result (λ rules. AreNullAlike (rules_of grammar.now.rules) (rules_of rules)) }
+{
+    let marks = productive(alloc, grammar, alphabet)?;
+    prune_rules(alloc, alphabet, grammar.rules(), &marks)
+}
 
 /// Lowers the productive parts of a grammar to numbered nodes, for lines of at most `limit` symbols: those that derive
 /// some line over the alphabet. The flat grammar derives such a line exactly if the judged rule does. The set
@@ -34,7 +51,6 @@ pub fn lower_viable(
     ensures positions { IfOk result
         (λ flat. positions flat.nodes ≤ sizes limit (bodies (rules_of grammar.now.rules)) + 2) }
 {
-    let marks = productive(alloc, grammar, alphabet)?;
-    let pruned = prune_rules(alloc, alphabet, grammar.rules(), &marks)?;
-    lower_rules(alloc, grammar, &pruned, limit)
+    let rules = productive_rules(alloc, grammar, alphabet)?;
+    lower_rules(alloc, grammar, &rules, limit)
 }

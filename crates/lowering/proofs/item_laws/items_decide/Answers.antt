@@ -7,7 +7,12 @@ use Rattle.flatgrammar.specs.declared.verdict.Verdict.{Verdict}
 use Rattle.flatgrammar.specs.declared.verdict.Verdict.TheVariants.{Yes, No}
 use Rattle.lowering.specs.GivenPrefixes.{GivesPrefixes}
 use Rattle.lowering.specs.Verdicts.{IsVerdict}
+use Rattle.lowering.proofs.ArePrunedLemmas.{gives_prefixes}
+use Rattle.lowering.proofs.AwaitedItemsLemmas.{awaited_exactly}
+use Rattle.lowering.proofs.AwaitsElementLemmas.{awaited_element}
+use Rattle.lowering.proofs.PrunedOneLemmas.{pruned_one}
 use Rattle.lowering.proofs.RuleDerivesLemmas.{derives_exactly}
+use Rattle.lowering.proofs.RuleStartsLemmas.{rule_starts}
 use Rattle.lowering.proofs.item_laws.items_decide.Goals as goal
 
 verdict_of : (has : ℕ → Bool) (rules : List Rule) (judged : ℕ) (flat : Flat) (x : List ℕ) (verdict : Verdict)
@@ -30,3 +35,22 @@ returns-clause-derives c = λ has rules judged flat x lowered line letters.
 
 pub returns-clause-verdict : goal.returns-clause-verdict
 returns-clause-verdict c = verdict_of
+
+pub returns-clause-awaited : goal.returns-clause-awaited
+returns-clause-awaited c = λ has rules judged flat x lowered line letters rule top s n k site is stands.
+    awaited_exactly has rules judged flat lowered x line letters rule top s n k site is stands
+
+pub returns-clause-pruned : goal.returns-clause-pruned
+returns-clause-pruned c = pruned_one
+
+pub returns-clause-prefixes : goal.returns-clause-prefixes
+returns-clause-prefixes c = λ has rules left judged flat pruned lowered.
+    gives_prefixes has rules left pruned judged flat lowered
+
+pub returns-clause-element : goal.returns-clause-element
+returns-clause-element c = λ has rules judged x n rule k site body part is awaited.
+    awaited_element has rules judged x n rule site part k body is awaited
+
+pub returns-clause-starts : goal.returns-clause-starts
+returns-clause-starts c = λ has rules judged flat lowered s id w is derives.
+    rule_starts has rules judged flat lowered s id w is derives

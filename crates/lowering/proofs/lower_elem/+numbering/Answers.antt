@@ -23,39 +23,42 @@ number-returns t c = elim c.match-e.branch [
   | number-in-Text+in_ok-text_sets-in-Text w ↦ rw (w.in-Text.is, w.node-is, element-Text)
       (o.leaf_numbers _ _ (rw (w.numbered-is, w.node-is) at c.in_ok-n.ensures.nodes)
       (rw w.numbered-is at c.in_ok-n.ensures.number)
-      (rw (w.numbered-is, w.node-is) at c.in_ok-n.ensures.nulls) (o.as_many _ _ _
+      (rw (w.numbered-is, w.node-is) at c.in_ok-n.ensures.nulls) (λ i m h. h) (o.as_many _ _ _
       (rw w.deref.ensures.value at w.in_ok-text_sets-in-Text.ensures))
       (shows_text (rw w.deref.ensures.value at w.in_ok-text_sets-in-Text.ensures))
       (r.text_marked _ _ _ _ (rw w.deref-in-Text.ensures.value at w.no_bytes.ensures)))
   | number-in-Values+in_ok-value_sets-in-Values w ↦ rw (w.in-Values.is, w.node-is, element-Values)
       (o.leaf_numbers _ _ (rw (w.numbered-is, w.node-is) at c.in_ok-n.ensures.nodes)
       (rw w.numbered-is at c.in_ok-n.ensures.number)
-      (rw (w.numbered-is, w.node-is) at c.in_ok-n.ensures.nulls) (o.as_many _ _ _
+      (rw (w.numbered-is, w.node-is) at c.in_ok-n.ensures.nulls) (λ i m h. h) (o.as_many _ _ _
       (rw w.deref-in-Values.ensures.value at w.in_ok-value_sets-in-Values.ensures))
       (shows_values (rw w.deref-in-Values.ensures.value at w.in_ok-value_sets-in-Values.ensures))
       (r.values_marked _ _ _ (rw w.deref-in-Values-2.ensures.value at w.no_values.ensures)))
   | number-in-Range+in_ok-range_set-in-Range w ↦ rw (w.in-Range.is, w.node-is, element-Range)
       (o.leaf_numbers _ _ (rw (w.numbered-is, w.node-is) at c.in_ok-n.ensures.nodes)
       (rw w.numbered-is at c.in_ok-n.ensures.number)
-      (rw (w.numbered-is, w.node-is) at c.in_ok-n.ensures.nulls) (rw (w.in_ok-range_set-in-Range.ensures) refl)
+      (rw (w.numbered-is, w.node-is) at c.in_ok-n.ensures.nulls) (λ i m h. h)
+      (rw (w.in_ok-range_set-in-Range.ensures) refl)
       (rw (w.in_ok-range_set-in-Range.ensures) shows_range) (m.range_settles _ _ _))
   | number-in-Concat+in_ok-made-in-Concat w ↦ rw (w.in-Concat.is, w.node-is, element-Concat)
       (o.over_all _ _ (rw (w.numbered-is, w.node-is) at c.in_ok-n.ensures.nodes)
       (rw w.numbered-is at c.in_ok-n.ensures.number)
       (rw (w.numbered-is, w.node-is) at c.in_ok-n.ensures.nulls)
-      (rw w.deref-in-Concat.ensures.value at w.in_ok-made-in-Concat.ensures) (λ many. omega (arith, many)) shows_concat
+      (rw w.deref-in-Concat.ensures.value at w.in_ok-made-in-Concat.ensures) (λ i m h. h) (λ many. omega (arith, many))
+      shows_concat
       (λ all some. m.concat_settles _ _ _ all))
   | number-in-Alt+in_ok-made-in-Alt w ↦ rw (w.in-Alt.is, w.node-is, element-Alt)
       (o.over_all _ _ (rw (w.numbered-is, w.node-is) at c.in_ok-n.ensures.nodes)
       (rw w.numbered-is at c.in_ok-n.ensures.number)
       (rw (w.numbered-is, w.node-is) at c.in_ok-n.ensures.nulls)
-      (rw w.deref-in-Alt.ensures.value at w.in_ok-made-in-Alt.ensures) (λ many. omega (arith, many)) shows_alt
+      (rw w.deref-in-Alt.ensures.value at w.in_ok-made-in-Alt.ensures) (λ i m h. h) (λ many. omega (arith, many))
+      shows_alt
       (λ all some. m.alt_settles _ _ _ some))
   | number-in-Rep+in_ok-made-in-Rep w ↦ rw (w.in-Rep.is, w.node-is, element-Rep)
       (o.numbers_over _ _ (rw (w.numbered-is, w.node-is) at c.in_ok-n.ensures.nodes)
       (rw w.numbered-is at c.in_ok-n.ensures.number)
       (rw (w.numbered-is, w.node-is) at c.in_ok-n.ensures.nulls)
-      (rw w.deref-in-Rep.ensures at w.in_ok-made-in-Rep.ensures)
+      (rw w.deref-in-Rep.ensures at w.in_ok-made-in-Rep.ensures) w.repeat.ensures.operand
       (let wide = w.repeat.ensures.width in omega (arith, wide)) (λ reported sp. w.repeat.ensures.shows _ _ _ reported
       sp)
       (λ t. w.is_empty_repeat.ensures _ _ t))
@@ -63,18 +66,18 @@ number-returns t c = elim c.match-e.branch [
       (o.numbers_over _ _ (rw (w.numbered-is, w.node-is) at c.in_ok-n.ensures.nodes)
       (rw w.numbered-is at c.in_ok-n.ensures.number)
       (rw (w.numbered-is, w.node-is) at c.in_ok-n.ensures.nulls)
-      (rw w.deref-in-Opt.ensures at w.in_ok-number-in-Opt.ensures)
+      (rw w.deref-in-Opt.ensures at w.in_ok-number-in-Opt.ensures) (λ i m h. h)
       (omega arith) (λ reported sp. shows_opt sp) (λ t. m.opt_settles _ _))
   | number-in-Name+in_ok-id-in-Name w ↦ let id = w.in_ok-id-in-Name.ensures
       ∙ ap (λ v. id_of (rules_of c.args.rules.now) v) w.deref-in-Name.ensures.value in
       rw (w.in-Name.is, w.node-is, element-Name) (o.leaf_numbers _ _
       (rw (w.numbered-is, w.node-is) at c.in_ok-n.ensures.nodes) (rw w.numbered-is at c.in_ok-n.ensures.number)
-      (rw (w.numbered-is, w.node-is) at c.in_ok-n.ensures.nulls) refl
+      (rw (w.numbered-is, w.node-is) at c.in_ok-n.ensures.nulls) (λ i m h. h) refl
       (shows_name id) (rw (w.mark.ensures, id) (c.requires.marks _)))
   | number-in-Prose w ↦ rw (w.in-Prose.is, w.node-is, element-Prose)
       (o.leaf_numbers _ _ (rw (w.numbered-is, w.node-is) at c.in_ok-n.ensures.nodes)
       (rw w.numbered-is at c.in_ok-n.ensures.number)
-      (rw (w.numbered-is, w.node-is) at c.in_ok-n.ensures.nulls) refl shows_prose (m.prose_settles _ _))
+      (rw (w.numbered-is, w.node-is) at c.in_ok-n.ensures.nulls) (λ i m h. h) refl shows_prose (m.prose_settles _ _))
 ]
 
 pub number_all-loop-member-init : goal.number_all-loop-member-init

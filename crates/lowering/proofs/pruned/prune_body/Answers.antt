@@ -6,4 +6,4 @@ pub returns-in-Some : goal.returns-in-Some
 returns-in-Some c = left_body (rw c.in-Some.is at c.in_ok-left.ensures)
 
 pub returns-in-None : goal.returns-in-None
-returns-in-None c = rw element-Prose (no_body (rw c.in-None.is at c.in_ok-left.ensures))
+returns-in-None c = rw (element-Prose, c.new.ensures.items) (no_body (rw c.in-None.is at c.in_ok-left.ensures))

@@ -6,7 +6,7 @@ use Rattle.lowering.proofs.pruned.prune_rules.Goals as goal
 pub loop-id-preserved : goal.loop-id-preserved
 loop-id-preserved c =
     next_pruned (has c.args.alphabet) c.args.rules.now _ _ _ _ _ _ c.len-id-end.ensures.unique c.requires.folds
-    c.loop-id.invariant c.name.ensures c.body.ensures c.in_ok-body.ensures c.in_ok-define.ensures.defines
+    c.loop-id.invariant c.name.ensures c.body.ensures c.span.ensures c.in_ok-body.ensures c.in_ok-define.ensures.defines
 
 pub returns-clause-pruned : goal.returns-clause-pruned
 returns-clause-pruned c = all_pruned (has c.args.alphabet) c.args.rules.now _ _ c.loop-id.invariant

@@ -16,6 +16,7 @@ invariant_of-self-in_default-get g c = (
   c.self.invariant.3,
   subst (λ v. IsMemo c.self.inside.tables.value v c.run.new.memo) c.deref.ensures.value
       (subst (λ v. IsMemo v c.deref.result.now c.run.new.memo) c.deref-2.ensures c.run.ensures.memo),
+  c.self.invariant.5,
 )
 
 pub dots_of-requires-clause-within : goal.dots_of-requires-clause-within
@@ -37,6 +38,7 @@ invariant_of-self-in_err-dots g c = (
   c.self.invariant.3,
   subst (λ v. IsMemo c.self.inside.tables.value v c.run.new.memo) c.deref.ensures.value
       (subst (λ v. IsMemo v c.deref.result.now c.run.new.memo) c.deref-2.ensures c.run.ensures.memo),
+  c.self.invariant.5,
 )
 
 pub invariant_of-self-2 : goal.invariant_of-self-2
@@ -47,6 +49,7 @@ invariant_of-self-2 g c = (
   c.self.invariant.3,
   subst (λ v. IsMemo c.self.inside.tables.value v c.run.new.memo) c.deref.ensures.value
       (subst (λ v. IsMemo v c.deref.result.now c.run.new.memo) c.deref-2.ensures c.run.ensures.memo),
+  c.self.invariant.5,
 )
 
 pub returns-clause-reported : goal.returns-clause-reported

@@ -14,6 +14,7 @@ invariant_of-self-2 g c = (
   c.self.invariant.3,
   subst (λ v. IsMemo c.self.inside.tables.value v c.run.new.memo) c.deref.ensures.value
       (subst (λ v. IsMemo v c.deref.result.now c.run.new.memo) c.deref-2.ensures c.run.ensures.memo),
+  c.self.invariant.5,
 )
 
 pub returns-clause-verdict : goal.returns-clause-verdict

@@ -16,4 +16,5 @@ invariant_of-result c = (
   memo_none c.in_ok-tables.tables.value c.in_ok-classes.classes.samples.items c.empty_memo-memo.result
       c.empty_memo-memo.ensures.conts c.empty_memo-memo.ensures.states c.empty_memo-memo.ensures.cells
       c.empty_memo-memo.ensures.transitions c.empty_memo-memo.ensures.resumes c.empty_memo-memo.ensures.leads,
+  c.in_ok-tables.ensures.exact.nulls,
 )
