@@ -358,7 +358,36 @@ module _ (tables : code_flat.Tables) where
         by (inl q) = q
         by (inr p) = absurd (left_ends p.top p.rest p.some (subst (λ v. EndsAlone tables v) p.is ends))
 
-    -- a kernel leads to what its ids lead to, and the other way
+    -- a kernel closes to what its ids close to, and the other way
+    pub kernel_closed : (new : List Cont) (next : List ℕ) (ended : Bool)
+        → AreClosedTops tables conts ids new next ended → AreClosedTops tables conts kernel new next ended
+    kernel_closed new next ended h = record {
+      within = h.within;
+      tops_are = λ s. (
+        λ r. let g = (h.tops_are s).0 r in (g.0, reads_kernel g.0 g.1),
+        λ g. (h.tops_are s).1 (g.0, kernel_goes g.1),
+      );
+      ended_is = (
+        λ r. let e = h.ended_is.0 r in (e.0, ends_kernel e.2 e.1, e.2),
+        λ e. h.ended_is.1 (e.0, kernel_goes e.1, e.2),
+      );
+    }
+
+    pub closed_kernel : (new : List Cont) (next : List ℕ) (ended : Bool)
+        → AreClosedTops tables conts kernel new next ended → AreClosedTops tables conts ids new next ended
+    closed_kernel new next ended h = record {
+      within = h.within;
+      tops_are = λ s. (
+        λ r. let g = (h.tops_are s).0 r in (g.0, kernel_goes g.1),
+        λ g. (h.tops_are s).1 (g.0, reads_kernel g.0 g.1),
+      );
+      ended_is = (
+        λ r. let e = h.ended_is.0 r in (e.0, kernel_goes e.1, e.2),
+        λ e. h.ended_is.1 (e.0, ends_kernel e.2 e.1, e.2),
+      );
+    }
+
+    -- .. without dominated stacks
     pub kernel_leads : (new : List Cont) (states : List State) (t : ℕ) → IsLeadTo tables conts ids new states t
         → IsLeadTo tables conts kernel new states t
     kernel_leads new states t h = record {
@@ -366,17 +395,7 @@ module _ (tables : code_flat.Tables) where
       to_is = h.to_is;
       is = record {
         read = h.is.read;
-        is = record {
-          within = h.is.is.within;
-          tops_are = λ s. (
-            λ r. let g = (h.is.is.tops_are s).0 r in (g.0, reads_kernel g.0 g.1),
-            λ g. (h.is.is.tops_are s).1 (g.0, kernel_goes g.1),
-          );
-          ended_is = (
-            λ r. let e = h.is.is.ended_is.0 r in (e.0, ends_kernel e.2 e.1, e.2),
-            λ e. h.is.is.ended_is.1 (e.0, kernel_goes e.1, e.2),
-          );
-        };
+        is = kernel_closed new h.is.read h.to.ended h.is.is;
         pruned = h.is.pruned;
       };
     }
@@ -388,17 +407,7 @@ module _ (tables : code_flat.Tables) where
       to_is = h.to_is;
       is = record {
         read = h.is.read;
-        is = record {
-          within = h.is.is.within;
-          tops_are = λ s. (
-            λ r. let g = (h.is.is.tops_are s).0 r in (g.0, kernel_goes g.1),
-            λ g. (h.is.is.tops_are s).1 (g.0, reads_kernel g.0 g.1),
-          );
-          ended_is = (
-            λ r. let e = h.is.is.ended_is.0 r in (e.0, kernel_goes e.1, e.2),
-            λ e. h.is.is.ended_is.1 (e.0, ends_kernel e.2 e.1, e.2),
-          );
-        };
+        is = closed_kernel new h.is.read h.to.ended h.is.is;
         pruned = h.is.pruned;
       };
     }

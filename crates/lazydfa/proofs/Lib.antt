@@ -19,6 +19,7 @@ pub mod IsRunVerdictLemmas
 pub mod TopDotLemmas
 pub mod ExpectedLemmas
 pub mod AreUncountedLemmas
+mod WholeLeadsLemmas
 pub mod StateSetsLemmas
 mod StackCutsLemmas
 pub mod WalksOverLemmas

@@ -4,9 +4,7 @@ use Rattle.std.proofs.Common.{◌≡◌, ℕ, zero, suc, ◌≤◌, Bool, List, 
 use Rattle.std.proofs.Common.{ap, subst, arith, ◌↔◌, ◌⊎◌, inl, inr, true, eqb}
 use Rattle.std.proofs.lemmas.Bool.{eqb-true}
 use Rattle.std.proofs.lemmas.List.{map-append}
-use Rattle.std.proofs.lemmas.List.Sorted.{Contains-permutation, IsPermutation-sym}
 use Rattle.std.proofs.lemmas.Option.{slice_get-get_or}
-use Rattle.std.specs.List.Sorted.{IsPermutation}
 use Rattle.std.specs.Prelude.{slice_get, Some, Contains}
 use Rattle.flatgrammar.specs.Flat.{Flat, Dot}
 use Rattle.flatgrammar.specs.NodeSteps.{flat_of}
@@ -16,14 +14,16 @@ use Rattle.flatgrammar.proofs.CallOfLemmas.{get_map, get_unmap}
 use Rattle.flatgrammar.specs.Stacks.{IsStackClosure, IsNext, Led, led, moves, LedToEnd, Lifted, ReadBy}
 use Rattle.lazydfa.specs.declared.conts.Cont.{Cont}
 use Rattle.lazydfa.specs.declared.cache.State.{State}
-use Rattle.lazydfa.specs.Conts.{stack_of, last_of, AreKept, IsStackOf, IsTransition}
-use Rattle.lazydfa.specs.Cached.{AreGrown, IsInterned, IsStartAt}
+use Rattle.lazydfa.specs.Conts.{stack_of, last_of, Adds, AreKept, IsStackOf, IsTransition, ReadsFrom}
+use Rattle.lazydfa.specs.Cached.{AreGrown, IsStartAt}
+use Rattle.lazydfa.specs.Kernels.{IsWholeLeadTo}
 use Rattle.lazydfa.specs.StateSets.{AreMoreStates, IsLed, IsNextState, IsStartState, state_set_of, sets_of}
 use Rattle.lazydfa.specs.StateSets.{StateSet, StateSets}
 use Rattle.lazydfa.proofs.AreCachedLemmas.{grown_at, transition_kept}
-use Rattle.lazydfa.proofs.ContsLemmas.{kept_same, kept_stack}
+use Rattle.lazydfa.proofs.ContsLemmas.{kept_both, kept_same, kept_stack}
 use Rattle.lazydfa.proofs.IsAtLemmas.{start_closure}
 use Rattle.lazydfa.proofs.ReportLemmas.{transition_next}
+use Rattle.lazydfa.proofs.TransitionLemmas.{is_transition}
 
 -- a closure by other words
 pub closure_as : (flat : Flat) (last : Dot → Bool) (x : List ℕ) (j : ℕ) (P Q : List Dot → Type 0) (ended : Bool)
@@ -155,41 +155,23 @@ module _ (tables : code_flat.Tables) (targets : GiveTargets (flat_of tables) tab
         (from_list conts s.state.tops.items) (start_closure tables targets x conts states t s);
   }
 
--- the ids of a transition in another order
-pub tops_reordered : (tables : code_flat.Tables) (c : ℕ) (first : List Cont) (tops : List ℕ) (conts : List Cont)
-    (next other : List ℕ) (ended : Bool) → IsPermutation next other
-    → IsTransition tables c first tops conts next ended → IsTransition tables c first tops conts other ended
-tops_reordered tables c first tops conts next other ended p t = record {
-  within = λ id h. t.within id (back id h);
-  tops_are = λ stack. (
-    λ s. (t.tops_are stack).0 (record { id = s.id; stands = back s.id s.stands; is = s.is }),
-    λ h. let s = (t.tops_are stack).1 h in
-        record { id = s.id; stands = Contains-permutation next other s.id p s.stands; is = s.is },
-  );
-  ended_is = t.ended_is;
-}
-  where
-    back : (id : ℕ) → Contains other id → Contains next id
-    back id h = Contains-permutation other next id (IsPermutation-sym next other p) h
-
--- a transition to a state that was added
-module _ (tables : code_flat.Tables) (conts mid new : List Cont) (states more : List State) (from : State)
-    (tops next : List ℕ) (ended : Bool) (s t v : ℕ)
-    (within : (id : ℕ) → Contains from.tops.items id → id ≤ length conts) (kept : AreKept conts mid) (same : new ≡ mid)
-    (interned : IsInterned states more next ended t) (at_s : slice_get states s ≡ Some from)
-    (tops_are : tops ≡ from.tops.items) (is : IsTransition tables v conts tops mid next ended) where
+-- a transition to a state that the ids that were read lead to
+module _ (tables : code_flat.Tables) (first mid new : List Cont) (states more : List State) (from : State)
+    (tops none ids : List ℕ) (s t v : ℕ) (within : (id : ℕ) → Contains from.tops.items id → id ≤ length first)
+    (kept : AreKept first mid) (later : AreKept mid new) (grown : AreGrown states more)
+    (at_s : slice_get states s ≡ Some from) (tops_are : tops ≡ from.tops.items) (empty : none ≡ [])
+    (adds : Adds mid (ReadsFrom tables v first tops) none ids) (is : IsWholeLeadTo tables mid ids new more t) where
   pub led_whole : IsLed tables v new more s t
-  led_whole = subst (λ c. IsLed tables v c more s t) (sym same) (record {
+  led_whole = record {
     from = from;
-    to = interned.is.state;
-    from_is = grown_at states more interned.grown s from at_s;
-    to_is = interned.is.is;
-    is = transition_kept tables v conts mid mid mid from.tops.items interned.is.state.tops.items
-        interned.is.state.ended kept (kept_same mid) within
-        (subst (λ w. IsTransition tables v conts w mid interned.is.state.tops.items interned.is.state.ended) tops_are
-        (subst (λ w. IsTransition tables v conts tops mid w interned.is.state.ended) (sym interned.is.tops_are)
-        (subst (λ w. IsTransition tables v conts tops mid next w) (sym interned.is.ended_is) is)));
-  })
+    to = is.to;
+    from_is = grown_at states more grown s from at_s;
+    to_is = is.to_is;
+    is = transition_kept tables v first new new new from.tops.items is.to.tops.items is.to.ended
+        (kept_both first mid new kept later) (kept_same new) within
+        (subst (λ w. IsTransition tables v first w new is.to.tops.items is.to.ended) tops_are
+        (is_transition tables v first mid new tops none is.to.tops.items is.to.ended empty ids adds is.is));
+  }
 
 -- a state without ids has no stack
 to_empty : (f : ℕ → List Dot) (ids : List ℕ) → length ids ≡ 0 → map f ids ≡ []

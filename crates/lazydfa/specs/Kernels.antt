@@ -85,3 +85,20 @@ pub record IsLeadKnown (leads : List KernelLead) (kernel : List ℕ) (t : ℕ) :
 abbrev pub AreLeadsNoted : List KernelLead → List KernelLead → List ℕ → ℕ → Type 0
 AreLeadsNoted old new kernel to = (k : ℕ) (lead : KernelLead) → slice_get new k ≡ Some lead
     → (slice_get old k ≡ Some lead) ⊎ ((lead.kernel.items ≡ kernel) × (lead.to ≡ to))
+
+-- ids lead to a state with all of their stacks
+pub record IsWholeLeadTo (tables : code_flat.Tables) (first : List Cont) (given : List ℕ) (conts : List Cont)
+    (states : List State) (t : ℕ) : Type 0 where
+  pub to : State
+  pub to_is : slice_get states t ≡ Some to
+  pub is : AreClosedTops tables first given conts to.tops.items to.ended
+
+-- .. as a lead says
+pub record IsWholeLead (tables : code_flat.Tables) (conts : List Cont) (states : List State) (lead : KernelLead)
+    : Type 0 where
+  pub within : (id : ℕ) → Contains lead.kernel.items id → id ≤ length conts
+  pub is : IsWholeLeadTo tables conts lead.kernel.items conts states lead.to
+
+abbrev pub AreWholeLeads : code_flat.Tables → List Cont → List State → List KernelLead → Type 0
+AreWholeLeads tables conts states leads = (k : ℕ) (lead : KernelLead) → slice_get leads k ≡ Some lead
+    → IsWholeLead tables conts states lead

@@ -1,17 +1,21 @@
 //! States that a search reaches, by number.
-ghost use Rattle.std.specs.Prelude.{◌≡◌, ◌↔◌, [], IsTrue, IfOk, IfSome, slice_get, Some};
+ghost use Rattle.std.specs.Prelude.{◌≡◌, ◌↔◌, ◌≤◌, ◌<◌, ℕ, [], IsTrue, IfOk, IfSome, length, slice_get, Some};
+ghost use Rattle.std.specs.Prelude.{Contains};
 ghost use Rattle.std.specs.List.Sorted.{IsPermutation};
 ghost use Rattle.lazydfa.specs.Cached.{IsCache, Grows};
+ghost use Rattle.lazydfa.specs.Kernels.{AreWholeLeads, IsWholeLeadTo};
 ghost use Rattle.lazydfa.specs.StackCuts.{IsCutState, IsStateWithin};
 ghost use Rattle.lazydfa.specs.StateSets.{AreMoreStates, AreStatesOf, IsLed, IsNextState, IsStartState, StateSet};
 
 use crate::automaton::{are_served, empty_memo};
 use crate::cache::{Cache, forget, has_ended, state_of};
+use crate::close::empty;
 use crate::cuts::{StateCut, are_among, cut_whole};
 use crate::fill::may_fill;
+use crate::kernels::{KernelLeads, find_lead, kernel_of, note_lead};
 use crate::run::begin;
 use crate::suffixes::entry;
-use crate::transition::{Closure, transition};
+use crate::transition::{Closure, close_on, read_all};
 use flatgrammar::{Flat, Item, Tables, reads};
 use ruletable::Memory;
 use std::alloc::Global;
@@ -31,6 +35,8 @@ pub struct States {
     tables: Rc<Tables>,
     /// The states and their stacks, without cells.
     cache: Cache,
+    /// The states that kernels lead to.
+    leads: KernelLeads,
 }
 
 impl Model for States {
@@ -38,6 +44,7 @@ impl Model for States {
     ghost use Rattle.flatgrammar.specs.NodeSteps.{flat_of};
     ghost use Rattle.flatgrammar.specs.TableViews.{GiveTargets};
     ghost use Rattle.lazydfa.specs.Cached.{IsCache};
+    ghost use Rattle.lazydfa.specs.Kernels.{AreWholeLeads};
     ghost use Rattle.lazydfa.specs.StateSets.{StateSets, sets_of};
 
     ghost Value = { StateSets };
@@ -49,8 +56,8 @@ impl Model for States {
     } };
 
     ghost invariant = { λ s. (GiveTargets (flat_of s.tables.value) s.tables.value.targets.items)
-        × (IsCache s.tables.value
-        [] s.cache) };
+        × (IsCache s.tables.value [] s.cache)
+        × (AreWholeLeads s.tables.value s.cache.conts.items.items s.cache.states.items s.leads.items.items) };
 }
 
 /// Returns a closure with its ids in ascending order.
@@ -66,18 +73,67 @@ pub(crate) fn in_order(closure: Closure) -> Closure
     }
 }
 
+// Forgets all states.
+fn forget_states(cache: &mut Cache, leads: &mut KernelLeads)
+    ensures conts { cache.new.conts.items.items ≡ [] }
+    ensures states { cache.new.states.items ≡ [] }
+    ensures cells { cache.new.cells.items ≡ [] }
+    ensures leads { leads.new.items.items ≡ [] }
+{
+    forget(cache);
+    leads.items.clear();
+    leads.chains.clear();
+}
+
+// Returns the number of the state that the ids that were read lead to. It is made unless the lead of their kernel is
+// known. `None` if its closure visits more ids than it may. `Memory` if an allocation fails.
+fn close_whole(
+    alloc: Global,
+    tables: &Tables,
+    cache: &mut Cache,
+    leads: &mut KernelLeads,
+) -> Result<Option<usize>, Memory>
+    requires cached { IsCache tables.now [] cache.old }
+    requires leads { AreWholeLeads tables.now cache.old.conts.items.items cache.old.states.items leads.old.items.items }
+    requires within { (id : ℕ) → Contains cache.old.ids.items.items id → id ≤ length cache.old.conts.items.items }
+    requires begun { 0 < length cache.old.states.items }
+    ensures cached { IfOk result (λ reported. IsCache tables.now [] cache.new) }
+    ensures grows { IfOk result (λ reported. Grows cache.old cache.new) }
+    ensures leads { IfOk result (λ reported. AreWholeLeads tables.now cache.new.conts.items.items
+        cache.new.states.items leads.new.items.items) }
+    ensures is { IfOk result (λ reported. IfSome reported (IsWholeLeadTo tables.now cache.old.conts.items.items
+        cache.old.ids.items.items cache.new.conts.items.items cache.new.states.items)) }
+{
+    let kernel = kernel_of(alloc, tables, &cache.conts, &cache.ids.items)?;
+    if let Some(t) = find_lead(leads, &kernel) {
+        return Ok(Some(t));
+    }
+    let reported = close_on(alloc, tables, &mut cache.conts, &mut cache.ids)?;
+    let Some(closure) = reported else {
+        return Ok(None);
+    };
+    let t = state_of(cache, 0, in_order(closure))?;
+    cache.budget.note(kernel.len());
+    note_lead(leads, kernel, t)?;
+    Ok(Some(t))
+}
+
 // Returns the number of the state that a symbol leads to from another; `None` if there is no such state, or no room for
 // more. `Memory` if an allocation fails; the cache is of no use then.
 fn lead_whole(
     alloc: Global,
     tables: &Tables,
     cache: &mut Cache,
+    leads: &mut KernelLeads,
     state: usize,
     value: u32,
 ) -> Result<Option<usize>, Memory>
     requires cached { IsCache tables.now [] cache.old }
+    requires leads { AreWholeLeads tables.now cache.old.conts.items.items cache.old.states.items leads.old.items.items }
     ensures cached { IfOk result (λ reported. IsCache tables.now [] cache.new) }
     ensures grows { IfOk result (λ reported. Grows cache.old cache.new) }
+    ensures leads { IfOk result (λ reported. AreWholeLeads tables.now cache.new.conts.items.items
+        cache.new.states.items leads.new.items.items) }
     ensures is { IfOk result (λ reported. IfSome reported (IsLed tables.now value cache.new.conts.items.items
         cache.new.states.items state)) }
 {
@@ -85,12 +141,9 @@ fn lead_whole(
         return Ok(None);
     }
     let tops = cache.states[state].tops.as_slice();
-    let reported = transition(alloc, tables, tops, value, &mut cache.conts, &mut cache.ids)?;
-    let Some(closure) = reported else {
-        return Ok(None);
-    };
-    let t = state_of(cache, 0, in_order(closure))?;
-    Ok(Some(t))
+    empty(&mut cache.ids);
+    read_all(tables, tops, value, &mut cache.conts, &mut cache.ids)?;
+    close_whole(alloc, tables, cache, leads)
 }
 
 impl States {
@@ -109,6 +162,7 @@ impl States {
             alloc,
             tables,
             cache: memo.cache,
+            leads: memo.leads,
         }))
     }
 
@@ -121,7 +175,7 @@ impl States {
             Ok(true) => Ok(Some(0)),
             Ok(false) => Ok(None),
             Err(fault) => {
-                forget(&mut self.cache);
+                forget_states(&mut self.cache, &mut self.leads);
                 Err(fault)
             }
         }
@@ -133,10 +187,17 @@ impl States {
         ensures more { IfOk result (λ reported. AreMoreStates self.old self.new) }
         ensures is { IfOk result (λ reported. IfSome reported (IsNextState self.new value state)) }
     {
-        match lead_whole(self.alloc, &self.tables, &mut self.cache, state, value) {
+        match lead_whole(
+            self.alloc,
+            &self.tables,
+            &mut self.cache,
+            &mut self.leads,
+            state,
+            value,
+        ) {
             Ok(reported) => Ok(reported),
             Err(fault) => {
-                forget(&mut self.cache);
+                forget_states(&mut self.cache, &mut self.leads);
                 Err(fault)
             }
         }
@@ -152,7 +213,7 @@ impl States {
         match cut_whole(self.alloc, &self.tables, &mut self.cache, state) {
             Ok(reported) => Ok(reported),
             Err(fault) => {
-                forget(&mut self.cache);
+                forget_states(&mut self.cache, &mut self.leads);
                 Err(fault)
             }
         }

@@ -1,11 +1,11 @@
 //! Transitions.
 ghost use Rattle.std.specs.Prelude.{◌≡◌, ◌↔◌, ◌≤◌, ◌++◌, ◌∷◌, ℕ, true, false, List, [], IsTrue, IfOk, IfSome, length};
 ghost use Rattle.std.specs.Prelude.{Contains};
-ghost use Rattle.lazydfa.specs.Conts.{AreKept, AreOlder, Adds, ReadsOn, ReadsFrom, TopReads, AreReaders, IsTransition};
+ghost use Rattle.lazydfa.specs.Conts.{AreKept, AreOlder, Adds, ReadsOn, ReadsFrom, TopReads, AreReaders};
 ghost use Rattle.lazydfa.specs.Conts.{stack_of};
 ghost use Rattle.lazydfa.specs.Kernels.{AreClosedTops};
 
-use crate::close::{Ids, add, close, cont_at, empty};
+use crate::close::{Ids, add, close, cont_at};
 use crate::conts::{Cont, Conts, id_of};
 use flatgrammar::{Item, Tables, operation_of, reads};
 use ruletable::Memory;
@@ -150,27 +150,4 @@ pub(crate) fn close_on(
     };
     let tops = readers(alloc, tables, conts, &ids.items)?;
     Ok(Some(Closure { tops, ended }))
-}
-
-/// Returns the closure after stacks read a symbol; `None` if that visits more ids than it may. `Memory` if an
-/// allocation fails.
-pub(crate) fn transition(
-    alloc: Global,
-    tables: &Tables,
-    tops: &[usize],
-    value: u32,
-    conts: &mut Conts,
-    ids: &mut Ids,
-) -> Result<Option<Closure>, Memory>
-    requires within { (id : ℕ) → Contains tops.now id → id ≤ length conts.old.items.items }
-    requires older { AreOlder conts.old.items.items }
-    ensures kept { IfOk result (λ reported. AreKept conts.old.items.items conts.new.items.items) }
-    ensures is { IfOk result
-        (λ reported. IfSome reported (λ closure. IsTransition tables.now value conts.old.items.items
-        tops.now
-        conts.new.items.items closure.tops.items closure.ended)) }
-{
-    empty(ids);
-    read_all(tables, tops, value, conts, ids)?;
-    close_on(alloc, tables, conts, ids)
 }

@@ -21,7 +21,7 @@ use ruletable::{Alphabet, Memory};
 use std::alloc::Global;
 
 /// How many pairs are searched before pairs are cut.
-const FIRST_PAIRS: usize = 4_096;
+const FIRST_PAIRS: usize = 1_024;
 
 /// How many pairs are searched that are cut.
 const CUT_PAIRS: usize = 8_192;

@@ -1,10 +1,21 @@
-use Rattle.std.proofs.Common.{subst}
+use Rattle.std.proofs.Common.{subst, []}
 use Rattle.std.proofs.lemmas.Option.{IfSome_then}
+use Rattle.lazydfa.specs.Cached.{IsCache}
 use Rattle.lazydfa.specs.StackCuts.{IsCutAt}
 use Rattle.lazydfa.specs.StateSets.{AreMoreStates, sets_of}
 use Rattle.lazydfa.proofs.StackCutsLemmas.{is_cut_state}
 use Rattle.lazydfa.proofs.StateSetsLemmas.{more_states}
+use Rattle.lazydfa.proofs.WholeLeadsLemmas.{wholes_grown}
 use Rattle.lazydfa.proofs.states.States.cut.Goals as goal
+
+pub invariant_of-self : goal.invariant_of-self
+invariant_of-self c = (
+  c.self.invariant.0,
+  subst (λ v. IsCache v [] c.cut_whole.new.cache) c.deref.ensures c.in-Ok.ensures.cached,
+  wholes_grown c.self.inside.tables.value c.self.inside.cache.conts.items.items c.cut_whole.new.cache.conts.items.items
+      c.self.inside.cache.states.items c.cut_whole.new.cache.states.items c.self.inside.leads.items.items
+      c.in-Ok.ensures.grows.conts c.in-Ok.ensures.grows.states c.self.invariant.2,
+)
 
 pub returns-in-Ok-clause-more : goal.returns-in-Ok-clause-more
 returns-in-Ok-clause-more c =
