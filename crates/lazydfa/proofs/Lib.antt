@@ -19,6 +19,5 @@ pub mod IsRunVerdictLemmas
 pub mod TopDotLemmas
 pub mod ExpectedLemmas
 pub mod AreUncountedLemmas
-mod WholeLeadsLemmas
 pub mod StateSetsLemmas
 mod StackCutsLemmas
