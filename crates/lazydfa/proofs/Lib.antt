@@ -19,7 +19,6 @@ pub mod IsRunVerdictLemmas
 pub mod TopDotLemmas
 pub mod ExpectedLemmas
 pub mod AreUncountedLemmas
-mod WholeLeadsLemmas
 pub mod StateSetsLemmas
 mod StackCutsLemmas
 pub mod WalksOverLemmas

@@ -73,18 +73,6 @@ pub(crate) fn in_order(closure: Closure) -> Closure
     }
 }
 
-// Forgets all states.
-fn forget_states(cache: &mut Cache, leads: &mut KernelLeads)
-    ensures conts { cache.new.conts.items.items ≡ [] }
-    ensures states { cache.new.states.items ≡ [] }
-    ensures cells { cache.new.cells.items ≡ [] }
-    ensures leads { leads.new.items.items ≡ [] }
-{
-    forget(cache);
-    leads.items.clear();
-    leads.chains.clear();
-}
-
 // Returns the number of the state that the ids that were read lead to. It is made unless the lead of their kernel is
 // known. `None` if its closure visits more ids than it may. `Memory` if an allocation fails.
 fn close_whole(
@@ -175,7 +163,8 @@ impl States {
             Ok(true) => Ok(Some(0)),
             Ok(false) => Ok(None),
             Err(fault) => {
-                forget_states(&mut self.cache, &mut self.leads);
+                forget(&mut self.cache);
+                self.leads.items.clear();
                 Err(fault)
             }
         }
@@ -197,7 +186,8 @@ impl States {
         ) {
             Ok(reported) => Ok(reported),
             Err(fault) => {
-                forget_states(&mut self.cache, &mut self.leads);
+                forget(&mut self.cache);
+                self.leads.items.clear();
                 Err(fault)
             }
         }
@@ -213,7 +203,8 @@ impl States {
         match cut_whole(self.alloc, &self.tables, &mut self.cache, state) {
             Ok(reported) => Ok(reported),
             Err(fault) => {
-                forget_states(&mut self.cache, &mut self.leads);
+                forget(&mut self.cache);
+                self.leads.items.clear();
                 Err(fault)
             }
         }

@@ -3,8 +3,8 @@ use Rattle.std.specs.Prelude.{Contains, IfSome}
 use Rattle.lazydfa.specs.Conts.{AreKept}
 use Rattle.lazydfa.specs.Kernels.{AreClosedTops, IsKernel, IsLeadKnown}
 use Rattle.lazydfa.proofs.AreCachedLemmas.{cached_conts, grown_same}
-use Rattle.lazydfa.proofs.KernelsLemmas.{begun_grown}
-use Rattle.lazydfa.proofs.WholeLeadsLemmas.{closed_reordered, whole_found, whole_made, whole_noted, wholes_grown}
+use Rattle.lazydfa.proofs.KernelsLemmas.{begun_grown, closed_reordered, whole_found, whole_made, whole_noted}
+use Rattle.lazydfa.proofs.KernelsLemmas.{wholes_grown}
 use Rattle.lazydfa.proofs.states.close_whole.Goals as goal
 
 pub kernel_of-requires-clause-within : goal.kernel_of-requires-clause-within

@@ -6,10 +6,9 @@ use Rattle.lazydfa.specs.Kernels.{IsWholeLeadTo}
 use Rattle.lazydfa.specs.StateSets.{IsLed}
 use Rattle.lazydfa.proofs.AreCachedLemmas.{cached_conts, grown_same}
 use Rattle.lazydfa.proofs.ContsLemmas.{kept_both}
-use Rattle.lazydfa.proofs.KernelsLemmas.{ok_both, ok_then, some_then}
+use Rattle.lazydfa.proofs.KernelsLemmas.{ok_both, ok_then, some_then, wholes_grown}
 use Rattle.lazydfa.proofs.StateSetsLemmas.{led_whole}
 use Rattle.lazydfa.proofs.TransitionLemmas.{read_within}
-use Rattle.lazydfa.proofs.WholeLeadsLemmas.{wholes_grown}
 use Rattle.lazydfa.proofs.states.lead_whole.Goals as goal
 
 pub read_all-requires-clause-within : goal.read_all-requires-clause-within

@@ -5,7 +5,7 @@ use Rattle.lazydfa.specs.StackCuts.{IsCutAt}
 use Rattle.lazydfa.specs.StateSets.{AreMoreStates, sets_of}
 use Rattle.lazydfa.proofs.StackCutsLemmas.{is_cut_state}
 use Rattle.lazydfa.proofs.StateSetsLemmas.{more_states}
-use Rattle.lazydfa.proofs.WholeLeadsLemmas.{wholes_grown}
+use Rattle.lazydfa.proofs.KernelsLemmas.{wholes_grown}
 use Rattle.lazydfa.proofs.states.States.cut.Goals as goal
 
 pub invariant_of-self : goal.invariant_of-self

@@ -2,7 +2,7 @@ use Rattle.std.proofs.Common.{subst, []}
 use Rattle.lazydfa.specs.Cached.{IsCache, IsStartAt}
 use Rattle.lazydfa.specs.StateSets.{AreMoreStates, sets_of}
 use Rattle.lazydfa.proofs.StateSetsLemmas.{start_state, more_states}
-use Rattle.lazydfa.proofs.WholeLeadsLemmas.{wholes_grown}
+use Rattle.lazydfa.proofs.KernelsLemmas.{wholes_grown}
 use Rattle.lazydfa.proofs.states.States.start.Goals as goal
 
 pub invariant_of-self : goal.invariant_of-self
