@@ -219,10 +219,10 @@ fn is_iterated(nodes: &[Node], namers: &[Namer], singles: &[bool], root: usize, 
     if first == second {
         return false;
     }
-    if is_star(nodes, m) || !goes_again(nodes, second, m, first) {
+    if is_star(nodes, m) {
         return false;
     }
-    is_loop(nodes, namers, singles, root, first)
+    goes_again(nodes, second, m, first) && is_loop(nodes, namers, singles, root, first)
 }
 
 // Returns whether one evaluation asks for a node at each position.

@@ -39,29 +39,29 @@ by_alternatives-returns t c n at =
 
 pub by_members-returns-in-Fails : goal.by_members-returns-in-Fails
 by_members-returns-in-Fails t c n at =
-    members_failed c.args.grammar.now c.args.b n c.args.members.now c.loop-i.i c.loop-i.count
+    members_failed c.args.grammar.now c.args.b n c.args.members.now c.loop-i.i c.loop-i.count c.loop-i.leaves
     (c.loop-i.invariant n at) c.loop-i-test.true at
     (sym c.is_key_of_members.ensures ∙ c.if-is_key_of_members.false) c.in_ok-member.member
     c.in_ok-sum.sum c.in_ok-member.ensures c.in_ok-sum.ensures c.in-Fails.is
 
 pub by_members-returns-in-Takes : goal.by_members-returns-in-Takes
 by_members-returns-in-Takes t c n at =
-    members_took c.args.grammar.now c.args.b n c.args.members.now c.loop-i.i c.loop-i.count
+    members_took c.args.grammar.now c.args.b n c.args.members.now c.loop-i.i c.loop-i.count c.loop-i.leaves
     (c.loop-i.invariant n at) c.loop-i-test.true at
     (sym c.is_key_of_members.ensures ∙ c.if-is_key_of_members.false) c.in_ok-member.member
     c.in_ok-sum.sum c.in_ok-member.ensures c.in_ok-sum.ensures c.in-Takes.is c.if-i-members.false
 
 pub by_members-loop-i-preserved : goal.by_members-loop-i-preserved
 by_members-loop-i-preserved t c n at =
-    members_more c.args.grammar.now c.args.b n c.args.members.now c.loop-i.i c.loop-i.count
+    members_more c.args.grammar.now c.args.b n c.args.members.now c.loop-i.i c.loop-i.count c.loop-i.leaves
     (c.loop-i.invariant n at) c.loop-i-test.true at
     (sym c.is_key_of_members.ensures ∙ c.if-is_key_of_members.false) c.in_ok-member.member
     c.in_ok-sum.sum c.in_ok-member.ensures c.in_ok-sum.ensures c.in-Stays.is
 
 pub by_members-returns : goal.by_members-returns
 by_members-returns t c n at =
-    members_done c.args.grammar.now c.args.b n c.args.members.now c.loop-i.i c.loop-i.count
-    (c.loop-i.invariant n at) c.loop-i-test.false
+    members_done c.args.grammar.now c.args.b n c.args.members.now c.loop-i.i c.loop-i.count c.loop-i.leaves
+    (c.loop-i.invariant n at) c.if-leaves.false c.loop-i-test.false
 
 pub by_body-returns : goal.by_body-returns
 by_body-returns t c = some_as _ _ c.summed.result (λ d h n.
