@@ -222,7 +222,8 @@ fn by_members(grammar: &MarkedNodes<'_>, members: &[usize], b: u8, levels: usize
         }
         if is_event(grammar, members[i]) {
             leaves = true;
-            count = summed(ByteVerdict::Stays, count, 1)?.count;
+            let passed = summed(ByteVerdict::Stays, count, 1)?;
+            count = passed.count;
             continue;
         }
         let member = below(grammar, members[i], b, levels)?;

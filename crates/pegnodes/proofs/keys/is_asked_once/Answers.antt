@@ -12,7 +12,7 @@ pub returns-then-is_iterated : goal.returns-then-is_iterated
 returns-then-is_iterated c = λ start bodies known single is.
     once_iterated (c.is_iterated.ensures start bodies known single c.if-is_iterated.true)
 
-pub returns-in-By : goal.returns-in-By
-returns-in-By c = λ start bodies known single is.
+pub returns : goal.returns
+returns c = λ start bodies known single is.
     once_plain (o.is_plain start (shapes_of c.args.nodes.now) bodies c.args.root c.args.namers.now known c.args.m
     c.in-By.namer (sym c.in-By.ensures) c.if-m-root.false (c.may_be_plain.ensures is))
