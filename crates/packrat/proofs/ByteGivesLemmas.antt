@@ -159,7 +159,7 @@ module _ (rules : List Rule) (start : ℕ) (nodes : List Shape) (bodies ranks x 
     as_own s d = gives_as rules nodes sound.defined bodies x s d
 
     -- what an expression that leaves an event gives
-    pub event_of : Shape → Event
+    abbrev pub event_of : Shape → Event
     event_of node.Any = Opened p
     event_of (node.Bytes bs) = Opened p
     event_of (node.Set s) = Opened p
