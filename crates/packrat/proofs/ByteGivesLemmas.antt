@@ -462,7 +462,6 @@ module _ (rules : List Rule) (start : ℕ) (nodes : List Shape) (bodies ranks x 
           let none = spelled_none (subst (λ w. SpellAll rules nodes w d.1) (drop_end ms (suc i) last) d.4) in
           subst (λ w. AllBy w Takes) (sym (d.2 ∙ ap (expr.more d.0) none))
           (all_by_takes d.0 g.looked g.within (as_own d.3 g.gives))
-
       members_give {i = i} {ms = ms} (member_leaves {m = m} {s = s} at t free there l r) ps ss =
           let d = spelled_more (subst (λ w. SpellAll rules nodes w ps) (front_drop ms i m at) ss) in
           let rest = members_give r d.1 d.4 in

@@ -279,7 +279,6 @@ module _ (rules : List Rule) (start : ℕ) (nodes : List Shape) (bodies ranks x 
       members_quiet {n = n} {i = i} {ms = ms} at s (member_takes {m = k} {c = c} is last t h) m there =
           let has = seq_has rules start nodes bodies ranks x sound n i k ms at s is in
           quiet_last n i k ms is t c (node.Seq ms, at, (k, is, inl (inr last, refl))) (below_quiet h has)
-
       members_quiet {n = n} {i = i} {ms = ms} at s (member_leaves {m = k} {c = c} {s = sh} is t free k_at l r) m there =
           let has = seq_has rules start nodes bodies ranks x sound n i k ms at s is in
           quiet_members n i k ms is t 1 c at (event_takes k sh k_at l has)

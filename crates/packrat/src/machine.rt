@@ -55,8 +55,8 @@ pub(crate) struct Machine {
     pub(crate) begun: u64,
 }
 
-// Returns the memoized result of a key, if there is one. It is inlined, and has a local of its own for the result of the
-// call: a local of a caller would be cleared at each pass of the loop.
+// Returns the memoized result of a key, if there is one. It is inlined, and has a local of its own for what the call
+// returns: a local of the caller would be cleared at each pass of the loop.
 #[inline(always)]
 fn sought(log: &mut KeyLog, task: MatchTask) -> Result<Option<Given>, Memory>
     ensures some { IfOk result (λ found. IfSome found (λ g. IsIn (record { task = task; given = g }) log.old.stored)) }

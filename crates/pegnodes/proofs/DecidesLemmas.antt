@@ -197,8 +197,8 @@ module _ (g : MarkedNodes) (b n : ℕ) (ms : List ℕ) (i : ℕ) where
       members_took none is le =
           let same = sum.0 in
           members_as 0 0 (count + m.count) d.count Takes d.verdict refl (cc (same, is)) (sym sum.1)
-          (all Takes m.count (λ some. absurd (cc (some, none))) (member_takes (slice_get-get_or ms i 0 lt) (slice_get_past ms (suc i) (omega arith))
-          (seq_has_no_key at t)
+          (all Takes m.count (λ some. absurd (cc (some, none))) (member_takes (slice_get-get_or ms i 0 lt)
+          (slice_get_past ms (suc i) (omega arith)) (seq_has_no_key at t)
           (below_of g b (get_or ms i 0) Takes m is h)))
 
   module _ (count : ℕ) (all : (v : ByteVerdict) (d : ℕ) → A i v d → A 0 v (count + d)) where

@@ -12,8 +12,8 @@ use Rattle.pegnodes.specs.KeyLists.{marks_of, node_marks, tail_marks, tails_of}
 use Rattle.pegnodes.specs.KeyMarks.{AreMarks, AskedOnce, once_plain, once_loop, once_iterated, IsPlain, IsLoop}
 use Rattle.pegnodes.specs.KeyMarks.{IsIterated, Single, single_root, single_below, WayNames, WayNamesOnce}
 use Rattle.pegnodes.specs.KeyMarks.{WayEntersOnce, DoesNotRepeat}
-use Rattle.pegnodes.specs.KeyNeeds.{GoesOnce, GoesAgain, IsGoing, MayBePlain, MayBeLoop, AreKnown, Justifies, AreJustified}
-use Rattle.pegnodes.specs.KeyNeeds.{AreSingles, IsPassed, going_of}
+use Rattle.pegnodes.specs.KeyNeeds.{GoesOnce, GoesAgain, IsGoing, MayBePlain, MayBeLoop, AreKnown, Justifies}
+use Rattle.pegnodes.specs.KeyNeeds.{AreJustified, AreSingles, IsPassed, going_of}
 use Rattle.pegnodes.specs.Namers.{name_rows, names_of, NamesAt, IsBefore, IsNamerTo}
 use Rattle.pegnodes.specs.Nodes as node
 use Rattle.pegnodes.specs.Nodes.{Shape, Seq, Star}
@@ -182,8 +182,8 @@ module _ (start : ℕ) (nodes : List Shape) (bodies : List ℕ) where
 
       enters_so : way_of loop.entry loop.shape ≡ Iterations m s
       enters_so =
-          let there : slice_get nodes p ≡ Some loop.shape = subst (λ v. slice_get nodes v ≡ Some loop.shape) (sym enters)
-          loop.at in
+          let there : slice_get nodes p ≡ Some loop.shape =
+          subst (λ v. slice_get nodes v ≡ Some loop.shape) (sym enters) loop.at in
           let at = again.at in
           let same : again.shape ≡ loop.shape = cc (there, at) in
           subst (λ v. way_of v loop.shape ≡ Iterations m s) enters

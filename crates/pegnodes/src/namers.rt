@@ -17,10 +17,7 @@ pub(crate) enum Namer {
     /// This node does, once.
     By(usize),
     /// These two nodes do, each once; or one does, twice.
-    Both {
-        first: usize,
-        second: usize,
-    },
+    Both { first: usize, second: usize },
     /// It is named more often.
     Many,
 }
