@@ -11,13 +11,15 @@ use Rattle.pegnodes.specs.ByByte.{Succeeds, ByByte, by_shape, Below, below, BySh
 use Rattle.pegnodes.specs.ByByte.{by_no_bytes, by_one_byte, by_other_byte, by_name, by_members, by_alternatives}
 use Rattle.pegnodes.specs.ByByte.{by_opt_some, by_opt_none, by_and, by_and_fails, by_not, by_not_fails, by_no_iteration}
 use Rattle.pegnodes.specs.ByByte.{by_no_plus, ByMembers, members_end, member_stays, member_fails, member_takes}
+use Rattle.pegnodes.specs.ByByte.{member_leaves, LeavesEvent}
 use Rattle.pegnodes.specs.ByByte.{ByAlternatives, alternatives_end, alternative_fails, alternative_succeeds}
 use Rattle.gramcheck.specs.Grammar.{Grammar, IsSoundGrammar}
 use Rattle.pegnodes.specs.Nodes as node
 use Rattle.pegnodes.specs.Nodes.{Shape, shapes_of, Spells, SpellAll, spell_none, spell_more, spells_any, spells_set}
 use Rattle.pegnodes.specs.Nodes.{spells_bytes}
 use Rattle.gramcheck.specs.Outcome as outcome
-use Rattle.gramcheck.specs.Outcome.{Outcome, Gives, any_takes, set_takes, set_fails, bytes_take, bytes_fail, seq}
+use Rattle.gramcheck.specs.Outcome.{Event, Acted, Opened, Closed, Outcome, Gives, any_takes, set_takes, set_fails}
+use Rattle.gramcheck.specs.Outcome.{bytes_take, bytes_fail, act, open_at, close_at, seq}
 use Rattle.gramcheck.specs.Outcome.{choice}
 use Rattle.gramcheck.specs.Outcome.{GivesAll, all_done, one_fails, rest_fails, rest_takes, GivesFirst, all_failed}
 use Rattle.gramcheck.specs.Outcome.{first_takes, first_fails, begins_with, compared, looked_at}
@@ -155,6 +157,46 @@ module _ (rules : List Rule) (start : ℕ) (nodes : List Shape) (bodies ranks x 
     abbrev as_own : {n k : ℕ} {o : Outcome} {e : Pattern} → Spells rules nodes n e
         → NodeGives rules nodes bodies x n p o k → Gives rules x e p o k
     as_own s d = gives_as rules nodes sound.defined bodies x s d
+
+    -- what an expression that leaves an event gives
+    abbrev pub event_of : Shape → Event
+    event_of node.Any = Opened p
+    event_of (node.Bytes bs) = Opened p
+    event_of (node.Set s) = Opened p
+    event_of (node.Name id) = Opened p
+    event_of (node.Seq ms) = Opened p
+    event_of (node.Choice ms) = Opened p
+    event_of (node.Star m) = Opened p
+    event_of (node.Plus m k) = Opened p
+    event_of (node.Opt m) = Opened p
+    event_of (node.And m) = Opened p
+    event_of (node.Not m) = Opened p
+    event_of (node.Act t) = Acted t
+    event_of node.Open = Opened p
+    event_of node.Close = Closed p
+
+    pub event_gives : {n : ℕ} {e : Pattern} → Spells rules nodes n e → (s : Shape) → At n s → LeavesEvent s
+        → Gives rules x e p (outcome.Takes p (event_of s ∷ [])) 0
+    event_gives d node.Any at l = absurd l
+    event_gives d (node.Bytes bs) at l = absurd l
+    event_gives d (node.Set s) at l = absurd l
+    event_gives d (node.Name id) at l = absurd l
+    event_gives d (node.Seq ms) at l = absurd l
+    event_gives d (node.Choice ms) at l = absurd l
+    event_gives d (node.Star m) at l = absurd l
+    event_gives d (node.Plus m k) at l = absurd l
+    event_gives d (node.Opt m) at l = absurd l
+    event_gives d (node.And m) at l = absurd l
+    event_gives d (node.Not m) at l = absurd l
+    event_gives d (node.Act t) at l =
+        subst (λ e. Gives rules x e p (outcome.Takes p (Acted t ∷ [])) 0)
+        (sym (has_shape rules nodes d (node.Act t) at)) act
+    event_gives d node.Open at l =
+        subst (λ e. Gives rules x e p (outcome.Takes p (Opened p ∷ [])) 0) (sym (has_shape rules nodes d node.Open at))
+        open_at
+    event_gives d node.Close at l =
+        subst (λ e. Gives rules x e p (outcome.Takes p (Closed p ∷ [])) 0)
+        (sym (has_shape rules nodes d node.Close at)) close_at
 
     any_gives : (n : ℕ) → At n node.Any → G n Takes
     any_gives n at = record {
@@ -420,6 +462,15 @@ module _ (rules : List Rule) (start : ℕ) (nodes : List Shape) (bodies ranks x 
           let none = spelled_none (subst (λ w. SpellAll rules nodes w d.1) (drop_end ms (suc i) last) d.4) in
           subst (λ w. AllBy w Takes) (sym (d.2 ∙ ap (expr.more d.0) none))
           (all_by_takes d.0 g.looked g.within (as_own d.3 g.gives))
+      members_give {i = i} {ms = ms} (member_leaves {m = m} {s = s} at t free there l r) ps ss =
+          let d = spelled_more (subst (λ w. SpellAll rules nodes w ps) (front_drop ms i m at) ss) in
+          let rest = members_give r d.1 d.4 in
+          let le = rest.within in
+          subst (λ w. AllBy w Fails) (sym d.2) (record {
+            looked = max 0 rest.looked;
+            within = omega (arith, le);
+            gives = rest_fails (event_gives d.3 s there l) rest.gives;
+          })
 
       alternatives_give : {n i c : ℕ} {ms : List ℕ} {v : ByteVerdict}
           → ByAlternatives nodes bodies marks tails b n ms i v c

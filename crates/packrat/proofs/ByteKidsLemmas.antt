@@ -8,6 +8,7 @@ use Rattle.pegnodes.specs.ByByte.{Succeeds, ByByte, by_shape, Below, below, BySh
 use Rattle.pegnodes.specs.ByByte.{by_no_bytes, by_one_byte, by_other_byte, by_name, by_members, by_alternatives}
 use Rattle.pegnodes.specs.ByByte.{by_opt_some, by_opt_none, by_and, by_and_fails, by_not, by_not_fails, by_no_iteration}
 use Rattle.pegnodes.specs.ByByte.{by_no_plus, ByMembers, members_end, member_stays, member_fails, member_takes}
+use Rattle.pegnodes.specs.ByByte.{member_leaves, LeavesEvent}
 use Rattle.pegnodes.specs.ByByte.{ByAlternatives, alternatives_end, alternative_fails, alternative_succeeds}
 use Rattle.pegnodes.specs.Nodes as node
 use Rattle.pegnodes.specs.Nodes.{Shape}
@@ -25,7 +26,7 @@ use Rattle.packrat.specs.MachineSteps.{store}
 use Rattle.packrat.specs.MatchTasks.{Kids, is_key}
 use Rattle.packrat.specs.View.{weight}
 use Rattle.packrat.proofs.ByteGivesLemmas.{gives_by, name_has, seq_has, choice_has, star_has, plus_has, opt_has}
-use Rattle.packrat.proofs.ByteGivesLemmas.{and_has, not_has}
+use Rattle.packrat.proofs.ByteGivesLemmas.{and_has, not_has, event_of, event_gives}
 
 module _ (rules : List Rule) (start : ℕ) (nodes : List Shape) (bodies ranks x : List ℕ)
     (sound : IsRanked rules start nodes bodies ranks) (marks : ℕ → Bool) (tails : ℕ → ℕ → Bool) where
@@ -116,6 +117,7 @@ module _ (rules : List Rule) (start : ℕ) (nodes : List Shape) (bodies ranks x 
     no_members (member_stays at t h r) none = absurd (cc (at, none))
     no_members (member_fails at t h) none = absurd (cc (at, none))
     no_members (member_takes at last t h) none = absurd (cc (at, none))
+    no_members (member_leaves at t free there l r) none = absurd (cc (at, none))
 
     no_alternatives : {n i c : ℕ} {ms : List ℕ} {v : ByteVerdict}
         → ByAlternatives nodes bodies marks tails b n ms i v c → slice_get ms i ≡ None → c ≡ 0
@@ -162,6 +164,34 @@ module _ (rules : List Rule) (start : ℕ) (nodes : List Shape) (bodies ranks x 
 
     itself_leaf : (n : ℕ) → K (Eval n p) [] → Itself (Eval n p) 1
     itself_leaf n k = record { kids = []; are = k; below = 0; runs = quiet_none; whole = refl }
+
+    -- a node that leaves an event
+    event_kids : (n : ℕ) (s : Shape) → At n s → LeavesEvent s → K (Eval n p) []
+    event_kids n node.Any at l = absurd l
+    event_kids n (node.Bytes bs) at l = absurd l
+    event_kids n (node.Set s) at l = absurd l
+    event_kids n (node.Name id) at l = absurd l
+    event_kids n (node.Seq ms) at l = absurd l
+    event_kids n (node.Choice ms) at l = absurd l
+    event_kids n (node.Star m) at l = absurd l
+    event_kids n (node.Plus m k) at l = absurd l
+    event_kids n (node.Opt m) at l = absurd l
+    event_kids n (node.And m) at l = absurd l
+    event_kids n (node.Not m) at l = absurd l
+    event_kids n (node.Act t) at l = (node.Act t, at, refl)
+    event_kids n node.Open at l = (node.Open, at, refl)
+    event_kids n node.Close at l = (node.Close, at, refl)
+
+    event_takes : (n : ℕ) (s : Shape) → At n s → LeavesEvent s → Has n → NodeTakes rules nodes bodies x n p p
+    event_takes n s at l h = record {
+      events = event_of rules start nodes bodies ranks x sound marks tails b p here s ∷ [];
+      looked = 0;
+      gives = record {
+        expr = h.0;
+        spelled = h.1;
+        gives = event_gives rules start nodes bodies ranks x sound marks tails b p here h.1 s at l;
+      };
+    }
 
     -- a node that goes on to one evaluation
     itself_one : (n m c : ℕ) → K (Eval n p) (Eval m p ∷ []) → Quiet (Eval m p) c → Itself (Eval n p) (1 + c)
@@ -249,6 +279,11 @@ module _ (rules : List Rule) (start : ℕ) (nodes : List Shape) (bodies ranks x 
       members_quiet {n = n} {i = i} {ms = ms} at s (member_takes {m = k} {c = c} is last t h) m there =
           let has = seq_has rules start nodes bodies ranks x sound n i k ms at s is in
           quiet_last n i k ms is t c (node.Seq ms, at, (k, is, inl (inr last, refl))) (below_quiet h has)
+      members_quiet {n = n} {i = i} {ms = ms} at s (member_leaves {m = k} {c = c} {s = sh} is t free k_at l r) m there =
+          let has = seq_has rules start nodes bodies ranks x sound n i k ms at s is in
+          quiet_members n i k ms is t 1 c at (event_takes k sh k_at l has)
+          (itself_quiet (Eval k p) 1 free (itself_leaf k (event_kids k sh k_at l))) (no_members r)
+          (λ m e. members_quiet at s r m e)
 
       alternatives_quiet : {n i c : ℕ} {ms : List ℕ} {v : ByteVerdict} → At n (node.Choice ms) → Has n
           → ByAlternatives nodes bodies marks tails b n ms i v c → (m : ℕ) → slice_get ms i ≡ Some m

@@ -14,8 +14,8 @@ use Rattle.memo.specs.declared.task.MatchTask.TheVariants.{Eval, Tail}
 use Rattle.pegnodes.specs.NodeWays.{Way, Leaf, Body, Members, Alternatives, Iterations, Operand, way_of}
 use Rattle.packrat.specs.MatchTasks.{LeadsBy, TailLeadsBy, Leads, is_key}
 use Rattle.pegnodes.specs.KeyMarks.{WayNames, WayNamesOnce, DoesNotRepeat, IsPlain, Single, single_root, single_below}
-use Rattle.pegnodes.specs.KeyMarks.{AreMarks, IsLoop, WayEntersOnce}
-use Rattle.std.proofs.Common.{◌<◌, ◌≤◌}
+use Rattle.pegnodes.specs.KeyMarks.{AreMarks, IsLoop, WayEntersOnce, IsIterated, once_plain, once_loop, once_iterated}
+use Rattle.std.proofs.Common.{◌<◌, ◌≤◌, ap, ◌∙◌}
 use Rattle.pegmatch.proofs.AsksLemmas.{goes_onward, is_visited}
 use Rattle.packrat.proofs.TaskReachLemmas.{reached_is_visited}
 use Rattle.packrat.proofs.WidthLemmas.{takes_width}
@@ -556,6 +556,83 @@ module _ (rules : List Rule) (start : ℕ) (nodes : List Shape) (bodies ranks x 
       ]
     ]
 
+  module _ (m : ℕ) (it : IsIterated start nodes bodies m) where
+    abbrev S : ℕ
+    S = it.star
+
+    abbrev P : ℕ
+    P = it.loop.entry
+
+    apart : S ≡ m → ⊥
+    apart = subst (λ w. WayEntersOnce start nodes bodies w S) it.goes it.loop.once
+
+    -- a repetition leads to m at its own position
+    leads_there : (w : Way) (k n p q : ℕ) → w ≡ Iterations k S → LB w n p (Eval m q) → (k ≡ m) × (p ≡ q)
+    leads_there w k n p q is l = elim (subst (λ v. LB v n p (Eval m q)) is l) [
+      | inl a ↦
+          let same : m ≡ k = cc a in
+          let at : q ≡ p = cc a in
+          (sym same, sym at)
+      | inr a ↦ let same : m ≡ S = cc (a.2) in absurd (apart (sym same))
+    ]
+
+    -- who leads to m at q: the repetition of one or more there, or the other one
+    data LedFrom (q : ℕ) (a : MatchTask) : Type 0 where
+      from_plus : a ≡ Eval P q → LedFrom q a
+      from_star : a ≡ Eval S q → it.loop.operand ≡ m → LedFrom q a
+
+    plus_way : (n : ℕ) (other : Shape) → n ≡ P → slice_get nodes n ≡ Some other → way_of n other ≡ Iterations m S
+    plus_way n other is at =
+        let same = entered_by S it.loop n other is at in
+        ap (way_of n) same ∙ (ap (λ v. way_of v it.loop.shape) is ∙ it.goes)
+
+    star_way : (n : ℕ) (other : Shape) → n ≡ S → slice_get nodes n ≡ Some other
+        → way_of n other ≡ Iterations it.loop.operand S
+    star_way n other is at =
+        ap (way_of n) (star_shape S it.loop n other is at) ∙ ap (λ v. Iterations it.loop.operand v) is
+
+    led_from : (a : MatchTask) (q : ℕ) → L a (Eval m q) → LedFrom q a
+    led_from (Eval n p) q l = elim (it.only n l.0 l.1 (names_by (way_of n l.0) n p m q l.2)) [
+      | inl is ↦
+          let there = leads_there (way_of n l.0) m n p q (plus_way n l.0 is l.1) l.2 in
+          let at = there.1 in
+          from_plus (cc (is, at))
+      | inr is ↦
+          let there = leads_there (way_of n l.0) it.loop.operand n p q (star_way n l.0 is l.1) l.2 in
+          let at = there.1 in
+          from_star (cc (is, at)) there.0
+    ]
+    led_from (Tail n i p) q l = elim (it.only n l.0 l.1 (rest_names_by (way_of n l.0) n i p m q l.2)) [
+      | inl is ↦ absurd (subst (λ w. RB w n i p (Eval m q)) (plus_way n l.0 is l.1) l.2)
+      | inr is ↦ absurd (subst (λ w. RB w n i p (Eval m q)) (star_way n l.0 is l.1) l.2)
+    ]
+
+    -- the two are not asked for at one position
+    not_both : (q : ℕ) → it.loop.operand ≡ m → R (Eval P q) → R (Eval S q) → ⊥
+    not_both q same r s =
+        let b = entered_once S it.loop s q refl in
+        let e : EntersHere (Iterations m S) P S b.position b.task =
+        subst (λ w. EntersHere w P S b.position b.task) it.goes b.enters in
+        let is : e.0 ≡ q = one_position it.loop.single e.0 q (subst R e.2 b.reached) r in
+        let takes : NodeTakes rules nodes bodies x it.loop.operand q b.position =
+        subst (λ v. NodeTakes rules nodes bodies x v q b.position) (sym same)
+        (subst (λ v. NodeTakes rules nodes bodies x m v b.position) is e.1) in
+        let less = iterations_forward S it.loop q b.position s takes in
+        let low = turned_on S it.loop b.turned in
+        omega arith
+
+    one_of_iterated : (q : ℕ) (a b : MatchTask) → R a → L a (Eval m q) → R b → L b (Eval m q) → a ≡ b
+    one_of_iterated q a b r l s k = elim (led_from a q l) [
+      | from_plus e ↦ elim (led_from b q k) [
+        | from_plus f ↦ cc (e, f)
+        | from_star f same ↦ absurd (not_both q same (subst R e r) (subst R f s))
+      ]
+      | from_star e same ↦ elim (led_from b q k) [
+        | from_plus f ↦ absurd (not_both q same (subst R f s) (subst R e r))
+        | from_star f other ↦ cc (e, f)
+      ]
+    ]
+
   module _ (marks : ℕ → Bool) (tails : ℕ → ℕ → Bool) (are : AreMarks start nodes bodies marks tails) where
     step_back : (n i : ℕ) → tails n (suc i) ≡ false → (shape : Shape) → slice_get nodes n ≡ Some shape → (p r q : ℕ)
         → R (Tail n i p) → R (Tail n i r) → StepBy (way_of n shape) i p q → StepBy (way_of n shape) i r q → p ≡ r
@@ -584,8 +661,9 @@ module _ (rules : List Rule) (start : ℕ) (nodes : List Shape) (bodies ranks x 
 
     pub one_leads : (a b c : MatchTask) → is_key marks tails c ≡ false → R a → L a c → R b → L b c → a ≡ b
     one_leads a b (Eval m q) t r l s k = elim (are.plain m t) [
-      | inl plain ↦ one_of_plain m q plain a b l k
-      | inr loop ↦ one_of_loop m loop q a b r l s k
+      | once_plain plain ↦ one_of_plain m q plain a b l k
+      | once_loop loop ↦ one_of_loop m loop q a b r l s k
+      | once_iterated it ↦ one_of_iterated m it q a b r l s k
     ]
     one_leads a b (Tail n zero q) t r l s k =
         let one = first_led a n q l in

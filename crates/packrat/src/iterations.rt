@@ -65,18 +65,6 @@ fn closing(table: &RunTable, window: &[u8], at: usize, to: usize) -> Option<u128
     }
 }
 
-// Returns the sum of two numbers, if it fits.
-#[inline(always)]
-fn summed(a: u128, b: u128) -> Option<u128>
-    ensures { IfSome result (λ sum. sum ≡ a + b) }
-{
-    if b <= u128::MAX - a {
-        Some(a + b)
-    } else {
-        None
-    }
-}
-
 /// Finds the iterations, of a repetition of this operand, that the bytes from a position on decide. `None` if they
 /// decide neither an iteration nor the end.
 #[inline(always)]
@@ -106,7 +94,7 @@ pub(crate) fn find_iterations(
             operand,
             from,
             end: run.end,
-            evals: summed(run.evals, last)?,
+            evals: run.evals.checked_add(last)?,
             whole: true,
         });
     }

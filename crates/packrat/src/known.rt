@@ -1,5 +1,5 @@
 //! Nodes whose outcome, or whose operand's, the byte at their position decides.
-ghost use Rattle.std.specs.Prelude.{◌≡◌, ℕ, ◌+◌, ◌^◌, ◌<◌, length, IfSome, slice_get, Some};
+ghost use Rattle.std.specs.Prelude.{◌≡◌, ℕ, ◌+◌, ◌^◌, ◌<◌, Bool, List, length, IfSome, slice_get, Some};
 ghost use Rattle.pegmatch.specs.Answers.{WasEnough};
 ghost use Rattle.pegnodes.specs.ByteTables.{IsTabled};
 ghost use Rattle.pegnodes.specs.Nodes.{Shape, Star, shapes_of};
@@ -46,9 +46,9 @@ fn found_at(verdict: ByteVerdict, position: usize) -> Found
     }
 }
 
-// Returns the outcome that the byte at a position decides by the table of a node, if it has one.
+/// Returns the outcome that the byte at a position decides by the table of a node, if it has one.
 #[inline(always)]
-fn decided_at(
+pub(crate) fn decided_at(
     peg: &SoundPeg,
     window: &[u8],
     more: bool,
@@ -93,20 +93,18 @@ pub(crate) fn known_at(
 #[inline(always)]
 pub(crate) fn ended_at(
     peg: &SoundPeg,
-    window: &[u8],
-    more: bool,
-    star: usize,
     operand: usize,
     position: usize,
+    decided: Decided,
 ) -> Option<Known>
-    requires some { WasEnough window.now more 0 }
-    requires at { slice_get (shapes_of peg.now.nodes) star ≡ Some (Star operand) }
-    ensures { IfSome result (IsKnownAt peg.now window.now more peg.now.keys star position) }
+    ensures { IfSome result (λ known. (window : List ℕ) (more : Bool) (star : ℕ) →
+        slice_get (shapes_of peg.now.nodes) star ≡ Some (Star operand) →
+        IsDecidedAt peg.now window more peg.now.keys operand position decided →
+        IsKnownAt peg.now window more peg.now.keys star position known) }
 {
     if peg.is_key_node(operand) {
         return None;
     }
-    let decided = decided_at(peg, window, more, star, position)?;
     match decided.verdict {
         ByteVerdict::Fails => Some(Known {
             found: Found::Took(position),

@@ -55,6 +55,20 @@ pub(crate) struct Machine {
     pub(crate) begun: u64,
 }
 
+// Returns the memoized result of a key, if there is one. It is inlined, and has a local of its own for what the call
+// returns: a local of the caller would be cleared at each pass of the loop.
+#[inline(always)]
+fn sought(log: &mut KeyLog, task: MatchTask) -> Result<Option<Given>, Memory>
+    ensures some { IfOk result (λ found. IfSome found (λ g. IsIn (record { task = task; given = g }) log.old.stored)) }
+    ensures none { IfOk result (λ found. IfNone found (IsIn task (tasks_of log.old.stored) → ⊥)) }
+    ensures same { log.new ≡ log.old }
+{
+    match log.get(task)? {
+        Some(given) => Ok(Some(given)),
+        None => Ok(None),
+    }
+}
+
 // Returns the memoized result of a node at a position, if there is one. Most keys are new, which takes no call to see.
 #[inline(always)]
 fn stored_node(
@@ -75,7 +89,7 @@ fn stored_node(
     if log.is_new(node, position) {
         return Ok(None);
     }
-    log.get(MatchTask::Eval { node, position })
+    sought(log, MatchTask::Eval { node, position })
 }
 
 // Returns the memoized result of the tail of a node from a member on at a position, likewise.
@@ -99,11 +113,12 @@ fn stored_tail(
     if log.is_new(node, position) {
         return Ok(None);
     }
-    log.get(MatchTask::Tail {
+    let tail = MatchTask::Tail {
         node,
         index,
         position,
-    })
+    };
+    sought(log, tail)
 }
 
 // Ends a task with this result, which it stores if the task is a key. It is inlined wholly: a task whose address goes

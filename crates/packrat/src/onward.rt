@@ -12,7 +12,7 @@ ghost use Rattle.packrat.specs.Onward.{IsWell, IsLed, AfterOne, entering_of};
 ghost use Rattle.packrat.specs.TaskGives.{TaskYields};
 ghost use Rattle.packrat.specs.TaskSteps.{IsFirst};
 
-use crate::known::{Known, Taken, ended_at, known_at, taken_at};
+use crate::known::{Known, Taken, decided_at, ended_at, known_at, taken_at};
 use crate::skips::{Skips, skips_at};
 use gramcheck::SoundPeg;
 use memo::{Found, MatchTask};
@@ -169,11 +169,17 @@ fn begin_star(
         (record { star = star; operand = operand; position = position }) }
     ensures { AfterNone peg.now window.now more (MatchTask.Eval star position) result }
 {
-    match ended_at(peg, window, more, star, operand, position) {
-        Some(known) => Begun::Knows(known),
-        None => Begun::Repeats(Repeated {
-            star,
-            operand,
+    match decided_at(peg, window, more, star, position) {
+        Some(decided) => match ended_at(peg, operand, position, decided) {
+            Some(known) => Begun::Knows(known),
+            None => Begun::Repeats(Repeated {
+                star,
+                operand,
+                position,
+            }),
+        },
+        None => Begun::Starts(Start::Leads {
+            node: operand,
             position,
         }),
     }

@@ -1,11 +1,13 @@
 -- A byte decides one verdict of a node.
 -- Serves: one_verdict
-use Rattle.std.proofs.Common.{◌≡◌, ℕ, ◌+◌, Bool, List, refl, subst, arith}
+use Rattle.std.proofs.Common.{◌≡◌, ℕ, ◌+◌, Bool, List, Some, refl, subst, arith}
+use Rattle.std.specs.Prelude.{slice_get}
 use Rattle.pegnodes.specs.Nodes.{Shape}
 use Rattle.pegnodes.specs.ByByte.{Succeeds, ByByte, by_shape, Below, below, ByShape, by_any, by_set_in, by_set_out}
 use Rattle.pegnodes.specs.ByByte.{by_no_bytes, by_one_byte, by_other_byte, by_name, by_members, by_alternatives}
 use Rattle.pegnodes.specs.ByByte.{by_opt_some, by_opt_none, by_and, by_and_fails, by_not, by_not_fails, by_no_iteration}
 use Rattle.pegnodes.specs.ByByte.{by_no_plus, ByMembers, members_end, member_stays, member_fails, member_takes}
+use Rattle.pegnodes.specs.ByByte.{member_leaves, LeavesEvent}
 use Rattle.pegnodes.specs.ByByte.{ByAlternatives, alternatives_end, alternative_fails, alternative_succeeds}
 use Rattle.pegnodes.specs.declared.by_byte.ByteVerdict.{ByteVerdict}
 use Rattle.pegnodes.specs.declared.by_byte.ByteVerdict.TheVariants.{Takes, Stays, Fails}
@@ -41,6 +43,30 @@ module _ (nodes : List Shape) (bodies : List ℕ) (marks : ℕ → Bool) (tails 
 
   same_node : {m k c : ℕ} {v : ByteVerdict} → k ≡ m → B k v c → B m v c
   same_node {c = c} {v = v} is h = subst (λ j. B j v c) is h
+
+  -- no byte decides a node that leaves an event
+  no_event : {n c : ℕ} {s : Shape} {v : ByteVerdict} → S n s v c → LeavesEvent s → ⊥
+  no_event by_any l = l
+  no_event (by_set_in t) l = l
+  no_event (by_set_out t) l = l
+  no_event by_no_bytes l = l
+  no_event (by_one_byte t) l = l
+  no_event (by_other_byte t) l = l
+  no_event (by_name t h) l = l
+  no_event (by_members h) l = l
+  no_event (by_alternatives h) l = l
+  no_event (by_opt_some t h) l = l
+  no_event (by_opt_none h) l = l
+  no_event (by_and t h) l = l
+  no_event (by_and_fails h) l = l
+  no_event (by_not h) l = l
+  no_event (by_not_fails t h) l = l
+  no_event (by_no_iteration h) l = l
+  no_event (by_no_plus h) l = l
+
+  undecided : {m c : ℕ} {s : Shape} {v : ByteVerdict} → B m v c → slice_get nodes m ≡ Some s → LeavesEvent s → ⊥
+  undecided {s = s} (below t (by_shape {s = other} at h)) there l =
+      let same : s ≡ other = cc (at, there) in no_event h (subst LeavesEvent same l)
 
   mutual
     pub verdicts_agree : {n c d : ℕ} {v w : ByteVerdict} → ByByte nodes bodies marks tails b n v c
@@ -91,6 +117,7 @@ module _ (nodes : List Shape) (bodies : List ℕ) (marks : ℕ → Bool) (tails 
     members_agree (members_end e) (member_stays f u k l) = absurd (cc (e, f))
     members_agree (members_end e) (member_fails f u k) = absurd (cc (e, f))
     members_agree (members_end e) (member_takes f g u k) = absurd (cc (e, f))
+    members_agree (members_end e) (member_leaves f u k at l q) = absurd (cc (e, f))
     members_agree (member_stays e t h r) (members_end f) = absurd (cc (e, f))
     members_agree (member_stays e t h r) (member_stays f u k l) =
         let here = below_agrees h (same_node (cc (e, f)) k) in
@@ -102,18 +129,32 @@ module _ (nodes : List Shape) (bodies : List ℕ) (marks : ℕ → Bool) (tails 
         absurd (let is = (below_agrees h (same_node (cc (e, f)) k)).same in cc is)
     members_agree (member_stays e t h r) (member_takes f g u k) =
         absurd (let is = (below_agrees h (same_node (cc (e, f)) k)).same in cc is)
+    members_agree (member_stays e t h r) (member_leaves f u k at l q) =
+        absurd (undecided (same_node (cc (e, f)) h) at l)
     members_agree (member_fails e t h) (members_end f) = absurd (cc (e, f))
     members_agree (member_fails e t h) (member_stays f u k l) =
         absurd (let is = (below_agrees h (same_node (cc (e, f)) k)).same in cc is)
     members_agree (member_fails e t h) (member_fails f u k) = below_agrees h (same_node (cc (e, f)) k)
     members_agree (member_fails e t h) (member_takes f g u k) =
         absurd (let is = (below_agrees h (same_node (cc (e, f)) k)).same in cc is)
+    members_agree (member_fails e t h) (member_leaves f u k at l q) =
+        absurd (undecided (same_node (cc (e, f)) h) at l)
     members_agree (member_takes e z t h) (members_end f) = absurd (cc (e, f))
     members_agree (member_takes e z t h) (member_stays f u k l) =
         absurd (let is = (below_agrees h (same_node (cc (e, f)) k)).same in cc is)
     members_agree (member_takes e z t h) (member_fails f u k) =
         absurd (let is = (below_agrees h (same_node (cc (e, f)) k)).same in cc is)
     members_agree (member_takes e z t h) (member_takes f g u k) = below_agrees h (same_node (cc (e, f)) k)
+    members_agree (member_takes e z t h) (member_leaves f u k at l q) =
+        absurd (undecided (same_node (cc (e, f)) h) at l)
+    members_agree (member_leaves e t h at l r) (members_end f) = absurd (cc (e, f))
+    members_agree (member_leaves e t h at l r) (member_stays f u k q) =
+        absurd (undecided (same_node (cc (e, f)) k) at l)
+    members_agree (member_leaves e t h at l r) (member_fails f u k) =
+        absurd (undecided (same_node (cc (e, f)) k) at l)
+    members_agree (member_leaves e t h at l r) (member_takes f g u k) =
+        absurd (undecided (same_node (cc (e, f)) k) at l)
+    members_agree (member_leaves e t h at l r) (member_leaves f u k there o q) = agree_more (members_agree r q)
 
     alternatives_agree : {n i c d : ℕ} {ms : List ℕ} {v w : ByteVerdict} → A n ms i v c → A n ms i w d → Agree v w c d
     alternatives_agree (alternatives_end e) (alternatives_end f) = record { same = refl; count = refl }

@@ -11,9 +11,10 @@ use Rattle.pegnodes.specs.ByByte.{Succeeds, by_shape, Below, ByShape, by_set_in,
 use Rattle.pegnodes.specs.ByByte.{by_no_bytes, by_one_byte, by_other_byte, by_name, by_members, by_alternatives}
 use Rattle.pegnodes.specs.ByByte.{by_opt_some, by_opt_none, by_and, by_and_fails, by_not, by_not_fails, by_no_iteration}
 use Rattle.pegnodes.specs.ByByte.{by_no_plus, ByMembers, members_end, member_stays, member_fails, member_takes}
+use Rattle.pegnodes.specs.ByByte.{member_leaves}
 use Rattle.pegnodes.specs.ByByte.{ByAlternatives, alternatives_end, alternative_fails, alternative_succeeds}
 use Rattle.pegnodes.specs.Decides.{mark_in, tail_in, Decides, DecidesBelow, DecidesShape, DecidesMembers}
-use Rattle.pegnodes.specs.Decides.{DecidesAlternatives}
+use Rattle.pegnodes.specs.Decides.{DecidesAlternatives, IsEvent}
 use Rattle.pegnodes.specs.KeyLists.{tails_of}
 use Rattle.pegnodes.specs.declared.by_byte.Decided.{Decided}
 use Rattle.pegnodes.specs.declared.by_byte.MarkedNodes.{MarkedNodes}
@@ -153,22 +154,35 @@ module _ (g : MarkedNodes) (b n : ℕ) (ms : List ℕ) (i : ℕ) where
   alternatives_as j k c d v w position same sum h =
       subst (λ e. A k w e) sum (subst (λ u. A k u c) same (subst (λ e. A e v c) position h))
 
-  module _ (count : ℕ) (all : (v : ByteVerdict) (d : ℕ) → M i v d → M 0 v (count + d)) where
-    pub members_done : length ms ≤ i → DecidesMembers g b n ms (record { verdict = Stays; count = count })
-    members_done le = members_as 0 0 (count + 0) count Stays Stays refl refl (omega arith)
-        (all Stays 0 (members_end (slice_get_past ms i le)))
+  -- `leaves`: a member before leaves an event
+  module _ (count : ℕ) (leaves : Bool)
+      (all : (v : ByteVerdict) (d : ℕ) → (leaves ≡ true → v ≡ Fails) → M i v d → M 0 v (count + d)) where
+    pub members_done : leaves ≡ false → length ms ≤ i
+        → DecidesMembers g b n ms (record { verdict = Stays; count = count })
+    members_done none le = members_as 0 0 (count + 0) count Stays Stays refl refl (omega arith)
+        (all Stays 0 (λ some. absurd (cc (some, none))) (members_end (slice_get_past ms i le)))
+
+    seq_has_no_key : slice_get (shapes_of g.nodes.now) n ≡ Some (Seq ms)
+        → get_or (tails_of g.after.now (Seq ms)) i false ≡ false → tail_in g n i ≡ false
+    seq_has_no_key at t = sym (tails_at (shapes_of g.nodes.now) g.keys.now g.after.now n i (Seq ms) at) ∙ t
+
+    pub members_left : i < length ms → slice_get (shapes_of g.nodes.now) n ≡ Some (Seq ms)
+        → get_or (tails_of g.after.now (Seq ms)) i false ≡ false → IsEvent g (get_or ms i 0) → (whole : ℕ)
+        → whole ≡ count + 1 → (v : ByteVerdict) (e : ℕ) → (true ≡ true → v ≡ Fails) → M (i + 1) v e → M 0 v (whole + e)
+    members_left lt at t m whole sum v e fails r =
+        members_as 0 0 (count + (1 + e)) (whole + e) Fails v refl (sym (fails refl)) (omega (arith, sum))
+        (all Fails (1 + e) (λ some. refl) (member_leaves (slice_get-get_or ms i 0 lt) (seq_has_no_key at t) m.free
+        m.at m.leaves (members_as (i + 1) (suc i) e e v Fails (omega arith) (fails refl) refl r)))
 
     module _ (lt : i < length ms) (at : slice_get (shapes_of g.nodes.now) n ≡ Some (Seq ms))
         (t : get_or (tails_of g.after.now (Seq ms)) i false ≡ false) (m d : Decided)
         (h : DecidesBelow g b (get_or ms i 0) m) (sum : (d.verdict ≡ m.verdict) × (d.count ≡ count + m.count)) where
-      seq_has_no_key : tail_in g n i ≡ false
-      seq_has_no_key = sym (tails_at (shapes_of g.nodes.now) g.keys.now g.after.now n i (Seq ms) at) ∙ t
-
-      pub members_more : m.verdict ≡ Stays → (v : ByteVerdict) (e : ℕ) → M (i + 1) v e → M 0 v (d.count + e)
-      members_more is v e r =
+      pub members_more : m.verdict ≡ Stays → (v : ByteVerdict) (e : ℕ) → (leaves ≡ true → v ≡ Fails)
+          → M (i + 1) v e → M 0 v (d.count + e)
+      members_more is v e fails r =
           let whole = sum.1 in
           members_as 0 0 (count + (m.count + e)) (d.count + e) v v refl refl (omega (arith, whole))
-          (all v (m.count + e) (member_stays (slice_get-get_or ms i 0 lt) seq_has_no_key
+          (all v (m.count + e) fails (member_stays (slice_get-get_or ms i 0 lt) (seq_has_no_key at t)
           (below_of g b (get_or ms i 0) Stays m is h)
           (members_as (i + 1) (suc i) e e v v (omega arith) refl refl r)))
 
@@ -176,15 +190,15 @@ module _ (g : MarkedNodes) (b n : ℕ) (ms : List ℕ) (i : ℕ) where
       members_failed is =
           let same = sum.0 in
           members_as 0 0 (count + m.count) d.count Fails d.verdict refl (cc (same, is)) (sym sum.1)
-          (all Fails m.count (member_fails (slice_get-get_or ms i 0 lt) seq_has_no_key
+          (all Fails m.count (λ some. refl) (member_fails (slice_get-get_or ms i 0 lt) (seq_has_no_key at t)
           (below_of g b (get_or ms i 0) Fails m is h)))
 
-      pub members_took : m.verdict ≡ Takes → length ms ≤ i + 1 → DecidesMembers g b n ms d
-      members_took is le =
+      pub members_took : leaves ≡ false → m.verdict ≡ Takes → length ms ≤ i + 1 → DecidesMembers g b n ms d
+      members_took none is le =
           let same = sum.0 in
           members_as 0 0 (count + m.count) d.count Takes d.verdict refl (cc (same, is)) (sym sum.1)
-          (all Takes m.count (member_takes (slice_get-get_or ms i 0 lt) (slice_get_past ms (suc i) (omega arith))
-          seq_has_no_key
+          (all Takes m.count (λ some. absurd (cc (some, none))) (member_takes (slice_get-get_or ms i 0 lt)
+          (slice_get_past ms (suc i) (omega arith)) (seq_has_no_key at t)
           (below_of g b (get_or ms i 0) Takes m is h)))
 
   module _ (count : ℕ) (all : (v : ByteVerdict) (d : ℕ) → A i v d → A 0 v (count + d)) where

@@ -9,11 +9,11 @@ use Rattle.std.proofs.lemmas.List.{length-map, get_or_default}
 use Rattle.fixpoint.specs.Demands.{Demand, All, One, AreNeedsWithin, row_of}
 use Rattle.fixpoint.specs.Least.{Comes, by_all, by_one}
 use Rattle.pegnodes.specs.KeyLists.{marks_of, node_marks, tail_marks, tails_of}
-use Rattle.pegnodes.specs.KeyMarks.{AreMarks, IsPlain, IsLoop, Single, single_root, single_below, WayNames}
-use Rattle.pegnodes.specs.KeyMarks.{WayNamesOnce}
+use Rattle.pegnodes.specs.KeyMarks.{AreMarks, AskedOnce, once_plain, once_loop, once_iterated, IsPlain, IsLoop}
+use Rattle.pegnodes.specs.KeyMarks.{IsIterated, Single, single_root, single_below, WayNames, WayNamesOnce}
 use Rattle.pegnodes.specs.KeyMarks.{WayEntersOnce, DoesNotRepeat}
-use Rattle.pegnodes.specs.KeyNeeds.{GoesOnce, IsGoing, MayBePlain, MayBeLoop, AreKnown, Justifies, AreJustified}
-use Rattle.pegnodes.specs.KeyNeeds.{AreSingles, IsPassed, going_of}
+use Rattle.pegnodes.specs.KeyNeeds.{GoesOnce, GoesAgain, IsGoing, MayBePlain, MayBeLoop, AreKnown, Justifies}
+use Rattle.pegnodes.specs.KeyNeeds.{AreJustified, AreSingles, IsPassed, going_of}
 use Rattle.pegnodes.specs.Namers.{name_rows, names_of, NamesAt, IsBefore, IsNamerTo}
 use Rattle.pegnodes.specs.Nodes as node
 use Rattle.pegnodes.specs.Nodes.{Shape, Seq, Star}
@@ -21,7 +21,7 @@ use Rattle.pegnodes.specs.NodeWays.{Way, Leaf, Body, Members, Alternatives, Iter
 use Rattle.pegnodes.specs.Width.{AreWidths}
 use Rattle.pegnodes.specs.declared.keys.GoesOn.{GoesOn}
 use Rattle.pegnodes.specs.declared.namers.Namer.{Namer}
-use Rattle.pegnodes.specs.declared.namers.Namer.TheVariants.{Nobody, By, Many}
+use Rattle.pegnodes.specs.declared.namers.Namer.TheVariants.{Nobody, By, Both, Many}
 
 -- a node that is there goes on as its shape says
 module _ (nodes : List Shape) (n : ℕ) (shape : Shape) (at : slice_get nodes n ≡ Some shape) where
@@ -171,6 +171,38 @@ module _ (start : ℕ) (nodes : List Shape) (bodies : List ℕ) where
         not_root = not_root m other;
       }
 
+    -- the operand of a repetition that a repetition of one or more enters
+    module _ (m s p : ℕ) (by : get_or namers m Many ≡ Both s p) (other : m ≡ root → ⊥)
+        (no_star : (k : ℕ) → slice_get nodes m ≡ Some (Star k) → ⊥) (apart : s ≡ p → ⊥)
+        (loop : IsLoop start nodes bodies s) (again : GoesAgain nodes p m s) where
+      enters : p ≡ loop.entry
+      enters = ⊎_elim (λ is. is) (λ is. absurd (apart (sym is)))
+          (loop.only p again.shape again.at
+          (subst (λ w. WayNames start nodes bodies w s) (sym again.again) (inr refl)))
+
+      enters_so : way_of loop.entry loop.shape ≡ Iterations m s
+      enters_so =
+          let there : slice_get nodes p ≡ Some loop.shape =
+          subst (λ v. slice_get nodes v ≡ Some loop.shape) (sym enters) loop.at in
+          let at = again.at in
+          let same : again.shape ≡ loop.shape = cc (there, at) in
+          subst (λ v. way_of v loop.shape ≡ Iterations m s) enters
+          (subst (λ v. way_of p v ≡ Iterations m s) same again.again)
+
+      pub is_iterated : IsIterated start nodes bodies m
+      is_iterated = record {
+        star = s;
+        loop = loop;
+        goes = enters_so;
+        only = λ i shape at names. ⊎_elim
+            (λ self. absurd (no_star self.1.0 (subst (λ v. slice_get nodes v ≡ Some (Star self.1.0)) (sym self.0)
+            (at ∙ ap Some self.1.1))))
+            (λ there. let n = named_at i there.0 m shape at there.1 in
+            ⊎_elim (λ is. inr is) (λ is. inl (is ∙ enters)) (namer_is m (Both s p) by i there.0 n.0 n.1))
+            (names_at i m shape names);
+        not_root = not_root m other;
+      }
+
     -- the root that nobody names
     pub is_single_root : (m : ℕ) → get_or namers m Many ≡ Nobody → m ≡ root
         → ((k : ℕ) → slice_get nodes m ≡ Some (Star k) → ⊥) → Single start nodes bodies m
@@ -183,7 +215,7 @@ module _ (start : ℕ) (nodes : List Shape) (bodies : List ℕ) where
 
     pub marks_are : (keys after singles : List Bool) (widths : List (Option ℕ)) → AreSingles start nodes bodies singles
         → AreWidths nodes bodies widths
-        → ((m : ℕ) → get_or keys m true ≡ false → IsPlain start nodes bodies m ⊎ IsLoop start nodes bodies m)
+        → ((m : ℕ) → get_or keys m true ≡ false → AskedOnce start nodes bodies m)
         → ((m : ℕ) → get_or after m true ≡ false → IsPassed namers singles widths m)
         → AreMarks start nodes bodies (node_marks (marks_of nodes keys after))
         (tail_marks (marks_of nodes keys after))
@@ -207,7 +239,11 @@ module _ (start : ℕ) (nodes : List Shape) (bodies : List ℕ) where
     }
       where
         rooted : (m : ℕ) → slice_get bodies start ≡ Some m → get_or keys m true ≡ false → ⊥
-        rooted m at free = ⊎_elim (λ p. p.not_root at) (λ l. l.not_root at) (plain m free)
+        rooted m at free = elim (plain m free) [
+          | once_plain p ↦ p.not_root at
+          | once_loop l ↦ l.not_root at
+          | once_iterated i ↦ i.not_root at
+        ]
 
         marked : (m : ℕ) → slice_get bodies start ≡ Some m → (b : Bool) → get_or keys m true ≡ b
             → get_or keys m true ≡ true

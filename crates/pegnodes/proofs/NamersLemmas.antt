@@ -7,7 +7,7 @@ use Rattle.std.proofs.lemmas.Bool.{cases_eq}
 use Rattle.std.proofs.lemmas.Option.{slice_get_within}
 use Rattle.pegnodes.specs.Namers.{NamesAt, IsBefore, IsNamerTo, AreNamersTo, named_by}
 use Rattle.pegnodes.specs.declared.namers.Namer.{Namer}
-use Rattle.pegnodes.specs.declared.namers.Namer.TheVariants.{Nobody, By, Many}
+use Rattle.pegnodes.specs.declared.namers.Namer.TheVariants.{Nobody, By, Both, Many}
 
 module _ (rows : List (List ℕ)) where
   -- what is known of a namer holds before each position after which no naming of it is
@@ -16,6 +16,7 @@ module _ (rows : List (List ℕ)) where
       → IsNamerTo rows i k m s → IsNamerTo rows j l m s
   namer_moved i k j l m Nobody f h = λ n t b at. h n t (f n t b at) at
   namer_moved i k j l m (By a) f h = (h.0, λ n t b at. h.1 n t (f n t b at) at)
+  namer_moved i k j l m (Both a b) f h = λ n t before at. h n t (f n t before at) at
   namer_moved i k j l m Many f h = tt
 
   before_cases : (i k n t : ℕ) → IsBefore rows i (k + 1) n t → IsBefore rows i k n t ⊎ ((n ≡ i) × (t ≡ k))
@@ -30,7 +31,9 @@ module _ (rows : List (List ℕ)) where
     λ n t b at. ⊎_elim (λ old. absurd (h n t old at)) (λ new. new)
         (before_cases i k n t b),
   )
-  named_again i k m (By a) h = tt
+  named_again i k m (By a) h = λ n t b at. ⊎_elim (λ old. inl (h.1 n t old at).0) (λ new. inr new.0)
+      (before_cases i k n t b)
+  named_again i k m (Both a b) h = tt
   named_again i k m Many h = tt
 
   pub names_next : (i k named : ℕ) (row : List ℕ) (old new : List Namer) → slice_get rows i ≡ Some row
@@ -79,4 +82,5 @@ module _ (rows : List (List ℕ)) where
   pub names_none : (m : ℕ) (s : Namer) → IsNamerTo rows 0 0 m s
   names_none m Nobody = λ n t b at. ⊎_elim (λ lt. omega (arith, lt)) (λ h. omega (arith, h.1)) b
   names_none m (By a) = (0, λ n t b at. ⊎_elim (λ lt. absurd (omega (arith, lt))) (λ h. absurd (omega (arith, h.1))) b)
+  names_none m (Both a b) = λ n t c at. ⊎_elim (λ lt. absurd (omega (arith, lt))) (λ h. absurd (omega (arith, h.1))) c
   names_none m Many = tt

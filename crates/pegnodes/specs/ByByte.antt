@@ -1,7 +1,8 @@
 -- Nodes whose outcome at a position is decided by the byte there alone.
 use Rattle.std.specs.Prelude.{◌≡◌, ℕ, zero, suc, ◌+◌, Bool, true, false, List, [], ◌∷◌, slice_get}
 use Rattle.std.specs.Prelude.{Some, None}
-use Rattle.pegnodes.specs.Nodes.{Shape, Any, Bytes, Set, Name, Seq, Choice, Star, Plus, Opt, And, Not}
+use Rattle.pegnodes.specs.Nodes.{Shape, Any, Bytes, Set, Name, Seq, Choice, Star, Plus, Opt, And, Not, Act, Open}
+use Rattle.pegnodes.specs.Nodes.{Close}
 use Rattle.pegnodes.specs.declared.by_byte.ByteVerdict.{ByteVerdict}
 use Rattle.pegnodes.specs.declared.by_byte.ByteVerdict.TheVariants.{Takes, Stays, Fails}
 
@@ -9,6 +10,23 @@ abbrev pub Succeeds : ByteVerdict → Type 0
 Succeeds Takes = Unit {0}
 Succeeds Stays = Unit {0}
 Succeeds Fails = ⊥
+
+-- a node of this shape takes nothing, and leaves an event
+abbrev pub LeavesEvent : Shape → Type 0
+LeavesEvent Any = ⊥
+LeavesEvent (Bytes bs) = ⊥
+LeavesEvent (Set s) = ⊥
+LeavesEvent (Name id) = ⊥
+LeavesEvent (Seq ms) = ⊥
+LeavesEvent (Choice ms) = ⊥
+LeavesEvent (Star m) = ⊥
+LeavesEvent (Plus m s) = ⊥
+LeavesEvent (Opt m) = ⊥
+LeavesEvent (And m) = ⊥
+LeavesEvent (Not m) = ⊥
+LeavesEvent (Act t) = Unit {0}
+LeavesEvent Open = Unit {0}
+LeavesEvent Close = Unit {0}
 
 -- `marks m`: node m is a key; `tails n i`: what is left of node n from its member i on is one; b: the byte at the
 -- position
@@ -45,7 +63,8 @@ module _ (nodes : List Shape) (bodies : List ℕ) (marks : ℕ → Bool) (tails 
       by_no_iteration : {n m c : ℕ} → Below m Fails c → ByShape n (Star m) Stays (1 + c)
       by_no_plus : {n m s c : ℕ} → Below m Fails c → ByShape n (Plus m s) Fails (1 + c)
 
-    -- Of the members of a sequence from the i-th on, one that fails ends it, and only the last one takes the byte.
+    -- Of the members of a sequence from the i-th on, one that fails ends it, and only the last one takes the byte. One
+    -- that leaves an event is passed if a later one fails.
     pub data ByMembers : ℕ → List ℕ → ℕ → ByteVerdict → ℕ → Type 0 where
       members_end : {n i : ℕ} {ms : List ℕ} → slice_get ms i ≡ None → ByMembers n ms i Stays 0
       member_stays : {n i m c d : ℕ} {ms : List ℕ} {v : ByteVerdict}
@@ -56,6 +75,9 @@ module _ (nodes : List Shape) (bodies : List ℕ) (marks : ℕ → Bool) (tails 
       member_takes : {n i m c : ℕ} {ms : List ℕ}
           → slice_get ms i ≡ Some m → slice_get ms (suc i) ≡ None → tails n i ≡ false
           → Below m Takes c → ByMembers n ms i Takes c
+      member_leaves : {n i m c : ℕ} {ms : List ℕ} {s : Shape} → slice_get ms i ≡ Some m → tails n i ≡ false
+          → marks m ≡ false → slice_get nodes m ≡ Some s → LeavesEvent s → ByMembers n ms (suc i) Fails c
+          → ByMembers n ms i Fails (1 + c)
 
     -- Of the alternatives of a choice from the i-th on, the first one that succeeds decides.
     pub data ByAlternatives : ℕ → List ℕ → ℕ → ByteVerdict → ℕ → Type 0 where

@@ -1,6 +1,6 @@
 -- What a byte decides, as code returns it.
-use Rattle.std.specs.Prelude.{ℕ, Bool, List}
-use Rattle.pegnodes.specs.ByByte.{ByByte, Below, ByShape, ByMembers, ByAlternatives}
+use Rattle.std.specs.Prelude.{◌≡◌, ℕ, Bool, false, List, slice_get, Some}
+use Rattle.pegnodes.specs.ByByte.{ByByte, Below, ByShape, ByMembers, ByAlternatives, LeavesEvent}
 use Rattle.pegnodes.specs.KeyLists.{Marks, marks_of, node_marks, tail_marks}
 use Rattle.pegnodes.specs.Nodes.{Shape, shapes_of}
 use Rattle.pegnodes.specs.declared.by_byte.Decided.{Decided}
@@ -18,6 +18,13 @@ module _ (g : MarkedNodes) where
   -- whether a node's tail from a member on is one
   abbrev pub tail_in : ℕ → ℕ → Bool
   tail_in n i = tail_marks marks_in n i
+
+  -- the node takes nothing and leaves an event, and is no key
+  pub record IsEvent (n : ℕ) : Type 0 where
+    pub free : mark_in n ≡ false
+    pub shape : Shape
+    pub at : slice_get (shapes_of g.nodes.now) n ≡ Some shape
+    pub leaves : LeavesEvent shape
 
 module _ (g : MarkedNodes) (b : ℕ) where
   abbrev pub Decides : ℕ → Decided → Type 0

@@ -69,10 +69,26 @@ module _ (start : ℕ) (nodes : List Shape) (bodies : List ℕ) where
     pub single : Single entry
     pub not_root : slice_get bodies start ≡ Some m → ⊥
 
-  -- The marks: a node without one is plain or such a repetition, a tail without one stands after a member of some
-  -- width, or in a node that is asked for once; the start rule's body has one.
+  -- Node m is the operand of a repetition that a repetition of one or more of m enters, at one position at most. Only
+  -- these two name m.
+  pub record IsIterated (m : ℕ) : Type 0 where
+    pub star : ℕ
+    pub loop : IsLoop star
+    pub goes : way_of loop.entry loop.shape ≡ Iterations m star
+    pub only : (i : ℕ) (other : Shape) → slice_get nodes i ≡ Some other → WayNames (way_of i other) m
+        → (i ≡ loop.entry) ⊎ (i ≡ star)
+    pub not_root : slice_get bodies start ≡ Some m → ⊥
+
+  -- nodes that one evaluation asks for at each position
+  pub data AskedOnce (m : ℕ) : Type 0 where
+    once_plain : IsPlain m → AskedOnce m
+    once_loop : IsLoop m → AskedOnce m
+    once_iterated : IsIterated m → AskedOnce m
+
+  -- The marks: a node without one is asked for once, a tail without one stands after a member of some width, or in a
+  -- node that is asked for at one position at most; the start rule's body has one.
   pub record AreMarks (marks : ℕ → Bool) (tails : ℕ → ℕ → Bool) : Type 0 where
-    pub plain : (m : ℕ) → marks m ≡ false → IsPlain m ⊎ IsLoop m
+    pub plain : (m : ℕ) → marks m ≡ false → AskedOnce m
     pub fixed : (n i m : ℕ) (ms : List ℕ) → slice_get nodes n ≡ Some (Seq ms) → slice_get ms i ≡ Some m
         → tails n (suc i) ≡ false → ((w : ℕ) × Width nodes bodies m w) ⊎ Single n
     pub root : (m : ℕ) → slice_get bodies start ≡ Some m → marks m ≡ true

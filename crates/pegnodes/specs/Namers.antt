@@ -3,7 +3,7 @@ use Rattle.std.specs.Prelude.{◌≡◌, ◌⊎◌, ℕ, ◌<◌, List, [], ◌�
 use Rattle.pegnodes.specs.Nodes.{Shape, Any, Bytes, Set, Name, Seq, Choice, Star, Plus, Opt, And, Not, Act, Open}
 use Rattle.pegnodes.specs.Nodes.{Close}
 use Rattle.pegnodes.specs.declared.namers.Namer.{Namer}
-use Rattle.pegnodes.specs.declared.namers.Namer.TheVariants.{Nobody, By, Many}
+use Rattle.pegnodes.specs.declared.namers.Namer.TheVariants.{Nobody, By, Both, Many}
 
 -- the nodes that a node names, in order, but for a repetition that goes on with itself
 abbrev pub names_of : List ℕ → Shape → List ℕ
@@ -29,7 +29,8 @@ name_rows bodies nodes = map (names_of bodies) nodes
 -- the namer of a node that n names once more
 abbrev pub named_by : ℕ → Namer → Namer
 named_by n Nobody = By n
-named_by n (By a) = Many
+named_by n (By a) = Both a n
+named_by n (Both a b) = Many
 named_by n Many = Many
 
 module _ (rows : List (List ℕ)) where
@@ -41,10 +42,12 @@ module _ (rows : List (List ℕ)) where
   abbrev pub IsBefore : ℕ → ℕ → ℕ → ℕ → Type 0
   IsBefore i k n t = (n < i) ⊎ ((n ≡ i) × (t < k))
 
-  -- what the namings before index k of row i say of m's namer: nobody names it; or only this node does, and once
+  -- what the namings before index k of row i say of m's namer: nobody names it; or only this node does, and once; or
+  -- only these two do
   abbrev pub IsNamerTo : ℕ → ℕ → ℕ → Namer → Type 0
   IsNamerTo i k m Nobody = (n t : ℕ) → IsBefore i k n t → NamesAt n t m → ⊥
   IsNamerTo i k m (By a) = (c : ℕ) × ((n t : ℕ) → IsBefore i k n t → NamesAt n t m → (n ≡ a) × (t ≡ c))
+  IsNamerTo i k m (Both a b) = (n t : ℕ) → IsBefore i k n t → NamesAt n t m → (n ≡ a) ⊎ (n ≡ b)
   IsNamerTo i k m Many = Unit {0}
 
   abbrev pub AreNamersTo : ℕ → ℕ → List Namer → Type 0

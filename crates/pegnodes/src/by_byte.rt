@@ -1,7 +1,8 @@
 //! Nodes whose outcome at a position is decided by the byte there alone.
-ghost use Rattle.std.specs.Prelude.{◌≡◌, ℕ, ◌+◌, Bool, List, IfSome, slice_get, Some, get_or, false};
+ghost use Rattle.std.specs.Prelude.{◌≡◌, ℕ, ◌+◌, Bool, List, IfSome, slice_get, Some, get_or, true, false};
 ghost use Rattle.pegnodes.specs.ByByte.{ByByte};
 ghost use Rattle.pegnodes.specs.Decides.{Decides, DecidesBelow, DecidesShape, DecidesMembers, DecidesAlternatives};
+ghost use Rattle.pegnodes.specs.Decides.{IsEvent};
 ghost use Rattle.pegnodes.specs.Nodes.{Shape, Bytes, Set, Name, Seq, Choice, Star, Plus, Opt, And, Not};
 ghost use Rattle.pegnodes.specs.Nodes.{shape_of, shapes_of};
 ghost use Rattle.pegnodes.specs.declared.by_byte.MarkedNodes.{MarkedNodes};
@@ -180,16 +181,50 @@ fn below(grammar: &MarkedNodes<'_>, n: usize, b: u8, levels: usize) -> Option<De
     by_node(grammar, n, b, levels - 1)
 }
 
-// Returns what a byte decides of the members of a sequence. Members after one that takes the byte do not matter.
+// Returns whether a node takes nothing and leaves an event, and is no key.
+fn is_event(grammar: &MarkedNodes<'_>, n: usize) -> bool
+    ensures { result ≡ true → IsEvent grammar.now n }
+{
+    if mark_or(grammar.keys, n, true) {
+        return false;
+    }
+    let Some(node) = node_at(grammar.nodes, n) else {
+        return false;
+    };
+    match node {
+        Node::Act(_) | Node::Open | Node::Close => true,
+        Node::Any
+        | Node::Bytes(_)
+        | Node::Set(_)
+        | Node::Name(_)
+        | Node::Seq(_)
+        | Node::Choice(_)
+        | Node::Star(_)
+        | Node::Plus { .. }
+        | Node::Opt(_)
+        | Node::And(_)
+        | Node::Not(_) => false,
+    }
+}
+
+// Returns what a byte decides of the members of a sequence. Members after one that takes the byte do not matter. If one
+// leaves an event, a later one must fail.
 #[cycle(deciding)]
 fn by_members(grammar: &MarkedNodes<'_>, members: &[usize], b: u8, levels: usize) -> Option<Decided>
     ensures { IfSome result (λ d. (n : ℕ) → slice_get (shapes_of grammar.now.nodes.now) n ≡ Some (Seq members.now)
         → DecidesMembers grammar.now b n members.now d) }
 {
     let mut count = 0;
+    let mut leaves = false;
     for i in 0..members.len() {
         if is_key_of_members(members, grammar.after, i) {
             return None;
+        }
+        if is_event(grammar, members[i]) {
+            leaves = true;
+            let passed = summed(ByteVerdict::Stays, count, 1)?;
+            count = passed.count;
+            continue;
         }
         let member = below(grammar, members[i], b, levels)?;
         let sum = summed(member.verdict, count, member.count)?;
@@ -197,12 +232,15 @@ fn by_members(grammar: &MarkedNodes<'_>, members: &[usize], b: u8, levels: usize
             ByteVerdict::Stays => count = sum.count,
             ByteVerdict::Fails => return Some(sum),
             ByteVerdict::Takes => {
-                if i + 1 < members.len() {
+                if leaves || i + 1 < members.len() {
                     return None;
                 }
                 return Some(sum);
             }
         }
+    }
+    if leaves {
+        return None;
     }
     let verdict = ByteVerdict::Stays;
     Some(Decided { verdict, count })

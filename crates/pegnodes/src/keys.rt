@@ -1,12 +1,12 @@
 //! Which nodes, and which tails of sequences, may be asked for twice at a position.
-ghost use Rattle.std.specs.Prelude.{◌≡◌, ◌⊎◌, ◌↔◌, ◌<◌, ℕ, true, false, List, length, [], slice_get, get_or};
+ghost use Rattle.std.specs.Prelude.{◌≡◌, ◌↔◌, ◌<◌, ℕ, true, false, List, length, [], slice_get, get_or};
 ghost use Rattle.std.specs.Prelude.{Contains, Some, IfOk};
 ghost use Rattle.fixpoint.specs.Demands.{demand_of, demands_of, row_of, One};
 ghost use Rattle.fixpoint.specs.NumberMarks.{IsMarked};
 ghost use Rattle.pegnodes.specs.KeyLists.{marks_of, node_marks, tail_marks, tails_of};
-ghost use Rattle.pegnodes.specs.KeyMarks.{AreMarks, IsPlain, IsLoop};
+ghost use Rattle.pegnodes.specs.KeyMarks.{AreMarks, AskedOnce, IsIterated, IsLoop};
 ghost use Rattle.pegnodes.specs.KeyNeeds.{IsGoing, GoesOnce, MayBePlain, MayBeLoop, AreKnown, Justifies, AreJustified};
-ghost use Rattle.pegnodes.specs.KeyNeeds.{AreSingles, IsPassed, going_of};
+ghost use Rattle.pegnodes.specs.KeyNeeds.{AreSingles, GoesAgain, IsPassed, going_of};
 ghost use Rattle.pegnodes.specs.Nodes.{Seq, Star, shape_of, shapes_of};
 ghost use Rattle.pegnodes.specs.NodeWays.{way_of};
 
@@ -126,7 +126,7 @@ fn single_need<'a>(nodes: &[Node], namers: &'a [Namer], root: usize, m: usize) -
                 return Need::One(from_ref(namer));
             }
         }
-        Some(Namer::Many) | None => {}
+        Some(Namer::Both { .. } | Namer::Many) | None => {}
     }
     Need::One(&[])
 }
@@ -177,22 +177,73 @@ pub fn mark_or(marks: &[bool], m: usize, other: bool) -> bool
     }
 }
 
-// Returns whether a node's only namer is asked for once at each position, and asks for the node once.
+// Returns whether a node is a repetition that one node enters, which is asked for at one position at most.
+fn is_loop(nodes: &[Node], namers: &[Namer], singles: &[bool], root: usize, m: usize) -> bool
+    ensures { (start : ℕ) (bodies : List ℕ) → AreKnown start (shapes_of nodes.now) bodies root namers.now
+        → AreSingles start (shapes_of nodes.now) bodies singles.now → result ≡ true →
+        IsLoop start (shapes_of nodes.now) bodies m }
+{
+    let Namer::By(entry) = namer_of(namers, m) else {
+        return false;
+    };
+    if m == root {
+        return false;
+    }
+    may_be_loop(nodes, entry, m) && mark_or(singles, entry, false)
+}
+
+// Returns whether a node goes on with an operand, and then with a repetition.
+fn goes_again(nodes: &[Node], n: usize, m: usize, repetition: usize) -> bool
+    ensures { result ≡ true → GoesAgain (shapes_of nodes.now) n m repetition }
+{
+    match goes_on(nodes, n) {
+        GoesOn::Missing => false,
+        GoesOn::Once => false,
+        GoesOn::Again { operand, star } => operand == m && star == repetition,
+    }
+}
+
+// Returns whether a node is the operand of a repetition of one or more, and of the repetition with which that goes on.
+// Only these name it, and the first one is asked for at one position at most.
+fn is_iterated(nodes: &[Node], namers: &[Namer], singles: &[bool], root: usize, m: usize) -> bool
+    ensures { (start : ℕ) (bodies : List ℕ) → AreKnown start (shapes_of nodes.now) bodies root namers.now
+        → AreSingles start (shapes_of nodes.now) bodies singles.now → result ≡ true →
+        IsIterated start (shapes_of nodes.now) bodies m }
+{
+    let Namer::Both { first, second } = namer_of(namers, m) else {
+        return false;
+    };
+    if m == root {
+        return false;
+    }
+    if first == second {
+        return false;
+    }
+    if is_star(nodes, m) {
+        return false;
+    }
+    goes_again(nodes, second, m, first) && is_loop(nodes, namers, singles, root, first)
+}
+
+// Returns whether one evaluation asks for a node at each position.
 fn is_asked_once(nodes: &[Node], namers: &[Namer], singles: &[bool], root: usize, m: usize) -> bool
     ensures { (start : ℕ) (bodies : List ℕ) → AreKnown start (shapes_of nodes.now) bodies root namers.now
         → AreSingles start (shapes_of nodes.now) bodies singles.now → result ≡ true →
-        IsPlain start (shapes_of nodes.now) bodies m ⊎ IsLoop start (shapes_of nodes.now) bodies m }
+        AskedOnce start (shapes_of nodes.now) bodies m }
 {
+    if is_loop(nodes, namers, singles, root, m) {
+        return true;
+    }
+    if is_iterated(nodes, namers, singles, root, m) {
+        return true;
+    }
     let Namer::By(namer) = namer_of(namers, m) else {
         return false;
     };
     if m == root {
         return false;
     }
-    if may_be_plain(nodes, namer, m) {
-        return true;
-    }
-    may_be_loop(nodes, namer, m) && mark_or(singles, namer, false)
+    may_be_plain(nodes, namer, m)
 }
 
 // Marks the nodes that are keys.
@@ -206,7 +257,7 @@ fn node_keys(
     ensures { IfOk result (λ keys. (start : ℕ) (bodies : List ℕ)
         → AreKnown start (shapes_of nodes.now) bodies root namers.now
         → AreSingles start (shapes_of nodes.now) bodies singles.now → (m : ℕ) → get_or keys.items m true ≡ false →
-        IsPlain start (shapes_of nodes.now) bodies m ⊎ IsLoop start (shapes_of nodes.now) bodies m) }
+        AskedOnce start (shapes_of nodes.now) bodies m) }
 {
     let mut keys = Vec::with_capacity(alloc, nodes.len())?;
     for m in 0..nodes.len() {
@@ -225,7 +276,7 @@ fn is_key_after(namers: &[Namer], singles: &[bool], widths: &[Option<usize>], m:
     }
     match namer_of(namers, m) {
         Namer::By(namer) => !mark_or(singles, namer, false),
-        Namer::Nobody | Namer::Many => true,
+        Namer::Nobody | Namer::Both { .. } | Namer::Many => true,
     }
 }
 
@@ -292,9 +343,10 @@ pub fn is_key_from(node: &Node, after: &[bool], i: usize) -> bool
 
 /// Finds the keys of a grammar.
 ///
-/// A node is no key if one node alone names it, once: it is asked for twice at a position only if that node is. A tail
-/// of a sequence is no key after a member of a known width, since the position of the tail gives that of the sequence.
-/// Nor is it one in a sequence that is asked for at one position at most.
+/// A node is no key if one node alone names it, once: it is asked for twice at a position only if that node is. The
+/// operand of a `+` that is asked for at one position at most is none. A tail of a sequence is no key after a member of
+/// a known width, since the position of the tail gives that of the sequence. Nor is it one in a sequence that is asked
+/// for at one position at most.
 ///
 /// # Errors
 /// `Memory` if an allocation fails.

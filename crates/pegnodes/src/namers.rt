@@ -16,7 +16,9 @@ pub(crate) enum Namer {
     Nobody,
     /// This node does, once.
     By(usize),
-    /// It is named more than once.
+    /// These two nodes do, each once; or one does, twice.
+    Both { first: usize, second: usize },
+    /// It is named more often.
     Many,
 }
 
@@ -39,7 +41,8 @@ fn add_name(n: usize, named: usize, namers: &mut [Namer])
     if named < namers.len() {
         namers[named] = match namers[named] {
             Namer::Nobody => Namer::By(n),
-            Namer::By(_) | Namer::Many => Namer::Many,
+            Namer::By(first) => Namer::Both { first, second: n },
+            Namer::Both { .. } | Namer::Many => Namer::Many,
         };
     }
 }

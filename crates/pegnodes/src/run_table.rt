@@ -128,6 +128,7 @@ fn run_to(stop: StopByte, window: &[u8], from: usize, to: usize) -> Run
 }
 
 // Returns how far bytes are taken, with the sum of their numbers.
+#[inline(always)]
 fn run_along(entries: &[Option<Decided>], window: &[u8], from: usize, to: usize) -> Run
     requires whole { length entries.now ≡ 256 }
     requires from { from ≤ to }
@@ -179,6 +180,7 @@ impl RunTable {
 
     /// Returns how far the node takes the bytes of a window from a position up to another, and how many evaluations the
     /// iterations of a repetition over them are.
+    #[inline(always)]
     pub fn run(&self, window: &[u8], from: usize, to: usize) -> Run
         requires from { from ≤ to }
         requires to { to ≤ length window.now }

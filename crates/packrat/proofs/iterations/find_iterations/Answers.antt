@@ -17,7 +17,7 @@ returns-in-Some c =
               c.run-run.result.end c.sure_end-to.result c.in-Some.last c.in_ok-table.table.now.entries.items
               table c.sure_end-to.ensures.last
               c.in-Some.ensures,
-          c.in_ok-summed.ensures,
+          c.in_ok-checked_add.ensures.1,
         ),
       ),
       refl,

@@ -4,7 +4,7 @@ use Rattle.pegnodes.specs.ByByte.{below, by_any}
 use Rattle.pegnodes.specs.Decides.{DecidesShape}
 use Rattle.pegnodes.specs.Nodes.{Bytes, Seq, Choice, shape_of}
 use Rattle.pegnodes.proofs.DecidesLemmas.{some_as, at_node, name_decides, seq_decides, choice_decides, members_done}
-use Rattle.pegnodes.proofs.DecidesLemmas.{members_more, members_failed, members_took, alternatives_done}
+use Rattle.pegnodes.proofs.DecidesLemmas.{members_more, members_left, members_failed, members_took, alternatives_done}
 use Rattle.pegnodes.proofs.DecidesLemmas.{alternatives_more, alternatives_succeeded, takes_succeeds, stays_succeeds}
 use Rattle.pegnodes.proofs.by_byte.+deciding.Goals as goal
 
@@ -39,29 +39,36 @@ by_alternatives-returns t c n at =
 
 pub by_members-returns-in-Fails : goal.by_members-returns-in-Fails
 by_members-returns-in-Fails t c n at =
-    members_failed c.args.grammar.now c.args.b n c.args.members.now c.loop-i.i c.loop-i.count
+    members_failed c.args.grammar.now c.args.b n c.args.members.now c.loop-i.i c.loop-i.count c.loop-i.leaves
     (c.loop-i.invariant n at) c.loop-i-test.true at
     (sym c.is_key_of_members.ensures ∙ c.if-is_key_of_members.false) c.in_ok-member.member
     c.in_ok-sum.sum c.in_ok-member.ensures c.in_ok-sum.ensures c.in-Fails.is
 
 pub by_members-returns-in-Takes : goal.by_members-returns-in-Takes
 by_members-returns-in-Takes t c n at =
-    members_took c.args.grammar.now c.args.b n c.args.members.now c.loop-i.i c.loop-i.count
+    members_took c.args.grammar.now c.args.b n c.args.members.now c.loop-i.i c.loop-i.count c.loop-i.leaves
     (c.loop-i.invariant n at) c.loop-i-test.true at
     (sym c.is_key_of_members.ensures ∙ c.if-is_key_of_members.false) c.in_ok-member.member
-    c.in_ok-sum.sum c.in_ok-member.ensures c.in_ok-sum.ensures c.in-Takes.is c.if-i-members.false
+    c.in_ok-sum.sum c.in_ok-member.ensures c.in_ok-sum.ensures c.if-leaves.false c.in-Takes.is c.if-i-members.false
+
+pub by_members-loop-i-preserved-then-is_event : goal.by_members-loop-i-preserved-then-is_event
+by_members-loop-i-preserved-then-is_event t c n at =
+    members_left c.args.grammar.now c.args.b n c.args.members.now c.loop-i.i c.loop-i.count c.loop-i.leaves
+    (c.loop-i.invariant n at) c.loop-i-test.true at
+    (sym c.is_key_of_members.ensures ∙ c.if-is_key_of_members.false) (c.is_event.ensures c.if-is_event.true)
+    c.in_ok-passed.passed.count c.in_ok-passed.ensures.1
 
 pub by_members-loop-i-preserved : goal.by_members-loop-i-preserved
 by_members-loop-i-preserved t c n at =
-    members_more c.args.grammar.now c.args.b n c.args.members.now c.loop-i.i c.loop-i.count
+    members_more c.args.grammar.now c.args.b n c.args.members.now c.loop-i.i c.loop-i.count c.loop-i.leaves
     (c.loop-i.invariant n at) c.loop-i-test.true at
     (sym c.is_key_of_members.ensures ∙ c.if-is_key_of_members.false) c.in_ok-member.member
     c.in_ok-sum.sum c.in_ok-member.ensures c.in_ok-sum.ensures c.in-Stays.is
 
 pub by_members-returns : goal.by_members-returns
 by_members-returns t c n at =
-    members_done c.args.grammar.now c.args.b n c.args.members.now c.loop-i.i c.loop-i.count
-    (c.loop-i.invariant n at) c.loop-i-test.false
+    members_done c.args.grammar.now c.args.b n c.args.members.now c.loop-i.i c.loop-i.count c.loop-i.leaves
+    (c.loop-i.invariant n at) c.if-leaves-2.false c.loop-i-test.false
 
 pub by_body-returns : goal.by_body-returns
 by_body-returns t c = some_as _ _ c.summed.result (λ d h n.

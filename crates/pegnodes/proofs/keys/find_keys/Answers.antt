@@ -1,6 +1,6 @@
-use Rattle.std.proofs.Common.{◌≡◌, ◌⊎◌, ℕ, List, true, false, get_or, sym, subst}
+use Rattle.std.proofs.Common.{◌≡◌, ℕ, List, true, false, get_or, sym, subst}
 use Rattle.std.proofs.lemmas.Option.{slice_get-get_or}
-use Rattle.pegnodes.specs.KeyMarks.{IsPlain, IsLoop}
+use Rattle.pegnodes.specs.KeyMarks.{AskedOnce}
 use Rattle.pegnodes.specs.KeyNeeds.{AreKnown, AreSingles, IsPassed}
 use Rattle.pegnodes.specs.Nodes.{Shape, shapes_of}
 use Rattle.pegnodes.specs.declared.namers.Namer.{Namer}
@@ -28,7 +28,7 @@ module _ (c : goal.After-drop-namers-2) where
   single = c.in_ok-singles.ensures c.args.start c.args.bodies.now (known_as c.deref.result.now c.deref.ensures.value)
 
   free : (m : ℕ) → get_or c.in_ok-keys.keys.items m true ≡ false
-      → IsPlain c.args.start nodes c.args.bodies.now m ⊎ IsLoop c.args.start nodes c.args.bodies.now m
+      → AskedOnce c.args.start nodes c.args.bodies.now m
   free = c.in_ok-keys.ensures c.args.start c.args.bodies.now (known_as c.deref-2.result.now c.deref-2.ensures.value)
       (subst (AreSingles c.args.start nodes c.args.bodies.now) (sym c.deref-3.ensures.value) single)
 
