@@ -342,7 +342,8 @@ kept_more kind members copies new i member copy lt at is pushed so_far =
 
 pub left_more : (kind : Option Bool) (members copies : List Elem) (i : ℕ) (member : Elem)
     (found : Option (Bor (List ℕ))) (is_missing : Bool) → i < length members → member ≡ get_or members i member
-    → is_some found ≡ not is_missing → is_missing ≡ false → IfSome found (λ text. IsTextOf kind (element_of member) text.now)
+    → is_some found ≡ not is_missing → is_missing ≡ false
+    → IfSome found (λ text. IsTextOf kind (element_of member) text.now)
     → AreFactored kind (elements_of (take i members)) (elements_of copies)
     → AreFactored kind (elements_of (take (i + 1) members)) (elements_of copies)
 left_more kind members copies i member None is_missing lt at some off is so_far =
@@ -395,7 +396,8 @@ rule_next t unique folds made new id name body copy span (Added k) so_far n b is
       folds = next.0;
       names = next.1;
       rules = rw (taken, pushed)
-          (rules_last rule.0 (rule_of (row name copy span)) so_far.rules rule.2 (subst (λ v. IsFactored v (element_of copy)) (sym rule.3) is));
+          (rules_last rule.0 (rule_of (row name copy span)) so_far.rules rule.2
+          (subst (λ v. IsFactored v (element_of copy)) (sym rule.3) is));
     }
 rule_next t unique folds made new id name body copy span (Duplicate k) so_far n b is defines =
     let next = name_next t unique Fold folds made new id (row name copy span)

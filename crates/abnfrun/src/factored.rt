@@ -240,38 +240,60 @@ fn large_kind(alternatives: &[Elem]) -> Option<bool> {
     }
 }
 
-// Returns whether a choice with that many texts stands in an element. No contract relies on it.
+// Returns how many of sorted texts begin the next one. No contract relies on it.
+fn beginnings(texts: &[Vec<u8>]) -> usize {
+    let mut count = 0usize;
+    for i in 1..texts.len() {
+        if texts[i].starts_with(&texts[i - 1]) {
+            count = count.saturating_add(1);
+        }
+    }
+    count
+}
+
+// Returns whether a choice has so many texts, and after some symbols, if it is repeated, one may end while others go
+// on: at least `FEW` texts begin others, or there are other alternatives. No contract relies on it. `Memory` if an
+// allocation fails.
+fn overlaps(alloc: Global, alternatives: &[Elem]) -> Result<bool, Memory> {
+    let Some(folds) = large_kind(alternatives) else {
+        return Ok(false);
+    };
+    let texts = texts_of(alloc, folds, alternatives)?;
+    Ok(texts.len() < alternatives.len() || beginnings(&texts) >= FEW)
+}
+
+// Returns whether such a choice stands in an element. No contract relies on it. `Memory` if an allocation fails.
 #[cycle(looking)]
-fn has_large_choice(e: &Elem) -> bool {
+fn has_overlaps(alloc: Global, e: &Elem) -> Result<bool, Memory> {
     match e {
-        Elem::Concat(members) => have_large_choice(members),
+        Elem::Concat(members) => have_overlaps(alloc, members),
         Elem::Alt(alternatives) => {
-            large_kind(alternatives).is_some() || have_large_choice(alternatives)
+            Ok(overlaps(alloc, alternatives)? || have_overlaps(alloc, alternatives)?)
         }
-        Elem::Rep { operand, .. } => has_large_choice(operand),
-        Elem::Opt(operand) => has_large_choice(operand),
-        _ => false,
+        Elem::Rep { operand, .. } => has_overlaps(alloc, operand),
+        Elem::Opt(operand) => has_overlaps(alloc, operand),
+        _ => Ok(false),
     }
 }
 
 #[cycle(looking)]
-fn have_large_choice(members: &[Elem]) -> bool {
+fn have_overlaps(alloc: Global, members: &[Elem]) -> Result<bool, Memory> {
     for member in members {
-        if has_large_choice(member) {
-            return true;
+        if has_overlaps(alloc, member)? {
+            return Ok(true);
         }
     }
-    false
+    Ok(false)
 }
 
-// Returns whether such a choice stands in a rule. No contract relies on it.
-fn rules_have_large_choice(rules: &RuleTable<Elem>) -> bool {
+// Returns whether such a choice stands in a rule. No contract relies on it. `Memory` if an allocation fails.
+fn rules_have_overlaps(alloc: Global, rules: &RuleTable<Elem>) -> Result<bool, Memory> {
     for id in 0..rules.len() {
-        if has_large_choice(rules.body(id)) {
-            return true;
+        if has_overlaps(alloc, rules.body(id))? {
+            return Ok(true);
         }
     }
-    false
+    Ok(false)
 }
 
 // Returns a copy of an element, with its large choices factored. `Memory` if an allocation fails.
@@ -339,11 +361,11 @@ fn factored_rules(alloc: Global, rules: &RuleTable<Elem>) -> Result<RuleTable<El
 }
 
 // Returns a grammar that derives the same lines, with its large choices of texts factored: texts that begin alike share
-// one branch. `None` if there is no such choice. `Memory` if an allocation fails.
+// one branch. `None` if no choice overlaps. `Memory` if an allocation fails.
 fn factored_grammar(alloc: Global, grammar: &SoundAbnf) -> Result<Option<SoundAbnf>, Memory>
     ensures { IfOk result (λ made. IfSome made (DeriveAlike grammar.now)) }
 {
-    if !rules_have_large_choice(grammar.rules()) {
+    if !rules_have_overlaps(alloc, grammar.rules())? {
         return Ok(None);
     }
     let rules = factored_rules(alloc, grammar.rules())?;

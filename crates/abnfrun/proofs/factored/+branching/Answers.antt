@@ -5,7 +5,8 @@ use Rattle.abnfread.proofs.ElementLemmas.{element-Alt}
 use Rattle.abnfread.specs.AbnfViews.{element_of, elements_of}
 use Rattle.abnfread.specs.Element.{Alt}
 use Rattle.abnfrun.specs.FactoredChoices.{DerivesThese, IsSpelling}
-use Rattle.abnfrun.proofs.FactoredChoicesLemmas.{Texts, branch_more, first_branch, headed_choice, no_choice, shared_heads}
+use Rattle.abnfrun.proofs.FactoredChoicesLemmas.{Texts, branch_more, first_branch, headed_choice, no_choice}
+use Rattle.abnfrun.proofs.FactoredChoicesLemmas.{shared_heads}
 use Rattle.abnfrun.proofs.factored.+branching.Goals as goal
 
 pub branches-loop-at-init : goal.branches-loop-at-init
