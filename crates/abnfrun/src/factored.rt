@@ -240,8 +240,8 @@ fn large_kind(alternatives: &[Elem]) -> Option<bool> {
     }
 }
 
-// Returns how many of sorted texts begin the next one. No contract relies on it.
-fn beginnings(texts: &[Vec<u8>]) -> usize {
+// Returns how many of some sorted texts begin the next one. No contract relies on it.
+fn prefix_count(texts: &[Vec<u8>]) -> usize {
     let mut count = 0usize;
     for i in 1..texts.len() {
         if texts[i].starts_with(&texts[i - 1]) {
@@ -259,7 +259,7 @@ fn overlaps(alloc: Global, alternatives: &[Elem]) -> Result<bool, Memory> {
         return Ok(false);
     };
     let texts = texts_of(alloc, folds, alternatives)?;
-    Ok(texts.len() < alternatives.len() || beginnings(&texts) >= FEW)
+    Ok(texts.len() < alternatives.len() || prefix_count(&texts) >= FEW)
 }
 
 // Returns whether such a choice stands in an element. No contract relies on it. `Memory` if an allocation fails.
