@@ -61,12 +61,12 @@ data In : Element → Elements → Type 0 where
 abbrev Origin : Elements → Element → Type 0
 Origin es copy = (e : Element) × In e es × IsFactored e copy
 
-origin : {kind : Option Bool} {es ds : Elements} {copy : Element} → AreFactored kind es ds → In copy ds
+origin_of : {kind : Option Bool} {es ds : Elements} {copy : Element} → AreFactored kind es ds → In copy ds
     → Origin es copy
-origin (f.kept {e = e} is rest) here = (e, here, is)
-origin (f.kept is rest) (there i) = let o = origin rest i in (o.0, there o.1, o.2)
-origin (f.left text rest) i = let o = origin rest i in (o.0, there o.1, o.2)
-origin f.nothing i = elim i [ ]
+origin_of (f.kept {e = e} is rest) here = (e, here, is)
+origin_of (f.kept is rest) (there i) = let o = origin_of rest i in (o.0, there o.1, o.2)
+origin_of (f.left text rest) i = let o = origin_of rest i in (o.0, there o.1, o.2)
+origin_of f.nothing i = elim i [ ]
 
 some_at : {has : ℕ → Bool} {rules : List Rule} {e : Element} {es : Elements} {w : List ℕ} → In e es
     → Derives has rules e w → DerivesSome has rules es w
@@ -115,29 +115,29 @@ module _ (has : ℕ → Bool) (rules new : List Rule) (are : AreFactoredRules ru
       (at.0, body_at_id rules n ∙ at.1, at.2)
 
   mutual
-    factor : {e copy : Element} {w : List ℕ} → Derives has rules e w → IsFactored e copy → Derives has new copy w
-    factor (d.text s) f.text = d.text s
-    factor (d.values l) f.values = d.values l
-    factor (d.range l h is) f.range = d.range l h is
-    factor (d.concat all) (f.concat them) = d.concat (factor_all all them)
-    factor (d.alt some) (f.alt them) = d.alt (⊎_elim (λ one. one) (λ l. elim l [ ]) (factor_some some them))
-    factor {w = w} (d.alt some) (f.choice them made) = d.alt (⊎_elim (λ one. d.later (d.this (d.alt one)))
+    derives_factored : {e copy : Element} {w : List ℕ} → Derives has rules e w → IsFactored e copy → Derives has new copy w
+    derives_factored (d.text s) f.text = d.text s
+    derives_factored (d.values l) f.values = d.values l
+    derives_factored (d.range l h is) f.range = d.range l h is
+    derives_factored (d.concat all) (f.concat them) = d.concat (factor_all all them)
+    derives_factored (d.alt some) (f.alt them) = d.alt (⊎_elim (λ one. one) (λ l. elim l [ ]) (factor_some some them))
+    derives_factored {w = w} (d.alt some) (f.choice them made) = d.alt (⊎_elim (λ one. d.later (d.this (d.alt one)))
         (λ l. d.this ((made.derives has new w).1 (spelled_of l))) (factor_some some them))
-    factor (d.rep l most times) (f.rep is) = d.rep l most (factor_times times is)
-    factor d.opt_empty (f.opt is) = d.opt_empty
-    factor (d.opt one) (f.opt is) = d.opt (factor one is)
-    factor (d.name {n = n} {e = e} at one) f.name =
-        let copy = named_there n e at in d.name copy.1 (factor one copy.2)
+    derives_factored (d.rep l most times) (f.rep is) = d.rep l most (factor_times times is)
+    derives_factored d.opt_empty (f.opt is) = d.opt_empty
+    derives_factored (d.opt one) (f.opt is) = d.opt (derives_factored one is)
+    derives_factored (d.name {n = n} {e = e} at one) f.name =
+        let copy = named_there n e at in d.name copy.1 (derives_factored one copy.2)
 
     factor_all : {es ds : Elements} {w : List ℕ} → DerivesAll has rules es w → AreFactored None es ds
         → DerivesAll has new ds w
     factor_all d.all_done f.nothing = d.all_done
-    factor_all (d.then one rest) (f.kept is them) = d.then (factor one is) (factor_all rest them)
+    factor_all (d.then one rest) (f.kept is them) = d.then (derives_factored one is) (factor_all rest them)
     factor_all (d.then one rest) (f.left text them) = elim text [ ]
 
     factor_some : {kind : Option Bool} {es ds : Elements} {w : List ℕ} → DerivesSome has rules es w
         → AreFactored kind es ds → DerivesSome has new ds w ⊎ Left kind es w
-    factor_some (d.this one) (f.kept is them) = inl (d.this (factor one is))
+    factor_some (d.this one) (f.kept is them) = inl (d.this (derives_factored one is))
     factor_some (d.this one) (f.left text them) = inr (left_here text one)
     factor_some (d.later some) (f.kept is them) =
         ⊎_elim (λ one. inl (d.later one)) (λ l. inr (left_later l)) (factor_some some them)
@@ -147,32 +147,32 @@ module _ (has : ℕ → Bool) (rules new : List Rule) (are : AreFactoredRules ru
     factor_times : {e copy : Element} {k : ℕ} {w : List ℕ} → DerivesTimes has rules e k w → IsFactored e copy
         → DerivesTimes has new copy k w
     factor_times d.no_more is = d.no_more
-    factor_times (d.one_more one rest) is = d.one_more (factor one is) (factor_times rest is)
+    factor_times (d.one_more one rest) is = d.one_more (derives_factored one is) (factor_times rest is)
 
   mutual
-    back : {e copy : Element} {w : List ℕ} → IsFactored e copy → Derives has new copy w → Derives has rules e w
-    back f.text (d.text s) = d.text s
-    back f.values (d.values l) = d.values l
-    back f.range (d.range l h is) = d.range l h is
-    back (f.concat them) (d.concat all) = d.concat (back_all them all)
-    back (f.alt them) (d.alt some) = d.alt (back_some (λ x i. origin them i) some)
-    back (f.choice them made) (d.alt some) = d.alt (back_choice (λ x i. origin them i) made some)
-    back (f.rep is) (d.rep l most times) = d.rep l most (back_times is times)
-    back (f.opt is) d.opt_empty = d.opt_empty
-    back (f.opt is) (d.opt one) = d.opt (back is one)
-    back f.name (d.name {n = n} {e = copy} at one) =
-        let e = named_back n copy at in d.name e.1 (back e.2 one)
-    back f.prose one = elim one [ ]
+    derives_back : {e copy : Element} {w : List ℕ} → IsFactored e copy → Derives has new copy w → Derives has rules e w
+    derives_back f.text (d.text s) = d.text s
+    derives_back f.values (d.values l) = d.values l
+    derives_back f.range (d.range l h is) = d.range l h is
+    derives_back (f.concat them) (d.concat all) = d.concat (back_all them all)
+    derives_back (f.alt them) (d.alt some) = d.alt (back_some (λ x i. origin_of them i) some)
+    derives_back (f.choice them made) (d.alt some) = d.alt (back_choice (λ x i. origin_of them i) made some)
+    derives_back (f.rep is) (d.rep l most times) = d.rep l most (back_times is times)
+    derives_back (f.opt is) d.opt_empty = d.opt_empty
+    derives_back (f.opt is) (d.opt one) = d.opt (derives_back is one)
+    derives_back f.name (d.name {n = n} {e = copy} at one) =
+        let e = named_back n copy at in d.name e.1 (derives_back e.2 one)
+    derives_back f.prose one = elim one [ ]
 
     back_all : {es ds : Elements} {w : List ℕ} → AreFactored None es ds → DerivesAll has new ds w
         → DerivesAll has rules es w
     back_all f.nothing d.all_done = d.all_done
-    back_all (f.kept is them) (d.then one rest) = d.then (back is one) (back_all them rest)
+    back_all (f.kept is them) (d.then one rest) = d.then (derives_back is one) (back_all them rest)
     back_all (f.left text them) all = elim text [ ]
 
     back_some : {es ds : Elements} {w : List ℕ} → ((copy : Element) → In copy ds → Origin es copy)
         → DerivesSome has new ds w → DerivesSome has rules es w
-    back_some from (d.this {e = copy} one) = let o = from copy here in some_at o.1 (back o.2 one)
+    back_some from (d.this {e = copy} one) = let o = from copy here in some_at o.1 (derives_back o.2 one)
     back_some from (d.later some) = back_some (λ copy i. from copy (there i)) some
 
     back_choice : {folds : Bool} {es ds : Elements} {made : Element} {w : List ℕ}
@@ -185,42 +185,42 @@ module _ (has : ℕ → Bool) (rules new : List Rule) (are : AreFactoredRules ru
     back_times : {e copy : Element} {k : ℕ} {w : List ℕ} → IsFactored e copy → DerivesTimes has new copy k w
         → DerivesTimes has rules e k w
     back_times is d.no_more = d.no_more
-    back_times is (d.one_more one rest) = d.one_more (back is one) (back_times is rest)
+    back_times is (d.one_more one rest) = d.one_more (derives_back is one) (back_times is rest)
 
   pub lines_factored : (id : ℕ) (w : List ℕ) → RuleDerives has new id w ↔ RuleDerives has rules id w
   lines_factored id w = (
     λ derives. let e = body_back are id derives.body derives.is in
-        record { body = e.0; is = e.1; derives = back e.2 derives.derives },
+        record { body = e.0; is = e.1; derives = derives_back e.2 derives.derives },
     λ derives. let copy = body_there are id derives.body derives.is in
-        record { body = copy.0; is = copy.1; derives = factor derives.derives copy.2 },
+        record { body = copy.0; is = copy.1; derives = derives_factored derives.derives copy.2 },
   )
 
 -- what stands in a copy stood in the element
 mutual
-  within : {e copy x : Element} → IsFactored e copy → IsNameOrProse x → Within copy x → Within e x
-  within f.name leaf w = w
-  within f.prose leaf w = w
-  within f.text leaf w = w
-  within f.values leaf w = w
-  within f.range leaf w = w
-  within (f.concat them) leaf (of_concat w) = of_concat (within_some them leaf w)
-  within (f.concat them) leaf itself = elim leaf [ ]
-  within (f.alt them) leaf (of_alt w) = of_alt (within_some them leaf w)
-  within (f.alt them) leaf itself = elim leaf [ ]
-  within {x = x} (f.choice them made) leaf (of_alt (of_first w)) = absurd (made.plain x leaf w)
-  within (f.choice them made) leaf (of_alt (of_later (of_first (of_alt w)))) = of_alt (within_some them leaf w)
-  within (f.choice them made) leaf (of_alt (of_later (of_first itself))) = elim leaf [ ]
-  within (f.choice them made) leaf (of_alt (of_later (of_later w))) = elim w [ ]
-  within (f.choice them made) leaf itself = elim leaf [ ]
-  within (f.rep is) leaf (of_rep w) = of_rep (within is leaf w)
-  within (f.rep is) leaf itself = elim leaf [ ]
-  within (f.opt is) leaf (of_opt w) = of_opt (within is leaf w)
-  within (f.opt is) leaf itself = elim leaf [ ]
+  stands_within : {e copy x : Element} → IsFactored e copy → IsNameOrProse x → Within copy x → Within e x
+  stands_within f.name leaf w = w
+  stands_within f.prose leaf w = w
+  stands_within f.text leaf w = w
+  stands_within f.values leaf w = w
+  stands_within f.range leaf w = w
+  stands_within (f.concat them) leaf (of_concat w) = of_concat (within_some them leaf w)
+  stands_within (f.concat them) leaf itself = elim leaf [ ]
+  stands_within (f.alt them) leaf (of_alt w) = of_alt (within_some them leaf w)
+  stands_within (f.alt them) leaf itself = elim leaf [ ]
+  stands_within {x = x} (f.choice them made) leaf (of_alt (of_first w)) = absurd (made.plain x leaf w)
+  stands_within (f.choice them made) leaf (of_alt (of_later (of_first (of_alt w)))) = of_alt (within_some them leaf w)
+  stands_within (f.choice them made) leaf (of_alt (of_later (of_first itself))) = elim leaf [ ]
+  stands_within (f.choice them made) leaf (of_alt (of_later (of_later w))) = elim w [ ]
+  stands_within (f.choice them made) leaf itself = elim leaf [ ]
+  stands_within (f.rep is) leaf (of_rep w) = of_rep (stands_within is leaf w)
+  stands_within (f.rep is) leaf itself = elim leaf [ ]
+  stands_within (f.opt is) leaf (of_opt w) = of_opt (stands_within is leaf w)
+  stands_within (f.opt is) leaf itself = elim leaf [ ]
 
   within_some : {kind : Option Bool} {es ds : Elements} {x : Element} → AreFactored kind es ds → IsNameOrProse x
       → WithinSome ds x → WithinSome es x
   within_some f.nothing leaf w = elim w [ ]
-  within_some (f.kept is them) leaf (of_first w) = of_first (within is leaf w)
+  within_some (f.kept is them) leaf (of_first w) = of_first (stands_within is leaf w)
   within_some (f.kept is them) leaf (of_later w) = of_later (within_some them leaf w)
   within_some (f.left text them) leaf w = of_later (within_some them leaf w)
 
@@ -230,7 +230,7 @@ module _ (rules new : List Rule) (judged : ℕ) (are : AreFactoredRules rules ne
   reach_back (by_name {id = id} {body = copy} {name = name} r at w) =
       let e = body_back are id copy at in
       subst (λ v. Reachable rules judged v) (sym (ids_factored are name))
-      (by_name (reach_back r) e.1 (within e.2 a_name w))
+      (by_name (reach_back r) e.1 (stands_within e.2 a_name w))
 
   pub factored_sound : IsSound rules judged → IsSound new judged
   factored_sound sound = record {
@@ -239,7 +239,7 @@ module _ (rules new : List Rule) (judged : ℕ) (are : AreFactoredRules rules ne
         let lt = sound.defined id (reach_back r) in let size = count_factored are in omega (arith, lt, size);
     plain = λ id copy text r at w.
         let e = body_back are id copy at in
-        sound.plain id e.0 text (reach_back r) e.1 (within e.2 some_prose w);
+        sound.plain id e.0 text (reach_back r) e.1 (stands_within e.2 some_prose w);
   }
 
 -- a text of the kind
