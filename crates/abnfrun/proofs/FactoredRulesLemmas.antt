@@ -115,7 +115,8 @@ module _ (has : ℕ → Bool) (rules new : List Rule) (are : AreFactoredRules ru
       (at.0, body_at_id rules n ∙ at.1, at.2)
 
   mutual
-    derives_factored : {e copy : Element} {w : List ℕ} → Derives has rules e w → IsFactored e copy → Derives has new copy w
+    derives_factored : {e copy : Element} {w : List ℕ} → Derives has rules e w → IsFactored e copy
+        → Derives has new copy w
     derives_factored (d.text s) f.text = d.text s
     derives_factored (d.values l) f.values = d.values l
     derives_factored (d.range l h is) f.range = d.range l h is
