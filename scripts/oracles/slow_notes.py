@@ -26,8 +26,8 @@ class Places:
 
     def __init__(self, text, tokens, signs, line_end, key):
         self.key, self.named, self.bodies, self.repeats, self.literals, within = key, {}, {}, {}, {}, None
-        self.used = []
-        for token, after in zip(tokens, tokens[1:]):
+        self.used, self.around = [], {}
+        for before, token, after in zip([None, *tokens], tokens, tokens[1:]):
             line = len(re.findall(line_end, text[:token.start])) + 1
             if token.kind in ("Ident", "Name") and after.kind in signs:
                 within = self.begin(token.text, line, after.kind == "Adds")
@@ -36,6 +36,7 @@ class Places:
                 self.used.append(token.text)
             if token.kind in ("Ident", "Name", "Prose") and within is not None:
                 self.bodies[within].append((token.kind == "Prose", token.text, line))
+                self.around.setdefault(within, []).append((before, token, after))
             elif token.kind in ("Star", "Plus") and within is not None:
                 self.repeats.setdefault(within, []).append(line)
             elif token.kind in LEAVES and within is not None:
@@ -289,6 +290,23 @@ class AbnfPositions(Places):
         near = next((it for it in rules if is_near(it, self.key(name))), None)
         return f"  perhaps '{cut(self.spelled(near, near))}' is meant\n" if near and self.noted <= MEANT else ""
 
+    def notation(self, name, start):
+        """Returns how a code point or a range is written that the first use of a name is in other notations, if it is
+        one; that which is given for the judged rule is none."""
+        if start is not None and self.key(start) == self.key(name):
+            return ""
+        before, token, after = next(
+            around for rule, body in self.bodies.items() for it, around in zip(body, self.around.get(rule, []))
+            if not it[0] and self.key(it[1]) == self.key(name))
+        if token.gap:
+            return ""
+        if before.text == b"0" and re.fullmatch(rb"x[0-9A-Fa-f]+", token.text):
+            return "  a code point is written %x41\n"
+        in_brackets = before.kind == "LBrack" and after.kind == "RBrack" and not after.gap
+        if in_brackets and re.fullmatch(rb"(?:[A-Za-z0-9]-[A-Za-z0-9])+", token.text):
+            return "  a range is written %x30-39\n"
+        return ""
+
     def prose(self, name):
         """Returns the line of a rule's first prose, and another one if that is the name of a rule in brackets."""
         word = next(word for is_prose, word, _ in self.bodies[self.key(name)] if is_prose)
@@ -334,6 +352,7 @@ class AbnfPositions(Places):
 
     def lines_on(self, kind, name, start):
         meant = self.meant(name) if kind == "undefined" else ""
+        meant = kind == "undefined" and self.notation(name, start) or meant
         after = self.reached(name, start) if kind in ("undefined", "prose") else ""
         return super().lines_on(kind, name, start) + meant + after
 

@@ -155,14 +155,14 @@ is_after row (Some (marked (tok kind z p) gap first)) = (length row.before == 0)
     || (has_kind row.before kind && has_word row.word row.whole z)
 
 -- the token before that one is
-abbrev pub is_behind : Mistake → Option Marked → Bool
-is_behind row None = length row.earlier == 0
-is_behind row (Some (marked (tok kind z p) gap first)) = (length row.earlier == 0) || has_kind row.earlier kind
+abbrev pub has_earlier : Mistake → Option Marked → Bool
+has_earlier row None = length row.earlier == 0
+has_earlier row (Some (marked (tok kind z p) gap first)) = (length row.earlier == 0) || has_kind row.earlier kind
 
 -- the token that decides is, and the two before it
 abbrev pub is_mistake : Mistake → Option Marked → Option Marked → Marked → Bool
 is_mistake row earlier before (marked (tok kind z p) gap first) = ((length row.kinds == 0) || has_kind row.kinds kind)
-    && (has_marks row.marks gap first && (has_bytes row z && (is_after row before && is_behind row earlier)))
+    && (has_marks row.marks gap first && (has_bytes row z && (is_after row before && has_earlier row earlier)))
 
 -- the first that applies
 abbrev pub first_mistake : List Mistake → Option Marked → Option Marked → Marked → Option (List ℕ)

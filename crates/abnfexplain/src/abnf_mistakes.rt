@@ -6,8 +6,9 @@ ghost use Rattle.diagnostics.specs.FactRows.{row_of};
 ghost use Rattle.abnfread.specs.MarkedTokens.{marked_of};
 ghost use Rattle.abnfexplain.specs.AbnfMistakeRows.{mistake_of};
 ghost use Rattle.abnfexplain.specs.AbnfMistakes.{bytes_after_blanks, comes_next, ends_in_cr, first_mistake, has_byte};
-ghost use Rattle.abnfexplain.specs.AbnfMistakes.{has_bytes, has_kind, has_marks, has_word, is_after, is_behind};
-ghost use Rattle.abnfexplain.specs.AbnfMistakes.{is_mistake, mistakes, point_mistake, shown_mistake as the_mistake, text_mistake};
+ghost use Rattle.abnfexplain.specs.AbnfMistakes.{has_bytes, has_earlier, has_kind, has_marks, has_word, is_after};
+ghost use Rattle.abnfexplain.specs.AbnfMistakes.{is_mistake, mistakes, point_mistake, text_mistake};
+ghost use Rattle.abnfexplain.specs.AbnfMistakes.{shown_mistake as the_mistake};
 
 use TokenMarks::{Any, First, Tight, Within};
 use abnfread::AbnfKind::{
@@ -109,7 +110,8 @@ static MISTAKES: [Mistake; 17] = mistakes![
     { kinds: &[Bad], begins: b"-", blanks: true, next: b"%\"0123456789ABCDEFabcdef", before: &[Num, Text] }
         => b"a range is written %x30-39",
     { kinds: &[Bad], begins: b"..", before: &[Num, Text] } => b"a range is written %x30-39",
-    { kinds: &[Bad], begins: b"-", before: &[Repeat, Name], earlier: &[LBrack] } => b"a range is written %x30-39",
+    { kinds: &[Bad], begins: b"-", before: &[Repeat, Name], earlier: &[LBrack] }
+        => b"a range is written %x30-39",
     { kinds: &[Bad], begins: b"-", before: OPERANDS } => b"ABNF has no exceptions",
 ];
 
@@ -223,8 +225,8 @@ fn is_after(row: &Mistake, before: Option<MarkedToken<'_>>) -> bool
 }
 
 // Whether the token before that one is that of the row.
-fn is_behind(row: &Mistake, earlier: Option<MarkedToken<'_>>) -> bool
-    ensures { result ≡ is_behind (mistake_of row.now) (option_map marked_of earlier.entry) }
+fn has_earlier(row: &Mistake, earlier: Option<MarkedToken<'_>>) -> bool
+    ensures { result ≡ has_earlier (mistake_of row.now) (option_map marked_of earlier.entry) }
 {
     let Some(earlier) = earlier else {
         return row.earlier.is_empty();
@@ -246,7 +248,7 @@ fn is_mistake(
         && has_marks(row.marks, token.gap, token.first)
         && has_bytes(row, token.token.slice)
         && is_after(row, before)
-        && is_behind(row, earlier)
+        && has_earlier(row, earlier)
 }
 
 // Returns the report of the first row that applies.
