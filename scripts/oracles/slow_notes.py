@@ -134,6 +134,30 @@ def marks(e):
         yield from marks(part)
 
 
+def leaves(e, place=(), choices=()):
+    """Yields the kind of each expression without operands, and of which alternatives of which choices it is a part."""
+    parts = slow_peg.parts(e)
+    if not parts and e[0] not in ("seq", "choice"):
+        yield e[0], dict(choices)
+    for number, part in enumerate(parts):
+        inner = (*choices, (place, number)) if e[0] == "choice" else choices
+        yield from leaves(part, (*place, number), inner)
+
+
+def lone_ends(e):
+    """Yields how many leaves stand before each `>` before which no `<` stands, outside alternatives beside its own."""
+    found = list(leaves(e))
+    for position, (kind, own) in enumerate(found):
+        before = [it for other, it in found[:position] if other == "open"]
+        if kind == "close" and all(any(it.get(choice, own[choice]) != own[choice] for choice in own) for it in before):
+            yield position
+
+
+def first_hints(reported):
+    """Returns the first of some hints, and how many more there are."""
+    return "".join(reported[:HINTS]) + (f"  and {len(reported) - HINTS} more\n" if len(reported) > HINTS else "")
+
+
 def is_sure(e, names):
     """Returns whether an expression fails nowhere, given the rules that do."""
     if e[0] == "name":
@@ -242,15 +266,19 @@ class PegPositions(Places):
             before = before + own
 
     def hints(self):
-        """Returns the report on alternatives that are never taken."""
-        reported = []
+        """Returns the report on alternatives that are never taken, and on ends of captures that begin nowhere."""
+        reported, ends = [], []
         for name, e in self.rules.items():
             lines = {"use": [line for _, _, line in self.bodies.get(name.encode(), [])],
                      "literal": self.literals.get(name.encode(), [])}
             reported += [f"alternative never taken in rule '{cut(name.encode())}'\n"
                          f"  line {lines[mark][before.count(mark)]}: {reason}\n"
                          for before, mark, reason in self.hidden(e, [])]
-        return "".join(reported[:HINTS]) + (f"  and {len(reported) - HINTS} more\n" if len(reported) > HINTS else "")
+            kinds = [kind for kind, _ in leaves(e)]
+            ends += [f"\">\" without \"<\" in rule '{cut(name.encode())}'\n"
+                     f"  line {lines['literal'][at - kinds[:at].count('name')]}: "
+                     "no \"<\" stands before it in its alternative\n" for at in lone_ends(e)]
+        return first_hints(reported) + first_hints(ends)
 
     def meant(self, name, start):
         """Returns which rule is perhaps meant by a name: the one given for the start rule, or one of the first ones."""
