@@ -333,6 +333,7 @@ POINTS = [
 def mistake(text, tokens, number):
     """Returns the line of the first usual mistake that shows, without its end; None if none does."""
     token, before = tokens[number], tokens[number - 1] if number else None
+    in_range = number > 1 and tokens[number - 2].kind == "LBrack" and before.kind in ("Repeat", "Name")
     kind, ahead, was = token.kind, text[token.start:], before.kind if before else None
     bad, tight = kind == "Bad", not token.gap
     if bad and (text[:2] in (b"\xFF\xFE", b"\xFE\xFF") or 0 in text[:2]):
@@ -356,7 +357,8 @@ def mistake(text, tokens, number):
                 return f"U+{ord(point[0]):04X} is {reported}"
     if bad and tight and ahead[:1] == b"+" and before and was == "Name" and before.text in (b"U", b"u"):
         return "a code point is written %x41"
-    if bad and was in ("Num", "Text") and re.match(rb'-[ \t]*[%"0-9A-Fa-f]|\.\.', ahead):
+    if bad and (was in ("Num", "Text") and re.match(rb'-[ \t]*[%"0-9A-Fa-f]|\.\.', ahead)
+                or in_range and ahead[:1] == b"-"):
         return "a range is written %x30-39"
     if bad and ahead[:1] == b"-" and was in OPERANDS:
         return "ABNF has no exceptions"

@@ -26,8 +26,8 @@ class Places:
 
     def __init__(self, text, tokens, signs, line_end, key):
         self.key, self.named, self.bodies, self.repeats, self.literals, within = key, {}, {}, {}, {}, None
-        self.used = []
-        for token, after in zip(tokens, tokens[1:]):
+        self.used, self.around = [], {}
+        for before, token, after in zip([None, *tokens], tokens, tokens[1:]):
             line = len(re.findall(line_end, text[:token.start])) + 1
             if token.kind in ("Ident", "Name") and after.kind in signs:
                 within = self.begin(token.text, line, after.kind == "Adds")
@@ -36,6 +36,7 @@ class Places:
                 self.used.append(token.text)
             if token.kind in ("Ident", "Name", "Prose") and within is not None:
                 self.bodies[within].append((token.kind == "Prose", token.text, line))
+                self.around.setdefault(within, []).append((before, token, after))
             elif token.kind in ("Star", "Plus") and within is not None:
                 self.repeats.setdefault(within, []).append(line)
             elif token.kind in LEAVES and within is not None:
@@ -131,6 +132,30 @@ def marks(e):
         yield "literal"
     for part in slow_peg.parts(e):
         yield from marks(part)
+
+
+def leaves(e, place=(), choices=()):
+    """Yields the kind of each expression without operands, and of which alternatives of which choices it is a part."""
+    parts = slow_peg.parts(e)
+    if not parts and e[0] not in ("seq", "choice"):
+        yield e[0], dict(choices)
+    for number, part in enumerate(parts):
+        inner = (*choices, (place, number)) if e[0] == "choice" else choices
+        yield from leaves(part, (*place, number), inner)
+
+
+def lone_ends(e):
+    """Yields how many leaves stand before each `>` before which no `<` stands, outside alternatives beside its own."""
+    found = list(leaves(e))
+    for position, (kind, own) in enumerate(found):
+        before = [it for other, it in found[:position] if other == "open"]
+        if kind == "close" and all(any(it.get(choice, own[choice]) != own[choice] for choice in own) for it in before):
+            yield position
+
+
+def first_hints(reported):
+    """Returns the first of some hints, and how many more there are."""
+    return "".join(reported[:HINTS]) + (f"  and {len(reported) - HINTS} more\n" if len(reported) > HINTS else "")
 
 
 def is_sure(e, names):
@@ -241,15 +266,19 @@ class PegPositions(Places):
             before = before + own
 
     def hints(self):
-        """Returns the report on alternatives that are never taken."""
-        reported = []
+        """Returns the report on alternatives that are never taken, and on ends of captures that begin nowhere."""
+        reported, ends = [], []
         for name, e in self.rules.items():
             lines = {"use": [line for _, _, line in self.bodies.get(name.encode(), [])],
                      "literal": self.literals.get(name.encode(), [])}
             reported += [f"alternative never taken in rule '{cut(name.encode())}'\n"
                          f"  line {lines[mark][before.count(mark)]}: {reason}\n"
                          for before, mark, reason in self.hidden(e, [])]
-        return "".join(reported[:HINTS]) + (f"  and {len(reported) - HINTS} more\n" if len(reported) > HINTS else "")
+            kinds = [kind for kind, _ in leaves(e)]
+            ends += [f"\">\" without \"<\" in rule '{cut(name.encode())}'\n"
+                     f"  line {lines['literal'][at - kinds[:at].count('name')]}: "
+                     "no \"<\" stands before it in its alternative\n" for at in lone_ends(e)]
+        return first_hints(reported) + first_hints(ends)
 
     def meant(self, name, start):
         """Returns which rule is perhaps meant by a name: the one given for the start rule, or one of the first ones."""
@@ -288,6 +317,23 @@ class AbnfPositions(Places):
         rules = [*self.named, *(it for it in (it.lower().encode() for it in slow_abnf.CORE) if it not in self.named)]
         near = next((it for it in rules if is_near(it, self.key(name))), None)
         return f"  perhaps '{cut(self.spelled(near, near))}' is meant\n" if near and self.noted <= MEANT else ""
+
+    def notation(self, name, start):
+        """Returns how a code point or a range is written that the first use of a name is in other notations, if it is
+        one; that which is given for the judged rule is none."""
+        if start is not None and self.key(start) == self.key(name):
+            return ""
+        before, token, after = next(
+            around for rule, body in self.bodies.items() for it, around in zip(body, self.around.get(rule, []))
+            if not it[0] and self.key(it[1]) == self.key(name))
+        if token.gap:
+            return ""
+        if before.text == b"0" and re.fullmatch(rb"x[0-9A-Fa-f]+", token.text):
+            return "  a code point is written %x41\n"
+        in_brackets = before.kind == "LBrack" and after.kind == "RBrack" and not after.gap
+        if in_brackets and re.fullmatch(rb"(?:[A-Za-z0-9]-[A-Za-z0-9])+", token.text):
+            return "  a range is written %x30-39\n"
+        return ""
 
     def prose(self, name):
         """Returns the line of a rule's first prose, and another one if that is the name of a rule in brackets."""
@@ -334,6 +380,7 @@ class AbnfPositions(Places):
 
     def lines_on(self, kind, name, start):
         meant = self.meant(name) if kind == "undefined" else ""
+        meant = kind == "undefined" and self.notation(name, start) or meant
         after = self.reached(name, start) if kind in ("undefined", "prose") else ""
         return super().lines_on(kind, name, start) + meant + after
 

@@ -110,11 +110,12 @@ module _ (text : List ℕ) (within : length text ≤ MAX_GRAMMAR) where
       → IsTokenOf text (marked_of r.token) (IsRefused r) → AreAllReported
       (λ k. position_allows r.position k ≡ true) phrases reported
       → why ≡ token_position text (marked_of r.token) ++ (codes "expected " ++ (listed reported ++ (codes "\n"
-      ++ token_facts text (option_map marked_of r.origin) (option_map marked_of r.before) (marked_of r.token))))
+      ++ token_facts text (option_map marked_of r.origin) (option_map marked_of r.earlier)
+      (option_map marked_of r.before) (marked_of r.token))))
       → Why text why
   hopeless-why r reported why h reports e =
       let d = h.holds in
-      rw (e, d.origin, d.before)
+      rw (e, d.origin, d.earlier, d.before)
       (hopeless within h.are_tokens h.there d.hopeless (position-reports r.position h.all h.number d.reports reports))
 
   pub deep-why : (m : Marked) (why : List ℕ) → IsTokenOf text m (λ us i. IsOver us i × (is_bracket m ≡ true))

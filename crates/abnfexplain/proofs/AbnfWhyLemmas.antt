@@ -16,7 +16,7 @@ use Rattle.abnfread.specs.declared.kind.AbnfKind.{AbnfKind}
 use Rattle.abnfread.specs.MarkedTokens.{Marked, AreMarked, tok_of}
 use Rattle.abnfread.proofs.AbnfFaultLemmas.{marked-one}
 use Rattle.abnfread.proofs.HasTakenLemmas.{within-take}
-use Rattle.abnfexplain.specs.AbnfDecisions.{IsFaultToken, first_marked, last_marked}
+use Rattle.abnfexplain.specs.AbnfDecisions.{IsFaultToken, earlier_marked, first_marked, last_marked}
 use Rattle.abnfexplain.specs.AbnfExpected.{CanStand, phrases}
 use Rattle.abnfexplain.specs.AbnfExplained.{Why, too_long, hopeless, too_deep, too_large, Explains, token_position}
 use Rattle.abnfexplain.specs.AbnfExplained.{token_facts}
@@ -70,7 +70,7 @@ not-bracket text all others i j m n are are' at at' h k is isnt =
 
 abbrev reported_lines : List ℕ → List Marked → ℕ → Marked → List (List ℕ) → List ℕ
 reported_lines text all i m reported = token_position text m ++ (codes "expected " ++ (listed reported ++ (codes "\n"
-    ++ token_facts text (first_marked (take i all)) (last_marked (take i all)) m)))
+    ++ token_facts text (first_marked (take i all)) (earlier_marked (take i all)) (last_marked (take i all)) m)))
 
 one-why : (text a b : List ℕ) → Why text a → Why text b → a ≡ b
 one-why text a b (too_long l) (too_long k) = refl

@@ -30,7 +30,8 @@ use Rattle.abnfexplain.specs.declared.abnf_decide.Refused.{Refused}
 use Rattle.abnfexplain.specs.declared.abnf_stand.Form.{Form}
 use Rattle.abnfexplain.specs.declared.abnf_stand.Position.{Position}
 use Rattle.abnfexplain.specs.declared.abnf_stand.Stand.TheVariants.{Start}
-use Rattle.abnfexplain.specs.AbnfDecisions.{first_marked, last_marked, IsTokenOf, IsRefused, NoneDecides}
+use Rattle.abnfexplain.specs.AbnfDecisions.{earlier_marked, first_marked, last_marked, IsTokenOf, IsRefused}
+use Rattle.abnfexplain.specs.AbnfDecisions.{NoneDecides}
 use Rattle.abnfexplain.specs.AbnfPositions.{brackets_of, position_allows, IsPositionAt}
 use Rattle.abnfexplain.specs.AbnfStands.{next_stand, brackets_after, innermost}
 use Rattle.abnfexplain.proofs.AbnfCanStandLemmas.{StandsAt, TestsForms, Onward, position-tests, goes-on, stops-there}
@@ -38,31 +39,39 @@ use Rattle.abnfexplain.proofs.AbnfCanStandLemmas.{can-stand, cannot-stand}
 use Rattle.abnfexplain.proofs.AbnfCanStandLemmas.{said-kind, bad-nowhere}
 use Rattle.abnfexplain.proofs.AbnfStandLemmas.{open-count}
 
--- the machine took what the tokens so far say, and stands at the position; the first of them and the last
+-- the machine took what the tokens so far say, and stands at the position; the first of them and the last two
 pub record IsTaken (text : List ℕ) (left : List Marked → Type 0) (position : Position)
-    (origin before : Option MarkedToken)
+    (origin before earlier : Option MarkedToken)
     (ms : List Marked) : Type 0 where
   pub config : Config
   pub taken : HasTaken text left config ms
   pub stands : StandsAt config position
   pub origin_is : option_map marked_of origin ≡ first_marked ms
   pub before_is : option_map marked_of before ≡ last_marked ms
+  pub earlier_is : option_map marked_of earlier ≡ earlier_marked ms
 
 -- before the first token
 pub none-taken : (text : List ℕ) (left : List Marked → Type 0) (position : Position) → HasTaken text left start []
-    → IsPositionAt position Start [] → IsTaken text left position None None []
+    → IsPositionAt position Start [] → IsTaken text left position None None None []
 none-taken text left position h at = record {
   config = start;
   taken = h;
   stands = record { stand = sym at.stand; brackets = sym at.brackets };
   origin_is = refl;
   before_is = refl;
+  earlier_is = refl;
 }
 
 pub last-snoc : (ms : List Marked) (m : Marked) → last_marked (ms ++ m ∷ []) ≡ Some m
 last-snoc [] m = refl
 last-snoc (n ∷ []) m = refl
 last-snoc (n ∷ o ∷ ms) m = last-snoc (o ∷ ms) m
+
+pub earlier-snoc : (ms : List Marked) (m : Marked) → earlier_marked (ms ++ m ∷ []) ≡ last_marked ms
+earlier-snoc [] m = refl
+earlier-snoc (n ∷ []) m = refl
+earlier-snoc (n ∷ o ∷ []) m = refl
+earlier-snoc (n ∷ o ∷ p ∷ ms) m = earlier-snoc (o ∷ p ∷ ms) m
 
 pub first-snoc : (ms : List Marked) (m o : Marked) → first_marked ms ≡ Some o → first_marked (ms ++ m ∷ []) ≡ Some o
 first-snoc [] m o e = absurd (let no : None ≡ Some o = e in cc)
@@ -95,9 +104,9 @@ large-no_bracket g f says_lparen h = absurd (h tt)
 large-no_bracket g f says_lbrack h = absurd (h tt)
 large-no_bracket g f _ h = refl
 
-module _ {text : List ℕ} {left : List Marked → Type 0} {position : Position} {origin before : Option MarkedToken}
-    {ms : List Marked} (t : IsTaken text left position origin before ms) (k : AbnfKind) (z : List ℕ) (p : Span)
-    (g f : Bool)
+module _ {text : List ℕ} {left : List Marked → Type 0} {position : Position}
+    {origin before earlier : Option MarkedToken} {ms : List Marked}
+    (t : IsTaken text left position origin before earlier ms) (k : AbnfKind) (z : List ℕ) (p : Span) (g f : Bool)
     (others : List Marked) (whole : AreMarked text (ms ++ marked (tok k z p) g f ∷ others)) where
   abbrev h : HasTaken text left t.config ms
   h = t.taken
@@ -128,8 +137,8 @@ module _ {text : List ℕ} {left : List Marked → Type 0} {position : Position}
 
   -- no such token can stand there
   pub refused-there : (r : Refused) → r.position ≡ position → r.origin ≡ origin → r.before ≡ before
-      → position_allows position form ≡ false → IsTokenOf text here (IsRefused r)
-  refused-there r at first last e = there-is (IsRefused r) (record {
+      → r.earlier ≡ earlier → position_allows position form ≡ false → IsTokenOf text here (IsRefused r)
+  refused-there r at first last next e = there-is (IsRefused r) (record {
     hopeless = lemmas.hopeless-at Viable AreWithin ms here others viable-so_far within-here
         (lemmas.not-viable Says Grammar step start runs-begins stops-begins one-word t.config h.say h.reached here
         (stops-there t.config (position_allows position) form-tests k z p g f e));
@@ -141,6 +150,7 @@ module _ {text : List ℕ} {left : List Marked → Type 0} {position : Position}
     });
     origin = rw (first, take-append_seam ms (here ∷ others)) t.origin_is;
     before = rw (last, take-append_seam ms (here ∷ others)) t.before_is;
+    earlier = rw (next, take-append_seam ms (here ∷ others)) t.earlier_is;
   })
 
   module _ (does : position_allows position form ≡ true) where
@@ -215,7 +225,7 @@ module _ {text : List ℕ} {left : List Marked → Type 0} {position : Position}
           → ((vs : List Marked) → onwards vs → left (here ∷ vs)) → ((s : Said) → SaysKind k z p s → IsSmall s)
           → length next.brackets.items ≤ MAX_OPEN
           → option_map marked_of first ≡ first_marked (ms ++ here ∷ []) → option_map marked_of last ≡ Some here →
-          IsTaken text onwards next first last (ms ++ here ∷ [])
+          IsTaken text onwards next first last before (ms ++ here ∷ [])
       one-more onwards first last on back small le o b = record {
         config = step-onward.config;
         taken = one-taken h here onwards on back step-onward.config g f said (says said-here.1)
@@ -223,12 +233,13 @@ module _ {text : List ℕ} {left : List Marked → Type 0} {position : Position}
         stands = next-stands;
         origin_is = o;
         before_is = b ∙ sym (last-snoc ms here);
+        earlier_is = t.before_is ∙ sym (earlier-snoc ms here);
       }
 
 -- no token is left
 pub none-decide : {text : List ℕ} {left : List Marked → Type 0} {position : Position}
-    {origin before : Option MarkedToken}
-    {ms : List Marked} → IsTaken text left position origin before ms → left [] → NoneDecides text
+    {origin before earlier : Option MarkedToken}
+    {ms : List Marked} → IsTaken text left position origin before earlier ms → left [] → NoneDecides text
 none-decide {text} {ms = ms} t none = λ all are i decides.
     let h = t.taken in
     let every : AreMarked text ms = (let a = h.before [] none in simp append-nil at a) in

@@ -25,6 +25,13 @@ last_marked [] = None
 last_marked (m ∷ []) = Some m
 last_marked (m ∷ n ∷ ms) = last_marked (n ∷ ms)
 
+-- the one before the last
+abbrev pub earlier_marked : List Marked → Option Marked
+earlier_marked [] = None
+earlier_marked (m ∷ []) = None
+earlier_marked (m ∷ n ∷ []) = Some m
+earlier_marked (m ∷ n ∷ o ∷ ms) = earlier_marked (n ∷ o ∷ ms)
+
 -- the token of the text for which that holds
 pub record IsTokenOf (text : List ℕ) (m : Marked) (Holds : List Marked → ℕ → Type 0) : Type 0 where
   pub all : List Marked
@@ -44,6 +51,7 @@ pub record IsRefused (r : Refused) (ms : List Marked) (i : ℕ) : Type 0 where
   pub reports : ReportsForms r.position ms i
   pub origin : option_map marked_of r.origin ≡ first_marked (take i ms)
   pub before : option_map marked_of r.before ≡ last_marked (take i ms)
+  pub earlier : option_map marked_of r.earlier ≡ earlier_marked (take i ms)
 
 abbrev pub Decides : List ℕ → Decision → Type 0
 Decides text (Hopeless r) = IsTokenOf text (marked_of r.token) (IsRefused r)

@@ -16,7 +16,7 @@ use Rattle.abnfread.specs.MarkedTokens.{Marked, marked, tok_of, AreMarked}
 use Rattle.ruletable.specs.declared.fault.ReadFault.{ReadFault}
 use Rattle.ruletable.specs.declared.fault.ReadFault.TheVariants.{Memory}
 use Rattle.ruletable.specs.declared.lines.LineRule.TheVariants.{Lf}
-use Rattle.abnfexplain.specs.AbnfDecisions.{first_marked, last_marked}
+use Rattle.abnfexplain.specs.AbnfDecisions.{earlier_marked, first_marked, last_marked}
 use Rattle.abnfexplain.specs.AbnfExpected.{CanStand, phrases}
 use Rattle.abnfexplain.specs.AbnfMistakes.{shown_mistake}
 use Rattle.abnfexplain.specs.AbnfStands.{defines}
@@ -78,9 +78,10 @@ name_fact text None b m = []
 abbrev pub other_facts : List ℕ → Option Marked → Option Marked → Marked → List ℕ
 other_facts text o b m = bad_fact m ++ (line_fact text o m ++ name_fact text o b m)
 
--- what is reported of a token after those that can stand there: the line of a mistake, or else other facts
-abbrev pub token_facts : List ℕ → Option Marked → Option Marked → Marked → List ℕ
-token_facts text o b m = option_map_or fact_line (shown_mistake text b m) (other_facts text o b m)
+-- what is reported of a token after those that can stand there: the line of a mistake, by the two tokens before it, or
+-- else other facts
+abbrev pub token_facts : List ℕ → Option Marked → Option Marked → Option Marked → Marked → List ℕ
+token_facts text o e b m = option_map_or fact_line (shown_mistake text e b m) (other_facts text o b m)
 
 -- The lines that explain why the text is no grammar.
 pub data Why (text : List ℕ) : List ℕ → Type 0 where
@@ -90,7 +91,7 @@ pub data Why (text : List ℕ) : List ℕ → Type 0 where
       → AreMarked text all → slice_get all i ≡ Some m → IsHopeless all i
       → AreAllReported (CanStand all i) phrases reported →
       Why text (token_position text m ++ (codes "expected " ++ (listed reported ++ (codes "\n"
-      ++ token_facts text (first_marked (take i all)) (last_marked (take i all)) m))))
+      ++ token_facts text (first_marked (take i all)) (earlier_marked (take i all)) (last_marked (take i all)) m))))
   -- that bracket is one too many of those open at once
   too_deep : {all : List Marked} {i : ℕ} {m : Marked} → length text ≤ max_grammar → AreMarked text all
       → slice_get all i ≡ Some m → IsOver all i → is_bracket m ≡ true →

@@ -14,5 +14,6 @@ mistake_of m = record {
   before = m.before.now;
   word = m.word.now;
   whole = m.whole;
+  earlier = m.earlier.now;
   reported = m.reported.now;
 }

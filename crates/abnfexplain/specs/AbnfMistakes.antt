@@ -1,4 +1,4 @@
--- The usual mistakes in a grammar in ABNF: a table of what shows one, by the token that decides and the one before it.
+-- The usual mistakes in a grammar in ABNF: a table of what shows one, by the token that decides and the two before it.
 use Prim.Native.Char.{code}
 use denote.Enum.Bare.{sameb}
 use Rattle.std.specs.Prelude.{ℕ, ◌-◌, ◌==◌, ◌&&◌, ◌||◌, not, Bool, true, false, if◌then◌else◌, List, [], ◌∷◌}
@@ -28,7 +28,7 @@ has_marks Within gap first = not gap && not first
 has_marks First gap first = first
 
 -- A mistake: kinds and marks of the token that decides, its first bytes, the byte after these and blanks, or the end;
--- kinds of the token before it, and its last bytes or all; what is reported.
+-- kinds of the token before it, and its last bytes or all; kinds of the token before that one; what is reported.
 pub record Mistake : Type 0 where
   pub kinds : List AbnfKind
   pub marks : TokenMarks
@@ -39,6 +39,7 @@ pub record Mistake : Type 0 where
   pub before : List AbnfKind
   pub word : List ℕ
   pub whole : Bool
+  pub earlier : List AbnfKind
   pub reported : List ℕ
 
 abbrev pub operands : List AbnfKind
@@ -62,6 +63,7 @@ mistake kinds marks begins before reported = record {
   before = before;
   word = [];
   whole = false;
+  earlier = [];
   reported = reported;
 }
 
@@ -117,6 +119,7 @@ mistakes =
       blanks = true;
     }
     ∷ mistake (Bad ∷ []) Any (codes "..") (Num ∷ Text ∷ []) range_reported
+    ∷ record (mistake (Bad ∷ []) Any (codes "-") (Repeat ∷ Name ∷ []) range_reported) { earlier = LBrack ∷ [] }
     ∷ mistake (Bad ∷ []) Any (codes "-") operands (codes "ABNF has no exceptions") ∷ []
 
 -- without the spaces and tabs before it
@@ -151,15 +154,21 @@ is_after row None = length row.before == 0
 is_after row (Some (marked (tok kind z p) gap first)) = (length row.before == 0)
     || (has_kind row.before kind && has_word row.word row.whole z)
 
--- the token that decides is, and the one before it
-abbrev pub is_mistake : Mistake → Option Marked → Marked → Bool
-is_mistake row before (marked (tok kind z p) gap first) = ((length row.kinds == 0) || has_kind row.kinds kind)
-    && (has_marks row.marks gap first && (has_bytes row z && is_after row before))
+-- the token before that one is
+abbrev pub has_earlier : Mistake → Option Marked → Bool
+has_earlier row None = length row.earlier == 0
+has_earlier row (Some (marked (tok kind z p) gap first)) = (length row.earlier == 0) || has_kind row.earlier kind
+
+-- the token that decides is, and the two before it
+abbrev pub is_mistake : Mistake → Option Marked → Option Marked → Marked → Bool
+is_mistake row earlier before (marked (tok kind z p) gap first) = ((length row.kinds == 0) || has_kind row.kinds kind)
+    && (has_marks row.marks gap first && (has_bytes row z && (is_after row before && has_earlier row earlier)))
 
 -- the first that applies
-abbrev pub first_mistake : List Mistake → Option Marked → Marked → Option (List ℕ)
-first_mistake [] before m = None
-first_mistake (row ∷ rows) before m = if is_mistake row before m then Some row.reported else first_mistake rows before m
+abbrev pub first_mistake : List Mistake → Option Marked → Option Marked → Marked → Option (List ℕ)
+first_mistake [] earlier before m = None
+first_mistake (row ∷ rows) earlier before m = if is_mistake row earlier before m then Some row.reported
+    else first_mistake rows earlier before m
 
 -- the text has a CR and no LF
 abbrev pub ends_in_cr : List ℕ → Bool
@@ -177,6 +186,6 @@ point_mistake Bad z = option_or (first_fact (quote_rows (codes "texts stand in \
 point_mistake _ z = None
 
 -- the mistake that the token that decides shows
-abbrev pub shown_mistake : List ℕ → Option Marked → Marked → Option (List ℕ)
-shown_mistake text before (marked (tok kind z p) gap first) = option_or (text_mistake text kind)
-    (option_or (first_mistake mistakes before (marked (tok kind z p) gap first)) (point_mistake kind z))
+abbrev pub shown_mistake : List ℕ → Option Marked → Option Marked → Marked → Option (List ℕ)
+shown_mistake text earlier before (marked (tok kind z p) gap first) = option_or (text_mistake text kind)
+    (option_or (first_mistake mistakes earlier before (marked (tok kind z p) gap first)) (point_mistake kind z))

@@ -5,7 +5,8 @@ use Rattle.abnfread.specs.AbnfSlices.{White, First}
 use Rattle.abnfread.specs.declared.kind.AbnfKind.{AbnfKind}
 use Rattle.abnfread.specs.declared.kind.AbnfKind.TheVariants.{Name, Is, Adds, Prose, Num, Repeat}
 use Rattle.diagnostics.specs.ExplainedNotes as explained
-use Rattle.diagnostics.specs.ExplainedNotes.{ArePositions, IsNoteExplained}
+use Rattle.diagnostics.specs.ExplainedNotes.{ArePositions, IsNoteExplained, IsNotedForm}
+use Rattle.diagnostics.specs.declared.noteplaces.forms.UseForm.{UseForm}
 use Rattle.diagnostics.specs.declared.noteplaces.positions.Positions.{Positions}
 use Rattle.diagnostics.specs.declared.noteplaces.sign.Sign.{Sign}
 use Rattle.diagnostics.specs.declared.noteplaces.sign.Sign.TheVariants as signs
@@ -30,6 +31,10 @@ AreAbnfPositions text = ArePositions White First ends_list sign_of Lf Fold text
 -- the lines after a note, where that name is given for the judged rule
 abbrev pub ExplainsNote : List ℕ → Option (List ℕ) → Said → List ℕ → Type 0
 ExplainsNote text = IsNoteExplained White First ends_list sign_of Lf Fold text
+
+-- what the use is in other notations by which that name is noted
+abbrev pub IsUsedForm : List ℕ → Option (List ℕ) → List ℕ → UseForm → Type 0
+IsUsedForm text = IsNotedForm White First ends_list sign_of Lf Fold text
 
 -- the first prose of the rule of that name, with `<` and `>`, if it has one
 abbrev pub IsFirstProse : List ℕ → List ℕ → Option (List ℕ) → Type 0

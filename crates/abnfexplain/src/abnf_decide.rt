@@ -22,6 +22,8 @@ pub(crate) struct Refused<'a> {
     pub(crate) origin: Option<MarkedToken<'a>>,
     /// The token before it.
     pub(crate) before: Option<MarkedToken<'a>>,
+    /// The token before that one.
+    pub(crate) earlier: Option<MarkedToken<'a>>,
 }
 
 /// The token that decides that a text is no grammar.
@@ -96,6 +98,7 @@ pub(crate) fn deciding_token(alloc: Global, text: &[u8]) -> Result<Option<Decisi
     let mut position = Position::start(alloc);
     let mut origin = None;
     let mut before = None;
+    let mut earlier = None;
     for token in abnf_tokens(text) {
         let form = form_of(token);
         if !position.allows(form) {
@@ -104,6 +107,7 @@ pub(crate) fn deciding_token(alloc: Global, text: &[u8]) -> Result<Option<Decisi
                 token,
                 origin,
                 before,
+                earlier,
             })));
         }
         if is_large(token.token) {
@@ -114,6 +118,7 @@ pub(crate) fn deciding_token(alloc: Global, text: &[u8]) -> Result<Option<Decisi
             return Ok(Some(Decision::TooDeep(token)));
         }
         origin = Some(origin.unwrap_or(token));
+        earlier = before;
         before = Some(token);
     }
     Ok(None)

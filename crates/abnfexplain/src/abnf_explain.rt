@@ -186,21 +186,16 @@ fn push_other_facts(
 }
 
 // Adds what is reported after what can stand there.
-fn push_token_facts(
-    out: &mut Vec<u8>,
-    text: &[u8],
-    origin: Option<MarkedToken<'_>>,
-    before: Option<MarkedToken<'_>>,
-    token: MarkedToken<'_>,
-) -> Result<(), Memory>
-    requires first { (o : Marks) → origin ≡ Some o → o.token.span.start ≤ length text.now }
-    requires within { token.token.span.start ≤ length text.now }
-    ensures { OnOk result (out.new.items ≡ out.old.items ++ token_facts text.now (option_map marked_of origin.entry)
-        (option_map marked_of before.entry) (marked_of token.entry)) }
+fn push_token_facts(out: &mut Vec<u8>, text: &[u8], refused: &Refused<'_>) -> Result<(), Memory>
+    requires first { (o : Marks) → refused.now.origin ≡ Some o → o.token.span.start ≤ length text.now }
+    requires within { refused.now.token.token.span.start ≤ length text.now }
+    ensures { OnOk result (out.new.items ≡ out.old.items ++ token_facts text.now
+        (option_map marked_of refused.now.origin) (option_map marked_of refused.now.earlier)
+        (option_map marked_of refused.now.before) (marked_of refused.now.token)) }
 {
-    match shown_mistake(text, before, token) {
+    match shown_mistake(text, refused.earlier, refused.before, refused.token) {
         Some(reported) => push_line(out, reported),
-        None => push_other_facts(out, text, origin, before, token),
+        None => push_other_facts(out, text, refused.origin, refused.before, refused.token),
     }
 }
 
@@ -213,20 +208,15 @@ fn hopeless_lines(alloc: Global, text: &[u8], refused: &Refused<'_>) -> Result<V
         reported × (v.items ≡ token_position text.now (marked_of refused.now.token)
         ++ (codes "expected " ++ (listed reported
         ++ (codes "\n" ++ token_facts text.now (option_map marked_of refused.now.origin)
-        (option_map marked_of refused.now.before) (marked_of refused.now.token)))))) }
+        (option_map marked_of refused.now.earlier) (option_map marked_of refused.now.before)
+        (marked_of refused.now.token)))))) }
 {
     let mut out = Vec::new(alloc);
     push_token_position(&mut out, text, refused.token)?;
     out.extend_from_slice(b"expected ")?;
     push_expected(alloc, &mut out, &refused.position)?;
     out.extend_from_slice(b"\n")?;
-    push_token_facts(
-        &mut out,
-        text,
-        refused.origin,
-        refused.before,
-        refused.token,
-    )?;
+    push_token_facts(&mut out, text, refused)?;
     Ok(out)
 }
 

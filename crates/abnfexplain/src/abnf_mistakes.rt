@@ -6,8 +6,9 @@ ghost use Rattle.diagnostics.specs.FactRows.{row_of};
 ghost use Rattle.abnfread.specs.MarkedTokens.{marked_of};
 ghost use Rattle.abnfexplain.specs.AbnfMistakeRows.{mistake_of};
 ghost use Rattle.abnfexplain.specs.AbnfMistakes.{bytes_after_blanks, comes_next, ends_in_cr, first_mistake, has_byte};
-ghost use Rattle.abnfexplain.specs.AbnfMistakes.{has_bytes, has_kind, has_marks, has_word, is_after, is_mistake};
-ghost use Rattle.abnfexplain.specs.AbnfMistakes.{mistakes, point_mistake, shown_mistake as the_mistake, text_mistake};
+ghost use Rattle.abnfexplain.specs.AbnfMistakes.{has_bytes, has_earlier, has_kind, has_marks, has_word, is_after};
+ghost use Rattle.abnfexplain.specs.AbnfMistakes.{is_mistake, mistakes, point_mistake, text_mistake};
+ghost use Rattle.abnfexplain.specs.AbnfMistakes.{shown_mistake as the_mistake};
 
 use TokenMarks::{Any, First, Tight, Within};
 use abnfread::AbnfKind::{
@@ -50,6 +51,8 @@ pub(crate) struct Mistake {
     pub(crate) word: &'static [u8],
     /// That token has no other bytes.
     pub(crate) whole: bool,
+    /// Kinds of the token before that one; any token or none, if there are none.
+    pub(crate) earlier: &'static [AbnfKind],
     /// The text that is reported.
     pub(crate) reported: &'static [u8],
 }
@@ -75,6 +78,7 @@ const EACH_TOKEN: Mistake = Mistake {
     before: &[],
     word: b"",
     whole: false,
+    earlier: &[],
     reported: b"",
 };
 
@@ -85,7 +89,7 @@ macro_rules! mistakes {
     };
 }
 
-static MISTAKES: [Mistake; 16] = mistakes![
+static MISTAKES: [Mistake; 17] = mistakes![
     { kinds: &[Bad], begins: b"\r" } => b"lines end with LF or CR LF, not CR",
     { marks: Tight, begins: b"\"", before: &[Text], word: b"\\\"" }
         => b"a double quote is DQUOTE: texts have no escapes",
@@ -106,6 +110,8 @@ static MISTAKES: [Mistake; 16] = mistakes![
     { kinds: &[Bad], begins: b"-", blanks: true, next: b"%\"0123456789ABCDEFabcdef", before: &[Num, Text] }
         => b"a range is written %x30-39",
     { kinds: &[Bad], begins: b"..", before: &[Num, Text] } => b"a range is written %x30-39",
+    { kinds: &[Bad], begins: b"-", before: &[Repeat, Name], earlier: &[LBrack] }
+        => b"a range is written %x30-39",
     { kinds: &[Bad], begins: b"-", before: OPERANDS } => b"ABNF has no exceptions",
 ];
 
@@ -218,27 +224,45 @@ fn is_after(row: &Mistake, before: Option<MarkedToken<'_>>) -> bool
     }
 }
 
-// Whether the token that decides is that of the row, and the one before it.
-fn is_mistake(row: &Mistake, before: Option<MarkedToken<'_>>, token: MarkedToken<'_>) -> bool
-    ensures { result ≡ is_mistake (mistake_of row.now) (option_map marked_of before.entry) (marked_of token.entry) }
+// Whether the token before that one is that of the row.
+fn has_earlier(row: &Mistake, earlier: Option<MarkedToken<'_>>) -> bool
+    ensures { result ≡ has_earlier (mistake_of row.now) (option_map marked_of earlier.entry) }
+{
+    let Some(earlier) = earlier else {
+        return row.earlier.is_empty();
+    };
+    row.earlier.is_empty() || has_kind(row.earlier, earlier.token.kind)
+}
+
+// Whether the token that decides is that of the row, and the two before it.
+fn is_mistake(
+    row: &Mistake,
+    earlier: Option<MarkedToken<'_>>,
+    before: Option<MarkedToken<'_>>,
+    token: MarkedToken<'_>,
+) -> bool
+    ensures { result ≡ is_mistake (mistake_of row.now) (option_map marked_of earlier.entry)
+        (option_map marked_of before.entry) (marked_of token.entry) }
 {
     (row.kinds.is_empty() || has_kind(row.kinds, token.token.kind))
         && has_marks(row.marks, token.gap, token.first)
         && has_bytes(row, token.token.slice)
         && is_after(row, before)
+        && has_earlier(row, earlier)
 }
 
 // Returns the report of the first row that applies.
 fn first_mistake(
     rows: &[Mistake],
+    earlier: Option<MarkedToken<'_>>,
     before: Option<MarkedToken<'_>>,
     token: MarkedToken<'_>,
 ) -> Option<&'static [u8]>
     ensures { option_map (λ w. w.now) result ≡ first_mistake (map mistake_of rows.now)
-        (option_map marked_of before.entry) (marked_of token.entry) }
+        (option_map marked_of earlier.entry) (option_map marked_of before.entry) (marked_of token.entry) }
 {
     for row in rows {
-        if is_mistake(row, before, token) {
+        if is_mistake(row, earlier, before, token) {
             return Some(row.reported);
         }
     }
@@ -288,19 +312,20 @@ fn point_mistake(token: MarkedToken<'_>) -> Option<&'static [u8]>
     }
 }
 
-/// Returns the mistake that the token that decides shows, by the text and the token before.
+/// Returns the mistake that the token that decides shows, by the text and the two tokens before.
 pub(crate) fn shown_mistake(
     text: &[u8],
+    earlier: Option<MarkedToken<'_>>,
     before: Option<MarkedToken<'_>>,
     token: MarkedToken<'_>,
 ) -> Option<&'static [u8]>
-    ensures { option_map (λ w. w.now) result ≡ the_mistake text.now (option_map marked_of before.entry)
-        (marked_of token.entry) }
+    ensures { option_map (λ w. w.now) result ≡ the_mistake text.now (option_map marked_of earlier.entry)
+        (option_map marked_of before.entry) (marked_of token.entry) }
 {
     if let Some(reported) = text_mistake(text, token.token.kind) {
         return Some(reported);
     }
-    if let Some(reported) = first_mistake(all_mistakes(), before, token) {
+    if let Some(reported) = first_mistake(all_mistakes(), earlier, before, token) {
         return Some(reported);
     }
     point_mistake(token)

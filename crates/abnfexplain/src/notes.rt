@@ -4,7 +4,8 @@ ghost use Rattle.ruletable.specs.Notes.{Said};
 ghost use Rattle.abnfread.specs.AbnfReading.{IsFaultOf, Reads};
 ghost use Rattle.abnfread.specs.AbnfTable.{IsCoreTable, IsTableOf};
 ghost use Rattle.abnfread.specs.Element.{Definition};
-ghost use Rattle.abnfexplain.specs.AbnfNoteLines.{AreAbnfPositions, ExplainsNote, IsFirstProse};
+ghost use Rattle.abnfexplain.specs.AbnfNoteLines.{AreAbnfPositions, ExplainsNote, IsFirstProse, IsUsedForm};
+ghost use Rattle.diagnostics.specs.declared.noteplaces.forms.UseForm.{UseForm};
 ghost use Rattle.abnfexplain.specs.AbnfNoteLines.{sign_of as the_sign};
 
 use abnfread::{Abnf, AbnfKind, KeptAbnf, read_kept_abnf};
@@ -69,12 +70,15 @@ pub fn read_abnf_text(alloc: Global, text: &[u8]) -> Result<AbnfText, ReadFault>
     }
 }
 
-/// Says that at most one text explains a note on the grammar of a text, and that at most one prose is a rule's first.
+/// Says that at most one text explains a note on the grammar of a text, that at most one prose is a rule's first, and
+/// that the use by which a name is noted has one form.
 pub fn one_note_explanation_of_abnf()
     ensures lines { (text : List ℕ) (start : Option (List ℕ)) (note : Said) (a b : List ℕ)
         → ExplainsNote text start note a → ExplainsNote text start note b → a ≡ b }
     ensures prose { (text name : List ℕ) (a b : Option (List ℕ)) → IsFirstProse text name a → IsFirstProse text name b
         → a ≡ b }
+    ensures form { (text : List ℕ) (start : Option (List ℕ)) (name : List ℕ) (a b : UseForm)
+        → IsUsedForm text start name a → IsUsedForm text start name b → a ≡ b }
 {
     one_list::<AbnfKind>();
 }

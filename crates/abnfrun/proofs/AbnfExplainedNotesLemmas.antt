@@ -26,15 +26,17 @@ use Rattle.abnfcheck.proofs.JoinLemmas.{position_found}
 use Rattle.abnfcheck.specs.WithCore.{has_name, with_core}
 use Rattle.abnfcheck.specs.declared.reached_names.ChainEnds.{ChainEnds}
 use Rattle.abnfcheck.specs.declared.reached_names.NameChains.{NameChains}
-use Rattle.abnfexplain.specs.AbnfNoteLines.{ExplainsNote, IsFirstProse}
+use Rattle.abnfexplain.specs.AbnfNoteLines.{ExplainsNote, IsFirstProse, IsUsedForm}
 use Rattle.abnfexplain.specs.ChainLines.{chain_line, chain_reported, ends_line}
 use Rattle.diagnostics.proofs.NearNamesLemmas.{meant-line-one}
 use Rattle.diagnostics.specs.BodyMentions.{MentionedAt, mentioned_at}
+use Rattle.diagnostics.specs.declared.noteplaces.forms.UseForm.{UseForm}
+use Rattle.diagnostics.specs.declared.noteplaces.forms.UseForm.TheVariants.{Plain, CodePoint, Range}
 use Rattle.diagnostics.specs.declared.noteplaces.mentions.Mention.{Mention}
 use Rattle.diagnostics.specs.NearNames.{IsMeant, IsMeantIf, is_before_limit, meant_reported}
 use Rattle.abnfrun.specs.AbnfNoted.{all_rules}
 use Rattle.abnfrun.specs.AbnfExplainedNotes.{AreAllRules, AreProseLines, AreUndefinedLines}
-use Rattle.abnfrun.specs.AbnfExplainedNotes.{ExplainsAbnfNote, IsMeantLine}
+use Rattle.abnfrun.specs.AbnfExplainedNotes.{ExplainsAbnfNote, IsMeantLine, IsPerhapsLine}
 use Rattle.abnfrun.specs.AbnfExplainedNotes.{IsReachAfter, IsReachLine, between_brackets, is_early_name}
 use Rattle.abnfrun.specs.AbnfExplainedNotes.{named_line}
 use Rattle.abnfrun.proofs.AllRulesLemmas.{all_same, any_map}
@@ -53,12 +55,25 @@ abbrev ProsesAreOne : Type 0
 ProsesAreOne = (text name : List ℕ) (a b : Option (List ℕ)) → IsFirstProse text name a → IsFirstProse text name b
     → a ≡ b
 
+-- the use by which a name is noted has one form
+abbrev FormsAreOne : Type 0
+FormsAreOne = (text : List ℕ) (start : Option (List ℕ)) (name : List ℕ) (a b : UseForm) → IsUsedForm text start name a
+    → IsUsedForm text start name b → a ≡ b
+
 -- a chain of names is one
 abbrev ChainsAreOne : Type 0
 ChainsAreOne = (rules : List Rule) (given : Option (List ℕ)) (name : List ℕ) (a b : Option (List (List ℕ)))
     → IsNameChain rules given name a → IsNameChain rules given name b → a ≡ b
 
-module _ (proses : ProsesAreOne) (reading : ReadingsAreOne) (one : ChainsAreOne) (text : List ℕ)
+-- what is perhaps meant is one line
+perhaps_is_one : (form : UseForm) (rules : List Rule) (start : Option (List ℕ)) (name a b : List ℕ)
+    → IsPerhapsLine form rules start name a → IsPerhapsLine form rules start name b → a ≡ b
+perhaps_is_one CodePoint rules start name a b g h = g ∙ sym h
+perhaps_is_one Range rules start name a b g h = g ∙ sym h
+perhaps_is_one Plain rules start name a b g h =
+    meant-line-one (is_early_name rules start name) (rule_names rules) name a b g h
+
+module _ (proses : ProsesAreOne) (forms : FormsAreOne) (reading : ReadingsAreOne) (one : ChainsAreOne) (text : List ℕ)
     (start : Option (List ℕ)) where
   reach_is_one : (name a b : List ℕ) → IsReachLine text start name a → IsReachLine text start name b → a ≡ b
   reach_is_one name a b g h =
@@ -70,11 +85,12 @@ module _ (proses : ProsesAreOne) (reading : ReadingsAreOne) (one : ChainsAreOne)
       → a ≡ b
   undefined_is_one name a b g h =
       let same = reading text h.definitions g.definitions h.reads g.reads in
-      let moved = subst (λ z. IsMeantLine (all_rules z) start name h.meant) same h.is_meant in
+      let form = forms text start name h.form g.form h.is_form g.is_form in
+      let moved = subst (λ f. IsPerhapsLine f (all_rules g.definitions) start name h.meant) form
+      (subst (λ z. IsPerhapsLine h.form (all_rules z) start name h.meant) same h.is_meant) in
       g.is
-      ∙ ap (λ (z : List ℕ). z ++ g.reach) (meant-line-one
-      (is_early_name (all_rules g.definitions) start name) (rule_names (all_rules g.definitions)) name g.meant h.meant
-      g.is_meant moved)
+      ∙ ap (λ (z : List ℕ). z ++ g.reach)
+      (perhaps_is_one g.form (all_rules g.definitions) start name g.meant h.meant g.is_meant moved)
       ∙ ap (λ (z : List ℕ). h.meant ++ z) (reach_is_one name g.reach h.reach g.is_reach h.is_reach) ∙ sym h.is
 
   prose_is_one : (name a b : List ℕ) → AreProseLines text start name a → AreProseLines text start name b → a ≡ b
@@ -97,14 +113,14 @@ module _ (proses : ProsesAreOne) (reading : ReadingsAreOne) (one : ChainsAreOne)
   after_is_one LeftRecursion name a b g h = g ∙ sym h
   after_is_one Loop name a b g h = g ∙ sym h
 
-pub explanation_is_one : LinesAreOne → ProsesAreOne → ReadingsAreOne → ChainsAreOne → (text : List ℕ)
+pub explanation_is_one : LinesAreOne → ProsesAreOne → FormsAreOne → ReadingsAreOne → ChainsAreOne → (text : List ℕ)
     (start : Option (List ℕ)) (note : Said) (a b : List ℕ) → ExplainsAbnfNote text start note a
     → ExplainsAbnfNote text start note b → a ≡ b
-explanation_is_one lines proses reading one text start note a b g h =
+explanation_is_one lines proses forms reading one text start note a b g h =
     g.is
     ∙ (ap (λ z. z ++ g.line) (lines text start note g.lines h.lines g.explains h.explains)
     ∙ (ap (λ z. h.lines ++ z)
-    (after_is_one proses reading one text start note.kind note.name g.line h.line g.after h.after)
+    (after_is_one proses forms reading one text start note.kind note.name g.line h.line g.after h.after)
     ∙ sym h.is))
 
 -- the rules of a text with the core rules that it leaves alone

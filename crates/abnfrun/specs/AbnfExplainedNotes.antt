@@ -1,8 +1,10 @@
--- What explains a note on the grammar of a text: its lines, which rule is perhaps meant, whether prose is the name of a
--- rule, and by which rules the judged one reaches its name.
+-- What explains a note on the grammar of a text: its lines, what is perhaps meant, whether prose is the name of a rule,
+-- and by which rules the judged one reaches its name.
 use Rattle.std.specs.Prelude.{◌≡◌, ℕ, ◌-◌, Bool, List, [], ◌++◌, length, position, Option, Some, None, codes}
 use Rattle.std.specs.Prelude.{drop, take, if◌then◌else◌}
 use Rattle.diagnostics.specs.NearNames.{IsMeantIf, is_before_limit}
+use Rattle.diagnostics.specs.declared.noteplaces.forms.UseForm.{UseForm}
+use Rattle.diagnostics.specs.declared.noteplaces.forms.UseForm.TheVariants.{Plain, CodePoint, Range}
 use Rattle.ruletable.specs.Rules.{same_name}
 use Rattle.ruletable.specs.Notes.{Said}
 use Rattle.ruletable.specs.Rules as table
@@ -17,7 +19,7 @@ use Rattle.abnfcheck.specs.AbnfUses.{rule_names}
 use Rattle.abnfcheck.specs.NameChains.{AreNameChains, IsNameChain}
 use Rattle.abnfcheck.specs.NameIds.{all_names}
 use Rattle.abnfcheck.specs.WithCore.{has_name}
-use Rattle.abnfexplain.specs.AbnfNoteLines.{AreAbnfPositions, ExplainsNote, IsFirstProse}
+use Rattle.abnfexplain.specs.AbnfNoteLines.{AreAbnfPositions, ExplainsNote, IsFirstProse, IsUsedForm}
 use Rattle.abnfexplain.specs.ChainLines.{chain_reported}
 use Rattle.abnfprint.specs.AbnfReadBack.{file_rules}
 use Rattle.abnfrun.specs.AbnfNoted.{all_rules}
@@ -39,13 +41,22 @@ is_early_name rules start name = is_before_limit (length rules) (position (same_
 abbrev pub IsMeantLine : List Rule → Option (List ℕ) → List ℕ → List ℕ → Type 0
 IsMeantLine rules start name line = IsMeantIf (is_early_name rules start name) (rule_names rules) name line
 
+-- The line of what is perhaps meant by a name, by the form of its use: how a code point or a range is written
+-- (RFC 5234, sections 2.3 and 3.4), or a rule.
+abbrev pub IsPerhapsLine : UseForm → List Rule → Option (List ℕ) → List ℕ → List ℕ → Type 0
+IsPerhapsLine CodePoint rules start name line = line ≡ codes "  a code point is written %x41\n"
+IsPerhapsLine Range rules start name line = line ≡ codes "  a range is written %x30-39\n"
+IsPerhapsLine Plain rules start name line = IsMeantLine rules start name line
+
 -- the lines after those of a note on a name that no rule has
 pub record AreUndefinedLines (text : List ℕ) (start : Option (List ℕ)) (name lines : List ℕ) : Type 0 where
   pub definitions : List Definition
   pub reads : Reads text definitions
+  pub form : UseForm
   pub meant : List ℕ
   pub reach : List ℕ
-  pub is_meant : IsMeantLine (all_rules definitions) start name meant
+  pub is_form : IsUsedForm text start name form
+  pub is_meant : IsPerhapsLine form (all_rules definitions) start name meant
   pub is_reach : IsReachLine text start name reach
   pub is : lines ≡ meant ++ reach
 

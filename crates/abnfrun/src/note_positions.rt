@@ -2,9 +2,8 @@
 ghost use Rattle.std.specs.Prelude.{◌≡◌, ◌++◌, ℕ, List, Option, length, option_copied, option_map, IfOk, OnOk};
 ghost use Rattle.ruletable.specs.Notes.{said_of};
 ghost use Rattle.ruletable.specs.declared.table.NameCase.TheVariants.{Fold};
-ghost use Rattle.abnfread.specs.AbnfReading.{Reads};
 ghost use Rattle.abnfread.specs.AbnfViews.{rules_of};
-ghost use Rattle.abnfread.specs.Element.{Definition, Rule};
+ghost use Rattle.abnfread.specs.Element.{Rule};
 ghost use Rattle.abnfcheck.specs.NameChains.{AreNameChains, IsNameChain};
 ghost use Rattle.abnfexplain.specs.AbnfNoteLines.{AreAbnfPositions};
 ghost use Rattle.abnfexplain.specs.ChainLines.{chain_reported};
@@ -15,17 +14,19 @@ ghost use Rattle.abnfrun.specs.AbnfExplainedNotes.{
   AreUndefinedLines,
   ExplainsAbnfNote,
   IsMeantLine,
+  IsPerhapsLine,
   IsReachAfter,
   between_brackets as inside,
   named_line,
 };
-ghost use Rattle.abnfrun.specs.AbnfNoted.{all_rules};
 
 use crate::abnf_positions::AbnfPositions;
 use abnfcheck::{AllRules, NameChains, name_chains};
 use abnfexplain::{MAX_LAST, push_chain};
 use abnfread::Elem;
-use diagnostics::{Mention, Positions, explain_note, first_prose, is_early, push_meant};
+use diagnostics::{
+    Mention, Positions, UseForm, explain_note, first_prose, is_early, push_meant, used_form,
+};
 use ruletable::{Memory, Note, NoteKind, RuleTable};
 use std::alloc::Global;
 
@@ -89,21 +90,48 @@ fn push_near(
     Ok(())
 }
 
-// Adds the lines that follow those of a note on a name that no rule has.
-fn push_undefined(
+// Adds the line of what is perhaps meant by a name that no rule has, by the form of its use: how a code point or a
+// range is written, or the one of so many rules.
+fn push_perhaps(
     alloc: Global,
     out: &mut Vec<u8>,
+    form: UseForm,
     chains: &NameChains,
     count: usize,
     name: &[u8],
 ) -> Result<(), Memory>
-    ensures { OnOk result ((text : List ℕ) (start : Option (List ℕ)) (definitions : List Definition)
-        → Reads text definitions → AreNameChains (all_rules definitions) start chains.now
-        → count ≡ length (all_rules definitions) → (line : List ℕ) × AreUndefinedLines text start name.now line
+    ensures { OnOk result ((rules : List Rule) (given : Option (List ℕ)) → AreNameChains rules given chains.now
+        → count ≡ length rules → (line : List ℕ) × IsPerhapsLine form rules given name.now line
         × (out.new.items ≡ out.old.items ++ line)) }
 {
-    push_near(alloc, out, chains, count, name)?;
-    push_reached(alloc, out, chains, name)?;
+    match form {
+        UseForm::CodePoint => {
+            out.extend_from_slice(b"  a code point is written %x41\n")?;
+            Ok(())
+        }
+        UseForm::Range => {
+            out.extend_from_slice(b"  a range is written %x30-39\n")?;
+            Ok(())
+        }
+        UseForm::Plain => push_near(alloc, out, chains, count, name),
+    }
+}
+
+// Adds the lines that follow those of a note on a name that no rule has.
+fn push_undefined(
+    alloc: Global,
+    out: &mut Vec<u8>,
+    found: &AbnfPositions,
+    start: Option<&str>,
+    name: &[u8],
+) -> Result<(), Memory>
+    ensures { OnOk result ((text : List ℕ) → AreNotePositions text (option_copied start.entry) found.now
+        → (line : List ℕ) × AreUndefinedLines text (option_copied start.entry) name.now line
+        × (out.new.items ≡ out.old.items ++ line)) }
+{
+    let form = used_form(alloc, &found.positions, start, name)?;
+    push_perhaps(alloc, out, form, &found.chains, found.all.rules.len(), name)?;
+    push_reached(alloc, out, &found.chains, name)?;
     Ok(())
 }
 
@@ -161,24 +189,23 @@ fn push_after(
     alloc: Global,
     out: &mut Vec<u8>,
     found: &AbnfPositions,
+    start: Option<&str>,
     note: &Note,
 ) -> Result<(), Memory>
-    ensures { OnOk result ((text : List ℕ) (start : Option (List ℕ)) → AreNotePositions text start found.now
-        → (line : List ℕ) × IsReachAfter text start note.now.kind note.now.name.items line
+    ensures { OnOk result ((text : List ℕ) → AreNotePositions text (option_copied start.entry) found.now
+        → (line : List ℕ) × IsReachAfter text (option_copied start.entry) note.now.kind note.now.name.items line
         × (out.new.items ≡ out.old.items ++ line)) }
 {
     let name = note.name.as_slice();
     match note.kind {
-        NoteKind::Undefined => {
-            push_undefined(alloc, out, &found.chains, found.all.rules.len(), name)
-        }
+        NoteKind::Undefined => push_undefined(alloc, out, found, start, name),
         NoteKind::Prose => push_after_prose(alloc, out, found, name),
         _ => Ok(()),
     }
 }
 
-/// Returns the lines that explain a note: those of positions, which rule is perhaps meant by a name that no rule has,
-/// whether prose is the name of a rule, and by which rules the judged one reaches that name or a rule that holds prose.
+/// Returns the lines that explain a note: those of positions, what is perhaps meant by a name that no rule has, whether
+/// prose is the name of a rule, and by which rules the judged one reaches that name or a rule that holds prose.
 ///
 /// `Memory` if an allocation fails.
 pub(crate) fn explain_reached(
@@ -191,6 +218,6 @@ pub(crate) fn explain_reached(
         → ExplainsAbnfNote text (option_copied start.entry) (said_of note.now) why.items) }
 {
     let mut why = explain_note(alloc, &positions.positions, start, note)?;
-    push_after(alloc, &mut why, positions, note)?;
+    push_after(alloc, &mut why, positions, start, note)?;
     Ok(why)
 }

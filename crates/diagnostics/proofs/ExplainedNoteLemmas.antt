@@ -9,10 +9,11 @@ use Rattle.ruletable.specs.declared.lines.LineRule.{LineRule}
 use Rattle.ruletable.specs.declared.table.NameCase.{NameCase}
 use Rattle.diagnostics.specs.DefinitionHeads.{DefinedAt, definitions_in, sign_at}
 use Rattle.diagnostics.specs.ExplainedNotes.{ArePositions, IsFirstProse, IsNoteExplained, AreNoteLines}
-use Rattle.diagnostics.specs.ExplainedNotes.{AreReportedBy, prose_by}
+use Rattle.diagnostics.specs.ExplainedNotes.{AreReportedBy, IsFormBy, IsNotedForm, prose_by}
 use Rattle.diagnostics.specs.FirstMentions.{rule_named, uses_of}
 use Rattle.diagnostics.specs.MentionLines.{lines_mentioned, mention_lines_by, mention_lines_of}
-use Rattle.diagnostics.specs.UseLines.{AreLinesAfter, lines_by, prose_of}
+use Rattle.diagnostics.specs.UseLines.{AreLinesAfter, IsFormOfUse, form_noted, lines_by, prose_of}
+use Rattle.diagnostics.specs.declared.noteplaces.forms.UseForm.{UseForm}
 use Rattle.diagnostics.specs.declared.noteplaces.mentions.MentionKind.{MentionKind}
 use Rattle.diagnostics.specs.declared.noteplaces.positions.Positions.{Positions}
 use Rattle.diagnostics.specs.declared.noteplaces.sign.Sign.{Sign}
@@ -54,6 +55,40 @@ module _ {K : Type 0} (White : List ℕ → List ℕ → Type 0) (First : K → 
       (mentions_in rule text None (map (sign_at sign_of) h.tokens)) start note a b
       (subst (λ ts. AreNoteLines rule names text (map (sign_at sign_of) ts) start note a)
       (one g.tokens h.tokens g.are_tokens h.are_tokens) g.are) h.are
+
+  -- the form that the positions report is that of the tokens
+  pub positions-form : (positions : Positions) (start : Option (List ℕ)) (name : List ℕ) (form : UseForm)
+      → ArePositions White First is_end sign_of rule names text positions → IsFormBy positions start name form
+      → IsNotedForm White First is_end sign_of rule names text start name form
+  positions-form positions start name form are by = record {
+    tokens = are.tokens;
+    are_tokens = are.are_tokens;
+    is = subst (λ (c : NameCase). IsFormOfUse c (definitions_in rule text (map (sign_at sign_of) are.tokens))
+        (mentions_in rule text None (map (sign_at sign_of) are.tokens)) start name form) are.names_are
+        (subst (λ ms. IsFormOfUse positions.names
+        (definitions_in rule text (map (sign_at sign_of) are.tokens)) ms start
+        name form) are.mentions_are
+        (subst (λ ds. IsFormOfUse positions.names ds (map mentioned_at positions.mentions.items) start name form)
+        are.heads_are by));
+  }
+
+  -- it is one, where the tokens are one list
+  pub form-one : ((a b : List (Tok K)) → AreTokens White First is_end (length text) text a
+      → AreTokens White First is_end (length text) text b → a ≡ b)
+      → (start : Option (List ℕ)) (name : List ℕ) (a b : UseForm)
+      → IsNotedForm White First is_end sign_of rule names text start name a
+      → IsNotedForm White First is_end sign_of rule names text start name b → a ≡ b
+  form-one one start name a b g h =
+      let definitions = definitions_in rule text (map (sign_at sign_of) h.tokens) in
+      let mentions = mentions_in rule text None (map (sign_at sign_of) h.tokens) in
+      let moved : IsFormOfUse names definitions mentions start name a =
+      subst (λ ts. IsFormOfUse names (definitions_in rule text (map (sign_at sign_of) ts))
+      (mentions_in rule text None (map (sign_at sign_of) ts)) start name a)
+      (one g.tokens h.tokens g.are_tokens h.are_tokens) g.is in
+      let other : IsFormOfUse names definitions mentions start name b = h.is in
+      moved.is ∙ ap (λ first. form_noted names start first name)
+      (first-one names definitions (uses_of names name mentions) moved.first other.first moved.is_first other.is_first)
+      ∙ sym other.is
 
   -- the first prose that the positions report is that of the tokens
   pub positions-prose : (positions : Positions) (name : List ℕ)

@@ -115,7 +115,7 @@ module _ {K : Type 0} (White : List ℕ → List ℕ → Type 0) (First : K → 
           (omega (arith, e, first), omega (arith, e, rises, end))
 
       pub next-mentioned : (to : ℕ) (more : List MentionedAt) (inside : Option ℕ) → to ≡ line_at rule text s.start
-          → more ≡ mention_unless (begun_by s.sign (sign_of (kind_of t))) within to s
+          → more ≡ mention_unless text (begun_by s.sign (sign_of (kind_of t))) within to s
           → inside ≡ body_after (begun_by s.sign (sign_of (kind_of t))) within s
           → HasMentioned next (Some (sign_at sign_of t)) inside s.start to (found ++ more)
       next-mentioned to more inside e m i =
@@ -136,7 +136,7 @@ module _ {K : Type 0} (White : List ℕ → List ℕ → Type 0) (First : K → 
             whole = ap (λ (b : Option ℕ). (found ++ more) ++ among b (t ∷ others)) i
                 ∙ append_assoc found more _ ∙ ap (λ (x : List MentionedAt). found ++ (x
                 ++ among (body_after (begun_by s.sign (sign_of (kind_of t))) within s) (t ∷ others))) m
-                ∙ ap (λ (n : ℕ). found ++ (mention_unless (begun_by s.sign (sign_of (kind_of t))) within n s
+                ∙ ap (λ (n : ℕ). found ++ (mention_unless text (begun_by s.sign (sign_of (kind_of t))) within n s
                 ++ among (body_after (begun_by s.sign (sign_of (kind_of t))) within s) (t ∷ others))) e
                 ∙ sym (ap (λ (x : SignAt). found ++ mentions_in rule text within
                 (x ∷ map (sign_at sign_of) (t ∷ others))) l.same) ∙ whole-so l.word l.there;
@@ -147,12 +147,12 @@ module _ {K : Type 0} (White : List ℕ → List ℕ → Type 0) (First : K → 
 
       -- with the token it begins no definition, and it may be a mention
       pub token-mentioned : (to : ℕ) (more : List MentionedAt) → opens before (sign_at sign_of t) ≡ None
-          → to ≡ line_at rule text s.start → more ≡ mention_of within to s
+          → to ≡ line_at rule text s.start → more ≡ mention_of text within to s
           → HasMentioned next (Some (sign_at sign_of t)) within s.start to (found ++ more)
       token-mentioned to more none e m =
           let begun : begun_by s.sign (sign_of (kind_of t)) ≡ None =
           sym (ap (λ b. opens b (sign_at sign_of t)) some) ∙ none in
-          next-mentioned to more within e (m ∙ sym (ap (λ b. mention_unless b within to s) begun))
+          next-mentioned to more within e (m ∙ sym (ap (λ b. mention_unless text b within to s) begun))
           (sym (ap (λ b. body_after b within s) begun))
 
       -- with the token it begins a definition
@@ -165,7 +165,7 @@ module _ {K : Type 0} (White : List ℕ → List ℕ → Type 0) (First : K → 
           sym (ap (λ (x : SignAt). begun_by x.sign (sign_of (kind_of t))) same) ∙ o.opened in
           let position : start ≡ s.start = o.start_is ∙ ap (λ (x : SignAt). x.start) same in
           subst (λ ms. HasMentioned next (Some (sign_at sign_of t)) (Some start) s.start to ms) (append-nil found)
-          (next-mentioned to [] (Some start) e (sym (ap (λ b. mention_unless b within to s) begun))
+          (next-mentioned to [] (Some start) e (sym (ap (λ b. mention_unless text b within to s) begun))
           (ap Some position ∙ sym (ap (λ b. body_after b within s) begun)))
 
   last-none : (within : Option ℕ) (last : Option (Tok K)) → among within (joined last []) ≡ []

@@ -6,7 +6,8 @@ use Rattle.ruletable.specs.declared.lines.LineRule.{LineRule}
 use Rattle.ruletable.specs.declared.table.NameCase.{NameCase}
 use Rattle.diagnostics.specs.BodyMentions.{MentionedAt, mentioned_at, mentions_in}
 use Rattle.diagnostics.specs.DefinitionHeads.{SignAt, defined_at, definitions_in, sign_at}
-use Rattle.diagnostics.specs.UseLines.{AreLinesAfter, prose_of}
+use Rattle.diagnostics.specs.UseLines.{AreLinesAfter, IsFormOfUse, prose_of}
+use Rattle.diagnostics.specs.declared.noteplaces.forms.UseForm.{UseForm}
 use Rattle.diagnostics.specs.declared.noteplaces.positions.Positions.{Positions}
 use Rattle.diagnostics.specs.declared.noteplaces.sign.Sign.{Sign}
 
@@ -19,6 +20,11 @@ AreNoteLines rule names text signs =
 abbrev pub AreReportedBy : Positions → Option (List ℕ) → Said → List ℕ → Type 0
 AreReportedBy positions =
     AreLinesAfter positions.names (map defined_at positions.heads.items) (map mentioned_at positions.mentions.items)
+
+-- what the use is in other notations by which a name is noted, that such positions report
+abbrev pub IsFormBy : Positions → Option (List ℕ) → List ℕ → UseForm → Type 0
+IsFormBy positions =
+    IsFormOfUse positions.names (map defined_at positions.heads.items) (map mentioned_at positions.mentions.items)
 
 -- the first prose of the rule of that name that such positions report
 abbrev pub prose_by : Positions → List ℕ → Option MentionedAt
@@ -41,6 +47,13 @@ module _ {K : Type 0} (White : List ℕ → List ℕ → Type 0) (First : K → 
     pub tokens : List (Tok K)
     pub are_tokens : AreTokens White First is_end (length text) text tokens
     pub are : AreNoteLines rule names text (map (sign_at sign_of) tokens) start note why
+
+  -- what the use is in other notations by which that name is noted
+  pub record IsNotedForm (start : Option (List ℕ)) (name : List ℕ) (form : UseForm) : Type 0 where
+    pub tokens : List (Tok K)
+    pub are_tokens : AreTokens White First is_end (length text) text tokens
+    pub is : IsFormOfUse names (definitions_in rule text (map (sign_at sign_of) tokens))
+        (mentions_in rule text None (map (sign_at sign_of) tokens)) start name form
 
   -- the first prose of the rule of that name, as the text spells it, if it has one
   pub record IsFirstProse (name : List ℕ) (prose : Option (List ℕ)) : Type 0 where

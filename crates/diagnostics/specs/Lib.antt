@@ -15,6 +15,7 @@ pub mod NoteLines
 pub mod ReportedTrees
 pub mod Openings
 pub mod MentionLines
+pub mod UseForms
 pub mod UseLines
 pub mod NameIndexes
 pub mod NumberLists

@@ -10,6 +10,8 @@ use Rattle.diagnostics.specs.BodyMentions.{MentionedAt}
 use Rattle.diagnostics.specs.DefinitionHeads.{DefinedAt}
 use Rattle.diagnostics.specs.FirstMentions.{IsFirstIfAny, RuleMention, first_prose, standing_definitions, uses_of}
 use Rattle.diagnostics.specs.NoteLines.{lines_of, named}
+use Rattle.diagnostics.specs.declared.noteplaces.forms.UseForm.{UseForm}
+use Rattle.diagnostics.specs.declared.noteplaces.forms.UseForm.TheVariants.{Plain}
 
 -- where a name is used
 abbrev pub use_line : Option RuleMention → List ℕ
@@ -32,6 +34,15 @@ is_given names (Some start) name = same_name names name start
 abbrev pub used_line : NameCase → Option (List ℕ) → Option RuleMention → List ℕ → List ℕ
 used_line names start first name = if is_given names start name then codes "  given by -s\n" else use_line first
 
+-- what a use is in other notations
+abbrev pub form_found : Option RuleMention → UseForm
+form_found None = Plain
+form_found (Some u) = u.mention.form
+
+-- what the use by which a name is noted is there, given its first one in bodies
+abbrev pub form_noted : NameCase → Option (List ℕ) → Option RuleMention → List ℕ → UseForm
+form_noted names start first name = if is_given names start name then Plain else form_found first
+
 -- the first prose of the rule of that name, in the definition that begins it or in one that adds to it
 abbrev pub prose_of : NameCase → List DefinedAt → List MentionedAt → List ℕ → Option MentionedAt
 prose_of names definitions mentions name = first_prose (standing_definitions (named names name definitions)) mentions
@@ -47,3 +58,9 @@ module _ (names : NameCase) (definitions : List DefinedAt) (mentions : List Ment
     pub first : Option RuleMention
     pub is_first : IsFirstIfAny names definitions (uses_of names note.name mentions) first
     pub is : why ≡ lines_by first note.kind note.name
+
+  -- what the use is in other notations by which that name is noted
+  pub record IsFormOfUse (name : List ℕ) (form : UseForm) : Type 0 where
+    pub first : Option RuleMention
+    pub is_first : IsFirstIfAny names definitions (uses_of names name mentions) first
+    pub is : form ≡ form_noted names start first name

@@ -26,64 +26,73 @@ use Rattle.ruletable.specs.Rules as table
 use Rattle.ruletable.specs.Rules.{bodies_of, find_in}
 use Rattle.ruletable.specs.declared.lines.LineRule.TheVariants.{Any}
 use Rattle.ruletable.specs.declared.table.NameCase.TheVariants.{Exact}
-use Rattle.pegexplain.specs.CodeHints.{hint_found, literal_at, pattern_at}
+use Rattle.pegexplain.specs.CodeHints.{literal_at, pattern_at}
 use Rattle.pegexplain.specs.FailsNowhere.{SettlesSure}
-use Rattle.pegexplain.specs.HiddenAlternatives.{HiddenBy, HintAt, literal_if, named_literal}
+use Rattle.pegexplain.specs.HiddenAlternatives.{HiddenBy, literal_if, named_literal}
 use Rattle.pegexplain.specs.LeftNotes.{SettlesNullable}
 use Rattle.pegexplain.specs.NullTests.{null_mark_of, nullable_by}
-use Rattle.pegexplain.specs.PegHints.{ArePegHints, hint_line, hints_of, hints_reported, kind_lines, rule_reported}
+use Rattle.pegexplain.specs.BodyLeaves.{lone_ends}
+use Rattle.pegexplain.specs.PegHints.{ArePegHints, ends_reported, hint_line, hints_of, hints_reported, kind_lines}
+use Rattle.pegexplain.specs.PegHints.{rule_reported}
 use Rattle.pegexplain.specs.PegNotes.{ArePegPositions, sign_of}
 use Rattle.pegexplain.specs.SureNodes.{sure_by}
-use Rattle.pegexplain.specs.declared.hints.hints.Hint.{Hint}
-use Rattle.pegexplain.specs.declared.hints.reported.TheConstants.{MAX_HINTS}
+use Rattle.pegexplain.specs.declared.hints.lines.TheConstants.{MAX_HINTS}
 use Rattle.pegexplain.specs.declared.positions.PegPositions.{PegPositions}
 use Rattle.pegexplain.proofs.LeftNotesLemmas.{bits-same}
 use Rattle.pegexplain.proofs.NullTestsLemmas.{body-none, is-id, null-reported, reported-null}
 use Rattle.pegexplain.proofs.SureTestsLemmas.{reported-sure, sure-reported}
 
-reported-after : (f : HintAt → List ℕ) (hints : List Hint) (n : ℕ) (d : Hint) → n < length hints
-    → flat_map f (map hint_found (take (suc n) hints))
-    ≡ flat_map f (map hint_found (take n hints)) ++ f (hint_found (get_or hints n d))
-reported-after f [] n d lt = absurd (omega (arith, lt))
-reported-after f (h ∷ hints) zero d lt = append-nil (f (hint_found h))
-reported-after f (h ∷ hints) (suc n) d lt =
-    ap (λ (z : List ℕ). f (hint_found h) ++ z) (reported-after f hints n d (omega (arith, lt)))
-    ∙ sym (append_assoc (f (hint_found h)) (flat_map f (map hint_found (take n hints)))
-    (f (hint_found (get_or hints n d))))
+module _ {C A : Type 0} (found : C → A) (f : A → List ℕ) where
+  reported-after : (hints : List C) (n : ℕ) (d : C) → n < length hints → flat_map f (map found (take (suc n) hints))
+      ≡ flat_map f (map found (take n hints)) ++ f (found (get_or hints n d))
+  reported-after [] n d lt = absurd (omega (arith, lt))
+  reported-after (h ∷ hints) zero d lt = append-nil (f (found h))
+  reported-after (h ∷ hints) (suc n) d lt =
+      ap (λ (z : List ℕ). f (found h) ++ z) (reported-after hints n d (omega (arith, lt)))
+      ∙ sym (append_assoc (f (found h)) (flat_map f (map found (take n hints))) (f (found (get_or hints n d))))
 
--- one hint more
-pub reported-more : (f : HintAt → List ℕ) (hints : List Hint) (n : ℕ) (d : Hint) (all old new : List ℕ)
-    → n < length hints
-    → new ≡ old ++ f (hint_found (get_or hints n d)) → old ≡ all ++ flat_map f (map hint_found (take n hints))
-    → new ≡ all ++ flat_map f (map hint_found (take (n + 1) hints))
-reported-more f hints n d all old new lt more before =
-    let here = f (hint_found (get_or hints n d)) in
-    more ∙ ap (λ (z : List ℕ). z ++ here) before
-    ∙ append_assoc all (flat_map f (map hint_found (take n hints))) here
-    ∙ ap (λ (z : List ℕ). all ++ z) (sym (reported-after f hints n d lt))
-    ∙ ap (λ (k : ℕ). all ++ flat_map f (map hint_found (take k hints))) (sym (add-one n))
+  -- one hint more
+  pub reported-more : (hints : List C) (n : ℕ) (d : C) (all old new : List ℕ) → n < length hints
+      → new ≡ old ++ f (found (get_or hints n d)) → old ≡ all ++ flat_map f (map found (take n hints))
+      → new ≡ all ++ flat_map f (map found (take (n + 1) hints))
+  reported-more hints n d all old new lt more before =
+      let here = f (found (get_or hints n d)) in
+      more ∙ ap (λ (z : List ℕ). z ++ here) before
+      ∙ append_assoc all (flat_map f (map found (take n hints))) here
+      ∙ ap (λ (z : List ℕ). all ++ z) (sym (reported-after hints n d lt))
+      ∙ ap (λ (k : ℕ). all ++ flat_map f (map found (take k hints))) (sym (add-one n))
 
-min-turned : (a b : ℕ) → min a b ≡ min b a
-min-turned a b = omega arith
+  min-turned : (a b : ℕ) → min a b ≡ min b a
+  min-turned a b = omega arith
 
--- the first ones, and how many more there are
-pub first-reported : (f : HintAt → List ℕ) (hints : List Hint) (k : ℕ) (old out new : List ℕ)
-    → k ≡ min (length hints) MAX_HINTS → out ≡ old ++ flat_map f (map hint_found (take k hints))
-    → new ≡ out ++ more_reported (length hints - k)
-    → new ≡ old ++ (flat_map f (take MAX_HINTS (map hint_found hints))
-    ++ more_reported (length (map hint_found hints) - MAX_HINTS))
-first-reported f hints k old out new shown first rest =
-    let long = length-map hints hint_found in
-    let left : length hints - k ≡ length (map hint_found hints) - MAX_HINTS = omega (arith, shown, long) in
-    let front : flat_map f (map hint_found (take k hints))
-    ≡ flat_map f (take MAX_HINTS (map hint_found hints)) =
-    ap (λ (n : ℕ). flat_map f (map hint_found (take n hints))) (shown ∙ min-turned (length hints) MAX_HINTS)
-    ∙ ap (λ (hs : List Hint). flat_map f (map hint_found hs)) (take_min MAX_HINTS hints)
-    ∙ ap (λ (hs : List HintAt). flat_map f hs) (sym (take-map hint_found MAX_HINTS hints)) in
-    rest ∙ ap (λ (z : List ℕ). z ++ more_reported (length hints - k)) (first
-    ∙ ap (λ (z : List ℕ). old ++ z) front)
-    ∙ append_assoc old (flat_map f (take MAX_HINTS (map hint_found hints))) (more_reported (length hints - k))
-    ∙ ap (λ (n : ℕ). old ++ (flat_map f (take MAX_HINTS (map hint_found hints)) ++ more_reported n)) left
+  -- the first ones, and how many more there are
+  pub first-reported : (hints : List C) (k : ℕ) (old out new : List ℕ) → k ≡ min (length hints) MAX_HINTS
+      → out ≡ old ++ flat_map f (map found (take k hints)) → new ≡ out ++ more_reported (length hints - k)
+      → new ≡ old ++ (flat_map f (take MAX_HINTS (map found hints))
+      ++ more_reported (length (map found hints) - MAX_HINTS))
+  first-reported hints k old out new shown first rest =
+      let long = length-map hints found in
+      let left : length hints - k ≡ length (map found hints) - MAX_HINTS = omega (arith, shown, long) in
+      let front : flat_map f (map found (take k hints)) ≡ flat_map f (take MAX_HINTS (map found hints)) =
+      ap (λ (n : ℕ). flat_map f (map found (take n hints))) (shown ∙ min-turned (length hints) MAX_HINTS)
+      ∙ ap (λ (hs : List C). flat_map f (map found hs)) (take_min MAX_HINTS hints)
+      ∙ ap (λ (hs : List A). flat_map f hs) (sym (take-map found MAX_HINTS hints)) in
+      rest ∙ ap (λ (z : List ℕ). z ++ more_reported (length hints - k)) (first
+      ∙ ap (λ (z : List ℕ). old ++ z) front)
+      ∙ append_assoc old (flat_map f (take MAX_HINTS (map found hints))) (more_reported (length hints - k))
+      ∙ ap (λ (n : ℕ). old ++ (flat_map f (take MAX_HINTS (map found hints)) ++ more_reported n)) left
+
+-- pieces, one after the other
+pub three-join : (o a b c x y z : List ℕ) → a ≡ o ++ x → b ≡ a ++ y → c ≡ b ++ z → c ≡ o ++ (x ++ (y ++ z))
+three-join o a b c x y z f g h =
+    let whole : c ≡ ((o ++ x) ++ y) ++ z = rw (h, g, f) refl in
+    whole ∙ simp append_assoc
+
+pub four-join : (o a b c d x y z u : List ℕ) → a ≡ o ++ x → b ≡ a ++ y → c ≡ b ++ z → d ≡ c ++ u
+    → d ≡ o ++ (x ++ (y ++ (z ++ u)))
+four-join o a b c d x y z u f g h k =
+    let whole : d ≡ (((o ++ x) ++ y) ++ z) ++ u = rw (k, h, g, f) refl in
+    whole ∙ simp append_assoc
 
 -- the rule of a hint, and its line after it
 pub hint-join : (named : List ℕ → Option (List ℕ)) (o a b rule : List ℕ) (hidden : HiddenBy) (line known : Option ℕ)
@@ -115,6 +124,12 @@ module _ (rules : table.Rules Expr) (exact : rules.names ≡ Exact) where
   literals-same : literal_at rules ≡ named_literal (rules_of rules)
   literals-same = fun_ext (λ (name : List ℕ). ap literal_if (body-same name (find_in rules name) refl))
 
+-- all hints, by the rules and the lines of what stands in them
+abbrev whole : (List ℕ → Option (List ℕ)) → (MentionKind → List ℕ → List ℕ) → (Pattern → Bool) → (Pattern → Bool)
+    → List Rule → List ℕ
+whole named lines sure null rules = hints_reported named lines (hints_of named sure null rules)
+    ++ ends_reported lines (lone_ends rules)
+
 -- what the code reports by its positions
 module _ (text : List ℕ) (found : PegPositions) (are : ArePegPositions text found) where
   abbrev sure_found : Pattern → Bool
@@ -129,7 +144,8 @@ module _ (text : List ℕ) (found : PegPositions) (are : ArePegPositions text fo
 
   pub positions-hint : (reported : List ℕ)
       → reported ≡ hints_reported (literal_at found.rules) (mention_lines_by found.positions)
-      (hints_of (literal_at found.rules) sure_found null_found (rules_of found.rules)) → ArePegHints text reported
+      (hints_of (literal_at found.rules) sure_found null_found (rules_of found.rules))
+      ++ ends_reported (mention_lines_by found.positions) (lone_ends (rules_of found.rules)) → ArePegHints text reported
   positions-hint reported e = record {
     tokens = are.positions.tokens;
     are_tokens = are.positions.are_tokens;
@@ -146,12 +162,12 @@ module _ (text : List ℕ) (found : PegPositions) (are : ArePegPositions text fo
       (λ t. reported-null found.rules found.nulls.items are.rules.exact are.marks t),
     ));
     is = e
-        ∙ ap (λ (named : List ℕ → Option (List ℕ)). hints_reported named (mention_lines_by found.positions)
-        (hints_of named sure_found null_found (rules_of found.rules))) (literals-same found.rules are.rules.exact)
-        ∙ ap (λ (lines : MentionKind → List ℕ → List ℕ). hints_reported (named_literal (rules_of found.rules)) lines
-        (hints_of (named_literal (rules_of found.rules)) sure_found null_found (rules_of found.rules))) lines-same
-        ∙ ap (λ (rules : List Rule). hints_reported (named_literal rules) (kind_lines text are.positions.tokens)
-        (hints_of (named_literal rules) sure_found null_found rules)) are.rules.rules_are;
+        ∙ ap (λ (named : List ℕ → Option (List ℕ)). whole named (mention_lines_by found.positions) sure_found null_found
+        (rules_of found.rules)) (literals-same found.rules are.rules.exact)
+        ∙ ap (λ (lines : MentionKind → List ℕ → List ℕ). whole (named_literal (rules_of found.rules)) lines sure_found
+        null_found (rules_of found.rules)) lines-same
+        ∙ ap (λ (rules : List Rule). whole (named_literal rules) (kind_lines text are.positions.tokens) sure_found
+        null_found rules) are.rules.rules_are;
   }
 
 pub hints-one : ((text : List ℕ) (a b : List Tok) → AreTokens (length text) text a → AreTokens (length text) text b
@@ -168,15 +184,12 @@ hints-one listing reading text a b g h =
     let nulls : g.null ≡ h.null = fun_ext (λ (e : Pattern). bits-same (g.null e) (h.null e)
     (λ t. (null_too e).1 ((g.is_null e).0 t)) (λ t. (g.is_null e).1 ((null_too e).0 t))) in
     g.is
-    ∙ ap (λ (ts : List Tok). hints_reported (named_literal (firsts [] g.definitions)) (kind_lines text ts)
-    (hints_of (named_literal (firsts [] g.definitions)) g.sure g.null (firsts [] g.definitions)))
-    (listing text g.tokens h.tokens g.are_tokens h.are_tokens)
-    ∙ ap (λ (sure : Pattern → Bool). hints_reported (named_literal (firsts [] g.definitions))
-    (kind_lines text h.tokens)
-    (hints_of (named_literal (firsts [] g.definitions)) sure g.null (firsts [] g.definitions))) sures
-    ∙ ap (λ (null : Pattern → Bool). hints_reported (named_literal (firsts [] g.definitions))
-    (kind_lines text h.tokens)
-    (hints_of (named_literal (firsts [] g.definitions)) h.sure null (firsts [] g.definitions))) nulls
-    ∙ ap (λ (ds : List Rule). hints_reported (named_literal (firsts [] ds)) (kind_lines text h.tokens)
-    (hints_of (named_literal (firsts [] ds)) h.sure h.null (firsts [] ds))) rules
+    ∙ ap (λ (ts : List Tok). whole (named_literal (firsts [] g.definitions)) (kind_lines text ts) g.sure g.null
+    (firsts [] g.definitions)) (listing text g.tokens h.tokens g.are_tokens h.are_tokens)
+    ∙ ap (λ (sure : Pattern → Bool). whole (named_literal (firsts [] g.definitions)) (kind_lines text h.tokens) sure
+    g.null (firsts [] g.definitions)) sures
+    ∙ ap (λ (null : Pattern → Bool). whole (named_literal (firsts [] g.definitions)) (kind_lines text h.tokens) h.sure
+    null (firsts [] g.definitions)) nulls
+    ∙ ap (λ (ds : List Rule). whole (named_literal (firsts [] ds)) (kind_lines text h.tokens) h.sure h.null
+    (firsts [] ds)) rules
     ∙ sym h.is

@@ -6,7 +6,9 @@ pub mod LeftUses
 pub mod NullTests
 pub mod PegLoops
 pub mod PegNotes
+pub mod BodyLeaves
 pub mod CodeHints
+pub mod CodeLeaves
 pub mod FailsNowhere
 pub mod HiddenAlternatives
 pub mod SureNodes

@@ -15,6 +15,7 @@ use Rattle.pegread.specs.Reading.{Reads}
 use Rattle.pegread.specs.Tokens.{Tok, AreTokens}
 use Rattle.ruletable.specs.declared.lines.LineRule.TheVariants.{Any}
 use Rattle.ruletable.specs.declared.table.NameCase.TheVariants.{Exact}
+use Rattle.pegexplain.specs.BodyLeaves.{RuleLeafAt, lone_ends}
 use Rattle.pegexplain.specs.FailsNowhere.{SettlesSure}
 use Rattle.pegexplain.specs.HiddenAlternatives.{HiddenBy, HintAt, hints_in, marks_in, named_literal}
 use Rattle.pegexplain.specs.LeftNotes.{SettlesNullable}
@@ -81,6 +82,21 @@ module _ (named : List ℕ → Option (List ℕ)) where
     abbrev pub hints_reported : List HintAt → List ℕ
     hints_reported hints = flat_map hint_reported (take 16 hints) ++ more_reported (length hints - 16)
 
+-- where a capture ends that begins nowhere, if its line is known
+abbrev pub end_line : Option ℕ → List ℕ
+end_line None = []
+end_line (Some line) = codes "  line " ++ (decimal line ++ codes ": no \"<\" stands before it in its alternative\n")
+
+-- where it is known on which lines the marks of each kind in a rule stand
+module _ (lines : MentionKind → List ℕ → List ℕ) where
+  abbrev pub end_reported : RuleLeafAt → List ℕ
+  end_reported end = codes "\">\" without \"<\" in rule '" ++ (cut end.rule ++ (codes "'\n"
+      ++ end_line (mark_line (λ kind. lines kind end.rule) (marks_in end.body) end.position)))
+
+  -- the first 16 hints on ends, and how many more there are
+  abbrev pub ends_reported : List RuleLeafAt → List ℕ
+  ends_reported ends = flat_map end_reported (take 16 ends) ++ more_reported (length ends - 16)
+
 -- the hints on the rules, in order, where it is known which expressions fail nowhere, and which may take nothing
 abbrev pub hints_of : (List ℕ → Option (List ℕ)) → (Pattern → Bool) → (Pattern → Bool) → List Rule → List HintAt
 hints_of named sure null rules = flat_map (λ rule. hints_in named sure null rule.name rule.body [] rule.body) rules
@@ -101,3 +117,4 @@ pub record ArePegHints (text reported : List ℕ) : Type 0 where
   pub is_null : SettlesNullable (firsts [] definitions) null
   pub is : reported ≡ hints_reported (named_literal (firsts [] definitions)) (kind_lines text tokens)
       (hints_of (named_literal (firsts [] definitions)) sure null (firsts [] definitions))
+      ++ ends_reported (kind_lines text tokens) (lone_ends (firsts [] definitions))

@@ -1,10 +1,11 @@
 //! Mentions in the bodies of a grammar's rules: names, prose, repetitions, numbers and literals.
-ghost use Rattle.std.specs.Prelude.{◌≡◌, ◌++◌, length, map, IfOk, OnOk, option_map};
+ghost use Rattle.std.specs.Prelude.{◌≡◌, ◌≤◌, ◌++◌, length, map, IfOk, OnOk, option_map};
 ghost use Rattle.lexer.specs.TokenLists.{AreTokens, tok_of};
 ghost use Rattle.ruletable.specs.Lines.{line_at};
 ghost use Rattle.diagnostics.specs.BodyMentions.{AreMentions, is_kind as same_kind, mention_of, mentioned_at};
 ghost use Rattle.diagnostics.specs.DefinitionHeads.{signed_at};
 
+use crate::noteplaces::forms::{UseForm, form_at};
 use crate::noteplaces::heads::{Signed, line_after, opening_of};
 use crate::noteplaces::sign::{Sign, Signs};
 use lexer::{Kind, Token, tokens_make_up};
@@ -37,6 +38,8 @@ pub struct Mention {
     pub within: usize,
     /// Which of them it is.
     pub kind: MentionKind,
+    /// What it is in other notations.
+    pub form: UseForm,
 }
 
 /// Returns whether a mention is of a kind.
@@ -46,16 +49,18 @@ pub(crate) fn is_kind(kind: MentionKind, mention: &Mention) -> bool
     mention.kind == kind
 }
 
-// Adds what a token mentions in the body of the definition at a position, if it mentions anything.
+// Adds what a token of a text mentions in the body of the definition at a position, if it mentions anything.
 fn push_mention(
     alloc: Global,
     found: &mut Vec<Mention>,
+    text: &[u8],
     token: Signed<'_>,
     line: usize,
     within: Option<usize>,
 ) -> Result<(), Memory>
+    requires { token.start ≤ length text.now }
     ensures { OnOk result (map mentioned_at found.new.items ≡ map mentioned_at found.old.items
-        ++ mention_of within line (signed_at token.entry)) }
+        ++ mention_of text.now within line (signed_at token.entry)) }
 {
     let Some(within) = within else {
         return Ok(());
@@ -68,12 +73,14 @@ fn push_mention(
         Sign::Literal => MentionKind::Literal,
         Sign::Defines | Sign::Adds | Sign::Other => return Ok(()),
     };
+    let form = form_at(text, token.start, token.slice);
     let text = Vec::from_slice(alloc, token.slice)?;
     found.push(Mention {
         text,
         line,
         within,
         kind,
+        form,
     })?;
     Ok(())
 }
@@ -109,7 +116,7 @@ pub(crate) fn mentions_of<K: Kind, S: Signs<K>>(
             at = last.start;
             match opening {
                 Some(opening) => within = Some(opening.start),
-                None => push_mention(alloc, &mut found, last, line, within)?,
+                None => push_mention(alloc, &mut found, text, last, line, within)?,
             }
         }
     }

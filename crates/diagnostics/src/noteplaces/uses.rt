@@ -8,8 +8,10 @@ ghost use Rattle.diagnostics.specs.FirstMentions.{rule_standing_at, stands_in, u
 ghost use Rattle.diagnostics.specs.FoundMentions.{mention_found};
 ghost use Rattle.diagnostics.specs.NoteLines.{named};
 ghost use Rattle.ruletable.specs.declared.table.NameCase.{NameCase};
-ghost use Rattle.diagnostics.specs.UseLines.{is_given, use_line, used_line};
+ghost use Rattle.diagnostics.specs.ExplainedNotes.{IsFormBy};
+ghost use Rattle.diagnostics.specs.UseLines.{form_found, is_given, use_line, used_line};
 
+use crate::noteplaces::forms::UseForm;
 use crate::noteplaces::heads::Head;
 use crate::noteplaces::lines::is_same_name;
 use crate::noteplaces::mentions::Mention;
@@ -141,6 +143,20 @@ pub(crate) fn mentions_under<'a>(
     items_at(alloc, &positions.mentions, indexes)
 }
 
+// Returns the first use of a name, in the order of the rules and of their bodies.
+fn first_use<'a>(
+    alloc: Global,
+    positions: &'a Positions,
+    name: &[u8],
+) -> Result<Option<MentionInRule<'a>>, Memory>
+    ensures { IfOk result (λ found. IsFirstIfAny positions.now.names (map defined_at positions.now.heads.items)
+        (uses_of positions.now.names name.now (map mentioned_at positions.now.mentions.items))
+        (option_map mention_found found)) }
+{
+    let uses = uses_named(alloc, positions, name)?;
+    earliest_of(positions, &uses)
+}
+
 // Adds the line of the use of a name.
 fn push_use(out: &mut Vec<u8>, found: Option<MentionInRule<'_>>) -> Result<(), Memory>
     ensures { OnOk result (out.new.items ≡ out.old.items ++ use_line (option_map mention_found found.entry)) }
@@ -182,7 +198,36 @@ pub(crate) fn push_used(
         out.extend_from_slice(b"  given by -s\n")?;
         return Ok(());
     }
-    let uses = uses_named(alloc, positions, name)?;
-    let first = earliest_of(positions, &uses)?;
+    let first = first_use(alloc, positions, name)?;
     push_use(out, first)
+}
+
+// Returns what a use is in other notations.
+fn form_of(found: Option<MentionInRule<'_>>) -> UseForm
+    ensures { result ≡ form_found (option_map mention_found found.entry) }
+{
+    match found {
+        Some(found) => found.mention.form,
+        None => UseForm::Plain,
+    }
+}
+
+/// Returns what the use by which a name is noted is in other notations. The name that is given for the start rule is
+/// nothing else.
+///
+/// # Errors
+/// `Memory` if an allocation fails.
+pub fn used_form(
+    alloc: Global,
+    positions: &Positions,
+    start: Option<&str>,
+    name: &[u8],
+) -> Result<UseForm, Memory>
+    ensures { IfOk result (λ form. IsFormBy positions.now (option_copied start.entry) name.now form) }
+{
+    if is_given_name(positions.names, start, name) {
+        return Ok(UseForm::Plain);
+    }
+    let first = first_use(alloc, positions, name)?;
+    Ok(form_of(first))
 }

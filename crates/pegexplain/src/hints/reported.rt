@@ -1,14 +1,12 @@
 //! The text of hints.
-ghost use Rattle.std.specs.Prelude.{◌≡◌, ◌++◌, ℕ, List, codes, count_by, map, slice_get, take, IfOk, OnOk};
+ghost use Rattle.std.specs.Prelude.{◌≡◌, ◌++◌, ℕ, List, codes, map, IfOk, OnOk};
 ghost use Rattle.std.specs.List.{flat_map};
-ghost use Rattle.diagnostics.specs.BodyMentions.{is_kind as same_kind};
 ghost use Rattle.diagnostics.specs.MentionLines.{mention_lines_by};
 ghost use Rattle.diagnostics.specs.ShownBytes.{cut};
 ghost use Rattle.pegprint.specs.Canon.{text_of as canonical};
 ghost use Rattle.pegread.specs.Pattern.{Bytes};
 ghost use Rattle.pegread.specs.PegViews.{pattern_of};
 ghost use Rattle.pegexplain.specs.CodeHints.{hidden_found, hint_found, literal_at};
-ghost use Rattle.pegexplain.specs.HiddenAlternatives.{marks_in};
 ghost use Rattle.pegexplain.specs.PegHints.{
   ArePegHints,
   earlier_shown,
@@ -17,7 +15,6 @@ ghost use Rattle.pegexplain.specs.PegHints.{
   hints_reported,
   later_shown,
   literal_shown,
-  mark_line,
   rule_reported,
   shown_literal,
   text_or_empty,
@@ -26,19 +23,17 @@ ghost use Rattle.pegexplain.specs.PegNotes.{ArePegPositions};
 
 use crate::PegPositions;
 use crate::hints::alternatives::Hidden;
+use crate::hints::ends::push_lone_ends;
 use crate::hints::hints::{Hint, all_hints};
 use crate::hints::known::{KnownRules, named_literal};
-use crate::hints::marks::add_marks;
+use crate::hints::lines::{MAX_HINTS, line_of};
 use crate::hints::why::Why;
 use crate::loops::text_of;
-use diagnostics::{MentionKind, mention_lines, push_cut, push_more, push_number};
+use diagnostics::{push_cut, push_more, push_number};
 use pegprint::print_literal;
 use pegread::Expr;
 use ruletable::{Memory, RuleTable, SinkOf};
 use std::alloc::Global;
-
-/// How many hints are reported.
-pub const MAX_HINTS: usize = 16;
 
 // The canonical text of a literal.
 fn literal_text(alloc: Global, bytes: &[u8]) -> Result<Vec<u8>, Memory>
@@ -191,51 +186,6 @@ fn push_rule(out: &mut Vec<u8>, rule: &[u8]) -> Result<(), Memory>
     Ok(())
 }
 
-// The number at a position, if there is one.
-fn number_at(numbers: &[usize], position: usize) -> Option<usize>
-    ensures { result ≡ slice_get numbers.now position }
-{
-    numbers.get(position).copied()
-}
-
-// The mark at a position, if there is one.
-fn mark_at(marks: &[MentionKind], position: usize) -> Option<MentionKind>
-    ensures { result ≡ slice_get marks.now position }
-{
-    marks.get(position).copied()
-}
-
-// Whether two kinds are one.
-fn is_kind(kind: MentionKind, other: MentionKind) -> bool
-    ensures { result ≡ same_kind kind other }
-{
-    kind == other
-}
-
-// How many of the first marks are of a kind.
-fn count_before(marks: &[MentionKind], position: usize, kind: MentionKind) -> usize
-    ensures { result ≡ count_by (same_kind kind) (take position marks.now) }
-{
-    let before = &marks[..position.min(marks.len())];
-    before.iter().filter(|m| is_kind(kind, **m)).count()
-}
-
-// The line of the alternative that a hint is on, if it is known.
-fn line_of(alloc: Global, positions: &PegPositions, hint: Hint<'_>) -> Result<Option<usize>, Memory>
-    ensures { IfOk result (λ line. line
-        ≡ mark_line (λ kind. mention_lines_by positions.now.positions kind hint.entry.rule.now)
-        (marks_in (pattern_of hint.entry.body.now)) hint.entry.position) }
-{
-    let mut marks = Vec::new(alloc);
-    add_marks(hint.body, &mut marks)?;
-    let Some(kind) = mark_at(&marks, hint.position) else {
-        return Ok(None);
-    };
-    let lines = mention_lines(alloc, &positions.positions, kind, hint.rule)?;
-    let position = count_before(&marks, hint.position, kind);
-    Ok(number_at(&lines, position))
-}
-
 // Adds a hint.
 fn push_hint(
     alloc: Global,
@@ -246,7 +196,7 @@ fn push_hint(
     ensures { OnOk result (out.new.items ≡ out.old.items ++ hint_reported (literal_at positions.now.rules)
         (mention_lines_by positions.now.positions) (hint_found hint.entry)) }
 {
-    let line = line_of(alloc, positions, hint)?;
+    let line = line_of(alloc, positions, hint.rule, hint.body, hint.position)?;
     push_rule(out, hint.rule)?;
     push_line(alloc, out, &positions.rules, line, hint.hidden)?;
     Ok(())
@@ -284,15 +234,16 @@ fn push_first_hints(
     Ok(())
 }
 
-/// Writes the hints on the alternatives of a grammar that are never taken. Nothing stands in an empty alternative, and
-/// there is no hint on it. Any other one is never taken if one before it
+/// Returns the hints on a grammar. The first are on alternatives that are never taken. Nothing stands in an empty
+/// alternative, and there is no hint on it. Any other one is never taken if one before it
 ///
 /// - fails nowhere by its form,
 /// - is `.`, and the later one takes a byte,
 /// - or is a literal with which the later one begins. A name whose rule is a literal counts as that literal.
 ///
 /// Of each of the first `MAX_HINTS` it reports the rule and both alternatives, with the line of the later one; then it
-/// reports how many more there are.
+/// reports how many more there are. So it does of each `>` before which no `<` stands in its rule, outside alternatives
+/// beside its own.
 ///
 /// # Errors
 /// `Memory` if an allocation fails.
@@ -308,5 +259,6 @@ pub fn peg_hints(alloc: Global, positions: &PegPositions) -> Result<Vec<u8>, Mem
     let hints = all_hints(alloc, known)?;
     let mut reported = Vec::new(alloc);
     push_first_hints(alloc, &mut reported, positions, &hints)?;
+    push_lone_ends(alloc, &mut reported, positions)?;
     Ok(reported)
 }

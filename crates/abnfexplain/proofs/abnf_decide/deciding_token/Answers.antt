@@ -24,7 +24,7 @@ returns-then-not-allows c =
     let m = c.in-Some.token in
     let there = reading.one-there t.taken (marked_of m) (AreLeft c.next.new.self) c.in-Some.ensures.steps.first
     c.requires in
-    refused-there t m.token.kind m.token.slice.now m.token.span m.gap m.first there.0 there.1 _ refl refl refl
+    refused-there t m.token.kind m.token.slice.now m.token.span m.gap m.first there.0 there.1 _ refl refl refl refl
     (let a = c.allows.ensures in sym (rw c.form_of-form.ensures at a) ∙ c.if-not-allows.true)
 
 pub returns-then-is_large : goal.returns-then-is_large

@@ -15,7 +15,7 @@ returns-clause-one_fault c = c.one_reading.ensures.one_fault
 pub returns-clause-whole : goal.returns-clause-whole
 returns-clause-whole c = one_statement c.one_explanation_of_abnf_faults.ensures
     (explanation_is_one c.one_note_explanation_of_abnf.ensures.lines c.one_note_explanation_of_abnf.ensures.prose
-    c.one_reading.ensures.definitions c.one_name_chain.ensures)
+    c.one_note_explanation_of_abnf.ensures.form c.one_reading.ensures.definitions c.one_name_chain.ensures)
     (text_hints_are_one c.one_reading.ensures.definitions c.one_text_of_abnf_hints.ensures)
     c.utf8_is_decided.ensures.one c.furthest_is_found.ensures.one
 

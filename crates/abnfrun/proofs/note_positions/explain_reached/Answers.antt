@@ -10,7 +10,7 @@ use Rattle.abnfrun.proofs.note_positions.explain_reached.Goals as goal
 
 pub returns : goal.returns
 returns c = λ text are.
-    let w = c.in_ok-push_after.ensures text (option_copied c.args.start) are in
+    let w = c.in_ok-push_after.ensures text are in
     record {
       lines = c.in_ok-why.why.items;
       line = w.0;

@@ -55,6 +55,16 @@ loop-token-preserved g c =
           (ap (option_map signed_at) w.in_default.is))
     ]
 
+pub push_mention-requires : goal.push_mention-requires
+push_mention-requires g c =
+    let h = c.loop-token.invariant in
+    let given = from-next c.args.tokens.now c.loop-token.token-index h.are_left c.token-item.result
+    c.loop-token-test.true c.token-item.is in
+    (last-after g.K.Kind.white g.K.Kind.first g.K.Kind.is_end g.S.Signs.sign_of c.args.rule c.args.text.now
+    c.loop-token.invariant (AreFrom c.args.tokens.now (c.loop-token.token-index + 1))
+    (tok_of c.token-item.result) given.0 given.1 given.2
+    (signed_at c.in-Some.last) (ap (option_map signed_at) c.in-Some.is)).1
+
 pub line_after-line-requires-clause-line : goal.line_after-line-requires-clause-line
 line_after-line-requires-clause-line g c = c.loop-token.invariant.line_is
 

@@ -9,8 +9,8 @@ use Rattle.pegexplain.proofs.hints.reported.push_hints.Goals as goal
 pub loop-hint-preserved : goal.loop-hint-preserved
 loop-hint-preserved c =
     let positions = c.args.positions.now in
-    reported-more (hint_reported (literal_at positions.rules) (mention_lines_by positions.positions)) c.args.hints.now
-    c.loop-hint.hint-index c.hint-item.result c.args.out.now.items c.loop-hint.out.items c.push_hint.new.out.items
-    c.loop-hint-test.true
+    reported-more hint_found (hint_reported (literal_at positions.rules) (mention_lines_by positions.positions))
+    c.args.hints.now c.loop-hint.hint-index c.hint-item.result c.args.out.now.items c.loop-hint.out.items
+    c.push_hint.new.out.items c.loop-hint-test.true
     (c.in_ok-push_hint.ensures ∙ ap (λ (h : Hint). c.loop-hint.out.items ++ hint_reported (literal_at positions.rules)
     (mention_lines_by positions.positions) (hint_found h)) c.hint-item.is) c.loop-hint.invariant

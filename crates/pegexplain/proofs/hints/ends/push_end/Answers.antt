@@ -1,0 +1,12 @@
+use Rattle.std.proofs.Common.{◌++◌, ◌∙◌, ap, ℕ, Option}
+use Rattle.std.proofs.lemmas.Result.{on_ok_weaker}
+use Rattle.pegexplain.specs.PegHints.{end_line}
+use Rattle.pegexplain.proofs.PegHintsLemmas.{four-join}
+use Rattle.pegexplain.proofs.hints.ends.push_end.Goals as goal
+
+pub returns : goal.returns
+returns c = on_ok_weaker c.push_line.result
+    (λ pushed. four-join _ _ _ _ _ _ _ _ _ c.in_ok-extend_from_slice.ensures.items c.in_ok-push_cut.ensures
+    c.in_ok-extend_from_slice-2.ensures.items
+    (pushed ∙ ap (λ (l : Option ℕ). c.extend_from_slice-2.new.self.items ++ end_line l) c.in_ok-line.ensures))
+    c.push_line.ensures
