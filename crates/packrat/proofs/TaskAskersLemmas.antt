@@ -563,8 +563,8 @@ module _ (rules : List Rule) (start : ℕ) (nodes : List Shape) (bodies ranks x 
     abbrev P : ℕ
     P = it.loop.entry
 
-    apart : S ≡ m → ⊥
-    apart = subst (λ w. WayEntersOnce start nodes bodies w S) it.goes it.loop.once
+    star_apart : S ≡ m → ⊥
+    star_apart = subst (λ w. WayEntersOnce start nodes bodies w S) it.goes it.loop.once
 
     -- a repetition leads to m at its own position
     leads_there : (w : Way) (k n p q : ℕ) → w ≡ Iterations k S → LB w n p (Eval m q) → (k ≡ m) × (p ≡ q)
@@ -573,7 +573,7 @@ module _ (rules : List Rule) (start : ℕ) (nodes : List Shape) (bodies ranks x 
           let same : m ≡ k = cc a in
           let at : q ≡ p = cc a in
           (sym same, sym at)
-      | inr a ↦ let same : m ≡ S = cc (a.2) in absurd (apart (sym same))
+      | inr a ↦ let same : m ≡ S = cc (a.2) in absurd (star_apart (sym same))
     ]
 
     -- who leads to m at q: the repetition of one or more there, or the other one

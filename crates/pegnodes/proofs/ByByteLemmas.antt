@@ -64,8 +64,8 @@ module _ (nodes : List Shape) (bodies : List ℕ) (marks : ℕ → Bool) (tails 
   no_event (by_no_iteration h) l = l
   no_event (by_no_plus h) l = l
 
-  undecided : {m c : ℕ} {s : Shape} {v : ByteVerdict} → B m v c → slice_get nodes m ≡ Some s → LeavesEvent s → ⊥
-  undecided {s = s} (below t (by_shape {s = other} at h)) there l =
+  no_event_decided : {m c : ℕ} {s : Shape} {v : ByteVerdict} → B m v c → slice_get nodes m ≡ Some s → LeavesEvent s → ⊥
+  no_event_decided {s = s} (below t (by_shape {s = other} at h)) there l =
       let same : s ≡ other = cc (at, there) in no_event h (subst LeavesEvent same l)
 
   mutual
@@ -130,7 +130,7 @@ module _ (nodes : List Shape) (bodies : List ℕ) (marks : ℕ → Bool) (tails 
     members_agree (member_stays e t h r) (member_takes f g u k) =
         absurd (let is = (below_agrees h (same_node (cc (e, f)) k)).same in cc is)
     members_agree (member_stays e t h r) (member_leaves f u k at l q) =
-        absurd (undecided (same_node (cc (e, f)) h) at l)
+        absurd (no_event_decided (same_node (cc (e, f)) h) at l)
     members_agree (member_fails e t h) (members_end f) = absurd (cc (e, f))
     members_agree (member_fails e t h) (member_stays f u k l) =
         absurd (let is = (below_agrees h (same_node (cc (e, f)) k)).same in cc is)
@@ -138,7 +138,7 @@ module _ (nodes : List Shape) (bodies : List ℕ) (marks : ℕ → Bool) (tails 
     members_agree (member_fails e t h) (member_takes f g u k) =
         absurd (let is = (below_agrees h (same_node (cc (e, f)) k)).same in cc is)
     members_agree (member_fails e t h) (member_leaves f u k at l q) =
-        absurd (undecided (same_node (cc (e, f)) h) at l)
+        absurd (no_event_decided (same_node (cc (e, f)) h) at l)
     members_agree (member_takes e z t h) (members_end f) = absurd (cc (e, f))
     members_agree (member_takes e z t h) (member_stays f u k l) =
         absurd (let is = (below_agrees h (same_node (cc (e, f)) k)).same in cc is)
@@ -146,14 +146,14 @@ module _ (nodes : List Shape) (bodies : List ℕ) (marks : ℕ → Bool) (tails 
         absurd (let is = (below_agrees h (same_node (cc (e, f)) k)).same in cc is)
     members_agree (member_takes e z t h) (member_takes f g u k) = below_agrees h (same_node (cc (e, f)) k)
     members_agree (member_takes e z t h) (member_leaves f u k at l q) =
-        absurd (undecided (same_node (cc (e, f)) h) at l)
+        absurd (no_event_decided (same_node (cc (e, f)) h) at l)
     members_agree (member_leaves e t h at l r) (members_end f) = absurd (cc (e, f))
     members_agree (member_leaves e t h at l r) (member_stays f u k q) =
-        absurd (undecided (same_node (cc (e, f)) k) at l)
+        absurd (no_event_decided (same_node (cc (e, f)) k) at l)
     members_agree (member_leaves e t h at l r) (member_fails f u k) =
-        absurd (undecided (same_node (cc (e, f)) k) at l)
+        absurd (no_event_decided (same_node (cc (e, f)) k) at l)
     members_agree (member_leaves e t h at l r) (member_takes f g u k) =
-        absurd (undecided (same_node (cc (e, f)) k) at l)
+        absurd (no_event_decided (same_node (cc (e, f)) k) at l)
     members_agree (member_leaves e t h at l r) (member_leaves f u k there o q) = agree_more (members_agree r q)
 
     alternatives_agree : {n i c d : ℕ} {ms : List ℕ} {v w : ByteVerdict} → A n ms i v c → A n ms i w d → Agree v w c d

@@ -171,22 +171,22 @@ module _ (start : ℕ) (nodes : List Shape) (bodies : List ℕ) where
         not_root = not_root m other;
       }
 
-    -- the operand of a repetition that a repetition of one or more enters
+    -- the operand of a repetition that a repetition of one or more entered_operand
     module _ (m s p : ℕ) (by : get_or namers m Many ≡ Both s p) (other : m ≡ root → ⊥)
         (no_star : (k : ℕ) → slice_get nodes m ≡ Some (Star k) → ⊥) (apart : s ≡ p → ⊥)
         (loop : IsLoop start nodes bodies s) (again : GoesAgain nodes p m s) where
-      enters : p ≡ loop.entry
-      enters = ⊎_elim (λ is. is) (λ is. absurd (apart (sym is)))
+      entered_operand : p ≡ loop.entry
+      entered_operand = ⊎_elim (λ is. is) (λ is. absurd (apart (sym is)))
           (loop.only p again.shape again.at
           (subst (λ w. WayNames start nodes bodies w s) (sym again.again) (inr refl)))
 
       enters_so : way_of loop.entry loop.shape ≡ Iterations m s
       enters_so =
           let there : slice_get nodes p ≡ Some loop.shape =
-          subst (λ v. slice_get nodes v ≡ Some loop.shape) (sym enters) loop.at in
+          subst (λ v. slice_get nodes v ≡ Some loop.shape) (sym entered_operand) loop.at in
           let at = again.at in
           let same : again.shape ≡ loop.shape = cc (there, at) in
-          subst (λ v. way_of v loop.shape ≡ Iterations m s) enters
+          subst (λ v. way_of v loop.shape ≡ Iterations m s) entered_operand
           (subst (λ v. way_of p v ≡ Iterations m s) same again.again)
 
       pub is_iterated : IsIterated start nodes bodies m
@@ -198,7 +198,7 @@ module _ (start : ℕ) (nodes : List Shape) (bodies : List ℕ) where
             (λ self. absurd (no_star self.1.0 (subst (λ v. slice_get nodes v ≡ Some (Star self.1.0)) (sym self.0)
             (at ∙ ap Some self.1.1))))
             (λ there. let n = named_at i there.0 m shape at there.1 in
-            ⊎_elim (λ is. inr is) (λ is. inl (is ∙ enters)) (namer_is m (Both s p) by i there.0 n.0 n.1))
+            ⊎_elim (λ is. inr is) (λ is. inl (is ∙ entered_operand)) (namer_is m (Both s p) by i there.0 n.0 n.1))
             (names_at i m shape names);
         not_root = not_root m other;
       }
