@@ -38,6 +38,10 @@ def cases():
     texts = b"".join(it.strip(b'"') for it in words)
     yield Case("keywords, repeated", LONG, b"s = *( " + b" / ".join(words) + b" )\n",
                [(texts + b"\n" + texts + b"0\n", 1)], b"yes\nno\n", 1)
+    words = [b"w%d" % it for it in range(count)]
+    texts = b"".join(words)
+    yield Case("keywords that begin others, repeated", LONG, b"s = *( " + b" / ".join(b'"%s"' % it for it in words)
+               + b" )\n", [(texts + b"\n" + texts + b"x\n", 1)], b"yes\nno\n", 1)
     count = SIZE // 16
     chain = b"".join(b"r%d = r%d\n" % (it, it + 1) for it in range(count))
     yield Case("a chain of names", [], chain + b'r%d = "a"\n' % count, [(b"a\nb\na\n", 1)], b"yes\nno\nyes\n", 1)

@@ -4,6 +4,8 @@ pub mod AbnfTextHintsLemmas
 pub mod AllRulesLemmas
 pub mod AreRedefinitionsLemmas
 mod AbnfExplainedByLemmas
+pub mod FactoredChoicesLemmas
+pub mod FactoredRulesLemmas
 pub mod IsAnswerOnLemmas
 pub mod IsAnswerToLemmas
 pub mod JudgedAlikeLemmas

@@ -5,6 +5,7 @@ pub mod AbnfNoted
 pub mod AbnfReply
 pub mod AbnfSettings
 pub mod AbnfTextHints
+pub mod FactoredChoices
 pub mod JudgedAlike
 pub mod LetterAnswers
 pub mod OpenAbnf

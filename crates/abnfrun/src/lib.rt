@@ -5,6 +5,7 @@ mod abnf_language;
 mod abnf_positions;
 mod abnf_run;
 mod engines;
+mod factored;
 mod hints;
 mod laws;
 mod line_judge;

@@ -18,7 +18,7 @@ ghost use Rattle.linejudge.specs.declared.answers.Answer.{Answer};
 ghost use Rattle.refusedlines.specs.Refusals.{IsRefusalReported};
 
 use crate::engines::Engines;
-use crate::loops::loop_grammar;
+use crate::factored::automaton_grammar;
 use crate::options::AbnfSettings;
 use abnfcheck::{SoundAbnf, derivation_is_decided, furthest_is_found};
 use earley::Chart;
@@ -373,7 +373,8 @@ fn automaton_of(alloc: Global, flat: &Flat, budget: Option<usize>) -> Option<Aut
 }
 
 /// Returns an automaton that judges lines as the flat grammar of a grammar does. It is one of that flat grammar, or of
-/// one with loops, where rules are left recursive. `None` if it has none, or an allocation fails.
+/// one with loops, where rules are left recursive, and with large choices of texts factored. `None` if it has none, or
+/// an allocation fails.
 fn automaton_for(
     alloc: Global,
     grammar: &SoundAbnf,
@@ -390,9 +391,9 @@ fn automaton_for(
 {
     items_decide();
     let budget = settings.options.budget;
-    match loop_grammar(alloc, grammar) {
-        Ok(Some(loops)) => {
-            let Ok(fast) = lowered(alloc, &loops, settings) else {
+    match automaton_grammar(alloc, grammar) {
+        Ok(Some(made)) => {
+            let Ok(fast) = lowered(alloc, &made, settings) else {
                 return None;
             };
             automaton_of(alloc, &fast, budget)

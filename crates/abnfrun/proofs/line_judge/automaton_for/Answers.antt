@@ -13,7 +13,7 @@ returns-in-Ok c =
     let flat = c.args.flat.now in
     let same = c.in-Ok.ensures.limit ∙ sym c.requires.limit in
     let derive = subst (λ v. IfSome v (DeriveAlike c.args.grammar.now)) c.in-Ok-Some.field-0-is c.in-Ok-Some.ensures in
-    let alike = judged_alike (has asked.letters) c.args.grammar.now c.in-Ok-Some.loops derive
+    let alike = judged_alike (has asked.letters) c.args.grammar.now c.in-Ok-Some.made derive
     c.items_decide.ensures.derives flat c.in-Ok.fast same asked.viable c.requires.lowered c.requires.prefixes
     c.in-Ok.ensures.lowered c.in-Ok.ensures.prefixes in
     IfSome_then c.automaton_of.result c.automaton_of.ensures
