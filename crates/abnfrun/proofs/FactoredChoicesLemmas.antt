@@ -1,8 +1,8 @@
 -- Choices of texts: what they derive, and that they hold no name and no prose.
 -- Serves: shared_end, run_of, next_branch, branches, key_of, texts_of, choice_of
-use Rattle.std.proofs.Common.{◌≡◌, ◌∙◌, ◌↔◌, ◌⊎◌, inl, inr, ⊎_elim, ap, ap₂, refl, sym, subst, arith, ℕ, zero, suc, ◌+◌}
-use Rattle.std.proofs.Common.{◌-◌, ◌<◌, ◌≤◌, Bool, true, false, List, [], ◌∷◌, ◌++◌, length, take, drop, map, get_or}
-use Rattle.std.proofs.Common.{Vec, Global, All, Contains, Option, Some, None}
+use Rattle.std.proofs.Common.{◌≡◌, ◌∙◌, ◌↔◌, ◌⊎◌, inl, inr, ⊎_elim, ap, ap₂, refl, sym, subst, arith, ℕ, ◌+◌}
+use Rattle.std.proofs.Common.{◌-◌, ◌<◌, ◌≤◌, Bool, true, List, [], ◌∷◌, ◌++◌, length, take, drop, map, get_or}
+use Rattle.std.proofs.Common.{Vec, Global, All, Option, Some}
 use Rattle.std.specs.Prelude.{slice_range}
 use Rattle.std.specs.Char.{to_ascii_lowercase}
 use Rattle.std.specs.List.Sorted.{IsPermutation}
@@ -22,7 +22,7 @@ use Rattle.abnfread.specs.Element.{Alt, Concat, Element, Elements, Rule, Text, m
 use Rattle.abnfread.specs.declared.elem.Elem.{Elem}
 use Rattle.abnfcheck.specs.AbnfGrammar.{Within, WithinSome, itself, of_alt, of_concat, of_first, of_later}
 use Rattle.abnfcheck.specs.Derivable as d
-use Rattle.abnfcheck.specs.Derivable.{Derives, DerivesSome, Spelled, StandsFor}
+use Rattle.abnfcheck.specs.Derivable.{Derives, DerivesSome, Spelled}
 use Rattle.abnfrun.specs.FactoredChoices.{DerivesThese, IsNameOrProse, IsShared, IsSpelling, IsTextOf, SpellsSome}
 use Rattle.abnfrun.specs.FactoredChoices.{first_text, is_text, later_text}
 

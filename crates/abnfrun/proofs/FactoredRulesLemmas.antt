@@ -7,7 +7,7 @@ use Rattle.std.specs.Borrow.{Bor}
 use Rattle.std.specs.Prelude.{slice_get, is_some, IfSome}
 use Rattle.std.proofs.lemmas.Bool.{false≢true}
 use mathlib.Core.Bool.{beq}
-use Rattle.std.proofs.lemmas.List.{length-map, length-take-le, map-append, take_more}
+use Rattle.std.proofs.lemmas.List.{length-take-le, map-append, take_more}
 use Rattle.std.proofs.lemmas.Option.{get_or_from_slice_get, slice_get_within}
 use Rattle.ruletable.specs.Rules as table
 use Rattle.ruletable.specs.Rules.{Defines, HasUniqueNames, Rules, bodies_of, names_of, same_name}

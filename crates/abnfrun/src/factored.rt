@@ -251,9 +251,8 @@ fn prefix_count(texts: &[Vec<u8>]) -> usize {
     count
 }
 
-// Returns whether a choice has so many texts, and after some symbols, if it is repeated, one may end while others go
-// on: at least `FEW` texts begin others, or there are other alternatives. No contract relies on it. `Memory` if an
-// allocation fails.
+// Returns whether a choice with that many texts overlaps: an alternative may end where a text goes on. At least `FEW`
+// texts begin others, or there are other alternatives. No contract relies on it. `Memory` if an allocation fails.
 fn overlaps(alloc: Global, alternatives: &[Elem]) -> Result<bool, Memory> {
     let Some(folds) = large_kind(alternatives) else {
         return Ok(false);

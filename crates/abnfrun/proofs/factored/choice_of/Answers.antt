@@ -1,5 +1,4 @@
 -- All alternatives, or the choice of the texts and the others.
-use Rattle.abnfread.specs.AbnfViews.{element_of, elements_of}
 use Rattle.abnfrun.proofs.FactoredChoicesLemmas.{same_these}
 use Rattle.abnfrun.proofs.FactoredRulesLemmas.{alt_made, choice_made}
 use Rattle.abnfrun.proofs.factored.choice_of.Goals as goal

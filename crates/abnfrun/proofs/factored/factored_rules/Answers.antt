@@ -1,9 +1,9 @@
 -- One rule more, and all.
-use Rattle.std.proofs.Common.{List, arith, subst, take}
+use Rattle.std.proofs.Common.{List, arith, subst}
 use Rattle.std.proofs.lemmas.List.{length-map, take_all}
 use Rattle.abnfread.specs.AbnfViews.{rule_of, rules_of}
 use Rattle.abnfread.specs.Element.{Rule}
-use Rattle.abnfrun.specs.FactoredChoices.{AreFactoredRules, no_rules}
+use Rattle.abnfrun.specs.FactoredChoices.{AreFactoredRules}
 use Rattle.abnfrun.proofs.FactoredRulesLemmas.{rule_next, tables_begun}
 use Rattle.abnfrun.proofs.factored.factored_rules.Goals as goal
 
