@@ -253,7 +253,7 @@ last_is_furthest has rules id flat prefixes x n short letters last = record {
       last.last m past most ((prefixes.viable x m short letters (omega (arith, past)) most).1 begins);
 }
 
-letters_front : (has : ℕ → Bool) (n : ℕ) (x : List ℕ) → AreLetters has x → AreLetters has (take n x)
+pub letters_front : (has : ℕ → Bool) (n : ℕ) (x : List ℕ) → AreLetters has x → AreLetters has (take n x)
 letters_front has zero x all = tt
 letters_front has (suc n) [] all = tt
 letters_front has (suc n) (a ∷ x) all = (all.0, letters_front has n x all.1)

@@ -5,3 +5,5 @@ pub mod OneRefusalLemmas
 pub mod LetterRunLemmas
 pub mod ReportedTextLemmas
 pub mod SymbolPiecesLemmas
+pub mod PartTextsLemmas
+pub mod PartLinesLemmas

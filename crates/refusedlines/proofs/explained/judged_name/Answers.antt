@@ -1,6 +1,6 @@
 use Rattle.std.proofs.Common.{◌≡◌, subst}
 use Rattle.abnfread.specs.AbnfViews.{rules_of}
-use Rattle.refusedlines.specs.Refusals.{name_at}
+use Rattle.refusedlines.specs.RuleNames.{name_at}
 use Rattle.refusedlines.proofs.RefusalLemmas.{name_found}
 use Rattle.refusedlines.proofs.explained.judged_name.Goals as goal
 
