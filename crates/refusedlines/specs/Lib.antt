@@ -6,3 +6,6 @@ pub mod Refusals
 pub mod LetterRuns
 pub mod SymbolPieces
 pub mod ReportedLetters
+pub mod RefusedParts
+pub mod ShownParts
+pub mod SoughtParts

@@ -5,6 +5,7 @@
 mod explained;
 mod following;
 mod letterruns;
+mod parts;
 mod read_letters;
 mod refusal;
 
