@@ -32,10 +32,10 @@ use Rattle.lowering.proofs.AwaitedItemsLemmas.{awaited_part}
 use Rattle.lowering.proofs.AwaitsLemmas.{HavePart}
 use Rattle.ruletable.specs.Letters.{has}
 use Rattle.ruletable.specs.declared.alphabet.Alphabet.{Alphabet}
-use Rattle.refusedlines.specs.RefusedParts.{AreReportedParts, IsReported, NamesMore, Part, parts_from}
+use Rattle.refusedlines.specs.RefusedParts.{AreReportedParts, IsPartReported, NamesMore, RulePart, parts_from}
 use Rattle.refusedlines.specs.SoughtParts.{AreDotsIn, has_dot, is_marked_at, is_pair, names_marked, operand_at, operand_in}
 use Rattle.refusedlines.specs.SoughtParts.{operand_of, sought_from}
-use Rattle.refusedlines.proofs.FoundPartsLemmas.{all_found, found, is_found, node_below, on_node, on_there, site_node}
+use Rattle.refusedlines.proofs.FoundPartsLemmas.{all_found, is_found, is_sought_at, node_below, on_node, on_there, site_node}
 use Rattle.refusedlines.proofs.PartSitesLemmas.{all_placed, IsPlaced}
 use Rattle.refusedlines.proofs.RefusedPartsLemmas.{chosen_by}
 use Rattle.refusedlines.proofs.SoughtPartsLemmas.{dot_in, in_dot}
@@ -97,8 +97,8 @@ marked_below marks r is = by (cases_lt r (length marks))
 
 -- where a node stands, by the tables
 module _ (tables : code_flat.Tables) (sought : ℕ → ℕ → Bool) where
-  abbrev Below : ℕ → List ℕ → Option ℕ
-  Below n z = node_below tables.bodies.items (operand_of tables) sought n z
+  abbrev node_from : ℕ → List ℕ → Option ℕ
+  node_from n z = node_below tables.bodies.items (operand_of tables) sought n z
 
   operand_node : (n i m : ℕ) → operand_of tables n i ≡ Some m → (node : Node)
       × (slice_get (flat_of tables).nodes n ≡ Some node) × OperandAt node i m
@@ -119,17 +119,17 @@ module _ (tables : code_flat.Tables) (sought : ℕ → ℕ → Bool) where
       let u = get_unmap node_of tables.nodes.items n node is in
       ap (λ v. operand_at v i) u.at ∙ (ap (λ (v : Node). operand_in v i) u.is ∙ there_operand node i m op)
 
-  stands_below : {s t : ℕ} {z : List ℕ} → StandsIn (flat_of tables) s z t → Below s z ≡ Some t
+  stands_below : {s t : ℕ} {z : List ℕ} → StandsIn (flat_of tables) s z t → node_from s z ≡ Some t
   stands_below itself = refl
   stands_below (inside {s = s} {m = m} {i = i} {z = z} {node = node} is op stands) =
-      ap (λ (o : Option ℕ). on_node o (λ n. Below n z)) (node_operand s i m node is op) ∙ stands_below stands
+      ap (λ (o : Option ℕ). on_node o (λ n. node_from n z)) (node_operand s i m node is op) ∙ stands_below stands
 
-  below_stands : (z : List ℕ) (s t : ℕ) → Below s z ≡ Some t → StandsIn (flat_of tables) s z t
+  below_stands : (z : List ℕ) (s t : ℕ) → node_from s z ≡ Some t → StandsIn (flat_of tables) s z t
   below_stands [] s t is =
       let same : s ≡ t = cc is in
       subst (λ (v : ℕ). StandsIn (flat_of tables) s [] v) same itself
   below_stands (i ∷ z) s t is =
-      let first = on_there (operand_of tables s i) (λ n. Below n z) is in
+      let first = on_there (operand_of tables s i) (λ n. node_from n z) is in
       let node = operand_node s i first.0 first.1 in
       inside node.1 node.2 (below_stands z first.0 t first.2)
 
@@ -172,25 +172,25 @@ module _ (alphabet : Alphabet) (rules : List Rule) (judged : ℕ) (tables : code
     (dots : List DottedRule) (awaited : AreAwaited (flat_of tables) x n dots) (sought : ℕ → ℕ → Bool)
     (sought_is : (s k : ℕ) → sought s k
     ≡ (has_dot dots s k && is_marked_at marks (slice_get tables.nodes.items s))) where
-  abbrev Found : Part → Bool
-  Found p = found tables.bodies.items (operand_of tables) sought p
+  abbrev found_so : RulePart → Bool
+  found_so p = is_found tables.bodies.items (operand_of tables) sought p
 
-  abbrev At : Part → Option ℕ
-  At p = site_node tables.bodies.items (operand_of tables) sought p.rule p.site
+  abbrev node_at_site : RulePart → Option ℕ
+  node_at_site p = site_node tables.bodies.items (operand_of tables) sought p.rule p.site
 
-  parted : (p : Part) → IsAwaited (has alphabet) rules judged x n p.rule p.site p.element p.read
+  part_had : (p : RulePart) → IsAwaited (has alphabet) rules judged x n p.rule p.site p.element p.read
       → HavePart rules (flat_of tables) x n p.rule p.site p.element p.read
-  parted p is = awaited_part (has alphabet) rules judged (flat_of tables) lowered x short letters n p.rule p.site
+  part_had p is = awaited_part (has alphabet) rules judged (flat_of tables) lowered x short letters n p.rule p.site
       p.element p.read is
 
-  part_at : (p : Part) (h : HavePart rules (flat_of tables) x n p.rule p.site p.element p.read) → At p ≡ Some h.node
+  part_at : (p : RulePart) (h : HavePart rules (flat_of tables) x n p.rule p.site p.element p.read) → node_at_site p ≡ Some h.node
   part_at p h =
       ap (λ (o : Option ℕ). on_node o (λ top. node_below tables.bodies.items (operand_of tables) sought top p.site))
       h.is.top_is
       ∙ stands_below tables sought h.is.stands
 
   -- a node that is a name, of a part that is reported
-  rule_more : (p : Part) (h : HavePart rules (flat_of tables) x n p.rule p.site p.element p.read)
+  rule_more : (p : RulePart) (h : HavePart rules (flat_of tables) x n p.rule p.site p.element p.read)
       → NamesMore (has alphabet) rules p.element → (r : ℕ) → slice_get (flat_of tables).nodes h.node ≡ Some (g.Name r)
       → DerivesMore (has alphabet) rules r
   rule_more p h more r is = by h.is.spelled is
@@ -208,7 +208,7 @@ module _ (alphabet : Alphabet) (rules : List Rule) (judged : ℕ) (tables : code
       let size = length-map rules (λ rule. rule.body) in
       (marked r (omega (arith, below, size))).1 more
 
-  start_of : (p : Part) (h : HavePart rules (flat_of tables) x n p.rule p.site p.element p.read)
+  start_of : (p : RulePart) (h : HavePart rules (flat_of tables) x n p.rule p.site p.element p.read)
       → NamesMore (has alphabet) rules p.element → (q : Dot) × Starts (flat_of tables) h.node q
   start_of p h more = by h.has_part refl
     where
@@ -221,12 +221,12 @@ module _ (alphabet : Alphabet) (rules : List Rule) (judged : ℕ) (tables : code
           let derived = rule_more p h more name.0 is in
           laws.starts h.node name.0 (derived.first ∷ derived.rest) is derived.derives
 
-  pub reported_found : (p : Part) → IsReported alphabet rules judged x n p → Found p ≡ true
+  pub reported_found : (p : RulePart) → IsPartReported alphabet rules judged x n p → found_so p ≡ true
   reported_found p r =
-      let h = parted p r.0 in
+      let h = part_had p r.0 in
       let start = start_of p h r.1 in
       let among = awaited.whole (dot h.node p.read) start.0 h.has_part start.1 in
-      ap (λ (o : Option ℕ). is_found tables.bodies.items (operand_of tables) sought o p.read) (part_at p h)
+      ap (λ (o : Option ℕ). is_sought_at tables.bodies.items (operand_of tables) sought o p.read) (part_at p h)
       ∙ (sought_is h.node p.read
       ∙ and_from (has_dot dots h.node p.read) (is_marked_at marks (slice_get tables.nodes.items h.node))
       (in_dot dots (dot h.node p.read) among) (by h (slice_get tables.nodes.items h.node) refl))
@@ -239,7 +239,7 @@ module _ (alphabet : Alphabet) (rules : List Rule) (judged : ℕ) (tables : code
           ∙ ap (λ (v : Node). Some v) same)))
 
   -- the name of a part that is found
-  name_more : (p : Part) (h : HavePart rules (flat_of tables) x n p.rule p.site p.element p.read)
+  name_more : (p : RulePart) (h : HavePart rules (flat_of tables) x n p.rule p.site p.element p.read)
       → is_marked_at marks (slice_get tables.nodes.items h.node) ≡ true → (m : List ℕ) → p.element ≡ e.Name m
       → DerivesMore (has alphabet) rules (id_of rules m)
   name_more p h yes m is = by h.is.spelled refl
@@ -257,11 +257,11 @@ module _ (alphabet : Alphabet) (rules : List Rule) (judged : ℕ) (tables : code
           let below = marked_below marks (id_of rules m) mark in
           (marked (id_of rules m) (omega (arith, below, count))).0 mark
 
-  pub found_reported : (p : Part) → IsPlaced rules p → Found p ≡ true → IsReported alphabet rules judged x n p
-  found_reported p placed yes = by (At p) refl yes
+  pub found_reported : (p : RulePart) → IsPlaced rules p → found_so p ≡ true → IsPartReported alphabet rules judged x n p
+  found_reported p placed yes = by (node_at_site p) refl yes
     where
-      by : (o : Option ℕ) → At p ≡ o → is_found tables.bodies.items (operand_of tables) sought o p.read ≡ true
-          → IsReported alphabet rules judged x n p
+      by : (o : Option ℕ) → node_at_site p ≡ o → is_sought_at tables.bodies.items (operand_of tables) sought o p.read ≡ true
+          → IsPartReported alphabet rules judged x n p
       by None is yes = absurd (cc yes)
       by (Some s) is yes =
           let both = and_parts (has_dot dots s p.read) (is_marked_at marks (slice_get tables.nodes.items s))
@@ -276,7 +276,7 @@ module _ (alphabet : Alphabet) (rules : List Rule) (judged : ℕ) (tables : code
           let same : part.0 ≡ p.element = cc whole in
           let reported = subst (λ (v : Element). IsAwaited (has alphabet) rules judged x n p.rule p.site v p.read) same
           part.1 in
-          let h = parted p reported in
+          let h = part_had p reported in
           let node : Some s ≡ Some h.node = sym is ∙ part_at p h in
           let one : s ≡ h.node = cc node in (
             reported,
@@ -284,18 +284,18 @@ module _ (alphabet : Alphabet) (rules : List Rule) (judged : ℕ) (tables : code
                 (subst (λ (v : ℕ). is_marked_at marks (slice_get tables.nodes.items v) ≡ true) one both.1)),
           )
 
-  each_decided : (all : List Part) → AllByRecursion (IsPlaced rules) all
-      → AllByRecursion (λ p. (IsReported alphabet rules judged x n p → Found p ≡ true)
-      × (Found p ≡ true → IsReported alphabet rules judged x n p)) all
+  each_decided : (all : List RulePart) → AllByRecursion (IsPlaced rules) all
+      → AllByRecursion (λ p. (IsPartReported alphabet rules judged x n p → found_so p ≡ true)
+      × (found_so p ≡ true → IsPartReported alphabet rules judged x n p)) all
   each_decided [] each = tt
   each_decided (p ∷ all) each =
       ((reported_found p, found_reported p each.0), each_decided all each.1)
 
-  pub are_reported : AreReportedParts (IsReported alphabet rules judged x n) (parts_from 0 rules)
+  pub are_reported : AreReportedParts (IsPartReported alphabet rules judged x n) (parts_from 0 rules)
       (sought_from (operand_of tables) sought tables.bodies.items 0 rules)
   are_reported = record {
-    parts = filter Found (parts_from 0 rules);
-    chosen = chosen_by (IsReported alphabet rules judged x n) Found (parts_from 0 rules)
+    parts = filter found_so (parts_from 0 rules);
+    chosen = chosen_by (IsPartReported alphabet rules judged x n) found_so (parts_from 0 rules)
         (each_decided (parts_from 0 rules) (all_placed rules));
     shown_as = sym (all_found tables.bodies.items (operand_of tables) sought rules 0);
   }
@@ -308,7 +308,7 @@ pub parts_listed : (alphabet : Alphabet) (rules : List Rule) (judged : ℕ) (tab
     → ((id : ℕ) → id < length rules → IsMarked marks id ↔ DerivesMore (has alphabet) rules id)
     → (dots : List DottedRule) → AreAwaited flat x n dots → (sought : ℕ → ℕ → Bool)
     → ((s k : ℕ) → sought s k ≡ (has_dot dots s k && is_marked_at marks (slice_get tables.nodes.items s)))
-    → AreReportedParts (IsReported alphabet rules judged x n) (parts_from 0 rules)
+    → AreReportedParts (IsPartReported alphabet rules judged x n) (parts_from 0 rules)
     (sought_from (operand_of tables) sought tables.bodies.items 0 rules)
 parts_listed alphabet rules judged tables x n flat view =
     subst (λ (f : Flat). IsLowered rules judged f → length x ≤ f.limit → AreLetters (has alphabet) x
@@ -316,6 +316,6 @@ parts_listed alphabet rules judged tables x n flat view =
     → ((id : ℕ) → id < length rules → IsMarked marks id ↔ DerivesMore (has alphabet) rules id)
     → (dots : List DottedRule) → AreAwaited f x n dots → (sought : ℕ → ℕ → Bool)
     → ((s k : ℕ) → sought s k ≡ (has_dot dots s k && is_marked_at marks (slice_get tables.nodes.items s)))
-    → AreReportedParts (IsReported alphabet rules judged x n) (parts_from 0 rules)
+    → AreReportedParts (IsPartReported alphabet rules judged x n) (parts_from 0 rules)
     (sought_from (operand_of tables) sought tables.bodies.items 0 rules)) view
     (are_reported alphabet rules judged tables x n)

@@ -8,7 +8,7 @@ use Rattle.ruletable.specs.Letters.{has}
 use Rattle.ruletable.specs.declared.alphabet.Alphabet.{Alphabet}
 
 -- a name or a terminal of a rule's body, and how many of its symbols are read
-pub record Part : Type 0 where
+pub record RulePart : Type 0 where
   pub rule : ℕ
   pub site : List ℕ  -- the numbers of the operands that lead to it
   pub element : Element
@@ -21,8 +21,8 @@ pub record ShownPart : Type 0 where
   pub read : ℕ
 
 -- .. which is the same at each site of the body
-abbrev pub shown_part : Part → ShownPart
-shown_part part = record { rule = part.rule; element = part.element; read = part.read }
+abbrev pub part_as_shown : RulePart → ShownPart
+part_as_shown part = record { rule = part.rule; element = part.element; read = part.read }
 
 -- n numbers, from k on
 abbrev pub counts : ℕ → ℕ → List ℕ
@@ -30,14 +30,14 @@ counts k zero = []
 counts k (suc n) = k ∷ counts (k + 1) n
 
 -- a name or a terminal after each number of symbols below n
-abbrev pub reads_of : ℕ → List ℕ → Element → ℕ → List Part
+abbrev pub reads_of : ℕ → List ℕ → Element → ℕ → List RulePart
 reads_of rule site element n =
     map (λ k. record { rule = rule; site = site; element = element; read = k }) (counts 0 n)
 
 -- All parts of an element, in the order of the body. The site is that of the element; that of an operand is the site
 -- with the operand's number after it.
 abbrev mutual
-  pub parts_in : ℕ → List ℕ → Element → List Part
+  pub parts_in : ℕ → List ℕ → Element → List RulePart
   parts_in rule site (Text folds t) = reads_of rule site (Text folds t) (length t)
   parts_in rule site (Values vs) = reads_of rule site (Values vs) (length vs)
   parts_in rule site (Range low high) = reads_of rule site (Range low high) 1
@@ -49,12 +49,12 @@ abbrev mutual
   parts_in rule site (Prose t) = []
 
   -- .. of operands, numbered from i on
-  pub operands_in : ℕ → List ℕ → ℕ → Elements → List Part
+  pub operands_in : ℕ → List ℕ → ℕ → Elements → List RulePart
   operands_in rule site i none = []
   operands_in rule site i (more e es) = parts_in rule (site ++ i ∷ []) e ++ operands_in rule site (i + 1) es
 
 -- .. of rules, in the order of the rule table, numbered from id on
-abbrev pub parts_from : ℕ → List Rule → List Part
+abbrev pub parts_from : ℕ → List Rule → List RulePart
 parts_from id [] = []
 parts_from id (r ∷ rules) = parts_in id [] r.body ++ parts_from (id + 1) rules
 
@@ -65,18 +65,18 @@ NamesMore test rules e = Unit {0}
 
 -- A part is reported after n symbols of a line: it can come next, and if it is a name, its rule derives more than the
 -- empty list. The rules are those without what derives nothing.
-abbrev pub IsReported : Alphabet → List Rule → ℕ → List ℕ → ℕ → Part → Type 0
-IsReported alphabet rules judged x n p =
+abbrev pub IsPartReported : Alphabet → List Rule → ℕ → List ℕ → ℕ → RulePart → Type 0
+IsPartReported alphabet rules judged x n p =
     IsAwaited (has alphabet) rules judged x n p.rule p.site p.element p.read × NamesMore (has alphabet) rules p.element
 
 -- of some parts those with Q, in the same order
-pub data AreChosenParts (Q : Part → Type 0) : List Part → List Part → Type 0 where
+pub data AreChosenParts (Q : RulePart → Type 0) : List RulePart → List RulePart → Type 0 where
   chosen_none : AreChosenParts Q [] []
-  chosen : {p : Part} {all few : List Part} → Q p → AreChosenParts Q all few → AreChosenParts Q (p ∷ all) (p ∷ few)
-  left_out : {p : Part} {all few : List Part} → (Q p → ⊥) → AreChosenParts Q all few → AreChosenParts Q (p ∷ all) few
+  chosen : {p : RulePart} {all few : List RulePart} → Q p → AreChosenParts Q all few → AreChosenParts Q (p ∷ all) (p ∷ few)
+  left_out : {p : RulePart} {all few : List RulePart} → (Q p → ⊥) → AreChosenParts Q all few → AreChosenParts Q (p ∷ all) few
 
 -- what is reported of the parts with Q, in the same order
-pub record AreReportedParts (Q : Part → Type 0) (all : List Part) (shown : List ShownPart) : Type 0 where
-  pub parts : List Part
+pub record AreReportedParts (Q : RulePart → Type 0) (all : List RulePart) (shown : List ShownPart) : Type 0 where
+  pub parts : List RulePart
   pub chosen : AreChosenParts Q all parts
-  pub shown_as : shown ≡ map shown_part parts
+  pub shown_as : shown ≡ map part_as_shown parts

@@ -1,5 +1,5 @@
 -- The parts whose dotted rules are sought, by bodies and their nodes. It serves private helpers alone.
-use Rattle.std.specs.Prelude.{ℕ, ◌+◌, ◌==◌, eqb, Bool, true, false, ◌&&◌, if◌then◌else◌, List, [], ◌∷◌, ◌++◌, length, map}
+use Rattle.std.specs.Prelude.{ℕ, ◌+◌, eqb, Bool, true, false, ◌&&◌, if◌then◌else◌, List, [], ◌∷◌, ◌++◌, length, map}
 use Rattle.std.specs.Prelude.{slice_get, get_or, Option, Some, None}
 use Rattle.std.specs.HashSet.{HashSet, contains}
 use Rattle.std.specs.List.{filter, list_any}

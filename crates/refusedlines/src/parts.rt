@@ -11,7 +11,7 @@ ghost use Rattle.lowering.specs.MoreMarks.{AreMoreMarks};
 ghost use Rattle.lowering.specs.Pruned.{ArePruned};
 ghost use Rattle.ruletable.specs.Letters.{has};
 ghost use Rattle.ruletable.specs.declared.alphabet.Alphabet.{Alphabet as the_alphabet};
-ghost use Rattle.refusedlines.specs.RefusedParts.{AreReportedParts, IsReported, parts_from};
+ghost use Rattle.refusedlines.specs.RefusedParts.{AreReportedParts, IsPartReported, parts_from};
 ghost use Rattle.refusedlines.specs.ShownParts.{awaited_part};
 ghost use Rattle.refusedlines.specs.SoughtParts.{
   AreDotsIn,
@@ -236,7 +236,7 @@ pub(crate) fn awaited_parts<'a>(
         AreMoreMarks (rules_of rules.now) more.now → length more.now ≡ length (rules_of rules.now) →
         length x ≤ flat.now.limit → AreLetters (has alphabet) x →
         AreAwaited flat.now x n dots.now →
-        AreReportedParts (IsReported alphabet (rules_of rules.now) judged x n) (parts_from 0 (rules_of rules.now))
+        AreReportedParts (IsPartReported alphabet (rules_of rules.now) judged x n) (parts_from 0 (rules_of rules.now))
         (map awaited_part parts.items)) }
 {
     items_decide();

@@ -3,7 +3,7 @@ use Rattle.std.proofs.lemmas.Result.{IfOk-weaker}
 use Rattle.abnfread.specs.AbnfViews.{rules_of}
 use Rattle.flatgrammar.specs.NodeSteps.{flat_of}
 use Rattle.ruletable.specs.Letters.{has}
-use Rattle.refusedlines.specs.RefusedParts.{AreReportedParts, IsReported, ShownPart, parts_from}
+use Rattle.refusedlines.specs.RefusedParts.{AreReportedParts, IsPartReported, ShownPart, parts_from}
 use Rattle.refusedlines.specs.SoughtParts.{is_marked_at, is_sought}
 use Rattle.refusedlines.proofs.ReportedPartsLemmas.{parts_listed}
 use Rattle.refusedlines.proofs.parts.awaited_parts.Goals as goal
@@ -14,7 +14,7 @@ returns c = IfOk-weaker c.parts.result _ _
     let rules = rules_of c.args.rules.now in
     let flat = c.args.flat.now in
     let tables = c.deref.result.now in
-    subst (λ (v : List ShownPart). AreReportedParts (IsReported alphabet rules judged x n) (parts_from 0 rules) v)
+    subst (λ (v : List ShownPart). AreReportedParts (IsPartReported alphabet rules judged x n) (parts_from 0 rules) v)
     (sym shown)
     (parts_listed alphabet rules judged tables x n flat (ap (λ v. flat_of v) c.deref.ensures ∙ c.in_ok-tables.ensures.view)
     lowered short letters
