@@ -54,7 +54,8 @@ OLD_WORDS = set(
 # Words of the old dialect that no name of these crates has, and that others have for something else.
 OLD_IN = {
     "earley earleyitems flatgrammar": "head heads block blocks inner root roots",
-    "lazydfa rulelines": "part parts front fronts",
+    "lazydfa": "front fronts",
+    "rulelines": "part parts front fronts",
     "matchfailure memo packrat pegnodes": "pair pairs",
 }
 OLD_NAMES = {"eqb_tells", "handle_tells", "told", "appended_in_turn", "in_turn"}
@@ -78,15 +79,16 @@ PROGRAMS = {
 }
 # The most functions that a crate has, and the crates that have more: so many each. Tests count for nothing.
 LARGEST_CRATE = 105
-# lazydfa: `States`, its cuts, `expected`, `prune` and `kernels` need what `Automaton` has, and a crate of their own
-# would make it public.
+# lazydfa: `States`, its cuts, `expected`, `awaited`, `prune` and `kernels` need what `Automaton` has, and a crate of
+# their own would make it public.
+# earley: `awaited_at` needs sets kept as rows, which `Chart` does not show.
 # abnftexts: its functions on values and on the list need what `Gathered` has.
-LARGER = {"lazydfa": 144, "abnftexts": 130}
+LARGER = {"earley": 111, "lazydfa": 152, "abnftexts": 130}
 # The most entries that a folder has, and the folders that have more.
 LARGEST_FOLDER = 40
 WIDER = {
     "crates": MOST_CRATES, "docs/crates": MOST_CRATES, "must-fail": MOST_CRATES, "crates/fixpoint/proofs": 44,
-    "crates/lazydfa/proofs": 41, "scripts/oracles/rfc_texts": 48,
+    "crates/lazydfa/proofs": 48, "scripts/oracles/rfc_texts": 48,
 }
 # Folders that hold no sources.
 BUILT = {".git", "__pycache__", "bin", "out"}

@@ -45,7 +45,7 @@ class Following:
         return slow_abnf.Deriver(self.rules, letters, self.may_follow).derives(self.key)
 
     def is_productive(self, e):
-        """Returns whether an element derives some list of letters."""
+        """Returns whether an element derives some list of symbols."""
         return bool(self.some.after(e, 1))
 
     @functools.cache

@@ -11,14 +11,15 @@ use Rattle.flatgrammar.specs.ItemClosures.{item_at}
 use Rattle.flatgrammar.specs.NodeSteps.{flat_of}
 use Rattle.flatgrammar.specs.OldItems as old_items
 use Rattle.flatgrammar.specs.OldItems.{HasPart, IsNameNode, IsOld}
-use Rattle.flatgrammar.specs.Parts.{AreAwaited, IsPartOf}
+use Rattle.flatgrammar.specs.CalledParts.{AreAwaited, IsPartOf}
 use Rattle.flatgrammar.specs.Positions.{In, now, on}
 use Rattle.flatgrammar.specs.Stacks.{node_at}
 use Rattle.flatgrammar.specs.TableViews.{callee_of, name_of}
 use Rattle.flatgrammar.specs.declared.closure.DottedRule.{DottedRule}
 use Rattle.flatgrammar.specs.declared.tables.Tables as code_flat
 use Rattle.flatgrammar.proofs.InLemmas.{among_more, at_end, at_index_in, before_end, from_front, in_front, in_left}
-use Rattle.flatgrammar.proofs.PartsLemmas.{callee_calls, calls_callee, has_part_of, node_named, not_named, part_has}
+use Rattle.flatgrammar.proofs.CalledPartsLemmas.{callee_calls, calls_callee, has_part_of, node_named, not_named}
+use Rattle.flatgrammar.proofs.CalledPartsLemmas.{part_has}
 use Rattle.earleyitems.specs.ChartSets.{AreDotsOf, AreOlderDotsOf, IsSet}
 use Rattle.earley.specs.OldDots as dots_of
 use Rattle.earley.specs.OldDots.{AddsNode, AreOldDots, ArePartsOf, Enters, EntersFrom, IsOldDot, IsPartOfSome}
@@ -101,11 +102,11 @@ module _ (dots : List DottedRule) (node : ℕ) (old : List DottedRule) where
     abbrev one : DottedRule
     one = slice_index_or dots count d
 
-    wider : {s : DottedRule} → In s (take count dots) → In s (take (count + 1) dots)
-    wider h = wider_take dots count h
+    wider_first : {s : DottedRule} → In s (take count dots) → In s (take (count + 1) dots)
+    wider_first h = wider_take dots count h
 
-    which : (s : DottedRule) → In s (take (count + 1) dots) → In s (take count dots) ⊎ (s ≡ one)
-    which s h = among_more s dots count d lt (subst (λ v. In s (take v dots)) next h)
+    which_first : (s : DottedRule) → In s (take (count + 1) dots) → In s (take count dots) ⊎ (s ≡ one)
+    which_first s h = among_more s dots count d lt (subst (λ v. In s (take v dots)) next h)
       where
         next : count + 1 ≡ suc count
         next = omega arith
@@ -115,7 +116,7 @@ module _ (dots : List DottedRule) (node : ℕ) (old : List DottedRule) where
     first_more more is at_node = record {
       added = a.added ++ one ∷ [];
       grown = is ∙ (ap (λ v. v ++ one ∷ []) a.grown ∙ assoc old a.added);
-      are = λ s. (λ h. to s (before_end s one a.added h), λ h. back s (which s h.0) h.1);
+      are = λ s. (λ h. to s (before_end s one a.added h), λ h. back s (which_first s h.0) h.1);
     }
       where
         assoc : (xs ys : List DottedRule) → (xs ++ ys) ++ one ∷ [] ≡ xs ++ (ys ++ one ∷ [])
@@ -123,9 +124,12 @@ module _ (dots : List DottedRule) (node : ℕ) (old : List DottedRule) where
         assoc (x ∷ xs) ys = ap (λ v. x ∷ v) (assoc xs ys)
 
         to : (s : DottedRule) → In s a.added ⊎ (s ≡ one) → In s (take (count + 1) dots) × (s.node ≡ node)
-        to s (inl h) = let g = (a.are s).0 h in (wider g.0, g.1)
-        to s (inr same) =
-            (subst (λ v. In v (take (count + 1) dots)) (sym same) (here_take dots count d lt), ap (λ v. v.node) same ∙ at_node)
+        to s (inl h) = let g = (a.are s).0 h in (wider_first g.0, g.1)
+        to s (inr same) = (
+          subst (λ v. In v (take (count + 1) dots)) (sym same) (here_take dots count d lt),
+          ap (λ v. v.node) same
+              ∙ at_node,
+        )
 
         back : (s : DottedRule) → In s (take count dots) ⊎ (s ≡ one) → s.node ≡ node → In s (a.added ++ one ∷ [])
         back s (inl h) same = in_left (one ∷ []) ((a.are s).1 (h, same))
@@ -136,8 +140,8 @@ module _ (dots : List DottedRule) (node : ℕ) (old : List DottedRule) where
       added = a.added;
       grown = a.grown;
       are = λ s. (
-        λ h. let g = (a.are s).0 h in (wider g.0, g.1),
-        λ h. back s (which s h.0) h.1,
+        λ h. let g = (a.are s).0 h in (wider_first g.0, g.1),
+        λ h. back s (which_first s h.0) h.1,
       );
     }
       where
@@ -167,7 +171,8 @@ module _ (tables : code_flat.Tables) (dots : List DottedRule) (q : DottedRule) (
 
     pub calls_name : name_of tables node ≡ true → (m : ℕ) → Enters tables q m → In m entered
     calls_name is_true m e =
-        let is_false = subst (λ v. name_of tables v ≡ false) (sym (same_node e)) e.no_name in absurd (cc (is_true, is_false))
+        let is_false = subst (λ v. name_of tables v ≡ false) (sym (same_node e)) e.no_name in
+        absurd (cc (is_true, is_false))
 
     pub was_entered : In node entered → (m : ℕ) → Enters tables q m → In m entered
     was_entered h m e = subst (λ v. In v entered) (same_node e) h
@@ -178,8 +183,11 @@ module _ (tables : code_flat.Tables) (dots : List DottedRule) (q : DottedRule) (
       added = adds.added;
       grown = adds.grown;
       sound = λ s h. let g = (adds.are s).0 h in (
-        record { next = next; callee = subst (λ v. callee_of tables (item_at 0 q) ≡ Some (v, next)) (sym g.1) is;
-            no_name = subst (λ v. name_of tables v ≡ false) (sym g.1) is_false },
+        record {
+          next = next;
+          callee = subst (λ v. callee_of tables (item_at 0 q) ≡ Some (v, next)) (sym g.1) is;
+          no_name = subst (λ v. name_of tables v ≡ false) (sym g.1) is_false;
+        },
         g.0,
       );
       kept = λ m h. subst (λ v. In m v) (sym grown) (in_left (node ∷ []) h);
@@ -258,12 +266,14 @@ module _ (tables : code_flat.Tables) (n : ℕ) (older dots : List DottedRule) wh
       next = omega arith
 
       less : count < length new
-      less = let le = subst (λ v. length old ≤ length v) (sym e.grown) (length_more old e.added) in omega (arith, lt, le)
+      less = let le = subst (λ v. length old ≤ length v) (sym e.grown) (length_more old e.added) in
+          omega (arith, lt, le)
 
       from : (s : DottedRule) → In s old ⊎ In s e.added → IsOldDot tables n older dots s
       from s (inl h) = w.sound s h
       from s (inr h) =
-          let g = e.sound s h in dots_of.entered (w.sound (slice_index_or old count d) (at_index_in old count d lt)) g.0 g.1
+          let g = e.sound s h in dots_of.entered (w.sound (slice_index_or old count d) (at_index_in old count d lt)) g.0
+          g.1
 
       kept : (s : DottedRule) → In s old → In s new
       kept s h = subst (λ v. In s v) (sym e.grown) (in_left e.added h)
@@ -320,7 +330,8 @@ module _ (tables : code_flat.Tables) (dots : List DottedRule) where
   pub no_parts : (none : List DottedRule) → none ≡ [] → ArePartsOf tables (take 0 dots) none
   no_parts none is s = (λ h. absurd (not_in (subst (λ v. In s v) is h)), λ p. absurd (not_in p.stands))
 
-  pub all_parts : (count : ℕ) (parts : List DottedRule) → length dots ≤ count → ArePartsOf tables (take count dots) parts
+  pub all_parts : (count : ℕ) (parts : List DottedRule) → length dots ≤ count
+      → ArePartsOf tables (take count dots) parts
       → ArePartsOf tables dots parts
   all_parts count parts le are s = (
     λ h. let p = (are s).0 h in record { dot = p.dot; stands = from_front p.dot dots count p.stands; part = p.part },
@@ -353,7 +364,8 @@ module _ (tables : code_flat.Tables) (dots : List DottedRule) where
 
 -- of an item set
 module _ (tables : code_flat.Tables) (x : List ℕ) (n : ℕ) (set : List (Dot × ℕ))
-    (is_set : IsSet (flat_of tables) x n set) (older dots old : List DottedRule) (are_older : AreOlderDotsOf set n older)
+    (is_set : IsSet (flat_of tables) x n set) (older dots old : List DottedRule)
+    (are_older : AreOlderDotsOf set n older)
     (are_dots : AreDotsOf set dots) (are : AreOldDots tables n older dots old) where
   abbrev flat : Flat
   flat = flat_of tables
@@ -383,12 +395,12 @@ module _ (tables : code_flat.Tables) (x : List ℕ) (n : ℕ) (set : List (Dot �
       by (inr ge) =
           let same : i ≡ n = omega (arith, le, ge) in subst (λ v. IsOld flat x n s v) (sym same) (now_old same)
 
-  sound : {s : DottedRule} → IsOldDot tables n older dots s → (i : ℕ) × Holds flat x n (at s.node s.step) i
+  old_held : {s : DottedRule} → IsOldDot tables n older dots s → (i : ℕ) × Holds flat x n (at s.node s.step) i
       × IsOld flat x n s.node i
-  sound (dots_of.older {s = s} h) =
+  old_held (dots_of.older {s = s} h) =
       let g = (are_older s).0 h in
       (g.origin, is_set.held (at s.node s.step) g.origin g.stands, old_items.before g.older)
-  sound (dots_of.whole {s = s} zero_is h same) =
+  old_held (dots_of.whole {s = s} zero_is h same) =
       let g = dot_held s h in
       let none : g.0 ≡ 0 = (let le = origin_most (at s.node s.step) g.0 g.1 in omega (arith, le, zero_is)) in (
         g.0,
@@ -396,26 +408,27 @@ module _ (tables : code_flat.Tables) (x : List ℕ) (n : ℕ) (set : List (Dot �
         subst (λ v. IsOld flat x n v g.0) (sym same)
             (subst (λ v. IsOld flat x n flat.start v) (sym none) (old_items.whole zero_is)),
       )
-  sound (dots_of.entered {q = q} {s = s} o e h) =
-      let from = sound o in
+  old_held (dots_of.entered {q = q} {s = s} o e h) =
+      let from = old_held o in
       let g = dot_held s h in (
         g.0,
         g.1,
         at_origin g.0 s.node (origin_most (at s.node s.step) g.0 g.1)
             (λ same. old_items.entered from.1 from.2 (callee_calls tables q.node q.step e.callee)
-            (λ name. let is_true = node_named tables s.node name in let is_false = e.no_name in cc (is_true, is_false))),
+            (λ name. let is_true = node_named tables s.node name in let is_false = e.no_name in
+            cc (is_true, is_false))),
       )
 
-  whole : {s i : ℕ} → IsOld flat x n s i → (p : DottedRule) → p.node ≡ s → Holds flat x n (at p.node p.step) i
+  old_listed : {s i : ℕ} → IsOld flat x n s i → (p : DottedRule) → p.node ≡ s → Holds flat x n (at p.node p.step) i
       → IsOldDot tables n older dots p
-  whole (old_items.before {i = i} lt) p same h =
+  old_listed (old_items.before {i = i} lt) p same h =
       dots_of.older ((are_older p).1 (record { origin = i; older = lt; stands = is_set.all (at p.node p.step) i h }))
-  whole (old_items.whole zero_is) p same h = dots_of.whole zero_is (held_dot p 0 h) same
-  whole (old_items.entered {q = q} {r = r} {i = i} {s = s} g o c other) p same h =
+  old_listed (old_items.whole zero_is) p same h = dots_of.whole zero_is (held_dot p 0 h) same
+  old_listed (old_items.entered {q = q} {r = r} {i = i} {s = s} g o c other) p same h =
       let e = calls_callee tables c in
       let from : DottedRule = record { node = e.0; step = e.1 } in
       dots_of.entered
-      (whole o from (ap (λ v. node_at v) (sym e.3)) (subst (λ v. Holds flat x n v i) e.3 g))
+      (old_listed o from (ap (λ v. node_at v) (sym e.3)) (subst (λ v. Holds flat x n v i) e.3 g))
       (subst (λ v. Enters tables from v) (sym same)
       (record { next = e.2; callee = e.5; no_name = not_named tables s other })) (held_dot p n h)
 
@@ -423,13 +436,13 @@ module _ (tables : code_flat.Tables) (x : List ℕ) (n : ℕ) (set : List (Dot �
   parts_awaited parts found = record {
     sound = λ s h.
         let p = (found s).0 h in
-        let o = sound ((are p.dot).0 p.stands) in
+        let o = old_held ((are p.dot).0 p.stands) in
         part_has tables x n (IsOld flat x n) p.dot.node p.dot.step s p.part o.0 o.1 o.2;
     whole = λ s p h st.
         let part = has_part_of tables x n (IsOld flat x n) s h in
         (found s).1 (record {
           dot = part.dot;
-          stands = (are part.dot).1 (whole part.old part.dot refl part.held);
+          stands = (are part.dot).1 (old_listed part.old part.dot refl part.held);
           part = part.part;
         });
   }

@@ -1,7 +1,7 @@
 -- The dotted rules of an item set that belong to what began before, and their parts.
 use Rattle.std.specs.Prelude.{◌≡◌, ◌↔◌, ◌⊎◌, ℕ, false, List, ◌++◌, Some}
 use Rattle.flatgrammar.specs.ItemClosures.{item_at}
-use Rattle.flatgrammar.specs.Parts.{IsPartOf}
+use Rattle.flatgrammar.specs.CalledParts.{IsPartOf}
 use Rattle.flatgrammar.specs.Positions.{In}
 use Rattle.flatgrammar.specs.TableViews.{callee_of, name_of}
 use Rattle.flatgrammar.specs.declared.closure.DottedRule.{DottedRule}
@@ -13,8 +13,8 @@ pub record Enters (tables : code_flat.Tables) (q : DottedRule) (m : ℕ) : Type 
   pub callee : callee_of tables (item_at 0 q) ≡ Some (m, next)
   pub no_name : name_of tables m ≡ false
 
--- Of the dotted rules of a set those with older origins, those of the augmented start before the first symbol, and those
--- of nodes that one of them enters.
+-- Of the dotted rules of a set those with older origins, those of the augmented start before the first symbol, and
+-- those of nodes that one of them enters.
 pub data IsOldDot (tables : code_flat.Tables) (n : ℕ) (older dots : List DottedRule) : DottedRule → Type 0 where
   older : {s : DottedRule} → In s older → IsOldDot tables n older dots s
   whole : {s : DottedRule} → n ≡ 0 → In s dots → s.node ≡ tables.start → IsOldDot tables n older dots s

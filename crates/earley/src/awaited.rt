@@ -1,6 +1,6 @@
 //! The parts of rules that can come next, by an item set.
 ghost use Rattle.std.specs.Prelude.{◌≡◌, ◌↔◌, ◌⊎◌, ℕ, List, [], IfOk};
-ghost use Rattle.flatgrammar.specs.Parts.{AreAwaited, IsPartOf};
+ghost use Rattle.flatgrammar.specs.CalledParts.{AreAwaited, IsPartOf};
 ghost use Rattle.flatgrammar.specs.Positions.{In};
 ghost use Rattle.flatgrammar.specs.declared.closure.DottedRule.{DottedRule as the_dot};
 ghost use Rattle.earleyitems.specs.ChartSets.{IsSet, set_at};

@@ -66,8 +66,8 @@ fn has_older(rows: &[BitRow], position: usize, n: usize) -> bool
     }
 }
 
-/// Returns the dotted rules that have a number below `n`, each once where the dotted rules are different. `Memory` if an
-/// allocation fails.
+/// Returns the dotted rules that have a number below `n`, each once where the dotted rules are different. `Memory` if
+/// an allocation fails.
 pub(crate) fn row_older_dots(
     alloc: Global,
     dots: &[DottedRule],

@@ -1,7 +1,7 @@
 -- The dotted rules of a set's items.
 -- Serves: Chart::dots
-use Rattle.std.proofs.Common.{◌≡◌, ℕ, Bool, true, false, if◌then◌else◌, Option, Some, None, List, [], ◌∷◌, ◌++◌, map, length, refl}
-use Rattle.std.proofs.Common.{Global, slice_get, sym, ◌∙◌, ap, subst, ◌≤◌, ◌<◌, arith, ◌+◌}
+use Rattle.std.proofs.Common.{◌≡◌, ℕ, Bool, true, false, if◌then◌else◌, Option, Some, None, List, [], ◌∷◌, ◌++◌, map}
+use Rattle.std.proofs.Common.{length, refl, Global, slice_get, sym, ◌∙◌, ap, subst, ◌≤◌, ◌<◌, arith, ◌+◌}
 use Rattle.std.specs.Prelude.{nat_lt}
 use Rattle.std.proofs.lemmas.Bool.Decides.{nat_tests}
 use Rattle.std.proofs.lemmas.List.{map-append}
@@ -13,8 +13,7 @@ use Rattle.flatgrammar.specs.Positions.{In, now, on}
 use Rattle.flatgrammar.specs.declared.closure.DottedRule.{DottedRule}
 use Rattle.flatgrammar.specs.declared.flat_item.Item.{Item}
 use Rattle.flatgrammar.specs.declared.tables.Tables as code_flat
-use Rattle.earleyitems.specs.ChartSets.{chart_of, older_dots, pair, set_at, AreDotsOf}
-use Rattle.earleyitems.specs.ChartSets.{AreOlderDotsOf, HasOlderDot}
+use Rattle.earleyitems.specs.ChartSets.{chart_of, older_dots, pair, set_at, AreDotsOf, AreOlderDotsOf, HasOlderDot}
 use Rattle.earleyitems.specs.EarleySets.{EarleySet, predictions_of}
 use Rattle.earleyitems.specs.SetViews.{expand, full, view, views}
 use Rattle.earleyitems.specs.declared.sets.Record.{Record}
@@ -59,8 +58,7 @@ in_pairs_at [] s i h = elim h [ ]
 in_pairs_at (b ∷ items) s i (now same) =
     let position : at s.node s.step ≡ at b.node b.step = ap (λ v. v.0) same in
     let node : b.node ≡ s.node = sym (ap node_at position) in
-    let step : b.step ≡ s.step = sym (ap step_at position) in
-    (
+    let step : b.step ≡ s.step = sym (ap step_at position) in (
       record { item = b; stands = now refl; is = λ k. record { node = node k; step = step k } },
       sym (ap (λ v. v.1) same),
     )

@@ -16,4 +16,4 @@ pub mod LeadOnLemmas
 pub mod LiftLemmas
 pub mod StackClosureLemmas
 pub mod OldStacksLemmas
-pub mod PartsLemmas
+pub mod CalledPartsLemmas

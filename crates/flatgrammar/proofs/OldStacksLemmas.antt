@@ -1,11 +1,10 @@
 -- Old items are on top of the stacks that a walk leads to after a symbol.
 -- Serves: stacks_decide.
-use Rattle.std.proofs.Common.{◌≡◌, ◌⊎◌, inl, inr, ℕ, ◌+◌, ◌<◌, ◌≤◌, List, [], ◌∷◌, refl, sym, ◌∙◌}
-use Rattle.std.proofs.Common.{subst, arith}
+use Rattle.std.proofs.Common.{◌≡◌, ◌⊎◌, inl, inr, ℕ, ◌+◌, ◌<◌, ◌≤◌, List, [], ◌∷◌, refl, sym, ◌∙◌, subst, arith}
 use Rattle.std.proofs.lemmas.Bool.{cases_lt}
 use Rattle.std.specs.Prelude.{slice_get, Bool, true, false, Option, Some, None}
-use Rattle.flatgrammar.specs.Flat.{Flat, Node, Name, Dot, Has, Starts, starts, name_starts, Ends}
-use Rattle.flatgrammar.specs.Flat.{ends, name_ends, Calls}
+use Rattle.flatgrammar.specs.Flat.{Flat, Node, Name, Dot, Has, Starts, starts, name_starts, Ends, ends, name_ends}
+use Rattle.flatgrammar.specs.Flat.{Calls}
 use Rattle.flatgrammar.specs.Holds.{Holds, begins, called, has_read, returned}
 use Rattle.flatgrammar.specs.Stacks as st
 use Rattle.flatgrammar.specs.Stacks.{node_at, AreUncounted, IsDoneAt, MarksLast, call, tail_call, Reach, ReadBy}
@@ -13,8 +12,8 @@ use Rattle.flatgrammar.specs.OldItems as old
 use Rattle.flatgrammar.specs.OldItems.{IsNameNode, IsOld, Walks}
 use Rattle.flatgrammar.proofs.FlatNullableLemmas.{ends_null, goes_through, passes_where_begun}
 use Rattle.flatgrammar.proofs.StacksLemmas.{bool_cases, IsBegin, calls_node, reads_node, EndsAs, own_starts, starts_end}
-use Rattle.flatgrammar.proofs.StacksLemmas.{ends_start, starts_begin, ends_done, origin_before, return_held, Under, bottom}
-use Rattle.flatgrammar.proofs.StacksLemmas.{frame, hidden, chain_under, back_ends, hidden_end, IsBegun, IsAt}
+use Rattle.flatgrammar.proofs.StacksLemmas.{ends_start, starts_begin, ends_done, origin_before, return_held, Under}
+use Rattle.flatgrammar.proofs.StacksLemmas.{bottom, frame, hidden, chain_under, back_ends, hidden_end, IsBegun, IsAt}
 use Rattle.flatgrammar.proofs.StacksLemmas.{climb_up, began_so, base_of}
 
 module _ (flat : Flat) (uncounted : AreUncounted flat) (x : List ℕ) (last : Dot → Bool) (reports : MarksLast flat last)
@@ -185,11 +184,11 @@ module _ (flat : Flat) (uncounted : AreUncounted flat) (x : List ℕ) (last : Do
   entered_climb {m = m} {p = r} (returned {i = i} {k = k} {s = s} {q = q} {p = p} h e g c takes) at_n from_n below b =
       let one = origin_before flat uncounted x h in
       let two = origin_before flat uncounted x g in
-      let inner : k ≡ n = omega (arith, one, two, at_n, from_n) in
+      let at_last : k ≡ n = omega (arith, one, two, at_n, from_n) in
       step_over below
-      (entered_climb g inner from_n below (λ p' same d. b p' (same ∙ sym (calls_node flat c)) d)) c
-      (subst (λ v. Holds flat x v p n) at_n (subst (λ v. Holds flat x m p v) inner h)) e
-      (λ v up. entered_climb h at_n inner v up)
+      (entered_climb g at_last from_n below (λ p' same d. b p' (same ∙ sym (calls_node flat c)) d)) c
+      (subst (λ v. Holds flat x v p n) at_n (subst (λ v. Holds flat x m p v) at_last h)) e
+      (λ v up. entered_climb h at_n at_last v up)
 
   -- of a node that began before
   kernel_climb : {m i : ℕ} {p : Dot} → Holds flat x m p i → m ≡ n → i < n → (below : List Dot)
@@ -210,8 +209,8 @@ module _ (flat : Flat) (uncounted : AreUncounted flat) (x : List ℕ) (last : Do
       by (inl g) = inl (old.begun (st.reads g rd (subst (λ v. Has set v) same_letter lies)))
       by (inr g) = absurd (reports.no_read q r set g.0 rd)
   kernel_climb {m = m} {p = r} (returned {i = i} {k = k} {s = s} {q = q} {p = p} h e g c takes) at_n lt below b =
-      by (cases_lt k n) (λ v up. kernel_climb h at_n up v) (λ inner. kernel_climb g inner lt below
-      (λ p' same d. b p' (same ∙ sym (calls_node flat c)) d)) (λ inner v up. entered_climb h at_n inner v up)
+      by (cases_lt k n) (λ v up. kernel_climb h at_n up v) (λ at_last. kernel_climb g at_last lt below
+      (λ p' same d. b p' (same ∙ sym (calls_node flat c)) d)) (λ at_last v up. entered_climb h at_n at_last v up)
     where
       outer : IsAt flat uncounted x last reports k q below
       outer = climb_up flat uncounted x last reports g below (λ p' same d. b p' (same ∙ sym (calls_node flat c)) d)
@@ -238,9 +237,9 @@ module _ (flat : Flat) (uncounted : AreUncounted flat) (x : List ℕ) (last : Do
       by (inl less) kernel at_q entered = from outer (bool_cases (last r)) (λ v begun. kernel v less begun)
       by (inr le) kernel at_q entered =
           let one = origin_before flat uncounted x h in
-          let inner : k ≡ n = omega (arith, one, at_n, le) in
-          step_over below (at_q inner) c
-          (subst (λ v. Holds flat x v p n) at_n (subst (λ v. Holds flat x m p v) inner h)) e (entered inner)
+          let at_last : k ≡ n = omega (arith, one, at_n, le) in
+          step_over below (at_q at_last) c
+          (subst (λ v. Holds flat x v p n) at_n (subst (λ v. Holds flat x m p v) at_last h)) e (entered at_last)
 
   old_walk : {s i : ℕ} → IsOld flat x n s i → (p : Dot) → node_at p ≡ s → Holds flat x n p i
       → (below : List Dot) × WalkAt p below

@@ -15,4 +15,4 @@ pub mod Ways
 pub mod ClassBounds
 pub mod Stacks
 pub mod OldItems
-pub mod Parts
+pub mod CalledParts

@@ -65,15 +65,15 @@ callee (Opt m) k = if eqb k 0 then Some (m, 2) else None
 callee (Name r) k = None
 callee Nothing k = None
 
-abbrev pub is_name : Node → Bool
-is_name (Letters sets) = false
-is_name (Concat ms) = false
-is_name (Alt ms) = false
-is_name (Rep a b m) = false
-is_name (Iterations b m) = false
-is_name (Opt m) = false
-is_name (Name r) = true
-is_name Nothing = false
+abbrev pub is_name_node : Node → Bool
+is_name_node (Letters sets) = false
+is_name_node (Concat ms) = false
+is_name_node (Alt ms) = false
+is_name_node (Rep a b m) = false
+is_name_node (Iterations b m) = false
+is_name_node (Opt m) = false
+is_name_node (Name r) = true
+is_name_node Nothing = false
 
 -- the steps below this may call something
 abbrev pub call_count : Node → ℕ

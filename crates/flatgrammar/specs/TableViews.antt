@@ -6,7 +6,7 @@ use Rattle.flatgrammar.specs.declared.flat_node.Node as code_node
 use Rattle.flatgrammar.specs.declared.tables.Tables as code_flat
 use Rattle.flatgrammar.specs.Flat.{Flat, Set}
 use Rattle.flatgrammar.specs.FlatViews.{node_of}
-use Rattle.flatgrammar.specs.NodeSteps.{begin_count, is_done, is_name, callee, takes, read_at}
+use Rattle.flatgrammar.specs.NodeSteps.{begin_count, is_done, is_name_node, callee, takes, read_at}
 use Rattle.flatgrammar.specs.Nullable.{Nullable}
 use Rattle.flatgrammar.specs.Targets.{Target}
 
@@ -40,13 +40,13 @@ callee_in (Some node) k = callee (node_of node) k
 abbrev pub callee_of : code_flat.Tables → Item → Option (ℕ × ℕ)
 callee_of flat item = callee_in (slice_get flat.nodes.items item.node) item.step
 
-abbrev pub name_in : Option code_node.Node → Bool
-name_in None = false
-name_in (Some node) = is_name (node_of node)
+abbrev pub is_name_in : Option code_node.Node → Bool
+is_name_in None = false
+is_name_in (Some node) = is_name_node (node_of node)
 
 -- a node is a name
 abbrev pub name_of : code_flat.Tables → ℕ → Bool
-name_of flat s = name_in (slice_get flat.nodes.items s)
+name_of flat s = is_name_in (slice_get flat.nodes.items s)
 
 abbrev pub done_in : Option code_node.Node → ℕ → Bool
 done_in None k = false

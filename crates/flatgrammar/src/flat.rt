@@ -123,6 +123,13 @@ impl Flat {
         }
     }
 
+    /// Returns the node of a rule's body, if there is such a rule.
+    pub fn body(&self, rule: usize) -> Option<usize>
+        ensures { result ≡ slice_get self.now.bodies rule }
+    {
+        self.tables.bodies.get(rule).copied()
+    }
+
     /// Returns the number of the augmented start.
     pub fn start(&self) -> usize
         ensures { result ≡ self.now.start }

@@ -3,8 +3,8 @@ ghost use Rattle.std.specs.Prelude.{◌≡◌, ◌≢◌, ◌↔◌, ◌+◌, �
 ghost use Rattle.ruletable.specs.Letters.{small};
 ghost use Rattle.flatgrammar.specs.Flat.{Has, Rep, Iterations};
 ghost use Rattle.flatgrammar.specs.FlatViews.{set_of, node_of};
-ghost use Rattle.flatgrammar.specs.NodeSteps.{begin_count, is_done, is_name, callee, call_count, turned, takes, read_at};
-ghost use Rattle.flatgrammar.specs.NodeSteps.{IfSomeSet};
+ghost use Rattle.flatgrammar.specs.NodeSteps.{begin_count, is_done, is_name_node, callee, call_count, turned, takes};
+ghost use Rattle.flatgrammar.specs.NodeSteps.{read_at, IfSomeSet};
 
 /// A set of symbols.
 #[derive(Clone, Copy)]
@@ -219,7 +219,7 @@ pub(crate) fn callee(node: &Node, step: usize) -> Option<(usize, usize)>
 
 /// Returns whether a node is a name.
 pub(crate) fn is_name(node: &Node) -> bool
-    ensures { result ≡ is_name (node_of node.now) }
+    ensures { result ≡ is_name_node (node_of node.now) }
 {
     match node {
         Node::Name(_) => true,

@@ -1,8 +1,9 @@
 //! The tables of a lowered grammar, by node.
 ghost use Rattle.std.specs.Prelude.{◌≡◌, ◌≢◌, ◌↔◌, ◌+◌, ◌^◌, ◌<◌, Some, None, IsTrue};
 ghost use Rattle.flatgrammar.specs.NodeSteps.{IfSomeSet};
-ghost use Rattle.flatgrammar.specs.TableViews.{call_of, callee_of, done_of, name_of, null_of, takes_of, read_of, rooted, start_target};
-ghost use Rattle.flatgrammar.specs.Parts.{IsPartOf};
+ghost use Rattle.flatgrammar.specs.TableViews.{call_of, callee_of, done_of, name_of, null_of, takes_of, read_of};
+ghost use Rattle.flatgrammar.specs.TableViews.{rooted, start_target};
+ghost use Rattle.flatgrammar.specs.CalledParts.{IsPartOf};
 ghost use Rattle.flatgrammar.specs.declared.closure.DottedRule.{DottedRule as the_dot};
 ghost use Rattle.flatgrammar.specs.ItemClosures.{closure_of, inlined_of, lists_of, readers_of as the_readers_of};
 
@@ -60,8 +61,8 @@ pub fn call(flat: &Tables, item: Item) -> Option<(usize, usize)>
     rooted(flat, callee(node, item.step))
 }
 
-/// Returns the node that an item's dotted rule calls, and the step after it. Where a name is called, that is the node of
-/// the name.
+/// Returns the node that an item's dotted rule calls, and the step after it. Where a name is called, that is the node
+/// of the name.
 pub fn called_node(flat: &Tables, item: Item) -> Option<(usize, usize)>
     ensures { result ≡ callee_of flat.now item }
 {

@@ -1,10 +1,9 @@
 -- Walks by the tables are those of stacks, and how they come about.
 -- Serves: awaited.
-use Rattle.std.proofs.Common.{◌≡◌, ◌⊎◌, inl, inr, ℕ, ◌<◌, Bool, true, false, List, [], ◌∷◌, refl}
-use Rattle.std.proofs.Common.{sym, ◌∙◌, ap, subst, arith}
+use Rattle.std.proofs.Common.{◌≡◌, ◌⊎◌, inl, inr, ℕ, ◌<◌, Bool, true, false, List, [], ◌∷◌, refl, sym, ◌∙◌, ap, subst}
+use Rattle.std.proofs.Common.{arith}
 use Rattle.std.specs.Prelude.{slice_get, Option, Some, None}
-use Rattle.flatgrammar.specs.Flat.{Dot, at}
-use Rattle.flatgrammar.specs.Flat.{Starts, starts, name_starts, Calls}
+use Rattle.flatgrammar.specs.Flat.{Dot, at, Starts, starts, name_starts, Calls}
 use Rattle.flatgrammar.specs.FlatViews.{node_of}
 use Rattle.flatgrammar.specs.ItemClosures as closures
 use Rattle.flatgrammar.specs.ItemClosures.{item_at, dot}
@@ -13,13 +12,12 @@ use Rattle.flatgrammar.specs.Nullable.{Nullable}
 use Rattle.flatgrammar.specs.OldItems as old
 use Rattle.flatgrammar.specs.OldItems.{IsNameNode, Walks}
 use Rattle.flatgrammar.specs.Stacks.{IsDoneAt}
-use Rattle.flatgrammar.specs.TableViews.{AreNulls, GiveTargets, callee_of, count_in, name_of}
-use Rattle.flatgrammar.specs.TableViews.{null_in, null_of}
+use Rattle.flatgrammar.specs.TableViews.{AreNulls, GiveTargets, callee_of, count_in, name_of, null_in, null_of}
 use Rattle.flatgrammar.specs.declared.flat_node.Node as code_node
 use Rattle.flatgrammar.specs.declared.tables.Tables as code_flat
 use Rattle.flatgrammar.proofs.CallOfLemmas.{begin_below, get_map, get_unmap}
 use Rattle.flatgrammar.proofs.NodeStepsLemmas.{begins_is}
-use Rattle.flatgrammar.proofs.PartsLemmas.{callee_calls, calls_callee, named_node, no_name, node_named, not_named}
+use Rattle.flatgrammar.proofs.CalledPartsLemmas.{callee_calls, calls_callee, named_node, no_name, node_named, not_named}
 use Rattle.lazydfa.specs.declared.conts.Cont.{Cont}
 use Rattle.lazydfa.specs.Conts.{after, last_of, Adds, AreKept, Begun, IsAdded, IsIdOf, LedBy, here, on}
 use Rattle.lazydfa.specs.NameWalks.{WalkCalls, enters, passes, WalkGoes}
@@ -86,9 +84,11 @@ module _ (tables : code_flat.Tables) where
         by : (last_of tables (at n next) ≡ true) ⊎ (last_of tables (at n next) ≡ false)
             → Walked from (at s begun.step ∷ after tables n next below)
         by (inl last) =
-            rw last (old.enters_last w (callee_calls tables n k is) (no_name tables s is_false) (begun_start s begun.step begun.begins) last)
+            rw last (old.enters_last w (callee_calls tables n k is) (no_name tables s is_false)
+            (begun_start s begun.step begun.begins) last)
         by (inr last) =
-            rw last (old.enters w (callee_calls tables n k is) (no_name tables s is_false) (begun_start s begun.step begun.begins) last)
+            rw last (old.enters w (callee_calls tables n k is) (no_name tables s is_false)
+            (begun_start s begun.step begun.begins) last)
     step_walked {from = from} (at n k ∷ below) w (inl (passes {s = s} {next = next} is name null there)) =
         subst (λ v. Walked from v) (sym there)
         (old.passes w (callee_calls tables n k is) (named_node tables s name) (null_there s null))
@@ -105,14 +105,14 @@ module _ (tables : code_flat.Tables) where
     led_walked (here h) = old.begun h
     led_walked (on {stack = stack} h g) = step_walked stack (led_walked h) g
 
-    returned : (p r : Dot) (below : List Dot) → IsDoneAt (flat_of tables) p
+    walk_returned : (p r : Dot) (below : List Dot) → IsDoneAt (flat_of tables) p
         → WalkGoes tables (p ∷ r ∷ below) (r ∷ below)
-    returned (at n k) r below d = inr (done_reported tables targets d, refl, λ none. cc none)
+    walk_returned (at n k) r below d = inr (done_reported tables targets d, refl, λ none. cc none)
 
-    entered : {s : ℕ} {p q r : Dot} (below next : List Dot) → Calls (flat_of tables) q s r
+    walk_entered : {s : ℕ} {p q r : Dot} (below next : List Dot) → Calls (flat_of tables) q s r
         → (IsNameNode (flat_of tables) s → ⊥) → Starts (flat_of tables) s p
         → ((n l : ℕ) → r ≡ at n l → after tables n l below ≡ next) → WalkGoes tables (q ∷ below) (p ∷ next)
-    entered {s = s} {p = p} {q = q} {r = r} below next c other st left =
+    walk_entered {s = s} {p = p} {q = q} {r = r} below next c other st left =
         let e = calls_callee tables c in
         let b = start_begun st other in
         subst (λ v. WalkGoes tables (v ∷ below) (p ∷ next)) (sym e.3)
@@ -136,11 +136,11 @@ module _ (tables : code_flat.Tables) where
 
     pub walked_led : {from : List Dot → Type 0} {a : List Dot} → Walked from a → LedBy (WalkGoes tables) from a
     walked_led (old.begun h) = here h
-    walked_led (old.returns {p = p} {r = r} {below = below} w d) = on (walked_led w) (returned p r below d)
+    walked_led (old.returns {p = p} {r = r} {below = below} w d) = on (walked_led w) (walk_returned p r below d)
     walked_led (old.enters {r = r} {below = below} w c other st is_false) =
-        on (walked_led w) (entered below (r ∷ below) c other st (kept_after below is_false))
+        on (walked_led w) (walk_entered below (r ∷ below) c other st (kept_after below is_false))
     walked_led (old.enters_last {below = below} w c other st is_true) =
-        on (walked_led w) (entered below below c other st (left_after below is_true))
+        on (walked_led w) (walk_entered below below c other st (left_after below is_true))
     walked_led (old.passes {s = s} {q = q} {r = r} {below = below} w c name null) =
         let e = calls_callee tables c in
         on (walked_led w) (subst (λ v. WalkGoes tables (v ∷ below) (r ∷ below)) (sym e.3)

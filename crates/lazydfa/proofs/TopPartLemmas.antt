@@ -6,7 +6,7 @@ use Rattle.std.proofs.lemmas.Bool.{cases_lt}
 use Rattle.std.proofs.lemmas.Option.{slice_get_within}
 use Rattle.std.specs.Prelude.{slice_get, Option, Some}
 use Rattle.flatgrammar.specs.Flat.{Dot, at}
-use Rattle.flatgrammar.specs.Parts.{IsPartOf}
+use Rattle.flatgrammar.specs.CalledParts.{IsPartOf}
 use Rattle.flatgrammar.specs.Positions.{In}
 use Rattle.flatgrammar.specs.declared.closure.DottedRule.{DottedRule}
 use Rattle.flatgrammar.specs.declared.tables.Tables as code_flat
@@ -69,8 +69,8 @@ module _ (tables : code_flat.Tables) (conts : List Cont) (ids : List ℕ) (old :
 
   module _ (count id : ℕ) (parts new : List DottedRule) (stands : slice_get ids count ≡ Some id)
       (adds : AddsParts tables (IsFirstStack conts ids count) old parts) where
-    wider : {stack : List Dot} → IsFirstStack conts ids count stack → IsFirstStack conts ids (count + 1) stack
-    wider f = record {
+    wider_stack : {stack : List Dot} → IsFirstStack conts ids count stack → IsFirstStack conts ids (count + 1) stack
+    wider_stack f = record {
       position = f.position;
       before = (let lt = f.before in omega (arith, lt));
       id = f.id;
@@ -94,7 +94,7 @@ module _ (tables : code_flat.Tables) (conts : List Cont) (ids : List ℕ) (old :
 
     part_wider : {s : DottedRule} → IsPartOnTop tables (IsFirstStack conts ids count) s
         → IsPartOnTop tables (IsFirstStack conts ids (count + 1)) s
-    part_wider p = record { node = p.node; step = p.step; below = p.below; is = wider p.is; part = p.part }
+    part_wider p = record { node = p.node; step = p.step; below = p.below; is = wider_stack p.is; part = p.part }
 
     pub parts_passed : id ≡ 0 → new ≡ parts → AddsParts tables (IsFirstStack conts ids (count + 1)) old new
     parts_passed none same s = (

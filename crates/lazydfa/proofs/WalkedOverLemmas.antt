@@ -1,7 +1,7 @@
 -- Walks over suffixes, and the parts on top of them.
 -- Serves: awaited.
-use Rattle.std.proofs.Common.{◌≡◌, ◌⊎◌, inl, inr, ◌↔◌, ℕ, zero, suc, ◌+◌, ◌<◌, ◌≤◌, Bool, true, false, List, []}
-use Rattle.std.proofs.Common.{◌∷◌, ◌++◌, length, refl, sym, ◌∙◌, ap, subst, arith, take}
+use Rattle.std.proofs.Common.{◌≡◌, ◌⊎◌, inl, inr, ◌↔◌, ℕ, zero, suc, ◌+◌, ◌<◌, ◌≤◌, Bool, true, false, List, [], ◌∷◌}
+use Rattle.std.proofs.Common.{◌++◌, length, refl, sym, ◌∙◌, ap, subst, arith, take}
 use Rattle.std.specs.Prelude.{slice_get, Some, Contains}
 use Rattle.flatgrammar.specs.Flat.{Dot, at}
 use Rattle.flatgrammar.specs.Positions.{In}
@@ -87,18 +87,18 @@ module _ (tables : code_flat.Tables) where
     IsOver a = Lifted (LedBy (WalkGoes tables) tops) under a
         ⊎ (EndsSome tops × LedBy (WalkGoes tables) (λ v. under ≡ v) a)
 
-    split : (n k : ℕ) (top : List Dot) {b : List Dot} → LedBy (WalkGoes tables) tops (at n k ∷ top)
+    split_goes : (n k : ℕ) (top : List Dot) {b : List Dot} → LedBy (WalkGoes tables) tops (at n k ∷ top)
         → WalkGoes tables (at n k ∷ (top ++ under)) b → IsOver b
-    split n k top h (inl (enters {s = s} {next = next} is is_false begun)) =
+    split_goes n k top h (inl (enters {s = s} {next = next} is is_false begun)) =
         inl (record {
           top = at s begun.step ∷ after tables n next top;
           is = on h (inl (enters is is_false (record { step = begun.step; begins = begun.begins; is = refl })));
           stack_is = begun.is ∙ ap (λ v. at s begun.step ∷ v) (sym (after_on n next top under));
         })
-    split n k top h (inl (passes {next = next} is is_true null there)) =
+    split_goes n k top h (inl (passes {next = next} is is_true null there)) =
         inl (record { top = at n next ∷ top; is = on h (inl (passes is is_true null refl)); stack_is = there })
-    split n k [] h (inr e) = inr ((at n k ∷ [], h, (e.0, refl)), here (sym e.1))
-    split n k (t ∷ top) h (inr e) =
+    split_goes n k [] h (inr e) = inr ((at n k ∷ [], h, (e.0, refl)), here (sym e.1))
+    split_goes n k (t ∷ top) h (inr e) =
         inl (record { top = t ∷ top; is = on h (inr (e.0, refl, λ none. cc none)); stack_is = e.1 })
 
     over_goes : {a b : List Dot} → IsOver a → WalkGoes tables a b → IsOver b
@@ -106,7 +106,7 @@ module _ (tables : code_flat.Tables) where
       where
         by : (top : List Dot) → LedBy (WalkGoes tables) tops top → a ≡ top ++ under → IsOver b
         by [] h same = absurd (led_some some h refl)
-        by (at n k ∷ top) h same = split n k top h (subst (λ v. WalkGoes tables v b) same m)
+        by (at n k ∷ top) h same = split_goes n k top h (subst (λ v. WalkGoes tables v b) same m)
     over_goes (inr g) m = inr (g.0, on g.1 m)
 
     pub led_over : {a : List Dot} → LedBy (WalkGoes tables) (Lifted tops under) a → IsOver a
@@ -138,7 +138,8 @@ module _ (tables : code_flat.Tables) where
     pub over_led : {a : List Dot} → (a ≡ [] → ⊥) → IsOver a → LedBy (WalkGoes tables) (Lifted tops under) a
     over_led {a = a} full (inl g) =
         subst (λ v. LedBy (WalkGoes tables) (Lifted tops under) v) (sym g.stack_is) (all_lifted g.is)
-    over_led {a = a} full (inr g) = led_by_all (λ b same. subst (λ v. LedBy (WalkGoes tables) (Lifted tops under) v) same
+    over_led {a = a} full (inr g) = led_by_all (λ b same. subst (λ v. LedBy (WalkGoes tables) (Lifted tops under) v)
+        same
         (past_end g.0.0 g.0.1 g.0.2 (λ none. full (nothing_led g.1 none)))) g.1
 
     -- the parts over what is below
@@ -267,8 +268,8 @@ module _ (tables : code_flat.Tables) (first : List Cont) (given suffixes : List 
     older_now : AreOlder conts
     older_now = down.kept.older older
 
-    some : (b : List Dot) → IsStackOf conts ids b → b ≡ [] → ⊥
-    some = stacks_some conts ids older_now down.within
+    some_stack : (b : List Dot) → IsStackOf conts ids b → b ≡ [] → ⊥
+    some_stack = stacks_some conts ids older_now down.within
 
     abbrev under : List Dot
     under = below_of conts (take left suffixes)
@@ -280,7 +281,7 @@ module _ (tables : code_flat.Tables) (first : List Cont) (given suffixes : List 
         by : In s parts ⊎ IsPartOnTop tables (IsStackOf new more) s → In s before ⊎ IsPartOnTop tables
             (IsWalkedOver tables first given suffixes) s
         by (inl earlier) = down.found s earlier
-        by (inr p) = inr (down.back s (top_part tables (IsStackOf conts ids) under some
+        by (inr p) = inr (down.back s (top_part tables (IsStackOf conts ids) under some_stack
             ((walk_parts tables conts new ids more ended walked).0 p)))
 
     earlier_found : (s : DottedRule) → In s parts → In s added
@@ -304,10 +305,11 @@ module _ (tables : code_flat.Tables) (first : List Cont) (given suffixes : List 
         last : (s : DottedRule) → In s parts ⊎ IsPartOnTop tables (IsWalkedOver tables conts ids (take left suffixes)) s
             → In s added
         last s (inl h) = earlier_found s h
-        last s (inr p) = which s (split_parts tables (IsStackOf conts ids) under some p)
+        last s (inr p) = which s (split_parts tables (IsStackOf conts ids) under some_stack p)
 
     pub not_ended : ended ≡ false → AddsParts tables (IsWalkedOver tables first given suffixes) before added
-    not_ended is_false = down_done (λ s e p. let is_true = (walk_ends tables conts new ids more ended walked).1 e in cc (is_true, is_false))
+    not_ended is_false = down_done (λ s e p. let is_true = (walk_ends tables conts new ids more ended walked).1 e in
+        cc (is_true, is_false))
 
     pub none_left : left ≡ 0 → AddsParts tables (IsWalkedOver tables first given suffixes) before added
     none_left none = down_done (λ s e p. nothing_has tables
@@ -318,8 +320,8 @@ module _ (tables : code_flat.Tables) (first : List Cont) (given suffixes : List 
     module _ (down_to suffix : ℕ) (next : List ℕ) (is_ended : ended ≡ true) (left_is : left ≡ down_to + 1)
         (suffix_is : slice_get suffixes down_to ≡ Some suffix) (empty : List ℕ) (is_empty : empty ≡ [])
         (one : IsAdded empty next suffix) (are : AreSuffixes first suffixes) where
-      only : (id : ℕ) → Contains next id → id ≡ suffix
-      only id h = one.only id (subst (λ v. Contains v id) (one.grown ∙ ap (λ v. v ++ one.added) is_empty) h)
+      only_suffix : (id : ℕ) → Contains next id → id ≡ suffix
+      only_suffix id h = one.only id (subst (λ v. Contains v id) (one.grown ∙ ap (λ v. v ++ one.added) is_empty) h)
 
       suffix_at : (suffix ≤ length first) × (stack_of first suffix ≡ [] → ⊥)
       suffix_at = are suffix (contains_at suffixes down_to suffix suffix_is)
@@ -355,7 +357,7 @@ module _ (tables : code_flat.Tables) (first : List Cont) (given suffixes : List 
           → below_of conts (take left suffixes) ≡ a
       from_next a g =
           let top : g.top ≡ stack_of new suffix =
-          g.is.is ∙ ap (λ v. stack_of new v) (only g.is.id g.is.stands) in
+          g.is.is ∙ ap (λ v. stack_of new v) (only_suffix g.is.id g.is.stands) in
           under_is ∙ (ap (λ v. v ++ below_of new older_suffixes) (sym top) ∙ sym g.stack_is)
 
       suffix_some : (k : ℕ) → k ≡ suffix → 0 < suffix
@@ -366,14 +368,14 @@ module _ (tables : code_flat.Tables) (first : List Cont) (given suffixes : List 
       goes_down = record {
         kept = kept_both first conts new down.kept kept;
         within = λ id h.
-            let same = only id h in
+            let same = only_suffix id h in
             let lt = suffix_some suffix refl in
             let le = kept_within first new (kept_both first conts new down.kept kept) suffix suffix_at.0 in
             (omega (arith, same, lt), omega (arith, same, le));
         most = let le = down.most in omega (arith, le, left_is);
         found = over_found;
         rest = λ s h. after s (down.rest s h);
-        back = λ s p. down.back s (under_part tables (IsStackOf conts ids) under some
+        back = λ s p. down.back s (under_part tables (IsStackOf conts ids) under some_stack
             ((walk_ends tables conts new ids more ended walked).0 is_ended)
             (parts_more (λ a h. led_more from_next h) p));
       }
@@ -389,4 +391,4 @@ module _ (tables : code_flat.Tables) (first : List Cont) (given suffixes : List 
               (IsWalkedOver tables conts ids (take left suffixes)) s
               → In s added ⊎ IsPartOnTop tables (IsWalkedOver tables new next older_suffixes) s
           after s (inl h) = inl (earlier_found s h)
-          after s (inr p) = which s (split_parts tables (IsStackOf conts ids) under some p)
+          after s (inr p) = which s (split_parts tables (IsStackOf conts ids) under some_stack p)

@@ -2,7 +2,7 @@
 use Rattle.std.specs.Prelude.{◌≡◌, ◌↔◌, ◌⊎◌, ℕ, Bool, true, false, List, [], ◌∷◌, Some}
 use Rattle.flatgrammar.specs.Flat.{Dot, at}
 use Rattle.flatgrammar.specs.ItemClosures.{begin_count, item_at, dot}
-use Rattle.flatgrammar.specs.Parts.{IsPartOf}
+use Rattle.flatgrammar.specs.CalledParts.{IsPartOf}
 use Rattle.flatgrammar.specs.Positions.{In}
 use Rattle.flatgrammar.specs.TableViews.{callee_of, done_of, name_of, null_of}
 use Rattle.flatgrammar.specs.declared.closure.DottedRule.{DottedRule}

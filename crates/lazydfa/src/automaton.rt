@@ -5,7 +5,7 @@ ghost use Rattle.flatgrammar.specs.Flat.{Concat, Iterations};
 ghost use Rattle.flatgrammar.specs.FlatVerdicts.{DerivesLine, IsFlatVerdict};
 ghost use Rattle.flatgrammar.specs.FlatViews.{node_of};
 ghost use Rattle.flatgrammar.specs.NodeSteps.{flat_of};
-ghost use Rattle.flatgrammar.specs.Parts.{AreAwaited};
+ghost use Rattle.flatgrammar.specs.CalledParts.{AreAwaited};
 ghost use Rattle.flatgrammar.specs.Stacks.{AreUncounted};
 ghost use Rattle.lazydfa.specs.ExpectedSets.{IsExpected};
 ghost use Rattle.lazydfa.specs.RunVerdicts.{IsOne};
@@ -271,7 +271,13 @@ impl Automaton {
             return Ok(None);
         }
         let state = stop.row / (classes.samples.len() + 1);
-        match parts_after(self.alloc, &self.tables, &mut self.memo, state, last.value()) {
+        match parts_after(
+            self.alloc,
+            &self.tables,
+            &mut self.memo,
+            state,
+            last.value(),
+        ) {
             Ok(reported) => Ok(reported),
             Err(error) => {
                 forget_all(&mut self.memo);

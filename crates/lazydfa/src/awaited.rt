@@ -1,7 +1,7 @@
 //! The parts of rules that can come next, by walks from the stacks that a symbol leads to.
 ghost use Rattle.std.specs.Prelude.{◌≡◌, ◌↔◌, ◌⊎◌, ◌<◌, ◌≤◌, ℕ, true, List, [], IfOk, IfSome, length, slice_get, Some};
 ghost use Rattle.std.specs.Prelude.{Contains};
-ghost use Rattle.flatgrammar.specs.Parts.{IsPartOf};
+ghost use Rattle.flatgrammar.specs.CalledParts.{IsPartOf};
 ghost use Rattle.flatgrammar.specs.Positions.{In};
 ghost use Rattle.flatgrammar.specs.declared.closure.DottedRule.{DottedRule as the_dot};
 ghost use Rattle.flatgrammar.specs.declared.tables.Tables.{Tables as the_tables};
@@ -102,7 +102,8 @@ pub(crate) fn parts_after(
     ensures memo { IfOk result (λ reported. (samples : List ℕ) → IsMemo tables.now samples memo.old
         → IsMemo tables.now samples memo.new) }
     ensures parts { IfOk result (λ reported. IfSome reported (λ parts. (got : State)
-        → slice_get memo.old.cache.states.items state ≡ Some got → AddsParts tables.now (λ v. LedBy (WalkGoes tables.now)
+        → slice_get memo.old.cache.states.items state ≡ Some got
+        → AddsParts tables.now (λ v. LedBy (WalkGoes tables.now)
         (Lifted (ReadsFrom tables.now value memo.old.cache.conts.items.items got.tops.items)
         (below_of memo.old.cache.conts.items.items memo.old.suffixes.items)) v) [] parts.items)) }
 {

@@ -6,7 +6,7 @@ use Rattle.std.specs.Prelude.{slice_get}
 use Rattle.flatgrammar.specs.Flat.{Node, Letters, Concat, Alt, Rep, Iterations, Opt, Name, Nothing}
 use Rattle.flatgrammar.specs.Operands.{IsOperand, AreOrdered}
 use Rattle.flatgrammar.proofs.SliceGetLemmas.{get_below, push_cases}
-use Rattle.lowering.specs.Lowered.{IsForest, IsRoot, OperandAt}
+use Rattle.lowering.specs.Lowered.{AreTrees, IsRoot, OperandAt}
 use Rattle.lowering.specs.Numbers.{ArePlanted}
 
 pub is_operand : (node : Node) (i m : ℕ) → OperandAt node i m → IsOperand node m
@@ -65,7 +65,7 @@ planted_push first nodes node tops long ordered p operands = record {
     of_node : (d : Node) (i m : ℕ) → node ≡ d → OperandAt d i m → slice_get tops i ≡ Some m
     of_node d i m same h = operands i m (subst (λ v. OperandAt v i m) (sym same) h)
 
-    both : IsForest nodes → (s t i j m : ℕ) (d e : Node) → Pushed s d → Pushed t e → OperandAt d i m → OperandAt e j m
+    both : AreTrees nodes → (s t i j m : ℕ) (d e : Node) → Pushed s d → Pushed t e → OperandAt d i m → OperandAt e j m
         → (s ≡ t) × (i ≡ j)
     both f s t i j m d e (inl at_s) (inl at_t) h g = f s t i j m d e at_s at_t h g
     both f s t i j m d e (inl at_s) (inr last) h g =

@@ -47,7 +47,7 @@ module _ (has : ℕ → Bool) (rules left : List Rule) (pruned : ArePruned has r
       let d = get_there (bodies left) id (omega (arith, below, all, same, count)) in
       (d.0, d.1, pruned.left_of id el d.0 is d.1)
 
-  body_was : (id : ℕ) (d : Element) → slice_get (bodies left) id ≡ Some d →
+  pub body_was : (id : ℕ) (d : Element) → slice_get (bodies left) id ≡ Some d →
       (el : Element) × (slice_get (bodies rules) id ≡ Some el) × IsLeftBody has rules el d
   body_was id d is =
       let below = get_below (bodies left) id is in
@@ -85,7 +85,7 @@ module _ (has : ℕ → Bool) (rules left : List Rule) (pruned : ArePruned has r
       by (no_body not) d = absurd (no_prose has left d)
 
   -- what is kept has productive parts alone
-  still_productive : {el d : Element} → Keeps has rules el d → IsProductive has left d
+  pub still_productive : {el d : Element} → Keeps has rules el d → IsProductive has left d
   still_productive k =
       let p = keeps_productive has rules k in record {
         word = p.word;

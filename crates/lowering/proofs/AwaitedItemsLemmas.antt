@@ -18,9 +18,9 @@ use Rattle.flatgrammar.specs.OldItems as oi
 use Rattle.flatgrammar.specs.OldItems.{IsNameNode, IsOld, HasPart}
 use Rattle.flatgrammar.specs.Holds.{Holds, begins, called, has_read}
 use Rattle.flatgrammar.specs.Stacks.{node_at}
-use Rattle.lowering.specs.Lowered.{letter_set, capped_most, Spells, spells, Shows, shows_text, shows_values, shows_range}
-use Rattle.lowering.specs.Lowered.{shows_concat, shows_alt, shows_rep, shows_iterations, shows_opt, shows_name, SpellAll}
-use Rattle.lowering.specs.Lowered.{shows_reversed, spell_more, IsLowered}
+use Rattle.lowering.specs.Lowered.{letter_set, capped_most, Spells, spells, Shows, shows_text, shows_values}
+use Rattle.lowering.specs.Lowered.{shows_range, shows_concat, shows_alt, shows_rep, shows_iterations, shows_opt}
+use Rattle.lowering.specs.Lowered.{shows_name, SpellAll, shows_reversed, spell_more, IsLowered}
 use Rattle.lowering.specs.AwaitedParts as w
 use Rattle.lowering.specs.Lowered.{ArePlaced, OperandAt}
 use Rattle.lowering.specs.AwaitedParts.{Spans, Awaits, AwaitsNext, AwaitsSome, Begun, IsAwaited, StandsIn, itself}
@@ -42,17 +42,17 @@ cap_at_most limit (Some b) (Some d) k is within =
     let same : b ≡ d = cc one in
     omega (arith, same, within)
 
-fewer : (j : ℕ) (b : Option ℕ) → der.AtMost (suc j) b → der.AtMost j b
-fewer j None h = tt
-fewer j (Some b) h = omega (arith, h)
+one_fewer : (j : ℕ) (b : Option ℕ) → der.AtMost (suc j) b → der.AtMost j b
+one_fewer j None h = tt
+one_fewer j (Some b) h = omega (arith, h)
 
 -- a further iteration that takes a letter
-taking : (count f m : ℕ) (d : Option ℕ) → Turned 0 d count f → der.AtMost (suc count) d
+takes_next : (count f m : ℕ) (d : Option ℕ) → Turned 0 d count f → der.AtMost (suc count) d
     → (l : ℕ) × Calling (Node.Iterations d m) f m l
-taking count f m None turned within =
+takes_next count f m None turned within =
     let zero_is : 0 ≡ f = omega (arith, turned) in
     (0, subst (λ v. Calling (Node.Iterations None m) v m 0) zero_is Calling.takes_uncounted)
-taking count f m (Some d) turned within = (f + 1, Calling.takes (omega (arith, turned, within)))
+takes_next count f m (Some d) turned within = (f + 1, Calling.takes (omega (arith, turned, within)))
 
 operand_one : (node : Node) (i m n : ℕ) → OperandAt node i m → OperandAt node i n → m ≡ n
 operand_one (g.Letters sets) i m n h o = absurd h
@@ -94,19 +94,19 @@ module _ (flat : Flat) (placed : ArePlaced flat) where
   not_start r is (under {t = t} {node = node} i u at_t h) same =
       placed.start t i node at_t (subst (λ v. OperandAt node i v) same h)
 
-  one_place : (r q : ℕ) {s u t : ℕ} {z y : List ℕ} → slice_get flat.bodies r ≡ Some s → slice_get flat.bodies q ≡ Some u
+  one_site : (r q : ℕ) {s u t : ℕ} {z y : List ℕ} → slice_get flat.bodies r ≡ Some s → slice_get flat.bodies q ≡ Some u
       → Up flat s z t → Up flat u y t → (r ≡ q) × (z ≡ y)
-  one_place r q {s = s} is other at_top at_top = (placed.apart r q s is other, refl)
-  one_place r q {s = s} is other at_top (under {t = t} {node = node} i up at_t h) =
+  one_site r q {s = s} is other at_top at_top = (placed.apart r q s is other, refl)
+  one_site r q {s = s} is other at_top (under {t = t} {node = node} i up at_t h) =
       absurd (not_start q other up (placed.above r s t i node is at_t h))
-  one_place r q {u = s} is other (under {t = t} {node = node} i up at_t h) at_top =
+  one_site r q {u = s} is other (under {t = t} {node = node} i up at_t h) at_top =
       absurd (not_start r is up (placed.above q s t i node other at_t h))
-  one_place r q {u = s} {t = m} is other (under {t = t} {z = z} {node = node} i up at_t h)
+  one_site r q {u = s} {t = m} is other (under {t = t} {z = z} {node = node} i up at_t h)
       (under {t = t'} {z = y} {node = node'} j up' at_t' h') =
       let same = placed.forest t' t j i m node' node at_t' at_t h' h in
       let t_is : t' ≡ t = same.0 in
       let i_is : i ≡ j = sym same.1 in
-      let rest = one_place r q is other up (subst (λ v. Up flat s y v) t_is up') in
+      let rest = one_site r q is other up (subst (λ v. Up flat s y v) t_is up') in
       (rest.0, (λ k. rest.1 k ++ i_is k ∷ []))
 
 abbrev pub is_name : Element → Bool
@@ -176,12 +176,12 @@ module _ (has : ℕ → Bool) (rules : List Rule) (judged : ℕ) (flat : Flat) (
       pub stands : StandsIn flat top site node
       pub spelled : Spelt node p
 
-    deeper : {s t i m : ℕ} {z : List ℕ} {p : Element} {node : Node} → slice_get flat.nodes s ≡ Some node
+    stands_deeper : {s t i m : ℕ} {z : List ℕ} {p : Element} {node : Node} → slice_get flat.nodes s ≡ Some node
         → OperandAt node i t → HasPartIn t z p m → HasPartIn s (i ∷ z) p m
-    deeper is place h = record {
+    stands_deeper is site_is h = record {
       node = h.node;
       has_part = h.has_part;
-      stands = inside is place h.stands;
+      stands = inside is site_is h.stands;
       spelled = h.spelled;
     }
 
@@ -244,7 +244,7 @@ module _ (has : ℕ → Bool) (rules : List Rule) (judged : ℕ) (flat : Flat) (
       operand : ℕ
       node : Node
       node_is : slice_get flat.nodes s ≡ Some node
-      place : OperandAt node 0 operand
+      site_is : OperandAt node 0 operand
       k : ℕ
       next : Dot
       held : Holds flat x mid (at s k) i
@@ -260,14 +260,14 @@ module _ (has : ℕ → Bool) (rules : List Rule) (judged : ℕ) (flat : Flat) (
         let cut = path_splits (OnLine x) u l in
         let capped = cap_at_most flat.limit b d (suc j) most within in
         let run = run_times has rules flat.limit flat lowered.spelled x line ds s c m d is sp 0 0 i cut.mid
-        (turned_none c d) (plus_zero j d (fewer j d capped)) cut.left in
+        (turned_none c d) (plus_zero j d (one_fewer j d capped)) cut.left in
         let next = iteration_on c d m (0 + j) run.to run.turned (next_plus_zero j d capped) in
         record {
           mid = cut.mid;
           operand = m;
           node = _;
           node_is = is;
-          place = (refl, refl);
+          site_is = (refl, refl);
           k = run.to;
           next = at s next.to;
           held = run.steps i (started (at s 0) (starts is Begins.rep));
@@ -280,15 +280,16 @@ module _ (has : ℕ → Bool) (rules : List Rule) (judged : ℕ) (flat : Flat) (
         let cut = path_splits (OnLine x) u l in
         let short = short_on_line x cut.left in
         let run = run_iterations has rules flat.limit flat lowered.spelled x line ds s m b d is most sp 0 0 i cut.mid
-        (turned_none 0 d) (no_iteration d) (plus_zero j b (fewer j b within)) (omega (arith, short, line)) cut.left in
+        (turned_none 0 d) (no_iteration d) (plus_zero j b (one_fewer j b within)) (omega (arith, short, line))
+        cut.left in
         let capped = cap_at_most flat.limit b d (suc j) most within in
-        let next = taking run.count run.to m d run.turned (less_most run.count j d run.fewer capped) in
+        let next = takes_next run.count run.to m d run.turned (less_most run.count j d run.fewer capped) in
         record {
           mid = cut.mid;
           operand = m;
           node = _;
           node_is = is;
-          place = (refl, refl);
+          site_is = (refl, refl);
           k = run.to;
           next = at s next.0;
           held = run.steps i (started (at s 0) (starts is Begins.iterations));
@@ -305,7 +306,7 @@ module _ (has : ℕ → Bool) (rules : List Rule) (judged : ℕ) (flat : Flat) (
       operand = m;
       node = _;
       node_is = is;
-      place = (refl, refl);
+      site_is = (refl, refl);
       k = 0;
       next = at s 2;
       held = started (at s 0) (starts is Begins.opt);
@@ -321,7 +322,7 @@ module _ (has : ℕ → Bool) (rules : List Rule) (judged : ℕ) (flat : Flat) (
           → Old s o → Lies x i v n → HasPartIn s z p m
       in_members {k = k} (w.here a) (spell_more {m = m} sp all) s ms is i o left h old l =
           let one = next_of ms k left in
-          deeper is one.is (in_called a i o m h old (calls is (Calling.member {k = k} one.is)) sp l)
+          stands_deeper is one.is (in_called a i o m h old (calls is (Calling.member {k = k} one.is)) sp l)
       in_members {k = k} (w.after {v = v} d rest) (spell_more {m = m} {ms = others} sp all) s ms is i o left h old l =
           let one = next_of ms k left in
           let cut = path_splits (OnLine x) v l in
@@ -338,7 +339,7 @@ module _ (has : ℕ → Bool) (rules : List Rule) (judged : ℕ) (flat : Flat) (
           → Lies x i v n → HasPartIn s z p m
       in_some {k = k} (w.this a) (spell_more {m = m} sp all) s ms is i left started old l =
           let one = next_of ms k left in
-          deeper is one.is (in_called a i i m (started (at s k) (starts is (Begins.alt one.below))) old
+          stands_deeper is one.is (in_called a i i m (started (at s k) (starts is (Begins.alt one.below))) old
           (calls is (Calling.alternative {k = k} one.is)) sp l)
       in_some {k = k} (w.later a) (spell_more {ms = others} sp all) s ms is i left started old l =
           let one = next_of ms k left in
@@ -368,11 +369,11 @@ module _ (has : ℕ → Bool) (rules : List Rule) (judged : ℕ) (flat : Flat) (
           (old_there refl i o t h old c (spells is (shows_alt all)) l) l
       in_called (w.rep bounds within ds a) i o t h old c sp l =
           let next = next_call bounds within ds t i sp l (λ p st. called h c st) in
-          deeper next.node_is next.place (in_called a next.mid i next.operand next.held
+          stands_deeper next.node_is next.site_is (in_called a next.mid i next.operand next.held
           (old_there refl i o t h old c sp l) next.call next.spelled next.right)
       in_called (w.opt a) i o t h old c sp l =
           let next = option_call t i sp l (λ p st. called h c st) in
-          deeper next.node_is next.place (in_called a next.mid i next.operand next.held
+          stands_deeper next.node_is next.site_is (in_called a next.mid i next.operand next.held
           (old_there refl i o t h old c sp l) next.call next.spelled next.right)
 
     -- in a node, each of whose starts stands in set i
@@ -388,11 +389,11 @@ module _ (has : ℕ → Bool) (rules : List Rule) (judged : ℕ) (flat : Flat) (
         in_some a all s ms is i refl started old l
     in_node (w.rep bounds within ds a) plain s i sp l started old =
         let next = next_call bounds within ds s i sp l started in
-        deeper next.node_is next.place
+        stands_deeper next.node_is next.site_is
         (in_called a next.mid i next.operand next.held old next.call next.spelled next.right)
     in_node (w.opt a) plain s i sp l started old =
         let next = option_call s i sp l started in
-        deeper next.node_is next.place
+        stands_deeper next.node_is next.site_is
         (in_called a next.mid i next.operand next.held old next.call next.spelled next.right)
 
   -- a rule that can begin at a position is predicted there
@@ -411,7 +412,8 @@ module _ (has : ℕ → Bool) (rules : List Rule) (judged : ℕ) (flat : Flat) (
       of_part (oi.calls h old c name) (spells at_s (shows_name found)) =
           λ q st. called h c (name_starts at_s (subst (λ k. slice_get flat.bodies k ≡ Some top) (sym found) is) st)
 
-      of_body : {body : Element} {v z : List ℕ} (s : ℕ) → AreStarted s i → Awaits has rules body v z (e.Name m) 0 → Spelt s body
+      of_body : {body : Element} {v z : List ℕ} (s : ℕ) → AreStarted s i → Awaits has rules body v z (e.Name m) 0
+          → Spelt s body
           → Lies x i v j → AreStarted top j
       of_body s inner w.name (spells at_s (shows_name found)) l =
           let count = lies_count x l in
@@ -459,7 +461,8 @@ module _ (has : ℕ → Bool) (rules : List Rule) (judged : ℕ) (flat : Flat) (
       started : AreStarted node.node a.start
       started = begun_started a.begun node.node node.at
 
-      in_body : {body p : Element} {v site : List ℕ} {k : ℕ} (b : Bool) → is_name body ≡ b → Awaits has rules body v site p k
+      in_body : {body p : Element} {v site : List ℕ} {k : ℕ} (b : Bool) → is_name body ≡ b
+          → Awaits has rules body v site p k
           → Spelt node.node body → Lies x a.start v n → a.start < n
           → HasPartIn n (IsOld flat x n) early into node.node site p k
       in_body false plain b sp l lt =
@@ -499,7 +502,7 @@ module _ (has : ℕ → Bool) (rules : List Rule) (judged : ℕ) (flat : Flat) (
     λ h.
         let found : IsNodeAwaited has rules judged flat x n s k =
         part_awaited has rules judged flat lowered x line letters n h in
-        let same = one_place flat lowered.placed found.rule rule found.node.top_is is (stands_up flat found.node.stands)
+        let same = one_site flat lowered.placed found.rule rule found.node.top_is is (stands_up flat found.node.stands)
         (stands_up flat stands) in (
           found.part,
           subst (λ v. IsAwaited has rules judged x n v site found.part k) same.0

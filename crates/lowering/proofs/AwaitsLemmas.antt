@@ -1,7 +1,7 @@
 -- What items of a set await is awaited in rules under way.
 -- Serves: items_decide.
-use Rattle.std.proofs.Common.{◌≡◌, ◌⊎◌, inl, inr, ℕ, zero, suc, ◌+◌, ◌<◌, ◌≤◌, Bool, Some, List, [], ◌∷◌}
-use Rattle.std.proofs.Common.{◌++◌, length, take, refl, sym, subst, arith, ap, append_assoc}
+use Rattle.std.proofs.Common.{◌≡◌, ◌⊎◌, inl, inr, ℕ, zero, suc, ◌+◌, ◌<◌, ◌≤◌, Bool, Some, List, [], ◌∷◌, ◌++◌, length}
+use Rattle.std.proofs.Common.{take, refl, sym, subst, arith, ap, append_assoc}
 use Rattle.std.proofs.lemmas.List.{append-nil, length-map, take-map}
 use Rattle.std.specs.Prelude.{slice_get}
 use Rattle.abnfread.specs.Element as e
@@ -10,16 +10,16 @@ use Rattle.abnfcheck.specs.Derivable.{AreLetters, DerivesAll, all_done, then}
 use Rattle.abnfcheck.proofs.IsPathLemmas.{here, step, paths_join}
 use Rattle.abnfcheck.proofs.LiesLemmas.{OnLine, Lies}
 use Rattle.flatgrammar.specs.Flat as g
-use Rattle.flatgrammar.specs.Flat.{Node, Flat, Dot, at, Set, Exactly, Calling, Starts, starts, name_starts, reads, Calls}
-use Rattle.flatgrammar.specs.Flat.{calls}
+use Rattle.flatgrammar.specs.Flat.{Node, Flat, Dot, at, Set, Exactly, Calling, Starts, starts, name_starts, reads}
+use Rattle.flatgrammar.specs.Flat.{Calls, calls}
 use Rattle.flatgrammar.specs.OldItems as oi
 use Rattle.flatgrammar.specs.OldItems.{IsNameNode, IsOld, HasPart}
 use Rattle.flatgrammar.specs.Holds.{Holds, begins, called, has_read, returned}
 use Rattle.flatgrammar.specs.Stacks.{node_at}
 use Rattle.flatgrammar.proofs.SliceGetLemmas.{get_below}
-use Rattle.lowering.specs.Lowered.{letter_set, Spells, spells, Shows, shows_text, shows_values, shows_range, shows_concat}
-use Rattle.lowering.specs.Lowered.{shows_alt, shows_rep, shows_iterations, shows_opt, shows_name, spell_none, spell_more}
-use Rattle.lowering.specs.Lowered.{IsLowered}
+use Rattle.lowering.specs.Lowered.{letter_set, Spells, spells, Shows, shows_text, shows_values, shows_range}
+use Rattle.lowering.specs.Lowered.{shows_concat, shows_alt, shows_rep, shows_iterations, shows_opt, shows_name}
+use Rattle.lowering.specs.Lowered.{spell_none, spell_more, IsLowered}
 use Rattle.lowering.specs.AwaitedParts as w
 use Rattle.lowering.specs.Lowered.{OperandAt}
 use Rattle.lowering.specs.AwaitedParts.{Spans, no_symbol, symbol, Awaits, AwaitsNext, AwaitsSome, Begun, IsAwaited}
@@ -64,7 +64,8 @@ lies_spans {x = x} {j = j} (step {w = w} is l) =
     symbol is.0 (subst (λ k. Spans x k w j) (sym is.1) (lies_spans l))
 
 module _ (has : ℕ → Bool) (rules : List Rule) where
-  next_awaits : (es : Elements) (k i : ℕ) {el p : Element} {w v z : List ℕ} {m : ℕ} → DerivesAll has rules (first k es) w
+  next_awaits : (es : Elements) (k i : ℕ) {el p : Element} {w v z : List ℕ} {m : ℕ}
+      → DerivesAll has rules (first k es) w
       → nth es k ≡ Some el → Awaits has rules el v z p m → AwaitsNext has rules es i (w ++ v) ((i + k) ∷ z) p m
   next_awaits none k i d is a = absurd (cc is)
   next_awaits (more e es) zero i {el = el} {p = p} {v = v} {z = z} {m = m} all_done is a =
@@ -246,7 +247,8 @@ module _ (has : ℕ → Bool) (rules : List Rule) (judged : ℕ) (flat : Flat) (
   of_body (Calling.member {k = zero} is) = (cc is, refl)
   of_body (Calling.member {k = suc k} is) = absurd (cc is)
 
-  nothing_before : {k : ℕ} {es : Elements} {v : List ℕ} → Before has rules (g.Concat (lowered.body ∷ [])) (e.Concat es) k v
+  nothing_before : {k : ℕ} {es : Elements} {v : List ℕ} → Before has rules (g.Concat (lowered.body ∷ [])) (e.Concat es)
+      k v
       → k ≡ 0 → v ≡ []
   nothing_before (in_concat {k = zero} all_done) begun = refl
   nothing_before (in_concat {k = suc k} d) begun = absurd (omega (arith, begun))

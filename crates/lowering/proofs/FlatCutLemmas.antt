@@ -1,5 +1,5 @@
 -- The bodies of a grammar's rules, cut one by one.
--- Serves: lower.
+-- Serves: lower, lower_viable, more_marks.
 use Rattle.std.proofs.Common.{◌≡◌, ℕ, zero, suc, ◌+◌, Bool, List, [], ◌∷◌, ◌++◌, map, take, Some, refl, sym, ap}
 use Rattle.std.proofs.Common.{subst, arith, ⊎_elim, length-append}
 use Rattle.std.specs.Prelude.{slice_get}
@@ -71,7 +71,7 @@ cut_more {rules} {limit} {i} {old} {new} {numbers} {n} {el} c at g = record {
   reported = g.reported c.reported;
 }
 
-body_at : (rules : List (table.Rule Elem)) (i : ℕ) (e : Elem) → slice_get (map (λ rule. rule.body) rules) i ≡ Some e
+pub body_at : (rules : List (table.Rule Elem)) (i : ℕ) (e : Elem) → slice_get (map (λ rule. rule.body) rules) i ≡ Some e
     → slice_get (bodies (map rule_of rules)) i ≡ Some (element_of e)
 body_at [] i e h = absurd (cc h)
 body_at (rule ∷ rules) zero e h = let same : rule.body ≡ e = cc h in ap (λ v. Some (element_of v)) same

@@ -22,8 +22,8 @@ use Rattle.lowering.specs.Numbers.{ArePlanted, Numbers, NumbersAll}
 use Rattle.lowering.proofs.ArePlantedLemmas.{none_planted, planted_more, planted_push}
 use Rattle.flatgrammar.specs.Operands.{IsOperand, AreOrdered}
 use Rattle.lowering.specs.Numbers.{IsNodeReported, AreNodesReported}
-use Rattle.lowering.proofs.SpellAllLemmas.{still_shows, still_spells, still_spell_all, positions_push}
-use Rattle.lowering.proofs.SpellAllLemmas.{all_below, operand_below}
+use Rattle.lowering.proofs.SpellAllLemmas.{still_shows, still_spells, still_spell_all, positions_push, all_below}
+use Rattle.lowering.proofs.SpellAllLemmas.{operand_below}
 use Rattle.flatgrammar.proofs.SliceGetLemmas.{push_cases}
 
 pub at_end : {A : Type 0} (xs : List A) (a : A) → slice_get (xs ++ a ∷ []) (length xs) ≡ Some a
@@ -111,7 +111,8 @@ module _ {rules : List Rule} {limit : ℕ} (nodes : List declared.Node) {more : 
 
   -- a node without operands
   pub leaf_numbers : ((i m : ℕ) → OperandAt (node_of v) i m → ⊥) → width (node_of v) ≡ size limit el
-      → Shows rules limit (nodes_of nodes) (node_of v) el → Settles rules empty el → Numbers rules limit (nodes_of nodes) (nodes_of more) marks more_marks n empty el
+      → Shows rules limit (nodes_of nodes) (node_of v) el → Settles rules empty el
+      → Numbers rules limit (nodes_of nodes) (nodes_of more) marks more_marks n empty el
   leaf_numbers none wide shown reported =
       one_more (nodes_of nodes) [] marks [] (sym (append-nil (nodes_of nodes))) (λ o. o)
       (λ o. none_planted (nodes_of nodes)) (λ i m h. absurd (none i m h)) (λ t. t) (omega (arith, wide)) shown reported
@@ -132,13 +133,15 @@ module _ {rules : List Rule} {limit : ℕ} (nodes : List declared.Node) {more : 
   -- a node over members
   pub over_all : {first : List Node} {were : List Bool} {ks : List ℕ} {all any : Bool} {es : Elements}
       → NumbersAll rules limit first (nodes_of nodes) were marks ks all any es
-      → ((i m : ℕ) → OperandAt (node_of v) i m → slice_get ks i ≡ Some m) → (length ks ≡ count es → width (node_of v) + size_all limit es ≡ size limit el) →
+      → ((i m : ℕ) → OperandAt (node_of v) i m → slice_get ks i ≡ Some m)
+      → (length ks ≡ count es → width (node_of v) + size_all limit es ≡ size limit el) →
       (SpellAll rules limit (nodes_of nodes) ks es → Shows rules limit (nodes_of nodes) (node_of v) el)
       → (SettlesAll rules all es → SettlesSome rules any es → Settles rules empty el)
       → Numbers rules limit first (nodes_of more) were more_marks n empty el
   over_all {first} {were} {ks = ks} g operands wide shown reported =
       let sized = g.sized in let many = wide (counted g.spelled) in
-      one_more first g.added were ks g.grown g.ordered g.planted operands g.reported (omega (arith, sized, many)) (shown g.spelled)
+      one_more first g.added were ks g.grown g.ordered g.planted operands g.reported (omega (arith, sized, many))
+      (shown g.spelled)
       (reported g.settle_all g.settle_some)
     where
       counted : {ks : List ℕ} {es : Elements} → SpellAll rules limit (nodes_of nodes) ks es → length ks ≡ count es
@@ -197,7 +200,8 @@ append_member {rules} {limit} {first} {mid} {new} {were} {between} {are} {ns} {n
   planted = λ o.
       let long = length-append first g.added in
       let whole = ap length g.grown in
-      planted_more first mid new ns n (omega (arith, long, whole)) (λ k m is. all_below rules limit mid g.spelled k m is)
+      planted_more first mid new ns n (omega (arith, long, whole))
+      (λ k m is. all_below rules limit mid g.spelled k m is)
       (g.planted o) (h.planted (g.ordered o));
   reported = λ t. h.reported (g.reported t);
 }

@@ -22,7 +22,7 @@ module _ (has : ℕ → Bool) (rules : List Rule) where
   pub no_prose : {t w : List ℕ} → Derives has rules (e.Prose t) w → ⊥
   no_prose d = elim d [ ]
 
-  times_derived : (el : Element) (k : ℕ) → IsProductive has rules el → (w : List ℕ) × AreLetters has w
+  pub times_derived : (el : Element) (k : ℕ) → IsProductive has rules el → (w : List ℕ) × AreLetters has w
       × DerivesTimes has rules el k w
   times_derived el zero p = ([], tt, no_more)
   times_derived el (suc k) p = let rest = times_derived el k p in

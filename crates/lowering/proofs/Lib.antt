@@ -27,3 +27,5 @@ pub mod AwaitsLemmas
 pub mod ArePlantedLemmas
 pub mod PrunedOneLemmas
 mod AwaitsElementLemmas
+mod MoreMarksLemmas
+mod RuleStartsLemmas

@@ -309,7 +309,8 @@ module _ (has : ℕ → Bool) (rules : List Rule) (limit : ℕ) (flat : Flat)
           steps = λ o h. on.steps o (once o h);
         }
 
-    pub run_iterations : {el : Element} {k : ℕ} {w : List ℕ} → DerivesTimes has rules el k w → (s m : ℕ) (b d : Option ℕ)
+    pub run_iterations : {el : Element} {k : ℕ} {w : List ℕ} → DerivesTimes has rules el k w
+        → (s m : ℕ) (b d : Option ℕ)
         → slice_get flat.nodes s ≡ Some (Node.Iterations d m) → d ≡ capped_most limit b →
         Spells rules limit flat.nodes m el → (t f i j : ℕ) → Turned 0 d t f → der.AtMost t d → der.AtMost (t + k) b
         → t + length w ≤ limit → Lies x i w j → Counted s d (t + k) f i j

@@ -16,6 +16,7 @@ use Rattle.fixpoint.proofs.IsAddedLemmas.{name_next}
 use Rattle.flatgrammar.proofs.SliceGetLemmas.{get_below}
 use Rattle.flatgrammar.proofs.SliceGetLemmas.{push_cases}
 use Rattle.lowering.specs.Pruned.{IsLeftBody, ArePruned}
+use Rattle.lowering.proofs.FlatCutLemmas.{body_at}
 
 -- the first i rules
 pub record IsPruning (has : ℕ → Bool) (rules left : table.Rules Elem) (i : ℕ) : Type 0 where
@@ -35,13 +36,6 @@ none_pruned has rules left folds none = record {
   left_of = λ id e d was is. absurd (let empty : slice_get (bodies (map rule_of [])) id ≡ Some d =
       subst (λ v. slice_get (bodies (map rule_of v)) id ≡ Some d) none is in cc empty);
 }
-
-element_at : (rules : List (table.Rule Elem)) (i : ℕ) (b : Elem) → slice_get (map (λ rule. rule.body) rules) i
-    ≡ Some b →
-    slice_get (bodies (map rule_of rules)) i ≡ Some (element_of b)
-element_at [] i b h = absurd (cc h)
-element_at (rule ∷ rules) zero b h = let same : rule.body ≡ b = cc h in ap (λ v. Some (element_of v)) same
-element_at (rule ∷ rules) (suc i) b h = element_at rules i b h
 
 bodies_push : (rules : List (table.Rule Elem)) (rule : table.Rule Elem) →
     bodies (map rule_of (rules ++ rule ∷ [])) ≡ bodies (map rule_of rules) ++ element_of rule.body ∷ []
@@ -76,7 +70,7 @@ pub next_pruned : (has : ℕ → Bool) (rules old new : table.Rules Elem) (i : �
     slice_get (spans_of rules) i ≡ Some rule.span →
     IsLeftBody has (rules_of rules) (element_of b) (element_of rule.body) → Defines old new rule done
     → IsPruning has rules new (i + 1)
-next_pruned has rules old new i rule b done unique folds o name_at body_at span_at is_left d = record {
+next_pruned has rules old new i rule b done unique folds o name_at body_is span_at is_left d = record {
   folds = next.0;
   names = next.1;
   spans = spans_next done d;
@@ -112,7 +106,7 @@ next_pruned has rules old new i rule b done unique folds o name_at body_at span_
         (λ earlier. o.left_of id e l was earlier)
         (λ last.
         let here : id ≡ i = last.0 ∙ many_bodies old.rules ∙ long in
-        let same : element_of b ≡ e = some_same (sym (element_at rules.rules i b body_at)
+        let same : element_of b ≡ e = some_same (sym (body_at rules.rules i b body_is)
         ∙ ap (λ v. slice_get (bodies (rules_of rules)) v) (sym here) ∙ was) in
         subst (λ v. IsLeftBody has (rules_of rules) e v) last.1
         (subst (λ v. IsLeftBody has (rules_of rules) v (element_of rule.body)) same is_left))

@@ -1,15 +1,14 @@
 -- One list of rules is left of rules without what derives nothing.
 -- Serves: items_decide.
-use Rattle.std.proofs.Common.{◌≡◌, ℕ, suc, List, [], ◌∷◌, length, map, Some, Bool, refl, sym, ◌∙◌, ap}
-use Rattle.std.proofs.Common.{arith}
+use Rattle.std.proofs.Common.{◌≡◌, ℕ, suc, List, [], ◌∷◌, length, map, Some, Bool, refl, sym, ◌∙◌, ap, arith}
 use Rattle.std.specs.Prelude.{slice_get}
 use Rattle.std.proofs.lemmas.List.{length-map}
 use Rattle.abnfread.specs.Element as e
 use Rattle.abnfread.specs.Element.{Element, Elements, more, Rule, bodies}
 use Rattle.flatgrammar.proofs.SliceGetLemmas.{get_below, get_there}
-use Rattle.lowering.specs.Pruned.{ArePruned, IsLeftBody, Keeps, KeepsAll, KeepsSome, dropped, empty_opt, empty_rep, kept}
-use Rattle.lowering.specs.Pruned.{keep_alt, keep_concat, keep_more, keep_name, keep_none, keep_opt, keep_range, keep_rep}
-use Rattle.lowering.specs.Pruned.{keep_text, keep_values, left_body, no_body, some_none}
+use Rattle.lowering.specs.Pruned.{ArePruned, IsLeftBody, Keeps, KeepsAll, KeepsSome, dropped, empty_opt, empty_rep}
+use Rattle.lowering.specs.Pruned.{kept, keep_alt, keep_concat, keep_more, keep_name, keep_none, keep_opt, keep_range}
+use Rattle.lowering.specs.Pruned.{keep_rep, keep_text, keep_values, left_body, no_body, some_none}
 use Rattle.lowering.proofs.KeepsLemmas.{keeps_productive}
 
 module _ (has : ℕ → Bool) (rules : List Rule) where

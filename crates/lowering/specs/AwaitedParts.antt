@@ -3,8 +3,7 @@
 use Rattle.std.specs.Prelude.{◌≡◌, ◌⊎◌, ℕ, zero, suc, ◌+◌, ◌<◌, Bool, List, [], ◌∷◌, ◌++◌, length, take, slice_get}
 use Rattle.std.specs.Prelude.{Option, Some, None}
 use Rattle.abnfread.specs.Element.{Element, Elements, Text, Values, Range, Concat, Alt, Rep, Opt, Name, Prose, none}
-use Rattle.abnfread.specs.Element.{more, Rule}
-use Rattle.abnfread.specs.Element.{bodies, id_of}
+use Rattle.abnfread.specs.Element.{more, Rule, bodies, id_of}
 use Rattle.abnfcheck.specs.Derivable.{AtMost, Derives, DerivesTimes, Spelled}
 use Rattle.flatgrammar.specs.Flat.{Flat, Node}
 use Rattle.lowering.specs.Lowered.{OperandAt}
@@ -43,7 +42,8 @@ module _ (has : ℕ → Bool) (rules : List Rule) where
       values : {vs w : List ℕ} {k : ℕ} → k < length vs → w ≡ take k vs → Awaits (Values vs) w [] (Values vs) k
       range : {low high : ℕ} → Awaits (Range low high) [] [] (Range low high) 0
       name : {n : List ℕ} → Awaits (Name n) [] [] (Name n) 0
-      concat : {es : Elements} {w z : List ℕ} {p : Element} {k : ℕ} → AwaitsNext es 0 w z p k → Awaits (Concat es) w z p k
+      concat : {es : Elements} {w z : List ℕ} {p : Element} {k : ℕ} → AwaitsNext es 0 w z p k
+          → Awaits (Concat es) w z p k
       alt : {es : Elements} {w z : List ℕ} {p : Element} {k : ℕ} → AwaitsSome es 0 w z p k → Awaits (Alt es) w z p k
       rep : {a j k : ℕ} {b : Option ℕ} {e p : Element} {v w z : List ℕ} → AtMost a b → AtMost (suc j) b
           → DerivesTimes has rules e j v → Awaits e w z p k → Awaits (Rep a b e) (v ++ w) (0 ∷ z) p k
@@ -70,8 +70,8 @@ module _ (has : ℕ → Bool) (rules : List Rule) where
       named : {r i j : ℕ} {body : Element} {w z n : List ℕ} → Begun r i → slice_get (bodies rules) r ≡ Some body
           → Spans x i w j → Awaits body w z (Name n) 0 → Begun (id_of rules n) j
 
-    -- A part at a site of a rule's body can come next after n symbols, of which k are its own. The rule began before, or
-    -- it is the judged one at the first position.
+    -- A part at a site of a rule's body can come next after n symbols, of which k are its own. The rule began before,
+    -- or it is the judged one at the first position.
     pub record IsAwaited (n rule : ℕ) (site : List ℕ) (p : Element) (k : ℕ) : Type 0 where
       pub start : ℕ
       pub begun : Begun rule start

@@ -6,3 +6,4 @@ pub mod GivenPrefixes
 pub mod Verdicts
 pub mod Pruned
 pub mod AwaitedParts
+pub mod MoreMarks

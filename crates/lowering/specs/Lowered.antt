@@ -75,13 +75,13 @@ abbrev pub IsRoot : List Node → ℕ → Type 0
 IsRoot nodes m = (s i : ℕ) (node : Node) → slice_get nodes s ≡ Some node → OperandAt node i m → ⊥
 
 -- no node is an operand twice
-abbrev pub IsForest : List Node → Type 0
-IsForest nodes = (s t i j m : ℕ) (node other : Node) → slice_get nodes s ≡ Some node → slice_get nodes t ≡ Some other
+abbrev pub AreTrees : List Node → Type 0
+AreTrees nodes = (s t i j m : ℕ) (node other : Node) → slice_get nodes s ≡ Some node → slice_get nodes t ≡ Some other
     → OperandAt node i m → OperandAt other j m → (s ≡ t) × (i ≡ j)
 
 -- each node stands in one body at most, at one place
 pub record ArePlaced (flat : Flat) : Type 0 where
-  pub forest : IsForest flat.nodes
+  pub forest : AreTrees flat.nodes
   pub apart : (r q m : ℕ) → slice_get flat.bodies r ≡ Some m → slice_get flat.bodies q ≡ Some m → r ≡ q
   pub above : (r m s i : ℕ) (node : Node) → slice_get flat.bodies r ≡ Some m → slice_get flat.nodes s ≡ Some node
       → OperandAt node i m → s ≡ flat.start

@@ -1,9 +1,10 @@
 -- Nodes numbered from elements, operands first.
-use Rattle.std.specs.Prelude.{◌≡◌, ℕ, ◌+◌, ◌<◌, ◌≤◌, Bool, false, List, [], ◌∷◌, ◌++◌, length, take, slice_get, get_or, Some}
+use Rattle.std.specs.Prelude.{◌≡◌, ℕ, ◌+◌, ◌<◌, ◌≤◌, Bool, false, List, [], ◌∷◌, ◌++◌, length, take, slice_get, get_or}
+use Rattle.std.specs.Prelude.{Some}
 use Rattle.abnfread.specs.Element as e
 use Rattle.abnfread.specs.Element.{Element, Elements, Rule, bodies, id_of}
 use Rattle.flatgrammar.specs.Flat.{Node}
-use Rattle.lowering.specs.Lowered.{IsForest, IsRoot, Spells, SpellAll}
+use Rattle.lowering.specs.Lowered.{AreTrees, IsRoot, Spells, SpellAll}
 use Rattle.lowering.specs.NullElements.{Settles, SettlesAll, SettlesSome}
 use Rattle.flatgrammar.specs.Positions.{positions}
 use Rattle.flatgrammar.specs.Operands.{AreOrdered}
@@ -15,7 +16,7 @@ NamesSettle rules marks = (n : List ℕ) → Settles rules (get_or marks (id_of 
 
 -- nodes were added, none of them an operand twice, and none a new operand of an old one; these new ones are no operands
 pub record ArePlanted (old new : List Node) (tops : List ℕ) : Type 0 where
-  pub forest : IsForest old → IsForest new
+  pub forest : AreTrees old → AreTrees new
   pub roots : (m : ℕ) → m < length old → IsRoot old m → IsRoot new m
   pub fresh : (k m : ℕ) → slice_get tops k ≡ Some m → (length old ≤ m) × IsRoot new m
   pub apart : (k l m : ℕ) → slice_get tops k ≡ Some m → slice_get tops l ≡ Some m → k ≡ l

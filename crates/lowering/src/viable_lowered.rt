@@ -17,8 +17,8 @@ use flatgrammar::Flat;
 use ruletable::{Alphabet, Memory, NameCase, RuleTable};
 use std::alloc::Global;
 
-/// Returns the rules of a grammar without the parts that derive no line over the alphabet, in the same order. A rule that
-/// derives no line gets empty prose in place of its body. `Memory` if an allocation fails.
+/// Returns the rules of a grammar without the parts that derive no line over the alphabet, in the same order. A rule
+/// that derives no line gets empty prose in place of its body. `Memory` if an allocation fails.
 pub fn productive_rules(
     alloc: Global,
     grammar: &SoundAbnf,

@@ -7,3 +7,8 @@ pub mod ReportedTextLemmas
 pub mod SymbolPiecesLemmas
 pub mod PartTextsLemmas
 pub mod PartLinesLemmas
+pub mod RefusedPartsLemmas
+pub mod SoughtPartsLemmas
+pub mod FoundPartsLemmas
+pub mod PartSitesLemmas
+pub mod ReportedPartsLemmas

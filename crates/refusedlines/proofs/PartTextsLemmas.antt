@@ -15,7 +15,7 @@ use Rattle.refusedlines.proofs.RefusedPartsLemmas.{reported_one}
 use Rattle.refusedlines.specs.PartTexts.{ArePartTexts, AreTextsAfter, IsElementText, IsLeafText, IsLongLeafText}
 use Rattle.refusedlines.specs.PartTexts.{IsPartText, IsSetText, IsTextFor, leaf_set, leaf_size, named_by, no_text}
 use Rattle.refusedlines.specs.PartTexts.{part_text, texts_once}
-use Rattle.refusedlines.specs.RefusedParts.{IsReported, ShownPart}
+use Rattle.refusedlines.specs.RefusedParts.{IsPartReported, ShownPart}
 use Rattle.refusedlines.specs.RefusedText.{symbols_text}
 use Rattle.refusedlines.specs.RuleNames.{shown_name}
 use Rattle.refusedlines.specs.ShownParts.{awaited_part}
@@ -95,7 +95,7 @@ module _ (alphabet : Alphabet) (rules : List Rule) where
   pub after_one : (judged : ℕ) (x : List ℕ) (n : ℕ) (a b : List (List ℕ)) → AreTextsAfter alphabet rules judged x n a
       → AreTextsAfter alphabet rules judged x n b → a ≡ b
   after_one judged x n a b p q =
-      let shown = reported_one (IsReported alphabet rules judged x n) p.reported q.reported in
+      let shown = reported_one (IsPartReported alphabet rules judged x n) p.reported q.reported in
       let texts = texts_one q.parts p.texts q.texts
       (subst (λ (parts : List ShownPart). ArePartTexts alphabet rules parts p.texts) shown p.told) q.told in
       p.is ∙ ap (texts_once []) texts ∙ sym q.is

@@ -11,3 +11,4 @@ pub mod ShownParts
 pub mod LetterRuns
 pub mod SymbolPieces
 pub mod ReportedLetters
+pub mod SoughtParts

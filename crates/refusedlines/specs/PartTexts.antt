@@ -9,7 +9,7 @@ use Rattle.flatgrammar.specs.Flat.{Set, Exactly, Between}
 use Rattle.flatgrammar.specs.NodeSteps.{IfSomeSet}
 use Rattle.lowering.specs.Lowered.{letter_set}
 use Rattle.refusedlines.specs.LetterRuns.{AreApartFrom, RunsHave}
-use Rattle.refusedlines.specs.RefusedParts.{AreReportedParts, IsReported, ShownPart, parts_from}
+use Rattle.refusedlines.specs.RefusedParts.{AreReportedParts, IsPartReported, ShownPart, parts_from}
 use Rattle.refusedlines.specs.RefusedText.{symbols_text}
 use Rattle.refusedlines.specs.RuleNames.{shown_name}
 use Rattle.refusedlines.specs.declared.letterruns.run.LetterRun.{LetterRun}
@@ -85,7 +85,7 @@ texts_once seen (t ∷ ts) = if list_any (bytes_eq t) seen then texts_once seen 
 pub record AreTextsAfter (alphabet : Alphabet) (rules : List Rule) (judged : ℕ) (x : List ℕ) (n : ℕ)
     (once : List (List ℕ)) : Type 0 where
   pub parts : List ShownPart
-  pub reported : AreReportedParts (IsReported alphabet rules judged x n) (parts_from 0 rules) parts
+  pub reported : AreReportedParts (IsPartReported alphabet rules judged x n) (parts_from 0 rules) parts
   pub texts : List (List ℕ)
   pub told : ArePartTexts alphabet rules parts texts
   pub is : once ≡ texts_once [] texts

@@ -2,11 +2,10 @@
 ghost use Rattle.std.specs.Prelude.{◌≡◌, ◌↔◌, ◌++◌, ◌+◌, ◌∷◌, ℕ, true, false, Bool, List, [], Some, Contains};
 ghost use Rattle.std.specs.Prelude.{slice_get};
 ghost use Rattle.flatgrammar.specs.Flat.{Flat, Dot, Concat};
-ghost use Rattle.flatgrammar.specs.Holds.{Holds};
-ghost use Rattle.flatgrammar.specs.Holds.{HasItem};
+ghost use Rattle.flatgrammar.specs.Holds.{Holds, HasItem};
 ghost use Rattle.flatgrammar.specs.OldItems.{IsOld, Walks};
-ghost use Rattle.flatgrammar.specs.Stacks.{node_at, Reach, Accepts, ReadBy, MarksLast, AreUncounted, AreAlike};
-ghost use Rattle.flatgrammar.specs.Stacks.{IsPlain, IsStackClosure, IsNext, IsResumed, Lifted, IsReading};
+ghost use Rattle.flatgrammar.specs.Stacks.{node_at, Reach, Accepts, ReadBy, MarksLast, AreUncounted, AreAlike, IsPlain};
+ghost use Rattle.flatgrammar.specs.Stacks.{IsStackClosure, IsNext, IsResumed, Lifted, IsReading};
 
 /// Returns nothing. Its contract is a law: stacks and item sets hold the same dotted rules, and accept the same lines.
 pub fn stacks_decide()
@@ -16,8 +15,8 @@ pub fn stacks_decide()
         (((stack : List Dot) × Reach flat last x j stack) ↔ HasItem flat x j) }
 {}
 
-/// Returns nothing. Its contract is a law of rules under way: after a symbol, a walk without one into no rule has on top
-/// of its stacks the dotted rules of the items of the next set that belong to rules which began before.
+/// Returns nothing. Its contract is a law of rules under way: after a symbol, a walk without one into no rule has on
+/// top of its stacks the dotted rules of the items of the next set that belong to rules which began before.
 pub fn walks_find_old_items()
     ensures { (flat : Flat) (last : Dot → Bool) (x : List ℕ) (j c : ℕ) (p : Dot) → MarksLast flat last
         → AreUncounted flat → slice_get x j ≡ Some c → last p ≡ false →

@@ -1,6 +1,6 @@
 use Rattle.std.proofs.Common.{subst, sym}
 use Rattle.std.proofs.lemmas.Result.{IfOk-weaker}
-use Rattle.flatgrammar.specs.Parts.{AreAwaited}
+use Rattle.flatgrammar.specs.CalledParts.{AreAwaited}
 use Rattle.earleyitems.specs.ChartSets.{IsSet, set_at}
 use Rattle.earley.specs.OldDots.{AreOldDots, ArePartsOf}
 use Rattle.earley.proofs.OldDotsLemmas.{parts_awaited}

@@ -8,12 +8,14 @@ pub loop-init : goal.loop-init
 loop-init c =
     elim c.if-n-eq0.branch [
       | then-n-eq0+in_ok-add_node w ↦ subst
-          (λ v. IsOldWork c.args.tables.now c.args.n c.args.older.now c.args.dots.now v.items c.new-entered.result.items 0)
+          (λ v. IsOldWork c.args.tables.now c.args.n c.args.older.now c.args.dots.now v.items c.new-entered.result.items
+          0)
           (sym w.old-is)
           (work_begins_whole c.args.tables.now c.args.n c.args.older.now c.args.dots.now _ _ c.new-entered.result.items
           c.new-entered.ensures.items c.in_ok-old.ensures.items w.if-n-eq0.true w.in_ok-add_node.ensures)
       | else-n-eq0 w ↦ subst
-          (λ v. IsOldWork c.args.tables.now c.args.n c.args.older.now c.args.dots.now v.items c.new-entered.result.items 0)
+          (λ v. IsOldWork c.args.tables.now c.args.n c.args.older.now c.args.dots.now v.items c.new-entered.result.items
+          0)
           (sym w.old-is)
           (work_begins c.args.tables.now c.args.n c.args.older.now c.args.dots.now _ c.new-entered.result.items
           c.new-entered.ensures.items c.in_ok-old.ensures.items

@@ -10,7 +10,8 @@ loop-position-preserved c = elim c.if-has_some.branch [
       c.loop-position.found.items _
       c.loop-position-test.true c.loop-position.invariant (ap (λ v. v.items) w.found-is ∙ w.in_ok-push.ensures.items)
       (c.has_some.ensures.0 w.if-has_some.true)
-  | else-has_some w ↦ dots_same c.args.dots.now (HasSome c.args.rows.now) c.loop-position.position c.loop-position.found.items _
+  | else-has_some w ↦ dots_same c.args.dots.now (HasSome c.args.rows.now) c.loop-position.position
+      c.loop-position.found.items _
       c.loop-position.invariant (ap (λ v. v.items) w.found-is)
       (λ h. true≢false (sym (c.has_some.ensures.1 h) ∙ w.if-has_some.false))
 ]

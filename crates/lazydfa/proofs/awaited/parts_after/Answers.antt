@@ -39,7 +39,7 @@ returns-then-whole-clause-memo c = λ samples is.
     memo_kept c.args.tables.now samples c.args.memo.now _ is
     (cached_conts c.args.tables.now samples c.args.memo.now.cache.conts.items.items c.walk_down.new.conts.items.items
     c.args.memo.now.cache.states.items c.args.memo.now.cache.cells.items kept is.cached)
-    (record { conts = kept; states = grown_same c.args.memo.now.cache.states.items }) refl refl
+    (record { conts = kept; states = grown_same c.args.memo.now.cache.states.items }) refl refl refl
 
 pub returns-else-whole-clause-memo : goal.returns-else-whole-clause-memo
 returns-else-whole-clause-memo c = λ samples is.
@@ -48,7 +48,7 @@ returns-else-whole-clause-memo c = λ samples is.
     memo_kept c.args.tables.now samples c.args.memo.now _ is
     (cached_conts c.args.tables.now samples c.args.memo.now.cache.conts.items.items c.walk_down.new.conts.items.items
     c.args.memo.now.cache.states.items c.args.memo.now.cache.cells.items kept is.cached)
-    (record { conts = kept; states = grown_same c.args.memo.now.cache.states.items }) refl refl
+    (record { conts = kept; states = grown_same c.args.memo.now.cache.states.items }) refl refl refl
 
 pub returns-then-whole-clause-parts : goal.returns-then-whole-clause-parts
 returns-then-whole-clause-parts c = λ got there.
@@ -60,7 +60,8 @@ returns-then-whole-clause-parts c = λ got there.
     let same : c.index.result.now ≡ got = cc both in
     subst (λ v. AddsParts c.args.tables.now (λ w. LedBy (WalkGoes c.args.tables.now)
     (Lifted (ReadsFrom c.args.tables.now c.args.value c.args.memo.now.cache.conts.items.items v)
-    (below_of c.args.memo.now.cache.conts.items.items c.args.memo.now.suffixes.items)) w) [] c.walk_down.new.parts.items)
+    (below_of c.args.memo.now.cache.conts.items.items c.args.memo.now.suffixes.items)) w) []
+    c.walk_down.new.parts.items)
     (c.as_slice-tops.ensures.value ∙ ap (λ v. v.tops.items) same)
     (parts_read c.args.tables.now c.args.value c.args.memo.now.cache.conts.items.items
     c.read_all.new.conts.items.items c.as_slice-tops.result.now c.args.memo.now.suffixes.items

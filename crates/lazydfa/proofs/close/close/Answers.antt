@@ -6,11 +6,13 @@ use Rattle.lazydfa.proofs.IsClosureLemmas.{closing_none, closing_more, closing_d
 use Rattle.lazydfa.proofs.close.close.Goals as goal
 
 pub loop-init : goal.loop-init
-loop-init c = closing_none c.args.tables.now (Goes c.args.tables.now) c.args.conts.now.items.items c.args.ids.now.items.items c.requires.within
+loop-init c = closing_none c.args.tables.now (Goes c.args.tables.now) c.args.conts.now.items.items
+    c.args.ids.now.items.items c.requires.within
 
 pub returns-then-count-len-clause-closure : goal.returns-then-count-len-clause-closure
 returns-then-count-len-clause-closure c =
-    closing_done c.args.tables.now (Goes c.args.tables.now) c.args.conts.now.items.items c.args.ids.now.items.items c.loop.conts.items.items
+    closing_done c.args.tables.now (Goes c.args.tables.now) c.args.conts.now.items.items c.args.ids.now.items.items
+    c.loop.conts.items.items
     c.loop.ids.items.items c.loop.count c.loop.ended c.requires.within c.loop.invariant
     (let l = c.len.ensures in let t = c.if-count-len.true in omega (arith, l, t))
 
@@ -26,7 +28,8 @@ expand-requires-clause-within c =
 pub loop-preserved : goal.loop-preserved
 loop-preserved c =
     rw c.either-ended.ensures
-    (closing_more c.args.tables.now (Goes c.args.tables.now) c.args.conts.now.items.items c.args.ids.now.items.items _ _ _ _ c.loop.count
+    (closing_more c.args.tables.now (Goes c.args.tables.now) c.args.conts.now.items.items c.args.ids.now.items.items _ _
+    _ _ c.loop.count
     c.index-id.result.now c.loop.ended c.in_ok-now.now c.loop.invariant
     (slice_get-get_or c.loop.ids.items.items c.loop.count c.index-id.result.now
     (let l = c.len.ensures in let t = c.if-count-len.false in omega (arith, l, t))

@@ -12,6 +12,7 @@ use Rattle.lowering.proofs.AwaitedItemsLemmas.{awaited_exactly}
 use Rattle.lowering.proofs.AwaitsElementLemmas.{awaited_element}
 use Rattle.lowering.proofs.PrunedOneLemmas.{pruned_one}
 use Rattle.lowering.proofs.RuleDerivesLemmas.{derives_exactly}
+use Rattle.lowering.proofs.RuleStartsLemmas.{rule_starts}
 use Rattle.lowering.proofs.item_laws.items_decide.Goals as goal
 
 verdict_of : (has : ℕ → Bool) (rules : List Rule) (judged : ℕ) (flat : Flat) (x : List ℕ) (verdict : Verdict)
@@ -49,3 +50,7 @@ returns-clause-prefixes c = λ has rules left judged flat pruned lowered.
 pub returns-clause-element : goal.returns-clause-element
 returns-clause-element c = λ has rules judged x n rule k site body part is awaited.
     awaited_element has rules judged x n rule site part k body is awaited
+
+pub returns-clause-starts : goal.returns-clause-starts
+returns-clause-starts c = λ has rules judged flat lowered s id w is derives.
+    rule_starts has rules judged flat lowered s id w is derives

@@ -37,19 +37,22 @@ number-returns t c = elim c.match-e.branch [
   | number-in-Range+in_ok-range_set-in-Range w ↦ rw (w.in-Range.is, w.node-is, element-Range)
       (o.leaf_numbers _ _ (rw (w.numbered-is, w.node-is) at c.in_ok-n.ensures.nodes)
       (rw w.numbered-is at c.in_ok-n.ensures.number)
-      (rw (w.numbered-is, w.node-is) at c.in_ok-n.ensures.nulls) (λ i m h. h) (rw (w.in_ok-range_set-in-Range.ensures) refl)
+      (rw (w.numbered-is, w.node-is) at c.in_ok-n.ensures.nulls) (λ i m h. h)
+      (rw (w.in_ok-range_set-in-Range.ensures) refl)
       (rw (w.in_ok-range_set-in-Range.ensures) shows_range) (m.range_settles _ _ _))
   | number-in-Concat+in_ok-made-in-Concat w ↦ rw (w.in-Concat.is, w.node-is, element-Concat)
       (o.over_all _ _ (rw (w.numbered-is, w.node-is) at c.in_ok-n.ensures.nodes)
       (rw w.numbered-is at c.in_ok-n.ensures.number)
       (rw (w.numbered-is, w.node-is) at c.in_ok-n.ensures.nulls)
-      (rw w.deref-in-Concat.ensures.value at w.in_ok-made-in-Concat.ensures) (λ i m h. h) (λ many. omega (arith, many)) shows_concat
+      (rw w.deref-in-Concat.ensures.value at w.in_ok-made-in-Concat.ensures) (λ i m h. h) (λ many. omega (arith, many))
+      shows_concat
       (λ all some. m.concat_settles _ _ _ all))
   | number-in-Alt+in_ok-made-in-Alt w ↦ rw (w.in-Alt.is, w.node-is, element-Alt)
       (o.over_all _ _ (rw (w.numbered-is, w.node-is) at c.in_ok-n.ensures.nodes)
       (rw w.numbered-is at c.in_ok-n.ensures.number)
       (rw (w.numbered-is, w.node-is) at c.in_ok-n.ensures.nulls)
-      (rw w.deref-in-Alt.ensures.value at w.in_ok-made-in-Alt.ensures) (λ i m h. h) (λ many. omega (arith, many)) shows_alt
+      (rw w.deref-in-Alt.ensures.value at w.in_ok-made-in-Alt.ensures) (λ i m h. h) (λ many. omega (arith, many))
+      shows_alt
       (λ all some. m.alt_settles _ _ _ some))
   | number-in-Rep+in_ok-made-in-Rep w ↦ rw (w.in-Rep.is, w.node-is, element-Rep)
       (o.numbers_over _ _ (rw (w.numbered-is, w.node-is) at c.in_ok-n.ensures.nodes)

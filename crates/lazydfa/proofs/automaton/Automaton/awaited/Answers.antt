@@ -1,7 +1,7 @@
 use Rattle.std.proofs.Common.{◌+◌, ◌/◌, ◌++◌, ◌∷◌, [], ap, length, map, subst, sym, refl, arith, ◌∙◌}
 use Rattle.std.proofs.lemmas.List.{length-map, map-append}
 use Rattle.std.specs.Prelude.{IfSome}
-use Rattle.flatgrammar.specs.Parts.{AreAwaited}
+use Rattle.flatgrammar.specs.CalledParts.{AreAwaited}
 use Rattle.flatgrammar.specs.Stacks.{Lifted}
 use Rattle.lazydfa.specs.Conts.{LedBy, ReadsFrom}
 use Rattle.lazydfa.specs.Memos.{IsMemo, IsRunStop}
@@ -32,11 +32,13 @@ returns-in-Ok-clause-parts g c =
     let whole = split.1 in
     let less = c.if-stop-before.false in
     let size = length-map c.in-Some.before.now g.L.Letter.number in
-    let stops = subst (λ v. IfSome v (IsRunStop c.deref-2.result.now c.deref.result.now c.run.new.memo x)) c.in-Some-2.is
+    let stops = subst (λ v. IfSome v (IsRunStop c.deref-2.result.now c.deref.result.now c.run.new.memo x))
+    c.in-Some-2.is
     c.in_ok-stop.ensures.stops in
     let stop = subst (λ v. IsRunStop v c.deref.result.now c.run.new.memo x c.in-Some-2.stop) c.deref-2.ensures stops in
     if_some c.in-Ok.reported _ _ (λ parts found.
-    subst (λ v. AreAwaited v (map g.L.Letter.number c.args.line.now) (length c.args.line.now) parts.items) c.self.view_is
+    subst (λ v. AreAwaited v (map g.L.Letter.number c.args.line.now) (length c.args.line.now) parts.items)
+    c.self.view_is
     (awaited_there tables c.self.invariant.0 c.self.invariant.1 c.self.invariant.2 c.deref.result.now c.run.new.memo x
     c.in-Some-2.stop stop c.self.invariant.5 c.value.result (c.in-Some-2.stop.row / (length c.deref.result.now + 1))
     parts.items (omega (arith, less, size)) refl

@@ -1,20 +1,20 @@
 -- The parts of dotted rules, by the tables.
 -- Serves: part_of; awaited of lazydfa, awaited_at of earley.
-use Rattle.std.proofs.Common.{◌≡◌, ◌⊎◌, inl, inr, ℕ, zero, suc, ◌<◌, Bool, true, false, List, [], ◌∷◌, length}
-use Rattle.std.proofs.Common.{refl, sym, ◌∙◌, ap, subst, arith}
+use Rattle.std.proofs.Common.{◌≡◌, ◌⊎◌, inl, inr, ℕ, zero, suc, ◌<◌, Bool, true, false, List, [], ◌∷◌, length, refl}
+use Rattle.std.proofs.Common.{sym, ◌∙◌, ap, subst, arith}
 use Rattle.std.specs.Prelude.{◌≢◌, slice_get, Option, Some, None}
-use Rattle.flatgrammar.specs.Flat.{Dot, at, Node, Letters, Concat, Alt, Rep, Iterations, Opt, Name, Nothing, Set}
-use Rattle.flatgrammar.specs.Flat.{Calls, calls}
+use Rattle.flatgrammar.specs.Flat.{Dot, at, Node, Letters, Concat, Alt, Rep, Iterations, Opt, Name, Nothing, Set, Calls}
+use Rattle.flatgrammar.specs.Flat.{calls}
 use Rattle.flatgrammar.specs.FlatViews.{node_of}
 use Rattle.flatgrammar.specs.Holds.{Holds}
 use Rattle.flatgrammar.specs.ItemClosures.{item_at, dot}
-use Rattle.flatgrammar.specs.NodeSteps.{flat_of, callee, is_name, read_at}
+use Rattle.flatgrammar.specs.NodeSteps.{flat_of, callee, is_name_node, read_at}
 use Rattle.flatgrammar.specs.OldItems as old
 use Rattle.flatgrammar.specs.OldItems.{HasPart, IsNameNode}
-use Rattle.flatgrammar.specs.Parts as part
-use Rattle.flatgrammar.specs.Parts.{IsPartOf}
+use Rattle.flatgrammar.specs.CalledParts as part
+use Rattle.flatgrammar.specs.CalledParts.{IsPartOf}
 use Rattle.flatgrammar.specs.Stacks.{node_at}
-use Rattle.flatgrammar.specs.TableViews.{callee_in, callee_of, name_in, name_of, read_in, read_of}
+use Rattle.flatgrammar.specs.TableViews.{callee_in, callee_of, is_name_in, name_of, read_in, read_of}
 use Rattle.flatgrammar.specs.declared.closure.DottedRule.{DottedRule}
 use Rattle.flatgrammar.specs.declared.flat_node.Node as code_node
 use Rattle.flatgrammar.specs.declared.tables.Tables as code_flat
@@ -35,7 +35,7 @@ no_callee (Opt m) k h = absurd (cc h)
 no_callee (Name r) k h = absurd (cc h)
 no_callee Nothing k h = absurd (cc h)
 
-name_there : (node : Node) → is_name node ≡ true → (r : ℕ) × (node ≡ Name r)
+name_there : (node : Node) → is_name_node node ≡ true → (r : ℕ) × (node ≡ Name r)
 name_there (Letters sets) h = absurd (cc h)
 name_there (Concat ms) h = absurd (cc h)
 name_there (Alt ms) h = absurd (cc h)
@@ -76,7 +76,8 @@ module _ (tables : code_flat.Tables) where
       → Calls (flat_of tables) (at n k) s (at n next)
   callee_calls n k {s = s} {next = next} h = by (slice_get tables.nodes.items n) refl
     where
-      by : (o : Option code_node.Node) → slice_get tables.nodes.items n ≡ o → Calls (flat_of tables) (at n k) s (at n next)
+      by : (o : Option code_node.Node) → slice_get tables.nodes.items n ≡ o
+          → Calls (flat_of tables) (at n k) s (at n next)
       by None is = let none = ap (λ v. callee_in v k) (sym is) in absurd (cc (none, h))
       by (Some node) is =
           let there : callee (node_of node) k ≡ Some (s, next) = ap (λ v. callee_in v k) (sym is) ∙ h in
@@ -98,15 +99,15 @@ module _ (tables : code_flat.Tables) where
   named_node s h = by (slice_get tables.nodes.items s) refl
     where
       by : (o : Option code_node.Node) → slice_get tables.nodes.items s ≡ o → IsNameNode (flat_of tables) s
-      by None is = let none = ap (λ v. name_in v) (sym is) in absurd (cc (none, h))
+      by None is = let none = ap (λ v. is_name_in v) (sym is) in absurd (cc (none, h))
       by (Some node) is =
-          let name = name_there (node_of node) (ap (λ v. name_in v) (sym is) ∙ h) in
+          let name = name_there (node_of node) (ap (λ v. is_name_in v) (sym is) ∙ h) in
           (name.0, get_map node_of tables.nodes.items s is ∙ ap (λ v. Some v) name.1)
 
   pub node_named : (s : ℕ) → IsNameNode (flat_of tables) s → name_of tables s ≡ true
   node_named s name =
       let u = get_unmap node_of tables.nodes.items s (Name name.0) name.1 in
-      ap (λ v. name_in v) u.at ∙ ap (λ v. is_name v) u.is
+      ap (λ v. is_name_in v) u.at ∙ ap (λ v. is_name_node v) u.is
 
   pub no_name : (s : ℕ) → name_of tables s ≡ false → IsNameNode (flat_of tables) s → ⊥
   no_name s is_false name = let is_true = node_named s name in cc (is_false, is_true)
