@@ -8,7 +8,7 @@ use Rattle.std.proofs.lemmas.Option.{get_or_from_slice_get, slice_get_within}
 use Rattle.std.specs.List.{flat_map}
 use Rattle.diagnostics.specs.FirstBytes.{fact_line}
 use Rattle.diagnostics.specs.NoteLines.{more_reported}
-use Rattle.refusedlines.specs.RefusedText.{only_part, part_lines, tells}
+use Rattle.refusedlines.specs.RefusedText.{only_part, part_lines, restates}
 
 -- no text, or several
 pub several_parts : (symbols : List ℕ) (parts : List (List ℕ)) → (length parts ≡ 1 → ⊥) → only_part symbols parts ≡ None
@@ -18,11 +18,11 @@ several_parts symbols (part ∷ other ∷ parts) several = refl
 
 -- a single one
 pub single_part : (symbols : List ℕ) (parts : List (List ℕ)) (part : List ℕ) → length parts ≡ 1
-    → slice_get parts 0 ≡ Some part → only_part symbols parts ≡ (if tells symbols part then Some part else None)
+    → slice_get parts 0 ≡ Some part → only_part symbols parts ≡ (if restates symbols part then Some part else None)
 single_part symbols [] part one is = absurd (cc one)
 single_part symbols (first ∷ []) part one is =
     let same : first ≡ part = cc is in
-    ap (λ (v : List ℕ). if tells symbols v then Some v else None) same
+    ap (λ (v : List ℕ). if restates symbols v then Some v else None) same
 single_part symbols (first ∷ other ∷ parts) part one is = absurd (let h = one in cc h)
 
 -- the line of one more

@@ -13,7 +13,7 @@ use Rattle.flatgrammar.specs.Flat.{Set}
 use Rattle.refusedlines.proofs.LetterRunLemmas.{apart_one}
 use Rattle.refusedlines.proofs.RefusedPartsLemmas.{reported_one}
 use Rattle.refusedlines.specs.PartTexts.{ArePartTexts, AreTextsAfter, IsElementText, IsLeafText, IsLongLeafText}
-use Rattle.refusedlines.specs.PartTexts.{IsPartText, IsSetText, IsTextFor, leaf_set, leaf_size, named_by, no_text}
+use Rattle.refusedlines.specs.PartTexts.{IsPartText, IsSetText, IsTextFor, leaf_set, leaf_size, element_name, no_text}
 use Rattle.refusedlines.specs.PartTexts.{part_text, texts_once}
 use Rattle.refusedlines.specs.RefusedParts.{IsPartReported, ShownPart}
 use Rattle.refusedlines.specs.RefusedText.{symbols_text}
@@ -81,8 +81,8 @@ module _ (alphabet : Alphabet) (rules : List Rule) where
   part_one : (part : ShownPart) (a b : List ℕ) → IsPartText alphabet rules part a → IsPartText alphabet rules part b
       → a ≡ b
   part_one part a b p q =
-      let same = text_one alphabet rules part.element part.read (named_by part.element) p.element q.element p.told
-      q.told in
+      let same = text_one alphabet rules part.element part.read (element_name part.element) p.element q.element p.shows
+      q.shows in
       p.is ∙ ap (λ (text : List ℕ). text ++ (codes " in " ++ shown_name rules part.rule)) same ∙ sym q.is
 
   texts_one : (parts : List ShownPart) (a b : List (List ℕ)) → ArePartTexts alphabet rules parts a
@@ -97,7 +97,7 @@ module _ (alphabet : Alphabet) (rules : List Rule) where
   after_one judged x n a b p q =
       let shown = reported_one (IsPartReported alphabet rules judged x n) p.reported q.reported in
       let texts = texts_one q.parts p.texts q.texts
-      (subst (λ (parts : List ShownPart). ArePartTexts alphabet rules parts p.texts) shown p.told) q.told in
+      (subst (λ (parts : List ShownPart). ArePartTexts alphabet rules parts p.texts) shown p.listed) q.listed in
       p.is ∙ ap (texts_once []) texts ∙ sym q.is
 
   -- one part more
@@ -197,28 +197,28 @@ module _ (old new : table.Rules (Unit {0})) (rule : table.Rule (Unit {0})) (exac
       )
 
 -- the texts of the first parts, each once
-pub record AreTold (alphabet : Alphabet) (rules : List Rule) (parts : List AwaitedPart) (once : table.Rules (Unit {0}))
+pub record AreFirstTexts (alphabet : Alphabet) (rules : List Rule) (parts : List AwaitedPart) (once : table.Rules (Unit {0}))
     : Type 0 where
   pub exact : once.names ≡ Exact
   pub texts : List (List ℕ)
-  pub told : ArePartTexts alphabet rules (map awaited_part parts) texts
+  pub listed : ArePartTexts alphabet rules (map awaited_part parts) texts
   pub is : table.names_of once ≡ texts_once [] texts
 
-pub none_told : (alphabet : Alphabet) (rules : List Rule) (once : table.Rules (Unit {0})) → once.names ≡ Exact
-    → once.rules ≡ [] → AreTold alphabet rules [] once
-none_told alphabet rules once exact none = record {
+pub first_texts_none : (alphabet : Alphabet) (rules : List Rule) (once : table.Rules (Unit {0})) → once.names ≡ Exact
+    → once.rules ≡ [] → AreFirstTexts alphabet rules [] once
+first_texts_none alphabet rules once exact none = record {
   exact = exact;
   texts = [];
-  told = no_text;
+  listed = no_text;
   is = ap (λ (rs : List (table.Rule (Unit {0}))). map (λ r. r.name) rs) none;
 }
 
-pub more_told : (alphabet : Alphabet) (rules : List Rule) (parts : List AwaitedPart) (i : ℕ) (part : AwaitedPart)
+pub first_texts_more : (alphabet : Alphabet) (rules : List Rule) (parts : List AwaitedPart) (i : ℕ) (part : AwaitedPart)
     (old new : table.Rules (Unit {0})) (rule : table.Rule (Unit {0})) (defined : Defined) (text : List ℕ)
-    → i < length parts → part ≡ get_or parts i part → AreTold alphabet rules (take i parts) old
+    → i < length parts → part ≡ get_or parts i part → AreFirstTexts alphabet rules (take i parts) old
     → IsPartText alphabet rules (awaited_part part) text → rule.name ≡ text → table.Defines old new rule defined
-    → AreTold alphabet rules (take (i + 1) parts) new
-more_told alphabet rules parts i part old new rule defined text lt is before one named defines =
+    → AreFirstTexts alphabet rules (take (i + 1) parts) new
+first_texts_more alphabet rules parts i part old new rule defined text lt is before one named defines =
     let there = text_defined old new rule before.exact defined defines in
     let front : map awaited_part (take (i + 1) parts) ≡ map awaited_part (take i parts) ++ awaited_part part ∷ [] =
     ap (map awaited_part) (take_more parts i part lt)
@@ -227,7 +227,7 @@ more_told alphabet rules parts i part old new rule defined text lt is before one
     record {
       exact = there.0;
       texts = before.texts ++ text ∷ [];
-      told = subst (λ ps. ArePartTexts alphabet rules ps (before.texts ++ text ∷ [])) (sym front)
-          (texts_more alphabet rules before.told (awaited_part part) text one);
+      listed = subst (λ ps. ArePartTexts alphabet rules ps (before.texts ++ text ∷ [])) (sym front)
+          (texts_more alphabet rules before.listed (awaited_part part) text one);
       is = there.1 ∙ (λ j. before.is j ++ if_new (before.is j) (named j)) ∙ sym (once_more [] before.texts text);
     }

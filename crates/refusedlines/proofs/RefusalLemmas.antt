@@ -21,7 +21,7 @@ use Rattle.refusedlines.specs.declared.letterruns.run.LetterRun.{LetterRun}
 use Rattle.ruletable.specs.Rules as table
 use Rattle.refusedlines.specs.Following.{AreFollowing}
 use Rattle.refusedlines.specs.RefusedText.{column_after, line_in_record, only_part, part_lines, refused_at}
-use Rattle.refusedlines.specs.RefusedText.{symbols_text, told_line, unit_text}
+use Rattle.refusedlines.specs.RefusedText.{symbols_text, expected_rest, unit_text}
 use Rattle.ruletable.specs.declared.lines.LineRule.TheVariants.{Lf}
 use Rattle.diagnostics.specs.LinesAround.{bytes_before}
 use Rattle.refusedlines.specs.declared.refusal.LineUnit.{LineUnit}
@@ -35,8 +35,8 @@ use Rattle.refusedlines.specs.declared.refusal.RefusedAt.{RefusedAt}
 pub expected_pushed : (alphabet : Alphabet) (shown runs : List LetterRun) (parts : List (List ℕ)) (symbols : List ℕ)
     (only : Option (List ℕ)) (words ended at_words pictured old a b c new : List ℕ) → shown ≡ runs
     → symbols ≡ symbols_text alphabet shown → only ≡ only_part symbols parts → words ≡ ended → a ≡ old ++ at_words
-    → b ≡ a ++ told_line symbols only words → c ≡ b ++ pictured → new ≡ c ++ part_lines only parts
-    → new ≡ old ++ (at_words ++ (told_line (symbols_text alphabet runs)
+    → b ≡ a ++ expected_rest symbols only words → c ≡ b ++ pictured → new ≡ c ++ part_lines only parts
+    → new ≡ old ++ (at_words ++ (expected_rest (symbols_text alphabet runs)
     (only_part (symbols_text alphabet runs) parts) ended
     ++ (pictured ++ part_lines (only_part (symbols_text alphabet runs) parts) parts)))
 expected_pushed alphabet shown runs parts symbols only words ended x z old a b c new same is one said e f g h =
@@ -44,9 +44,9 @@ expected_pushed alphabet shown runs parts symbols only words ended x z old a b c
     is ∙ ap (λ (v : List LetterRun). symbols_text alphabet v) same in
     let part : only ≡ only_part (symbols_text alphabet runs) parts =
     one ∙ ap (λ (v : List ℕ). only_part v parts) text in
-    let y = told_line (symbols_text alphabet runs) (only_part (symbols_text alphabet runs) parts) ended in
+    let y = expected_rest (symbols_text alphabet runs) (only_part (symbols_text alphabet runs) parts) ended in
     let w = part_lines (only_part (symbols_text alphabet runs) parts) parts in
-    let expected : b ≡ a ++ y = f ∙ (λ i. a ++ told_line (text i) (part i) (said i)) in
+    let expected : b ≡ a ++ y = f ∙ (λ i. a ++ expected_rest (text i) (part i) (said i)) in
     let listed : new ≡ c ++ w = h ∙ ap (λ (v : Option (List ℕ)). c ++ part_lines v parts) part in
     listed ∙ ap (λ v. v ++ w) (g ∙ ap (λ v. v ++ z) (expected ∙ ap (λ v. v ++ y) e))
     ∙ append_assoc ((old ++ x) ++ y) z w ∙ append_assoc (old ++ x) y (z ++ w) ∙ append_assoc old x (y ++ (z ++ w))

@@ -17,9 +17,9 @@ use Rattle.ruletable.specs.Letters.{has}
 use Rattle.ruletable.specs.declared.alphabet.Alphabet.{Alphabet}
 
 -- the name that an element is
-abbrev pub named_by : Element → Option (List ℕ)
-named_by (Name name) = Some name
-named_by e = None
+abbrev pub element_name : Element → Option (List ℕ)
+element_name (Name name) = Some name
+element_name e = None
 
 -- how many symbols a terminal has
 abbrev pub leaf_size : Element → ℕ
@@ -60,12 +60,12 @@ IsTextFor alphabet rules e k None text = IsLeafText (leaf_size e == 1) alphabet 
 
 -- the text of a name or a terminal, of which k symbols are read
 abbrev pub IsElementText : Alphabet → List Rule → Element → ℕ → List ℕ → Type 0
-IsElementText alphabet rules e k text = IsTextFor alphabet rules e k (named_by e) text
+IsElementText alphabet rules e k text = IsTextFor alphabet rules e k (element_name e) text
 
 -- the text of a part: its element in its rule
 pub record IsPartText (alphabet : Alphabet) (rules : List Rule) (part : ShownPart) (text : List ℕ) : Type 0 where
   pub element : List ℕ
-  pub told : IsElementText alphabet rules part.element part.read element
+  pub shows : IsElementText alphabet rules part.element part.read element
   pub is : text ≡ element ++ (codes " in " ++ shown_name rules part.rule)
 
 -- the texts of parts, in their order
@@ -87,5 +87,5 @@ pub record AreTextsAfter (alphabet : Alphabet) (rules : List Rule) (judged : ℕ
   pub parts : List ShownPart
   pub reported : AreReportedParts (IsPartReported alphabet rules judged x n) (parts_from 0 rules) parts
   pub texts : List (List ℕ)
-  pub told : ArePartTexts alphabet rules parts texts
+  pub listed : ArePartTexts alphabet rules parts texts
   pub is : once ≡ texts_once [] texts

@@ -44,29 +44,29 @@ abbrev pub symbols_text : Alphabet → List LetterRun → List ℕ
 symbols_text alphabet runs = pieces_text (pieces alphabet runs)
 
 -- a text begins with another
-abbrev pub begins_with : List ℕ → List ℕ → Bool
-begins_with text front = starts_with (λ a b. a == b) text front
+abbrev pub has_front : List ℕ → List ℕ → Bool
+has_front text front = starts_with (λ a b. a == b) text front
 
--- the text of a part tells that of the symbols: it begins with that, and with ` in ` or ` of ` after it
-abbrev pub tells : List ℕ → List ℕ → Bool
-tells symbols part = bytes_eq (take (length symbols) part) symbols
-    && (begins_with (drop (length symbols) part) (codes " in ")
-    || begins_with (drop (length symbols) part) (codes " of "))
+-- the text of a part restates that of the symbols: it begins with that, and with ` in ` or ` of ` after it
+abbrev pub restates : List ℕ → List ℕ → Bool
+restates symbols part = bytes_eq (take (length symbols) part) symbols
+    && (has_front (drop (length symbols) part) (codes " in ")
+    || has_front (drop (length symbols) part) (codes " of "))
 
--- of the texts of the parts the only one, if it tells that of the symbols
+-- of the texts of the parts the only one, if it restates that of the symbols
 abbrev pub only_part : List ℕ → List (List ℕ) → Option (List ℕ)
 only_part symbols [] = None
-only_part symbols (part ∷ []) = if tells symbols part then Some part else None
+only_part symbols (part ∷ []) = if restates symbols part then Some part else None
 only_part symbols (part ∷ other ∷ parts) = None
 
 -- it is reported in place of the symbols
-abbrev pub told_by : List ℕ → Option (List ℕ) → List ℕ
-told_by symbols None = symbols
-told_by symbols (Some part) = part
+abbrev pub expected_by : List ℕ → Option (List ℕ) → List ℕ
+expected_by symbols None = symbols
+expected_by symbols (Some part) = part
 
 -- what is expected: the symbols, or that part, and then the words for the end
-abbrev pub told_line : List ℕ → Option (List ℕ) → List ℕ → List ℕ
-told_line symbols only ended = told_by symbols only ++ (ended ++ codes "\n")
+abbrev pub expected_rest : List ℕ → Option (List ℕ) → List ℕ → List ℕ
+expected_rest symbols only ended = expected_by symbols only ++ (ended ++ codes "\n")
 
 -- The parts, if none is reported in place of the symbols: a line of each of the first ones, and how many more there are.
 abbrev pub part_lines : Option (List ℕ) → List (List ℕ) → List ℕ
@@ -127,7 +127,7 @@ abbrev pub reported_expected : Alphabet → ℕ → List ℕ → RefusedAt → �
 reported_expected alphabet number line at position runs ends parts =
     let symbols = symbols_text alphabet runs in
     let only = only_part symbols parts in
-    at_text number at ++ (told_line symbols only (end_text runs ends) ++ (line_picture line position
+    at_text number at ++ (expected_rest symbols only (end_text runs ends) ++ (line_picture line position
     ++ part_lines only parts))
 
 -- that a record may end, after the symbols that can follow
@@ -141,7 +141,7 @@ abbrev pub record_expected : Alphabet → ℕ → List ℕ → RefusedAt → ℕ
 record_expected alphabet number line at position column runs ends parts =
     let symbols = symbols_text alphabet runs in
     let only = only_part symbols parts in
-    at_record number (take position line) column at ++ (told_line symbols only (record_end runs ends)
+    at_record number (take position line) column at ++ (expected_rest symbols only (record_end runs ends)
     ++ (line_picture (line_in_record line position) (bytes_before Lf (take position line)) ++ part_lines only parts))
 
 -- what is rejected

@@ -20,10 +20,9 @@ ghost use Rattle.refusedlines.specs.Refusals.{
   octet_count,
   octets as the_octets,
 };
-ghost use Rattle.refusedlines.specs.RuleNames.{name_at};
 
 use crate::following::{find_following, following_is_one};
-use crate::part_texts::{TextSet, part_texts};
+use crate::part_texts::{TextSet, part_texts, rule_name};
 use crate::parts::awaited_parts;
 use crate::pruned::PrunedGrammar;
 use crate::refusal::{Refusal, RefusedLine, push_refusal, refused_at};
@@ -114,14 +113,6 @@ fn column_after<L: Letter>(symbols: &[L]) -> usize
     column
 }
 
-// Returns the name of the judged rule.
-fn judged_name(grammar: &SoundAbnf) -> &[u8]
-    ensures { result.now ≡ name_at (rules_of grammar.now.rules) grammar.now.judged }
-{
-    let id = grammar.judged();
-    grammar.rules().name(id)
-}
-
 // Returns the texts of the parts that can come next after so many symbols of a line, where these dotted rules are
 // awaited.
 fn texts_of(
@@ -182,7 +173,9 @@ fn explain_bytes(
         following,
         parts,
     };
-    push_refusal(alloc, judged_name(explainer.grammar), line, &refusal, out)?;
+    let grammar = explainer.grammar;
+    let name = rule_name(grammar.rules(), grammar.judged());
+    push_refusal(alloc, name, line, &refusal, out)?;
     Ok(())
 }
 
@@ -231,7 +224,9 @@ fn explain_points(
         following,
         parts,
     };
-    push_refusal(alloc, judged_name(explainer.grammar), line, &refusal, out)?;
+    let grammar = explainer.grammar;
+    let name = rule_name(grammar.rules(), grammar.judged());
+    push_refusal(alloc, name, line, &refusal, out)?;
     Ok(())
 }
 

@@ -2,7 +2,7 @@
 ghost use Rattle.std.specs.Prelude.{◌≡◌, ◌≤◌, ◌++◌, length, option_map, take, None, OnOk};
 ghost use Rattle.std.specs.List.{flat_map};
 ghost use Rattle.diagnostics.specs.FirstBytes.{fact_line};
-ghost use Rattle.refusedlines.specs.RefusedText.{only_part, part_lines, tells, told_by, told_line};
+ghost use Rattle.refusedlines.specs.RefusedText.{only_part, part_lines, restates, expected_by, expected_rest};
 ghost use Rattle.ruletable.specs.Rules.{names_of};
 
 use crate::part_texts::TextSet;
@@ -13,8 +13,8 @@ use ruletable::Memory;
 const SHOWN_PARTS: usize = 16;
 
 // Returns whether the text of a part begins with that of the symbols, and with ` in ` or ` of ` after it.
-fn tells(symbols: &[u8], part: &[u8]) -> bool
-    ensures { result ≡ tells symbols.now part.now }
+fn restates(symbols: &[u8], part: &[u8]) -> bool
+    ensures { result ≡ restates symbols.now part.now }
 {
     match part.strip_prefix(symbols) {
         Some(rest) => rest.starts_with(b" in ") || rest.starts_with(b" of "),
@@ -22,7 +22,7 @@ fn tells(symbols: &[u8], part: &[u8]) -> bool
     }
 }
 
-/// Returns of the texts of parts the only one, if it tells that of the symbols.
+/// Returns of the texts of parts the only one, if it restates that of the symbols.
 pub(crate) fn only_part<'a>(symbols: &[u8], parts: &'a TextSet) -> Option<&'a [u8]>
     ensures { option_map (λ part. part.now) result ≡ only_part symbols.now (names_of parts.now) }
 {
@@ -30,7 +30,7 @@ pub(crate) fn only_part<'a>(symbols: &[u8], parts: &'a TextSet) -> Option<&'a [u
         return None;
     }
     let part = parts.name(0);
-    if tells(symbols, part) {
+    if restates(symbols, part) {
         Some(part)
     } else {
         None
@@ -38,8 +38,8 @@ pub(crate) fn only_part<'a>(symbols: &[u8], parts: &'a TextSet) -> Option<&'a [u
 }
 
 // Returns the text of the symbols, or that of the part in their place.
-fn told_by<'a>(symbols: &'a [u8], only: Option<&'a [u8]>) -> &'a [u8]
-    ensures { result.now ≡ told_by symbols.entry.now (option_map (λ part. part.now) only.entry) }
+fn expected_by<'a>(symbols: &'a [u8], only: Option<&'a [u8]>) -> &'a [u8]
+    ensures { result.now ≡ expected_by symbols.entry.now (option_map (λ part. part.now) only.entry) }
 {
     match only {
         Some(part) => part,
@@ -51,16 +51,16 @@ fn told_by<'a>(symbols: &'a [u8], only: Option<&'a [u8]>) -> &'a [u8]
 ///
 /// # Errors
 /// `Memory` if an allocation fails.
-pub(crate) fn push_told(
+pub(crate) fn push_expected(
     symbols: &[u8],
     only: Option<&[u8]>,
     ended: &[u8],
     out: &mut Vec<u8>,
 ) -> Result<(), Memory>
     ensures { OnOk result (out.new.items ≡ out.old.items
-        ++ told_line symbols.now (option_map (λ part. part.now) only.entry) ended.now) }
+        ++ expected_rest symbols.now (option_map (λ part. part.now) only.entry) ended.now) }
 {
-    out.extend_from_slice(told_by(symbols, only))?;
+    out.extend_from_slice(expected_by(symbols, only))?;
     out.extend_from_slice(ended)?;
     out.extend_from_slice(b"\n")?;
     Ok(())

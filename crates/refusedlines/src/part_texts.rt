@@ -2,21 +2,18 @@
 ghost use Rattle.std.specs.Prelude.{◌≡◌, ◌==◌, ℕ, List, [], map, option_map, IfOk};
 ghost use Rattle.abnfprint.specs.CanonicalAbnf.{text_of};
 ghost use Rattle.abnfread.specs.AbnfViews.{element_of, rules_of};
-ghost use Rattle.abnfread.specs.Element.{id_of};
 ghost use Rattle.diagnostics.specs.ShownBytes.{cut};
 ghost use Rattle.flatgrammar.specs.FlatViews.{set_of};
-ghost use Rattle.lowering.specs.Lowered.{letter_set};
 ghost use Rattle.refusedlines.specs.PartTexts.{
   ArePartTexts,
   IsElementText,
   IsLeafText,
-  IsLongLeafText,
   IsPartText,
   IsSetText,
 };
 ghost use Rattle.refusedlines.specs.PartTexts.{leaf_set as the_leaf_set, leaf_size as the_leaf_size};
-ghost use Rattle.refusedlines.specs.PartTexts.{named_by, texts_once};
-ghost use Rattle.refusedlines.specs.RuleNames.{name_at, shown_name};
+ghost use Rattle.refusedlines.specs.PartTexts.{element_name, texts_once};
+ghost use Rattle.refusedlines.specs.RuleNames.{name_at};
 ghost use Rattle.refusedlines.specs.ShownParts.{awaited_part};
 ghost use Rattle.ruletable.specs.Rules.{names_of};
 
@@ -61,22 +58,9 @@ pub fn rule_name(rules: &RuleTable<Elem>, id: usize) -> &[u8]
     }
 }
 
-// Returns the name of the rule that has a name, cut.
-fn name_text(alloc: Global, rules: &RuleTable<Elem>, name: &[u8]) -> Result<Vec<u8>, Memory>
-    requires { rules.now.names ≡ NameCase.Fold }
-    ensures { IfOk result (λ text. text.items
-        ≡ shown_name (rules_of rules.now) (id_of (rules_of rules.now) name.now)) }
-{
-    let mut text = Vec::new(alloc);
-    let found = rules.find(name)?;
-    let id = found.unwrap_or(rules.len());
-    push_cut(&mut text, rule_name(rules, id))?;
-    Ok(text)
-}
-
 // Returns the name that an element is.
-fn named_by(e: &Elem) -> Option<&[u8]>
-    ensures { option_map (λ name. name.now) result ≡ named_by (element_of e.now) }
+fn element_name(e: &Elem) -> Option<&[u8]>
+    ensures { option_map (λ name. name.now) result ≡ element_name (element_of e.now) }
 {
     match e {
         Elem::Name(name) => Some(name.as_slice()),
@@ -95,23 +79,13 @@ fn leaf_size(e: &Elem) -> usize
     }
 }
 
-// Returns what may stand for a symbol of a text.
-fn letter_set(folds: bool, letter: u8) -> Set
-    ensures { set_of result ≡ letter_set folds letter }
-{
-    if folds {
-        Set::EitherCase(letter.into())
-    } else {
-        Set::Exactly(letter.into())
-    }
-}
-
 // Returns what may stand for the symbol of that number of a terminal.
 fn leaf_set(e: &Elem, read: usize) -> Option<Set>
     ensures { option_map set_of result ≡ the_leaf_set (element_of e.now) read }
 {
     match e {
-        Elem::Text { folds, text } => Some(letter_set(*folds, *text.get(read)?)),
+        Elem::Text { folds: true, text } => Some(Set::EitherCase((*text.get(read)?).into())),
+        Elem::Text { folds: false, text } => Some(Set::Exactly((*text.get(read)?).into())),
         Elem::Values(values) => Some(Set::Exactly(*values.get(read)?)),
         Elem::Range { low, high } => Some(Set::Between {
             low: *low,
@@ -139,15 +113,15 @@ fn cut_text(alloc: Global, e: &Elem) -> Result<Vec<u8>, Memory>
     Ok(text)
 }
 
-// Returns the text of a terminal of several symbols, of which so many are read.
-fn long_leaf_text(
-    alloc: Global,
-    alphabet: Alphabet,
-    e: &Elem,
-    read: usize,
-) -> Result<Vec<u8>, Memory>
-    ensures { IfOk result (λ text. IsLongLeafText alphabet (element_of e.now) read text.items) }
+// Returns the text of a terminal, of which so many symbols are read: the set of its only symbol, or the terminal, cut, and
+// the set of the next symbol before it.
+fn leaf_text(alloc: Global, alphabet: Alphabet, e: &Elem, read: usize) -> Result<Vec<u8>, Memory>
+    ensures { IfOk result (λ text. IsLeafText (the_leaf_size (element_of e.now) == 1) alphabet (element_of e.now) read
+        text.items) }
 {
+    if leaf_size(e) == 1 {
+        return set_text(alloc, alphabet, leaf_set(e, read));
+    }
     let leaf = cut_text(alloc, e)?;
     if read == 0 {
         return Ok(leaf);
@@ -158,18 +132,7 @@ fn long_leaf_text(
     Ok(text)
 }
 
-// Returns the text of a terminal, of which so many symbols are read.
-fn leaf_text(alloc: Global, alphabet: Alphabet, e: &Elem, read: usize) -> Result<Vec<u8>, Memory>
-    ensures { IfOk result (λ text. IsLeafText (the_leaf_size (element_of e.now) == 1) alphabet (element_of e.now) read
-        text.items) }
-{
-    if leaf_size(e) == 1 {
-        return set_text(alloc, alphabet, leaf_set(e, read));
-    }
-    long_leaf_text(alloc, alphabet, e, read)
-}
-
-// Returns the text of a name or a terminal, of which so many symbols are read.
+// Returns the text of a name, by the rule that it names, or of a terminal, of which so many symbols are read.
 fn element_text(
     alloc: Global,
     alphabet: Alphabet,
@@ -180,10 +143,14 @@ fn element_text(
     requires { rules.now.names ≡ NameCase.Fold }
     ensures { IfOk result (λ text. IsElementText alphabet (rules_of rules.now) (element_of e.now) read text.items) }
 {
-    match named_by(e) {
-        Some(name) => name_text(alloc, rules, name),
-        None => leaf_text(alloc, alphabet, e, read),
-    }
+    let Some(name) = element_name(e) else {
+        return leaf_text(alloc, alphabet, e, read);
+    };
+    let found = rules.find(name)?;
+    let id = found.unwrap_or(rules.len());
+    let mut text = Vec::new(alloc);
+    push_cut(&mut text, rule_name(rules, id))?;
+    Ok(text)
 }
 
 // Returns the text of a part: its element in its rule.

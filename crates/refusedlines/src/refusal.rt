@@ -21,7 +21,7 @@ ghost use Rattle.ruletable.specs.Rules.{names_of};
 
 use crate::following::Following;
 use crate::letterruns::{LetterRun, symbols_text};
-use crate::part_lines::{only_part, push_part_lines, push_told};
+use crate::part_lines::{only_part, push_part_lines, push_expected};
 use crate::part_texts::TextSet;
 use diagnostics::{LineAround, push_cut, push_number, push_picture};
 use ruletable::{Alphabet, LineRule, Memory, line_of};
@@ -155,7 +155,7 @@ fn push_lines(
     let symbols = text.as_slice();
     let only = only_part(symbols, &refusal.parts);
     push_at(line.number, refusal.at, out)?;
-    push_told(symbols, only, end_words(runs, refusal.following.ends), out)?;
+    push_expected(symbols, only, end_words(runs, refusal.following.ends), out)?;
     push_line_picture(line.bytes, refusal.position, out)?;
     push_part_lines(only, &refusal.parts, out)
 }
@@ -267,7 +267,7 @@ fn push_record(
     let only = only_part(symbols, &refusal.parts);
     let before = &line.bytes[..refusal.position];
     push_at_record(line.number, before, refusal.column, refusal.at, out)?;
-    push_told(symbols, only, record_end_words(runs, refusal.following.ends), out)?;
+    push_expected(symbols, only, record_end_words(runs, refusal.following.ends), out)?;
     push_record_picture(line.bytes, refusal.position, out)?;
     push_part_lines(only, &refusal.parts, out)
 }

@@ -19,6 +19,7 @@ returns-clause-reported c =
     let line = c.args.line.bytes.now in
     let f = c.in_ok-following.following in
     let found = c.in_ok-following.ensures in
+    let name = rw (c.rules.ensures.rules, c.judged.ensures.id) at c.rule_name-name.ensures in
     let of = rw c.requires.letters at c.requires.pruned in
     let prefixes = c.items_decide.ensures.prefixes (has Bytes) rules left grammar.judged pruned.flat of.left of.lowered in
     let furthest = rw map-id at (found.furthest rules grammar.judged prefixes) in
@@ -32,9 +33,9 @@ returns-clause-reported c =
     (rw (sym c.requires.letters) at (letters_front (has Bytes) f.after line letters))
     (rw (sym c.deref.ensures.value) at awaited)) in
     reported_bytes c.args.line.unit rules grammar.judged line c.args.line.number
-    f.runs.items f.ends c.judged_name.result.now
+    f.runs.items f.ends c.rule_name-name.result.now
     c.refused_at-at.result f.after c.column_after-column.result c.args.out.now.items
-    c.push_refusal.new.out.items c.judged_name.ensures left _
+    c.push_refusal.new.out.items name left _
     c.in_ok-push_refusal.ensures furthest
     (rw map-id at (found.following rules grammar.judged prefixes)) of.left texts
     c.refused_at-at.ensures (rw map-id at c.column_after-column.ensures)

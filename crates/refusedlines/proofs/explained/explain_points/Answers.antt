@@ -43,6 +43,7 @@ returns-clause-reported c =
     let left = rules_of pruned.rules in
     let f = c.in_ok-following.following in
     let found = c.in_ok-following.ensures in
+    let name = rw (c.rules.ensures.rules, c.judged.ensures.id) at c.rule_name-name.ensures in
     let points = c.as_slice-points.result.now in
     let line = c.args.line.bytes.now in
     let of = rw c.requires.letters at c.requires.pruned in
@@ -57,9 +58,9 @@ returns-clause-reported c =
     (rw (sym c.requires.letters) at (letters_front (has Utf8) f.after (numbers points) c.values_are_letters.ensures))
     (rw (sym c.deref.ensures.value) at found.awaited)) in
     reported_points c.args.line.unit rules grammar.judged line c.args.line.number f.runs.items f.ends
-    c.judged_name.result.now c.refused_at-at.result c.octets_of-position.result c.column_after-column.result
+    c.rule_name-name.result.now c.refused_at-at.result c.octets_of-position.result c.column_after-column.result
     c.args.out.now.items c.push_refusal.new.out.items
-    c.judged_name.ensures left _ c.in_ok-push_refusal.ensures
+    name left _ c.in_ok-push_refusal.ensures
     (numbers points) c.in_ok-first.first.size f.after e.longest
     (subst (λ v. Spells (numbers v) (take c.in_ok-first.first.size line)) (sym c.as_slice-points.ensures.value)
     e.spelled)

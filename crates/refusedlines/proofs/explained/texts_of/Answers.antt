@@ -19,7 +19,7 @@ returns c =
       reported = c.in_ok-parts.ensures e.letters (rules_of e.grammar.now.rules) e.grammar.now.judged x n
           c.requires.left c.requires.lowered c.requires.marks c.requires.count short letters awaited;
       texts = found.0;
-      told = subst (λ (ps : List AwaitedPart). ArePartTexts e.letters (rules_of pruned.rules) (map awaited_part ps)
+      listed = subst (λ (ps : List AwaitedPart). ArePartTexts e.letters (rules_of pruned.rules) (map awaited_part ps)
           found.0) c.deref-2.ensures.value found.1;
       is = found.2;
     })

@@ -7,7 +7,7 @@ returns c =
     let element = c.in_ok-text.text.items in
     record {
       element = element;
-      told = c.in_ok-text.ensures;
+      shows = c.in_ok-text.ensures;
       is = c.in_ok-push_cut.ensures
           ∙ (λ i. c.in_ok-extend_from_slice.ensures.items i ++ cut (c.rule_name.ensures i))
           ∙ append_assoc element (codes " in ") _;

@@ -15,5 +15,5 @@ returns c =
     c.as_slice-runs.ensures.value (c.as_slice-symbols.ensures.value ∙ c.in_ok-text.ensures)
     c.only_part-only.ensures
     (c.end_words.ensures ∙ ap (λ runs. end_text runs r.following.ends) c.as_slice-runs.ensures.value)
-    c.in_ok-push_at.ensures c.in_ok-push_told.ensures c.in_ok-push_line_picture.ensures put)
+    c.in_ok-push_at.ensures c.in_ok-push_expected.ensures c.in_ok-push_line_picture.ensures put)
     c.push_part_lines.ensures

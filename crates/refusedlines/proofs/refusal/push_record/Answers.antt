@@ -20,5 +20,5 @@ returns c =
     c.as_slice-runs.ensures.value (c.as_slice-symbols.ensures.value ∙ c.in_ok-text.ensures)
     c.only_part-only.ensures
     (c.record_end_words.ensures ∙ ap (λ runs. record_end runs r.following.ends) c.as_slice-runs.ensures.value)
-    c.in_ok-push_at_record.ensures c.in_ok-push_told.ensures c.in_ok-push_record_picture.ensures put)
+    c.in_ok-push_at_record.ensures c.in_ok-push_expected.ensures c.in_ok-push_record_picture.ensures put)
     c.push_part_lines.ensures
