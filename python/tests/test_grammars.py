@@ -130,7 +130,8 @@ def test_lines_may_hold_any_byte():
 
 
 def test_findings_on_an_input():
-    err = b'line 1, letter 3: expected "-" in d\n  12x3\n    ^\nline 3 ends too early: expected DIGIT in d\n  12-\n     ^\n'
+    err = b'line 1, letter 3: expected "-" in d\n  12x3\n    ^\n'
+    err += b"line 3 ends too early: expected DIGIT in d\n  12-\n     ^\n"
     assert [it[:7] for it in read_findings(err)] == [
         ("", 1, 3, "error", "refused", 'expected "-" in d', "input"),
         ("", 3, None, "error", "refused", "expected DIGIT in d", "input"),

@@ -28,8 +28,8 @@ pub record IsReadyFor (grammar : Grammar) (letters : Alphabet) (viable : Bool) (
   pub prefixes : viable ≡ true → GivesPrefixes (has letters) (rules_of grammar.rules) grammar.judged flat
   pub alike : IfSome automaton (AreJudgedAlike (has letters) viable flat)
 
--- The productive parts of the rules, with a flat grammar for lines of one symbol more than so many. They explain rejected
--- lines of so many.
+-- The productive parts of the rules, with a flat grammar for lines of one symbol more than so many. They explain
+-- rejected lines of so many.
 pub record ExplainsLines (rules : List Rule) (judged : ℕ) (letters : Alphabet) (limit : ℕ) (pruned : PrunedGrammar)
     : Type 0 where
   pub longer : pruned.flat.limit ≡ limit + 1

@@ -210,8 +210,8 @@ fn judge_points(judges: &LineJudge<'_>, work: &mut Work, line: &[u8]) -> Result<
 }
 
 /// Returns the lines that explain a rejected line of that number, by the productive parts of the grammar. It frees all
-/// memory that it takes but that of an automaton, which serves the next lines. `Memory` if an allocation fails; then that
-/// automaton is freed too.
+/// memory that it takes but that of an automaton, which serves the next lines. `Memory` if an allocation fails; then
+/// that automaton is freed too.
 fn explain_line(
     judges: &LineJudge<'_>,
     pruned: &PrunedGrammar,
@@ -340,8 +340,8 @@ pub(crate) fn lowered(
     lower(alloc, grammar, judged_limit(settings))
 }
 
-/// Returns the productive parts of a grammar, lowered for lines of one symbol more than settings allow, by which rejected
-/// lines are explained. `None` if settings do not ask for that, or an allocation fails.
+/// Returns the productive parts of a grammar, lowered for lines of one symbol more than settings allow, by which
+/// rejected lines are explained. `None` if settings do not ask for that, or an allocation fails.
 pub(crate) fn explainer_of(
     alloc: Global,
     grammar: &SoundAbnf,

@@ -1,8 +1,8 @@
 -- The texts of parts: of one, of several, each once.
 -- Serves: explain_refused, refusal_is_one
-use Rattle.std.proofs.Common.{◌≡◌, ◌||◌, ◌==◌, ℕ, zero, suc, ◌+◌, ◌<◌, Bool, true, false, cond, List, [], ◌∷◌, ◌++◌, append-nil}
-use Rattle.std.proofs.Common.{Option, Some, None, append_assoc, ap, arith, codes, eqb-true, get_or, length, map, nat_lt, refl}
-use Rattle.std.proofs.Common.{subst, sym, take, ◌∙◌}
+use Rattle.std.proofs.Common.{◌≡◌, ◌||◌, ◌==◌, ℕ, zero, suc, ◌+◌, ◌<◌, Bool, true, false, cond, List, [], ◌∷◌, ◌++◌}
+use Rattle.std.proofs.Common.{Option, Some, None, append-nil, append_assoc, ap, arith, codes, eqb-true, get_or, length}
+use Rattle.std.proofs.Common.{map, nat_lt, refl, subst, sym, take, ◌∙◌}
 use Rattle.std.specs.Prelude.{bytes_eq, position}
 use Rattle.std.specs.List.{list_any, position_or_len}
 use Rattle.std.proofs.lemmas.List.{map-append, take_more}
@@ -197,8 +197,8 @@ module _ (old new : table.Rules (Unit {0})) (rule : table.Rule (Unit {0})) (exac
       )
 
 -- the texts of the first parts, each once
-pub record AreFirstTexts (alphabet : Alphabet) (rules : List Rule) (parts : List AwaitedPart) (once : table.Rules (Unit {0}))
-    : Type 0 where
+pub record AreFirstTexts (alphabet : Alphabet) (rules : List Rule) (parts : List AwaitedPart)
+    (once : table.Rules (Unit {0})) : Type 0 where
   pub exact : once.names ≡ Exact
   pub texts : List (List ℕ)
   pub listed : ArePartTexts alphabet rules (map awaited_part parts) texts

@@ -1,8 +1,8 @@
 -- The texts that explain rejected lines.
 -- Serves: explain_refused
 use Rattle.std.proofs.Common.{◌≡◌, ℕ, zero, suc, ◌+◌, ◌<◌, ◌≤◌, nat_lt, Bool, false, List, [], ◌∷◌, ◌++◌, map}
-use Rattle.std.proofs.Common.{Option, Some, length, take, get_or, slice_get, slice_index_or, refl, sym, ◌∙◌, ap, subst, arith}
-use Rattle.std.proofs.Common.{append_assoc, codes, decimal, drop, length-append, ◌-◌, ◌==◌}
+use Rattle.std.proofs.Common.{Option, Some, length, take, get_or, slice_get, slice_index_or, refl, sym, ◌∙◌, ap, subst}
+use Rattle.std.proofs.Common.{append_assoc, arith, codes, decimal, drop, length-append, ◌-◌, ◌==◌}
 use Rattle.std.proofs.lemmas.Bool.{le-ltb, lt-ltb}
 use Rattle.std.proofs.lemmas.List.{get_or_past, length-map, length-take-le, map-append, take-map, take_more}
 use Rattle.std.proofs.lemmas.Option.{get_or_from_slice_get}

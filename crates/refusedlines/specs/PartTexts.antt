@@ -1,6 +1,6 @@
 -- The texts of the parts that can come next where a line is rejected.
-use Rattle.std.specs.Prelude.{◌≡◌, ◌↔◌, ℕ, zero, suc, ◌==◌, Bool, true, false, if◌then◌else◌, List, [], ◌∷◌, ◌++◌, bytes_eq}
-use Rattle.std.specs.Prelude.{Option, Some, None, codes, length, option_map, slice_get}
+use Rattle.std.specs.Prelude.{◌≡◌, ◌↔◌, ℕ, zero, suc, ◌==◌, Bool, true, false, if◌then◌else◌, List, [], ◌∷◌, ◌++◌}
+use Rattle.std.specs.Prelude.{Option, Some, None, bytes_eq, codes, length, option_map, slice_get}
 use Rattle.std.specs.List.{list_any}
 use Rattle.abnfprint.specs.CanonicalAbnf.{text_of}
 use Rattle.abnfread.specs.Element.{Element, Text, Values, Range, Name, Rule, id_of}
@@ -41,8 +41,8 @@ pub record IsSetText (alphabet : Alphabet) (set : Option Set) (text : List ℕ) 
   pub letters : (c : ℕ) → RunsHave runs c ↔ ((has alphabet c ≡ true) × IfSomeSet set c)
   pub is : text ≡ symbols_text alphabet runs
 
--- A terminal of several symbols, as the printer writes it, cut. After some of its symbols, the set of the next one stands
--- before it.
+-- A terminal of several symbols, as the printer writes it, cut. After some of its symbols, the set of the next one
+-- stands before it.
 abbrev pub IsLongLeafText : Alphabet → Element → ℕ → List ℕ → Type 0
 IsLongLeafText alphabet e zero text = text ≡ cut (text_of e)
 IsLongLeafText alphabet e (suc k) text = (set : List ℕ) × IsSetText alphabet (leaf_set e (suc k)) set

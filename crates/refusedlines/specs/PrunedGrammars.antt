@@ -10,8 +10,8 @@ use Rattle.ruletable.specs.Letters.{has}
 use Rattle.ruletable.specs.declared.alphabet.Alphabet.{Alphabet}
 use Rattle.ruletable.specs.declared.table.NameCase.TheVariants.{Fold}
 
--- The rules are those of a grammar without what derives no line over the alphabet. The marks are on those that derive more
--- than the empty line, and the flat grammar is that of the rules.
+-- The rules are those of a grammar without what derives no line over the alphabet. The marks are on those that derive
+-- more than the empty line, and the flat grammar is that of the rules.
 pub record IsPrunedOf (alphabet : Alphabet) (rules : List Rule) (judged : ℕ) (pruned : PrunedGrammar) : Type 0 where
   pub folds : pruned.rules.names ≡ Fold
   pub left : ArePruned (has alphabet) rules (rules_of pruned.rules)

@@ -28,8 +28,8 @@ abbrev pub AreFirstLetters : Alphabet → List ℕ → List ℕ → ℕ → Type
 AreFirstLetters Bytes line x size = (x ≡ line) × (size ≡ length line)
 AreFirstLetters Utf8 line x size = IsLongestText line size × Spells x (take size line)
 
--- The text explains where the line or the record with that number is rejected, what can follow the longest viable prefix
--- of its symbols, and which parts can come next there, of the rules without what derives nothing.
+-- The text explains where the line or the record with that number is rejected, what can follow the longest viable
+-- prefix of its symbols, and which parts can come next there, of the rules without what derives nothing.
 pub record IsRefusalReported (unit : LineUnit) (alphabet : Alphabet) (rules : List Rule) (judged : ℕ) (line : List ℕ)
     (number : ℕ) (text : List ℕ) : Type 0 where
   pub first : List ℕ

@@ -68,7 +68,8 @@ expected_by symbols (Some part) = part
 abbrev pub expected_rest : List ℕ → Option (List ℕ) → List ℕ → List ℕ
 expected_rest symbols only ended = expected_by symbols only ++ (ended ++ codes "\n")
 
--- The parts, if none is reported in place of the symbols: a line of each of the first ones, and how many more there are.
+-- The parts, if none is reported in place of the symbols: a line of each of the first ones, and how many more there
+-- are.
 abbrev pub part_lines : Option (List ℕ) → List (List ℕ) → List ℕ
 part_lines None parts = flat_map fact_line (take 16 parts) ++ more_reported (length parts - 16)
 part_lines (Some part) parts = []

@@ -230,14 +230,14 @@ fn explain_points(
     Ok(())
 }
 
-/// Adds the lines that explain a rejected line or record: where it is rejected, what can follow there, a picture of that
-/// position, in a record of the line there, if that line is not empty, and the parts that can come next: each name of a
-/// rule that derives a line that is not empty, and each terminal, with the rule in whose body it is. Or they report that
-/// the judged rule derives nothing.
+/// Adds the lines that explain a rejected line or record: where it is rejected, what can follow there, a picture of
+/// that position, in a record of the line there, if that line is not empty, and the parts that can come next: each name
+/// of a rule that derives a line that is not empty, and each terminal, with the rule in whose body it is. Or they
+/// report that the judged rule derives nothing.
 ///
-/// The productive parts must be those of the grammar for its symbols, the automaton, if there is one, that of their flat
-/// grammar, and the line must have fewer bytes than its `limit()`. The chart is filled anew where the automaton gives no
-/// answer.
+/// The productive parts must be those of the grammar for its symbols, the automaton, if there is one, that of their
+/// flat grammar, and the line must have fewer bytes than its `limit()`. The chart is filled anew where the automaton
+/// gives no answer.
 ///
 /// # Errors
 /// `Memory` if an allocation fails, or sets have more items than the explainer's budget; a part of the lines may be

@@ -113,8 +113,8 @@ fn cut_text(alloc: Global, e: &Elem) -> Result<Vec<u8>, Memory>
     Ok(text)
 }
 
-// Returns the text of a terminal, of which so many symbols are read: the set of its only symbol, or the terminal, cut, and
-// the set of the next symbol before it.
+// Returns the text of a terminal, of which so many symbols are read: the set of its only symbol, or the terminal, cut,
+// and the set of the next symbol before it.
 fn leaf_text(alloc: Global, alphabet: Alphabet, e: &Elem, read: usize) -> Result<Vec<u8>, Memory>
     ensures { IfOk result (λ text. IsLeafText (the_leaf_size (element_of e.now) == 1) alphabet (element_of e.now) read
         text.items) }

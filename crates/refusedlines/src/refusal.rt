@@ -21,7 +21,7 @@ ghost use Rattle.ruletable.specs.Rules.{names_of};
 
 use crate::following::Following;
 use crate::letterruns::{LetterRun, symbols_text};
-use crate::part_lines::{only_part, push_part_lines, push_expected};
+use crate::part_lines::{only_part, push_expected, push_part_lines};
 use crate::part_texts::TextSet;
 use diagnostics::{LineAround, push_cut, push_number, push_picture};
 use ruletable::{Alphabet, LineRule, Memory, line_of};
@@ -267,7 +267,12 @@ fn push_record(
     let only = only_part(symbols, &refusal.parts);
     let before = &line.bytes[..refusal.position];
     push_at_record(line.number, before, refusal.column, refusal.at, out)?;
-    push_expected(symbols, only, record_end_words(runs, refusal.following.ends), out)?;
+    push_expected(
+        symbols,
+        only,
+        record_end_words(runs, refusal.following.ends),
+        out,
+    )?;
     push_record_picture(line.bytes, refusal.position, out)?;
     push_part_lines(only, &refusal.parts, out)
 }
@@ -295,8 +300,8 @@ fn push_none(name: &[u8], line: RefusedLine<'_>, out: &mut Vec<u8>) -> Result<()
 }
 
 /// Adds the lines that explain a rejected line or record: the symbols that are expected where it is rejected, a picture
-/// of that position, if the line there is not empty, and the parts that can come next. If nothing can follow there, they
-/// report that the rule of that name derives nothing. The position must be within the line.
+/// of that position, if the line there is not empty, and the parts that can come next. If nothing can follow there,
+/// they report that the rule of that name derives nothing. The position must be within the line.
 pub(crate) fn push_refusal(
     alloc: Global,
     name: &[u8],

@@ -20,8 +20,9 @@ returns-clause-reported c =
     let f = c.in_ok-following.following in
     let found = c.in_ok-following.ensures in
     let name = rw (c.rules.ensures.rules, c.judged.ensures.id) at c.rule_name-name.ensures in
-    let of = rw c.requires.letters at c.requires.pruned in
-    let prefixes = c.items_decide.ensures.prefixes (has Bytes) rules left grammar.judged pruned.flat of.left of.lowered in
+    let given = rw c.requires.letters at c.requires.pruned in
+    let prefixes = c.items_decide.ensures.prefixes (has Bytes) rules left grammar.judged pruned.flat given.left
+    given.lowered in
     let furthest = rw map-id at (found.furthest rules grammar.judged prefixes) in
     let letters = subst (λ (v : List ℕ). AreLetters (has Bytes) v) (map-id line) c.values_are_letters.ensures in
     let awaited = subst (λ (v : List ℕ). AreAwaited pruned.flat (take f.after v) f.after f.awaited.items) (map-id line)
@@ -37,5 +38,5 @@ returns-clause-reported c =
     c.refused_at-at.result f.after c.column_after-column.result c.args.out.now.items
     c.push_refusal.new.out.items name left _
     c.in_ok-push_refusal.ensures furthest
-    (rw map-id at (found.following rules grammar.judged prefixes)) of.left texts
+    (rw map-id at (found.following rules grammar.judged prefixes)) given.left texts
     c.refused_at-at.ensures (rw map-id at c.column_after-column.ensures)

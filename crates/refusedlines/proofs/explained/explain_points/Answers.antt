@@ -46,8 +46,9 @@ returns-clause-reported c =
     let name = rw (c.rules.ensures.rules, c.judged.ensures.id) at c.rule_name-name.ensures in
     let points = c.as_slice-points.result.now in
     let line = c.args.line.bytes.now in
-    let of = rw c.requires.letters at c.requires.pruned in
-    let prefixes = c.items_decide.ensures.prefixes (has Utf8) rules left grammar.judged pruned.flat of.left of.lowered in
+    let given = rw c.requires.letters at c.requires.pruned in
+    let prefixes = c.items_decide.ensures.prefixes (has Utf8) rules left grammar.judged pruned.flat given.left
+    given.lowered in
     let bound = points_bound _ _ points _ f.after c.as_slice-points.ensures.value e.longest e.spelled in
     let furthest = found.furthest rules grammar.judged prefixes in
     let size = length-take-le f.after (numbers points) furthest.within in
@@ -65,7 +66,7 @@ returns-clause-reported c =
     (subst (λ v. Spells (numbers v) (take c.in_ok-first.first.size line)) (sym c.as_slice-points.ensures.value)
     e.spelled)
     furthest
-    (found.following rules grammar.judged prefixes) of.left texts
+    (found.following rules grammar.judged prefixes) given.left texts
     (c.refused_at-at.ensures
     ∙ ap (λ v. refused_at f.after v (nat_lt c.in_ok-first.first.size (length line))) (sym (length-map points number)))
     (c.octets_of-position.ensures ∙ ap (λ v. octet_count Utf8 v) (sym (take-map number f.after points)))

@@ -10,6 +10,6 @@ returns c =
     let names = names_of c.args.parts.now in
     let count = length-map c.args.parts.now.rules (λ rule. rule.name) in
     IfOk-weaker c.push_more.result _ _
-    (λ _ put. lines_shown names c.min-shown.result c.args.out.now.items c.push_first.new.out.items _ ? 
+    (λ _ put. lines_shown names c.min-shown.result c.args.out.now.items c.push_first.new.out.items _ ?
     c.in_ok-push_first.ensures ?)
     c.push_more.ensures

@@ -8,7 +8,10 @@ use Rattle.refusedlines.specs.RuleNames.{shown_name}
 use Rattle.refusedlines.proofs.part_texts.element_text.Goals as goal
 
 pub returns-in_default : goal.returns-in_default
-returns-in_default c = ?
+returns-in_default c =
+    let none = rw c.in_default.is at c.element_name.ensures in
+    subst (λ (named : Option (List ℕ)). IfOk c.leaf_text.result (λ text. IsTextFor c.args.alphabet
+    (rules_of c.args.rules.now) (element_of c.args.e.now) c.args.read named text.items)) none c.leaf_text.ensures
 
 pub returns : goal.returns
 returns c =
