@@ -85,18 +85,18 @@ module _ (alphabet : Alphabet) (rules : List Rule) where
       q.shows in
       p.is ∙ ap (λ (text : List ℕ). text ++ (codes " in " ++ shown_name rules part.rule)) same ∙ sym q.is
 
-  texts_one : (parts : List ShownPart) (a b : List (List ℕ)) → ArePartTexts alphabet rules parts a
+  texts_one : {parts : List ShownPart} {a b : List (List ℕ)} → ArePartTexts alphabet rules parts a
       → ArePartTexts alphabet rules parts b → a ≡ b
-  texts_one [] a b no_text no_text = refl
-  texts_one (part ∷ parts) a b (part_text {text = t} {texts = ts} p all) (part_text {text = u} {texts = us} q others) =
+  texts_one no_text no_text = refl
+  texts_one (part_text {part = part} {text = t} {texts = ts} p all) (part_text {text = u} q others) =
       ap (λ (text : List ℕ). text ∷ ts) (part_one part t u p q)
-      ∙ ap (λ (texts : List (List ℕ)). u ∷ texts) (texts_one parts ts us all others)
+      ∙ ap (λ (texts : List (List ℕ)). u ∷ texts) (texts_one all others)
 
   pub after_one : (judged : ℕ) (x : List ℕ) (n : ℕ) (a b : List (List ℕ)) → AreTextsAfter alphabet rules judged x n a
       → AreTextsAfter alphabet rules judged x n b → a ≡ b
   after_one judged x n a b p q =
       let shown = reported_one (IsPartReported alphabet rules judged x n) p.reported q.reported in
-      let texts = texts_one q.parts p.texts q.texts
+      let texts = texts_one
       (subst (λ (parts : List ShownPart). ArePartTexts alphabet rules parts p.texts) shown p.listed) q.listed in
       p.is ∙ ap (texts_once []) texts ∙ sym q.is
 
@@ -114,7 +114,7 @@ if_new seen t = if list_any (bytes_eq t) seen then [] else t ∷ []
 -- texts and one more, each once
 once_alone : (seen : List (List ℕ)) (t : List ℕ) (b : Bool) → list_any (bytes_eq t) seen ≡ b
     → texts_once seen (t ∷ []) ≡ if_new (seen ++ []) t
-once_alone seen t b is = rw append-nil (by b is)
+once_alone seen t b is = by b is ∙ ap (λ (s : List (List ℕ)). if_new s t) (sym (append-nil seen))
   where
     by : (b : Bool) → list_any (bytes_eq t) seen ≡ b → texts_once seen (t ∷ []) ≡ if_new seen t
     by true is = rw is refl
