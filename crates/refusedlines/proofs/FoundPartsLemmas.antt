@@ -103,7 +103,8 @@ module _ (bodies : List ℕ) (operand : ℕ → ℕ → Option ℕ) (sought : �
         ]
 
     reads_found : (n : ℕ) (o : Option ℕ) → site_node rule site ≡ o
-        → map part_as_shown (filter is_found (reads_of rule site e n)) ≡ at_node o (λ m. sought_reads operand sought rule m e n)
+        → map part_as_shown (filter is_found (reads_of rule site e n))
+        ≡ at_node o (λ m. sought_reads operand sought rule m e n)
     reads_found n None is = ap (λ (v : List RulePart). map part_as_shown v) (none_found (counts 0 n) is)
     reads_found n (Some m) is = some_found (counts 0 n) m is
 

@@ -1,7 +1,8 @@
 -- The parts that are found by dotted rules awaited in the flat grammar are those that are reported.
 -- Serves: awaited_parts.
 use Rattle.std.proofs.Common.{◌≡◌, ◌⊎◌, inl, inr, ℕ, zero, suc, ◌+◌, ◌<◌, ◌≤◌, Bool, true, false, ◌&&◌, eqb}
-use Rattle.std.proofs.Common.{if◌then◌else◌, ◌↔◌, List, [], ◌∷◌, length, map, filter, get_or, Option, Some, None, slice_get, refl, sym}
+use Rattle.std.proofs.Common.{if◌then◌else◌, ◌↔◌, List, [], ◌∷◌, length, map, filter, get_or, Option, Some, None}
+use Rattle.std.proofs.Common.{slice_get, refl, sym}
 use Rattle.std.proofs.Common.{◌∙◌, ap, subst, arith, eqb-true, eq-eqb}
 use Rattle.std.specs.List.{AllByRecursion}
 use Rattle.std.proofs.lemmas.Bool.{and_from, and_parts, cases_Bool, cases_lt}
