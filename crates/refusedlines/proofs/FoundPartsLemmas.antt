@@ -59,7 +59,8 @@ module _ (bodies : List ℕ) (operand : ℕ → ℕ → Option ℕ) (sought : �
   last_operand None i = refl
   last_operand (Some m) i = on_some (operand m i)
 
-  site_then : (rule : ℕ) (z : List ℕ) (i : ℕ) → site_node rule (z ++ i ∷ []) ≡ on_node (site_node rule z) (λ m. operand m i)
+  site_then : (rule : ℕ) (z : List ℕ) (i : ℕ) → site_node rule (z ++ i ∷ [])
+      ≡ on_node (site_node rule z) (λ m. operand m i)
   site_then rule z i =
       elim (slice_get bodies rule) as (λ (o : Option ℕ). on_node o (λ top. node_below top (z ++ i ∷ []))
       ≡ on_node (on_node o (λ top. node_below top z)) (λ m. operand m i)) [
@@ -88,8 +89,8 @@ module _ (bodies : List ℕ) (operand : ℕ → ℕ → Option ℕ) (sought : �
         let rest = filter is_found (map after_read ks) in
         ap (λ (o : Option ℕ). cond (is_sought_at o k) (after_read k ∷ rest) rest) is ∙ none_found ks is
 
-    some_found : (ks : List ℕ) (n : ℕ) → site_node rule site ≡ Some n → map part_as_shown (filter is_found (map after_read ks))
-        ≡ map shown_read (filter (sought n) ks)
+    some_found : (ks : List ℕ) (n : ℕ) → site_node rule site ≡ Some n
+        → map part_as_shown (filter is_found (map after_read ks)) ≡ map shown_read (filter (sought n) ks)
     some_found [] n is = refl
     some_found (k ∷ ks) n is =
         let rest = filter is_found (map after_read ks) in
@@ -101,7 +102,8 @@ module _ (bodies : List ℕ) (operand : ℕ → ℕ → Option ℕ) (sought : �
           | false ↦ same
         ]
 
-    reads_found : (n : ℕ) (o : Option ℕ) → site_node rule site ≡ o → map part_as_shown (filter is_found (reads_of rule site e n))
+    reads_found : (n : ℕ) (o : Option ℕ) → site_node rule site ≡ o
+        → map part_as_shown (filter is_found (reads_of rule site e n))
         ≡ at_node o (λ m. sought_reads operand sought rule m e n)
     reads_found n None is = ap (λ (v : List RulePart). map part_as_shown v) (none_found (counts 0 n) is)
     reads_found n (Some m) is = some_found (counts 0 n) m is
@@ -110,7 +112,8 @@ module _ (bodies : List ℕ) (operand : ℕ → ℕ → Option ℕ) (sought : �
   at_operand : (rule : ℕ) (site : List ℕ) (i : ℕ) (o : Option ℕ) → site_node rule site ≡ o → (f : ℕ → List ShownPart)
       → at_node (site_node rule (site ++ i ∷ [])) f ≡ at_node o (λ n. at_node (operand n i) f)
   at_operand rule site i o is f =
-      ap (λ (v : Option ℕ). at_node v f) (site_then rule site i ∙ ap (λ (v : Option ℕ). on_node v (λ m. operand m i)) is)
+      ap (λ (v : Option ℕ). at_node v f)
+      (site_then rule site i ∙ ap (λ (v : Option ℕ). on_node v (λ m. operand m i)) is)
       ∙ at_on o (λ m. operand m i) f
 
   found_both : (xs ys : List RulePart) → map part_as_shown (filter is_found (xs ++ ys))
@@ -121,7 +124,8 @@ module _ (bodies : List ℕ) (operand : ℕ → ℕ → Option ℕ) (sought : �
 
   mutual
     parts_found : (e : Element) (rule : ℕ) (site : List ℕ) (o : Option ℕ) → site_node rule site ≡ o
-        → map part_as_shown (filter is_found (parts_in rule site e)) ≡ at_node o (λ m. sought_in operand sought rule m e)
+        → map part_as_shown (filter is_found (parts_in rule site e))
+        ≡ at_node o (λ m. sought_in operand sought rule m e)
     parts_found (Text folds t) rule site o is = reads_found rule site (Text folds t) (length t) o is
     parts_found (Values vs) rule site o is = reads_found rule site (Values vs) (length vs) o is
     parts_found (Range low high) rule site o is = reads_found rule site (Range low high) 1 o is
@@ -145,7 +149,8 @@ module _ (bodies : List ℕ) (operand : ℕ → ℕ → Option ℕ) (sought : �
         ∙ (ap (λ (v : List ShownPart). v ++ map part_as_shown (filter is_found (operands_in rule site (i + 1) es)))
         (parts_found e rule (site ++ i ∷ []) (site_node rule (site ++ i ∷ [])) refl
         ∙ at_operand rule site i o is (λ m. sought_in operand sought rule m e))
-        ∙ (ap (λ (v : List ShownPart). at_node o (λ n. at_node (operand n i) (λ m. sought_in operand sought rule m e)) ++ v)
+        ∙ (ap (λ (v : List ShownPart). at_node o (λ n. at_node (operand n i) (λ m. sought_in operand sought rule m e))
+        ++ v)
         (operands_found es rule site (i + 1) o is)
         ∙ at_both o (λ n. at_node (operand n i) (λ m. sought_in operand sought rule m e))
         (λ n. sought_operands operand sought rule n (i + 1) es)))

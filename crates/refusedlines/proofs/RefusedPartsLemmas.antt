@@ -2,11 +2,12 @@
 -- Serves: awaited_parts, refusal_is_one.
 use Rattle.std.proofs.Common.{◌≡◌, Bool, true, false, cond, List, [], ◌∷◌, map, filter, refl, sym, ◌∙◌, ap, subst}
 use Rattle.std.specs.List.{AllByRecursion}
-use Rattle.refusedlines.specs.RefusedParts.{RulePart, ShownPart, part_as_shown, AreChosenParts, chosen_none, chosen, left_out}
-use Rattle.refusedlines.specs.RefusedParts.{AreReportedParts}
+use Rattle.refusedlines.specs.RefusedParts.{AreChosenParts, AreReportedParts, RulePart, ShownPart, chosen, chosen_none}
+use Rattle.refusedlines.specs.RefusedParts.{left_out, part_as_shown}
 
 module _ (Q : RulePart → Type 0) where
-  pub chosen_one : {all few others : List RulePart} → AreChosenParts Q all few → AreChosenParts Q all others → few ≡ others
+  pub chosen_one : {all few others : List RulePart} → AreChosenParts Q all few → AreChosenParts Q all others
+      → few ≡ others
   chosen_one chosen_none chosen_none = refl
   chosen_one (chosen {p = p} q c) (chosen r d) = ap (λ v. p ∷ v) (chosen_one c d)
   chosen_one (chosen q c) (left_out none d) = absurd (none q)

@@ -1,16 +1,15 @@
 -- The parts that are found by dotted rules awaited in the flat grammar are those that are reported.
 -- Serves: awaited_parts.
-use Rattle.std.proofs.Common.{◌≡◌, ◌⊎◌, inl, inr, ℕ, zero, suc, ◌+◌, ◌<◌, ◌≤◌, Bool, true, false, ◌&&◌, eqb, if◌then◌else◌}
-use Rattle.std.proofs.Common.{◌↔◌, List, [], ◌∷◌, length, map, filter, get_or, Option, Some, None, slice_get, refl, sym}
+use Rattle.std.proofs.Common.{◌≡◌, ◌⊎◌, inl, inr, ℕ, zero, suc, ◌+◌, ◌<◌, ◌≤◌, Bool, true, false, ◌&&◌, eqb}
+use Rattle.std.proofs.Common.{if◌then◌else◌, ◌↔◌, List, [], ◌∷◌, length, map, filter, get_or, Option, Some, None}
+use Rattle.std.proofs.Common.{slice_get, refl, sym}
 use Rattle.std.proofs.Common.{◌∙◌, ap, subst, arith, eqb-true, eq-eqb}
-use Rattle.std.specs.HashSet.{HashSet, contains}
 use Rattle.std.specs.List.{AllByRecursion}
 use Rattle.std.proofs.lemmas.Bool.{and_from, and_parts, cases_Bool, cases_lt}
 use Rattle.std.proofs.lemmas.List.{length-map}
 use Rattle.abnfread.specs.Element as e
 use Rattle.abnfread.specs.Element.{Element, Rule, bodies, id_of}
 use Rattle.abnfcheck.specs.Derivable.{AreLetters, RuleDerives}
-use Rattle.fixpoint.specs.NumberMarks.{IsMarked}
 use Rattle.flatgrammar.specs.CalledParts.{AreAwaited}
 use Rattle.flatgrammar.specs.Flat as g
 use Rattle.flatgrammar.specs.Flat.{Dot, at, Flat, Node, Starts, starts, Begins}
@@ -33,9 +32,10 @@ use Rattle.lowering.proofs.AwaitsLemmas.{HavePart}
 use Rattle.ruletable.specs.Letters.{has}
 use Rattle.ruletable.specs.declared.alphabet.Alphabet.{Alphabet}
 use Rattle.refusedlines.specs.RefusedParts.{AreReportedParts, IsPartReported, NamesMore, RulePart, parts_from}
-use Rattle.refusedlines.specs.SoughtParts.{AreDotsIn, has_dot, is_marked_at, is_pair, names_marked, operand_at, operand_in}
-use Rattle.refusedlines.specs.SoughtParts.{operand_of, sought_from}
-use Rattle.refusedlines.proofs.FoundPartsLemmas.{all_found, is_found, is_sought_at, node_below, on_node, on_there, site_node}
+use Rattle.refusedlines.specs.SoughtParts.{has_dot, is_marked_at, names_marked, operand_at, operand_in, operand_of}
+use Rattle.refusedlines.specs.SoughtParts.{sought_from}
+use Rattle.refusedlines.proofs.FoundPartsLemmas.{all_found, is_found, is_sought_at, node_below, on_node, on_there}
+use Rattle.refusedlines.proofs.FoundPartsLemmas.{site_node}
 use Rattle.refusedlines.proofs.PartSitesLemmas.{all_placed, IsPlaced}
 use Rattle.refusedlines.proofs.RefusedPartsLemmas.{chosen_by}
 use Rattle.refusedlines.proofs.SoughtPartsLemmas.{dot_in, in_dot}
@@ -88,7 +88,7 @@ past_marks [] r le = none_marked r
 past_marks (b ∷ marks) zero le = absurd (omega (arith, le))
 past_marks (b ∷ marks) (suc r) le = past_marks marks r (omega (arith, le))
 
-marked_below : (marks : List Bool) (r : ℕ) → IsMarked marks r → r < length marks
+marked_below : (marks : List Bool) (r : ℕ) → get_or marks r false ≡ true → r < length marks
 marked_below marks r is = by (cases_lt r (length marks))
   where
     by : (r < length marks) ⊎ (length marks ≤ r) → r < length marks
@@ -168,7 +168,7 @@ module _ (alphabet : Alphabet) (rules : List Rule) (judged : ℕ) (tables : code
     (lowered : IsLowered rules judged (flat_of tables)) (short : length x ≤ (flat_of tables).limit)
     (letters : AreLetters (has alphabet) x) (laws : Laws (has alphabet) rules judged (flat_of tables) x n)
     (marks : List Bool) (count : length marks ≡ length rules)
-    (marked : (id : ℕ) → id < length rules → IsMarked marks id ↔ DerivesMore (has alphabet) rules id)
+    (marked : (id : ℕ) → id < length rules → (get_or marks id false ≡ true) ↔ DerivesMore (has alphabet) rules id)
     (dots : List DottedRule) (awaited : AreAwaited (flat_of tables) x n dots) (sought : ℕ → ℕ → Bool)
     (sought_is : (s k : ℕ) → sought s k
     ≡ (has_dot dots s k && is_marked_at marks (slice_get tables.nodes.items s))) where
@@ -183,7 +183,8 @@ module _ (alphabet : Alphabet) (rules : List Rule) (judged : ℕ) (tables : code
   part_had p is = awaited_part (has alphabet) rules judged (flat_of tables) lowered x short letters n p.rule p.site
       p.element p.read is
 
-  part_at : (p : RulePart) (h : HavePart rules (flat_of tables) x n p.rule p.site p.element p.read) → node_at_site p ≡ Some h.node
+  part_at : (p : RulePart) (h : HavePart rules (flat_of tables) x n p.rule p.site p.element p.read)
+      → node_at_site p ≡ Some h.node
   part_at p h =
       ap (λ (o : Option ℕ). on_node o (λ top. node_below tables.bodies.items (operand_of tables) sought top p.site))
       h.is.top_is
@@ -257,10 +258,12 @@ module _ (alphabet : Alphabet) (rules : List Rule) (judged : ℕ) (tables : code
           let below = marked_below marks (id_of rules m) mark in
           (marked (id_of rules m) (omega (arith, below, count))).0 mark
 
-  pub found_reported : (p : RulePart) → IsPlaced rules p → found_so p ≡ true → IsPartReported alphabet rules judged x n p
+  pub found_reported : (p : RulePart) → IsPlaced rules p → found_so p ≡ true
+      → IsPartReported alphabet rules judged x n p
   found_reported p placed yes = by (node_at_site p) refl yes
     where
-      by : (o : Option ℕ) → node_at_site p ≡ o → is_sought_at tables.bodies.items (operand_of tables) sought o p.read ≡ true
+      by : (o : Option ℕ) → node_at_site p ≡ o
+          → is_sought_at tables.bodies.items (operand_of tables) sought o p.read ≡ true
           → IsPartReported alphabet rules judged x n p
       by None is yes = absurd (cc yes)
       by (Some s) is yes =
@@ -301,11 +304,11 @@ module _ (alphabet : Alphabet) (rules : List Rule) (judged : ℕ) (tables : code
   }
 
 -- .. of the flat grammar that the tables are of
-pub parts_listed : (alphabet : Alphabet) (rules : List Rule) (judged : ℕ) (tables : code_flat.Tables) (x : List ℕ) (n : ℕ)
-    (flat : Flat) → flat_of tables ≡ flat → IsLowered rules judged flat → length x ≤ flat.limit
+pub parts_listed : (alphabet : Alphabet) (rules : List Rule) (judged : ℕ) (tables : code_flat.Tables) (x : List ℕ)
+    (n : ℕ) (flat : Flat) → flat_of tables ≡ flat → IsLowered rules judged flat → length x ≤ flat.limit
     → AreLetters (has alphabet) x → Laws (has alphabet) rules judged flat x n → (marks : List Bool)
     → length marks ≡ length rules
-    → ((id : ℕ) → id < length rules → IsMarked marks id ↔ DerivesMore (has alphabet) rules id)
+    → ((id : ℕ) → id < length rules → (get_or marks id false ≡ true) ↔ DerivesMore (has alphabet) rules id)
     → (dots : List DottedRule) → AreAwaited flat x n dots → (sought : ℕ → ℕ → Bool)
     → ((s k : ℕ) → sought s k ≡ (has_dot dots s k && is_marked_at marks (slice_get tables.nodes.items s)))
     → AreReportedParts (IsPartReported alphabet rules judged x n) (parts_from 0 rules)
@@ -313,7 +316,7 @@ pub parts_listed : (alphabet : Alphabet) (rules : List Rule) (judged : ℕ) (tab
 parts_listed alphabet rules judged tables x n flat view =
     subst (λ (f : Flat). IsLowered rules judged f → length x ≤ f.limit → AreLetters (has alphabet) x
     → Laws (has alphabet) rules judged f x n → (marks : List Bool) → length marks ≡ length rules
-    → ((id : ℕ) → id < length rules → IsMarked marks id ↔ DerivesMore (has alphabet) rules id)
+    → ((id : ℕ) → id < length rules → (get_or marks id false ≡ true) ↔ DerivesMore (has alphabet) rules id)
     → (dots : List DottedRule) → AreAwaited f x n dots → (sought : ℕ → ℕ → Bool)
     → ((s k : ℕ) → sought s k ≡ (has_dot dots s k && is_marked_at marks (slice_get tables.nodes.items s)))
     → AreReportedParts (IsPartReported alphabet rules judged x n) (parts_from 0 rules)

@@ -72,8 +72,10 @@ IsPartReported alphabet rules judged x n p =
 -- of some parts those with Q, in the same order
 pub data AreChosenParts (Q : RulePart → Type 0) : List RulePart → List RulePart → Type 0 where
   chosen_none : AreChosenParts Q [] []
-  chosen : {p : RulePart} {all few : List RulePart} → Q p → AreChosenParts Q all few → AreChosenParts Q (p ∷ all) (p ∷ few)
-  left_out : {p : RulePart} {all few : List RulePart} → (Q p → ⊥) → AreChosenParts Q all few → AreChosenParts Q (p ∷ all) few
+  chosen : {p : RulePart} {all few : List RulePart} → Q p → AreChosenParts Q all few
+      → AreChosenParts Q (p ∷ all) (p ∷ few)
+  left_out : {p : RulePart} {all few : List RulePart} → (Q p → ⊥) → AreChosenParts Q all few
+      → AreChosenParts Q (p ∷ all) few
 
 -- what is reported of the parts with Q, in the same order
 pub record AreReportedParts (Q : RulePart → Type 0) (all : List RulePart) (shown : List ShownPart) : Type 0 where

@@ -190,9 +190,9 @@ fn find_by_states<L: Letter>(
 /// dotted rules that are awaited there. The flat grammar is that of `lower_viable` for the alphabet of the symbols. The
 /// line must have fewer symbols than `flat.limit()`.
 ///
-/// The automaton, if there is one, answers by one run over the line, and one over that prefix. Where it gives no answer,
-/// the chart is filled with the item sets of the line, and then with those of that prefix. The symbols are then those
-/// that the items of its last set read.
+/// The automaton, if there is one, answers by one run over the line, and one over that prefix. Where it gives no
+/// answer, the chart is filled with the item sets of the line, and then with those of that prefix. The symbols are then
+/// those that the items of its last set read.
 ///
 /// `Memory` if an allocation fails, or the sets that are filled have more items than the budget, if there is one.
 pub fn find_following<L: Letter>(

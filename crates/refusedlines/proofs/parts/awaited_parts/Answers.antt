@@ -16,7 +16,8 @@ returns c = IfOk-weaker c.parts.result _ _
     let tables = c.deref.result.now in
     subst (λ (v : List ShownPart). AreReportedParts (IsPartReported alphabet rules judged x n) (parts_from 0 rules) v)
     (sym shown)
-    (parts_listed alphabet rules judged tables x n flat (ap (λ v. flat_of v) c.deref.ensures ∙ c.in_ok-tables.ensures.view)
+    (parts_listed alphabet rules judged tables x n flat
+    (ap (λ v. flat_of v) c.deref.ensures ∙ c.in_ok-tables.ensures.view)
     lowered short letters
     (record {
       awaited = λ rule top s k site.
