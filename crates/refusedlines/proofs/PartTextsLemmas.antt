@@ -2,7 +2,7 @@
 -- Serves: explain_refused, refusal_is_one
 use Rattle.std.proofs.Common.{◌≡◌, ◌||◌, ◌==◌, ℕ, zero, suc, ◌+◌, ◌<◌, Bool, true, false, cond, List, [], ◌∷◌, ◌++◌}
 use Rattle.std.proofs.Common.{Option, Some, None, append-nil, append_assoc, ap, arith, codes, eqb-true, get_or, length}
-use Rattle.std.proofs.Common.{map, nat_lt, refl, subst, sym, take, ◌∙◌}
+use Rattle.std.proofs.Common.{if◌then◌else◌, map, nat_lt, refl, subst, sym, take, ◌∙◌}
 use Rattle.std.specs.Prelude.{bytes_eq, position}
 use Rattle.std.specs.List.{list_any, position_or_len}
 use Rattle.std.proofs.lemmas.List.{map-append, take_more}

@@ -4,6 +4,7 @@ ghost use Rattle.abnfprint.specs.CanonicalAbnf.{text_of};
 ghost use Rattle.abnfread.specs.AbnfViews.{element_of, rules_of};
 ghost use Rattle.diagnostics.specs.ShownBytes.{cut};
 ghost use Rattle.flatgrammar.specs.FlatViews.{set_of};
+ghost use Rattle.lowering.specs.Lowered.{letter_set};
 ghost use Rattle.refusedlines.specs.PartTexts.{
   ArePartTexts,
   IsElementText,
@@ -79,13 +80,23 @@ fn leaf_size(e: &Elem) -> usize
     }
 }
 
+// Returns what may stand for a symbol of a text.
+fn letter_set(folds: bool, letter: u8) -> Set
+    ensures { set_of result ≡ letter_set folds letter }
+{
+    if folds {
+        Set::EitherCase(letter.into())
+    } else {
+        Set::Exactly(letter.into())
+    }
+}
+
 // Returns what may stand for the symbol of that number of a terminal.
 fn leaf_set(e: &Elem, read: usize) -> Option<Set>
     ensures { option_map set_of result ≡ the_leaf_set (element_of e.now) read }
 {
     match e {
-        Elem::Text { folds: true, text } => Some(Set::EitherCase((*text.get(read)?).into())),
-        Elem::Text { folds: false, text } => Some(Set::Exactly((*text.get(read)?).into())),
+        Elem::Text { folds, text } => Some(letter_set(*folds, *text.get(read)?)),
         Elem::Values(values) => Some(Set::Exactly(*values.get(read)?)),
         Elem::Range { low, high } => Some(Set::Between {
             low: *low,

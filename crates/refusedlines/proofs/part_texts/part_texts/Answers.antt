@@ -1,4 +1,4 @@
-use Rattle.std.proofs.Common.{List, ap, map, subst, tt}
+use Rattle.std.proofs.Common.{List, map, subst}
 use Rattle.std.proofs.lemmas.List.{take_all}
 use Rattle.abnfread.specs.AbnfViews.{rules_of}
 use Rattle.refusedlines.proofs.PartTextsLemmas.{first_texts_more, first_texts_none}
