@@ -1,11 +1,11 @@
 -- The parts that are found by dotted rules awaited in the flat grammar are those that are reported.
 -- Serves: awaited_parts.
-use Rattle.std.proofs.Common.{◌≡◌, ◌⊎◌, inl, inr, ℕ, zero, suc, ◌+◌, ◌<◌, ◌≤◌, Bool, true, false, ◌&&◌, eqb}
-use Rattle.std.proofs.Common.{if◌then◌else◌, ◌↔◌, List, [], ◌∷◌, length, map, filter, get_or, Option, Some, None}
+use Rattle.std.proofs.Common.{◌≡◌, ◌⊎◌, inl, inr, ℕ, zero, suc, ◌<◌, ◌≤◌, Bool, true, false, ◌&&◌, eqb}
+use Rattle.std.proofs.Common.{if◌then◌else◌, ◌↔◌, List, [], ◌∷◌, length, filter, get_or, Option, Some, None}
 use Rattle.std.proofs.Common.{slice_get, refl, sym}
 use Rattle.std.proofs.Common.{◌∙◌, ap, subst, arith, eqb-true, eq-eqb}
 use Rattle.std.specs.List.{AllByRecursion}
-use Rattle.std.proofs.lemmas.Bool.{and_from, and_parts, cases_Bool, cases_lt}
+use Rattle.std.proofs.lemmas.Bool.{and_from, and_parts, cases_lt}
 use Rattle.std.proofs.lemmas.List.{length-map}
 use Rattle.abnfread.specs.Element as e
 use Rattle.abnfread.specs.Element.{Element, Rule, bodies, id_of}
@@ -18,7 +18,6 @@ use Rattle.flatgrammar.specs.ItemClosures.{dot}
 use Rattle.flatgrammar.specs.NodeSteps.{flat_of}
 use Rattle.flatgrammar.specs.OldItems as old
 use Rattle.flatgrammar.specs.OldItems.{HasPart, IsOld}
-use Rattle.flatgrammar.specs.Positions.{In}
 use Rattle.flatgrammar.specs.declared.closure.DottedRule.{DottedRule}
 use Rattle.flatgrammar.specs.declared.flat_node.Node as code_node
 use Rattle.flatgrammar.specs.declared.tables.Tables as code_flat

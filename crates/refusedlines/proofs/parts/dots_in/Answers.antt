@@ -1,4 +1,4 @@
-use Rattle.std.proofs.Common.{Bool, true, cond, List, ℕ, sym, ◌∙◌, ap, subst, take_all, get_or}
+use Rattle.std.proofs.Common.{Bool, true, cond, List, sym, ◌∙◌, ap, subst, take_all, get_or}
 use Rattle.std.specs.List.{list_any}
 use Rattle.flatgrammar.specs.declared.closure.DottedRule.{DottedRule}
 use Rattle.refusedlines.specs.SoughtParts.{AreDotsIn, is_pair}
