@@ -6,7 +6,7 @@ use Rattle.std.specs.List.{AllByRecursion}
 use Rattle.abnfread.specs.Element.{Element, Elements, Text, Values, Range, Concat, Alt, Rep, Opt, Name, Prose, none}
 use Rattle.abnfread.specs.Element.{more, Rule, bodies}
 use Rattle.lowering.specs.AwaitedParts.{element_at, member_at}
-use Rattle.refusedlines.specs.RefusedParts.{RulePart, counts, reads_of, parts_in, operands_in, parts_from}
+use Rattle.refusedlines.specs.RefusedParts.{RulePart, counts, parts_in, operands_in, parts_from}
 
 -- the part is the element at that site of its rule's body
 pub record IsPlaced (rules : List Rule) (p : RulePart) : Type 0 where

@@ -23,12 +23,13 @@ module _ (Q : RulePart → Type 0) where
   pub chosen_by : (test : RulePart → Bool) (all : List RulePart)
       → AllByRecursion (λ p. (Q p → test p ≡ true) × (test p ≡ true → Q p)) all → AreChosenParts Q all (filter test all)
   chosen_by test [] each = chosen_none
-  chosen_by test (p ∷ all) each = by (test p) refl
+  chosen_by test (p ∷ all) each = by (test p) refl (chosen_by test all each.1)
     where
-      by : (b : Bool) → test p ≡ b → AreChosenParts Q (p ∷ all) (filter test (p ∷ all))
-      by true is =
+      by : (b : Bool) → test p ≡ b → AreChosenParts Q all (filter test all)
+          → AreChosenParts Q (p ∷ all) (filter test (p ∷ all))
+      by true is rest =
           subst (λ v. AreChosenParts Q (p ∷ all) (cond v (p ∷ filter test all) (filter test all))) (sym is)
-          (chosen (each.0.1 is) (chosen_by test all each.1))
-      by false is =
+          (chosen (each.0.1 is) rest)
+      by false is rest =
           subst (λ v. AreChosenParts Q (p ∷ all) (cond v (p ∷ filter test all) (filter test all))) (sym is)
-          (left_out (λ q. let yes = each.0.0 q in cc (is, yes)) (chosen_by test all each.1))
+          (left_out (λ q. let passed = each.0.0 q in cc (is, passed)) rest)

@@ -1,11 +1,11 @@
 -- The parts that are found by dotted rules awaited in the flat grammar are those that are reported.
 -- Serves: awaited_parts.
-use Rattle.std.proofs.Common.{◌≡◌, ◌⊎◌, inl, inr, ℕ, zero, suc, ◌+◌, ◌<◌, ◌≤◌, Bool, true, false, ◌&&◌, eqb}
-use Rattle.std.proofs.Common.{if◌then◌else◌, ◌↔◌, List, [], ◌∷◌, length, map, filter, get_or, Option, Some, None}
+use Rattle.std.proofs.Common.{◌≡◌, ◌⊎◌, inl, inr, ℕ, zero, suc, ◌<◌, ◌≤◌, Bool, true, false, ◌&&◌, eqb}
+use Rattle.std.proofs.Common.{if◌then◌else◌, ◌↔◌, List, [], ◌∷◌, length, filter, get_or, Option, Some, None}
 use Rattle.std.proofs.Common.{slice_get, refl, sym}
 use Rattle.std.proofs.Common.{◌∙◌, ap, subst, arith, eqb-true, eq-eqb}
 use Rattle.std.specs.List.{AllByRecursion}
-use Rattle.std.proofs.lemmas.Bool.{and_from, and_parts, cases_Bool, cases_lt}
+use Rattle.std.proofs.lemmas.Bool.{and_from, and_parts, cases_lt}
 use Rattle.std.proofs.lemmas.List.{length-map}
 use Rattle.abnfread.specs.Element as e
 use Rattle.abnfread.specs.Element.{Element, Rule, bodies, id_of}
@@ -18,7 +18,6 @@ use Rattle.flatgrammar.specs.ItemClosures.{dot}
 use Rattle.flatgrammar.specs.NodeSteps.{flat_of}
 use Rattle.flatgrammar.specs.OldItems as old
 use Rattle.flatgrammar.specs.OldItems.{HasPart, IsOld}
-use Rattle.flatgrammar.specs.Positions.{In}
 use Rattle.flatgrammar.specs.declared.closure.DottedRule.{DottedRule}
 use Rattle.flatgrammar.specs.declared.flat_node.Node as code_node
 use Rattle.flatgrammar.specs.declared.tables.Tables as code_flat
@@ -190,6 +189,10 @@ module _ (alphabet : Alphabet) (rules : List Rule) (judged : ℕ) (tables : code
       h.is.top_is
       ∙ stands_below tables sought h.is.stands
 
+  one_node : (p : RulePart) (h : HavePart rules (flat_of tables) x n p.rule p.site p.element p.read) (s : ℕ)
+      → node_at_site p ≡ Some s → s ≡ h.node
+  one_node p h s is = let there = part_at p h in cc (is, there)
+
   -- a node that is a name, of a part that is reported
   rule_more : (p : RulePart) (h : HavePart rules (flat_of tables) x n p.rule p.site p.element p.read)
       → NamesMore (has alphabet) rules p.element → (r : ℕ) → slice_get (flat_of tables).nodes h.node ≡ Some (g.Name r)
@@ -243,7 +246,7 @@ module _ (alphabet : Alphabet) (rules : List Rule) (judged : ℕ) (tables : code
   name_more : (p : RulePart) (h : HavePart rules (flat_of tables) x n p.rule p.site p.element p.read)
       → is_marked_at marks (slice_get tables.nodes.items h.node) ≡ true → (m : List ℕ) → p.element ≡ e.Name m
       → DerivesMore (has alphabet) rules (id_of rules m)
-  name_more p h yes m is = by h.is.spelled refl
+  name_more p h passed m is = by h.is.spelled refl is
     where
       by : {s : ℕ} {el : Element} → Spells rules (flat_of tables).limit (flat_of tables).nodes s el → s ≡ h.node
           → el ≡ e.Name m → DerivesMore (has alphabet) rules (id_of rules m)
@@ -254,37 +257,35 @@ module _ (alphabet : Alphabet) (rules : List Rule) (judged : ℕ) (tables : code
           (at_s ∙ ap (λ (v : Node). Some v) node_is) in
           let u = get_unmap node_of tables.nodes.items h.node (g.Name (id_of rules m)) there in
           let mark : get_or marks (id_of rules m) false ≡ true =
-          sym (ap (λ v. is_marked_at marks v) u.at ∙ ap (λ (v : Node). names_marked marks v) u.is) ∙ yes in
+          sym (ap (λ v. is_marked_at marks v) u.at ∙ ap (λ (v : Node). names_marked marks v) u.is) ∙ passed in
           let below = marked_below marks (id_of rules m) mark in
           (marked (id_of rules m) (omega (arith, below, count))).0 mark
 
   pub found_reported : (p : RulePart) → IsPlaced rules p → found_so p ≡ true
       → IsPartReported alphabet rules judged x n p
-  found_reported p placed yes = by (node_at_site p) refl yes
+  found_reported p placed passed = by (node_at_site p) refl passed
     where
       by : (o : Option ℕ) → node_at_site p ≡ o
           → is_sought_at tables.bodies.items (operand_of tables) sought o p.read ≡ true
           → IsPartReported alphabet rules judged x n p
-      by None is yes = absurd (cc yes)
-      by (Some s) is yes =
+      by None is passed = absurd (cc passed)
+      by (Some s) is passed =
           let both = and_parts (has_dot dots s p.read) (is_marked_at marks (slice_get tables.nodes.items s))
-          (sym (sought_is s p.read) ∙ yes) in
+          (sym (sought_is s p.read) ∙ passed) in
           let top = on_there (slice_get tables.bodies.items p.rule)
           (λ t. node_below tables.bodies.items (operand_of tables) sought t p.site) is in
           let stands = below_stands tables sought p.site top.0 s top.2 in
           let part = (laws.awaited p.rule top.0 s p.read p.site top.1 stands).1
           (awaited.sound (dot s p.read) (dot_in dots s p.read both.0)) in
           let there = laws.element p.rule p.read p.site placed.body part.0 placed.body_is part.1 in
-          let whole : Some part.0 ≡ Some p.element = sym there ∙ placed.there in
-          let same : part.0 ≡ p.element = cc whole in
+          let same : part.0 ≡ p.element = cc (there, placed.there) in
           let reported = subst (λ (v : Element). IsAwaited (has alphabet) rules judged x n p.rule p.site v p.read) same
           part.1 in
-          let h = part_had p reported in
-          let node : Some s ≡ Some h.node = sym is ∙ part_at p h in
-          let one : s ≡ h.node = cc node in (
+          let h = part_had p reported in (
             reported,
             names_more (has alphabet) rules p.element (name_more p h
-                (subst (λ (v : ℕ). is_marked_at marks (slice_get tables.nodes.items v) ≡ true) one both.1)),
+                (subst (λ (v : ℕ). is_marked_at marks (slice_get tables.nodes.items v) ≡ true) (one_node p h s is)
+                both.1)),
           )
 
   each_decided : (all : List RulePart) → AllByRecursion (IsPlaced rules) all

@@ -1,11 +1,11 @@
 -- Sought parts, one more at a time.
 -- Serves: awaited_parts.
 use Rattle.std.proofs.Common.{◌≡◌, ℕ, zero, suc, ◌+◌, ◌<◌, ◌≤◌, Bool, true, false, cond, ◌&&◌, ◌||◌, eqb, List, [], ◌∷◌}
-use Rattle.std.proofs.Common.{◌++◌, length, get_or, take, drop, map, filter, Option, Some, None, slice_get, refl, sym}
-use Rattle.std.proofs.Common.{◌∙◌, ap, subst, arith, append_assoc, append-nil, drop-cons, drop_of_length-le, add-one}
+use Rattle.std.proofs.Common.{◌++◌, length, get_or, take, drop, map, filter, Option, Some, slice_get, refl, sym}
+use Rattle.std.proofs.Common.{◌∙◌, ap, arith, append_assoc, append-nil, drop-cons, drop_of_length-le}
 use Rattle.std.proofs.Common.{eqb-true, eq-eqb}
 use Rattle.std.specs.List.{list_any}
-use Rattle.std.proofs.lemmas.Bool.{and_from, and_parts, cases_Bool}
+use Rattle.std.proofs.lemmas.Bool.{and_from, and_parts}
 use Rattle.std.proofs.lemmas.List.{map-append, take_more}
 use Rattle.std.proofs.lemmas.List.Elements.{filter-append}
 use Rattle.std.proofs.lemmas.List.Folds.{list_any-append}
@@ -88,7 +88,7 @@ module _ (operand : ℕ → ℕ → Option ℕ) (sought : ℕ → ℕ → Bool) 
       (part : AwaitedPart) → map awaited_part parts ≡ old ++ sought_reads operand sought rule node e n
       → added ≡ parts ++ part ∷ [] → awaited_part part ≡ record { rule = rule; element = e; read = n }
       → sought node n ≡ true → map awaited_part added ≡ old ++ sought_reads operand sought rule node e (n + 1)
-  read_added rule node e n old parts added part so_far is shown yes =
+  read_added rule node e n old parts added part so_far is shown passed =
       let reads = sought_reads operand sought rule node e n in
       ap (λ (v : List AwaitedPart). map awaited_part v) is
       ∙ (map-append awaited_part parts (part ∷ [])
@@ -96,15 +96,15 @@ module _ (operand : ℕ → ℕ → Option ℕ) (sought : ℕ → ℕ → Bool) 
       ∙ (append_assoc old reads (awaited_part part ∷ [])
       ∙ (ap (λ (v : ShownPart). old ++ (reads ++ v ∷ [])) shown
       ∙ ap (λ (v : List ShownPart). old ++ v)
-      (sym (one_taken (sought node) (λ k. record { rule = rule; element = e; read = k }) n yes))))))
+      (sym (one_taken (sought node) (λ k. record { rule = rule; element = e; read = k }) n passed))))))
 
   pub read_passed : (rule node : ℕ) (e : Element) (n : ℕ) (old : List ShownPart) (parts : List ShownPart)
       → parts ≡ old ++ sought_reads operand sought rule node e n → sought node n ≡ false
       → parts ≡ old ++ sought_reads operand sought rule node e (n + 1)
-  read_passed rule node e n old parts so_far no =
+  read_passed rule node e n old parts so_far failed =
       so_far
       ∙ ap (λ (v : List ShownPart). old ++ v)
-      (sym (one_passed (sought node) (λ k. record { rule = rule; element = e; read = k }) n no))
+      (sym (one_passed (sought node) (λ k. record { rule = rule; element = e; read = k }) n failed))
 
   -- with one more operand
   pub operand_added : (rule node : ℕ) (es : List Elem) (i : ℕ) (e : Elem) (parts added total : List ShownPart)
@@ -125,7 +125,7 @@ module _ (operand : ℕ → ℕ → Option ℕ) (sought : ℕ → ℕ → Bool) 
   operands_added rule node es i parts total le so_far =
       sym (append-nil parts)
       ∙ (ap (λ (v : List Elem). parts ++ sought_operands operand sought rule node i (elements_of v))
-      (sym (drop_of_length-le i es le)) ∙ so_far)
+      (sym (drop_of_length-le es le)) ∙ so_far)
 
   -- with one more rule
   pub rule_added : (bodies : List ℕ) (rows : List (table.Rule Elem)) (id : ℕ) (e : Elem) (node : Option ℕ)
@@ -134,12 +134,12 @@ module _ (operand : ℕ → ℕ → Option ℕ) (sought : ℕ → ℕ → Bool) 
       → parts ++ sought_from operand sought bodies id (map rule_of (drop id rows)) ≡ total
       → added ≡ parts ++ at_node node (λ m. sought_in operand sought id m (element_of e))
       → added ++ sought_from operand sought bodies (id + 1) (map rule_of (drop (id + 1) rows)) ≡ total
-  rule_added bodies rows id e node parts added total body node_is so_far more_is =
+  rule_added bodies rows id e place parts added total body place_is so_far more_is =
       let next = next_rules rows id e body in
       let rest = sought_from operand sought bodies (id + 1) (map rule_of (drop (id + 1) rows)) in
       let here = at_node (slice_get bodies id) (λ m. sought_in operand sought id m (element_of e)) in
       ap (λ (v : List ShownPart). v ++ rest) more_is
-      ∙ (ap (λ (o : Option ℕ). (parts ++ at_node o (λ m. sought_in operand sought id m (element_of e))) ++ rest) node_is
+      ∙ (ap (λ (o : Option ℕ). (parts ++ at_node o (λ m. sought_in operand sought id m (element_of e))) ++ rest) place_is
       ∙ (append_assoc parts here rest
       ∙ (ap (λ (v : Elem). parts ++ (at_node (slice_get bodies id) (λ m. sought_in operand sought id m (element_of v))
       ++ rest)) (sym next.2)
@@ -151,7 +151,7 @@ module _ (operand : ℕ → ℕ → Option ℕ) (sought : ℕ → ℕ → Bool) 
   rules_added bodies rows id parts total le so_far =
       sym (append-nil parts)
       ∙ (ap (λ (v : List (table.Rule Elem)). parts ++ sought_from operand sought bodies id (map rule_of v))
-      (sym (drop_of_length-le id rows le)) ∙ so_far)
+      (sym (drop_of_length-le rows le)) ∙ so_far)
 
 -- one more dotted rule
 or_last : (a b : Bool) → (a || (b || false)) ≡ cond b true a
@@ -160,25 +160,27 @@ or_last true false = refl
 or_last false true = refl
 or_last false false = refl
 
-pub dot_added : (dots : List DottedRule) (i : ℕ) (d : DottedRule) → i < length dots → d ≡ get_or dots i d → (n k : ℕ)
-    → has_dot (take (i + 1) dots) n k ≡ cond (is_pair (d.node, d.step) (n, k)) true (has_dot (take i dots) n k)
-dot_added dots i d lt is n k =
+pub dot_added : (dots : List DottedRule) (i : ℕ) (d : DottedRule) → i < length dots → (n k : ℕ)
+    → has_dot (take (i + 1) dots) n k
+    ≡ cond (is_pair ((get_or dots i d).node, (get_or dots i d).step) (n, k)) true (has_dot (take i dots) n k)
+dot_added dots i d lt n k =
     let test = λ (v : DottedRule). eqb v.node n && eqb v.step k in
-    ap (λ (v : List DottedRule). list_any test v)
-    (take_more dots i d lt ∙ ap (λ (v : DottedRule). take i dots ++ v ∷ []) (sym is))
-    ∙ (list_any-append test (take i dots) (d ∷ []) ∙ or_last (list_any test (take i dots)) (test d))
+    ap (λ (v : List DottedRule). list_any test v) (take_more dots i d lt)
+    ∙ (list_any-append test (take i dots) (get_or dots i d ∷ [])
+    ∙ or_last (list_any test (take i dots)) (test (get_or dots i d)))
 
 pub dot_in : (dots : List DottedRule) (n k : ℕ) → has_dot dots n k ≡ true → In (dot n k) dots
 dot_in [] n k is = absurd (cc is)
-dot_in (d ∷ dots) n k is = by (eqb d.node n && eqb d.step k) refl
+dot_in (d ∷ dots) n k is = by (eqb d.node n && eqb d.step k) refl (λ later. dot_in dots n k later)
   where
-    by : (b : Bool) → (eqb d.node n && eqb d.step k) ≡ b → In (dot n k) (d ∷ dots)
-    by true here =
+    by : (b : Bool) → (eqb d.node n && eqb d.step k) ≡ b → (has_dot dots n k ≡ true → In (dot n k) dots)
+        → In (dot n k) (d ∷ dots)
+    by true here rest =
         let both = and_parts (eqb d.node n) (eqb d.step k) here in
         let node = eqb-true d.node n both.0 in
         let step = eqb-true d.step k both.1 in
         now (ap (λ (v : ℕ). dot v k) (sym node) ∙ ap (λ (v : ℕ). dot d.node v) (sym step))
-    by false other = on (dot_in dots n k (ap (λ (v : Bool). v || has_dot dots n k) (sym other) ∙ is))
+    by false other rest = on (rest (ap (λ (v : Bool). v || has_dot dots n k) (sym other) ∙ is))
 
 pub in_dot : (dots : List DottedRule) (d : DottedRule) → In d dots → has_dot dots d.node d.step ≡ true
 in_dot [] d h = elim h [ ]

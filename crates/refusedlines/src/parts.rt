@@ -1,5 +1,5 @@
 //! The names and terminals of rules that can come next after a prefix of a line.
-ghost use Rattle.std.specs.Prelude.{◌≡◌, ◌≤◌, ◌++◌, ℕ, List, length, map, IfOk, OnOk};
+ghost use Rattle.std.specs.Prelude.{◌≡◌, ◌≤◌, ◌++◌, ℕ, List, length, map, slice_get, IfOk, OnOk};
 ghost use Rattle.abnfread.specs.AbnfViews.{element_of, elements_of, rules_of};
 ghost use Rattle.abnfread.specs.Element.{Rule};
 ghost use Rattle.abnfcheck.specs.Derivable.{AreLetters};
@@ -101,6 +101,13 @@ fn dots_in(alloc: Global, dots: &[DottedRule]) -> Result<HashSet<(usize, usize)>
 }
 
 impl SoughtParts<'_> {
+    // Returns the node of a rule's body, if there is such a rule.
+    fn body(&self, rule: usize) -> Option<usize>
+        ensures { result ≡ slice_get self.now.tables.now.bodies.items rule }
+    {
+        self.tables.bodies.get(rule).copied()
+    }
+
     // Returns the operand of that number of a node, if there is one.
     fn operand(&self, node: usize, number: usize) -> Option<usize>
         ensures { result ≡ operand_of self.now.tables.now node number }
@@ -211,7 +218,7 @@ impl SoughtParts<'_> {
     {
         let mut parts = Vec::new(alloc);
         for id in 0..rules.len() {
-            let node = self.tables.bodies.get(id).copied();
+            let node = self.body(id);
             self.add_parts(id, node, rules.body(id), &mut parts)?;
         }
         Ok(parts)

@@ -4,7 +4,7 @@ use Rattle.abnfread.specs.AbnfViews.{rules_of}
 use Rattle.flatgrammar.specs.NodeSteps.{flat_of}
 use Rattle.ruletable.specs.Letters.{has}
 use Rattle.refusedlines.specs.RefusedParts.{AreReportedParts, IsPartReported, ShownPart, parts_from}
-use Rattle.refusedlines.specs.SoughtParts.{is_marked_at, is_sought}
+use Rattle.refusedlines.specs.SoughtParts.{is_marked_at}
 use Rattle.refusedlines.proofs.ReportedPartsLemmas.{parts_listed}
 use Rattle.refusedlines.proofs.parts.awaited_parts.Goals as goal
 

@@ -1,10 +1,6 @@
-use Rattle.std.proofs.Common.{◌++◌, Option, Some, ℕ, map, ap, subst}
-use Rattle.std.specs.Prelude.{OnOk}
-use Rattle.abnfread.specs.AbnfViews.{elements_of}
-use Rattle.abnfread.proofs.ElementLemmas.{element-Text, element-Values, element-Range, element-Concat, element-Alt}
-use Rattle.abnfread.proofs.ElementLemmas.{element-Rep, element-Opt, element-Name, element-Prose}
+use Rattle.std.proofs.Common.{map}
 use Rattle.refusedlines.specs.ShownParts.{awaited_part}
-use Rattle.refusedlines.specs.SoughtParts.{is_sought, operand_of, sought_operands}
+use Rattle.refusedlines.specs.SoughtParts.{is_sought, operand_of}
 use Rattle.refusedlines.proofs.SoughtPartsLemmas.{operand_added, operands_added}
 use Rattle.refusedlines.proofs.parts.SoughtParts.+adding.Goals as goal
 

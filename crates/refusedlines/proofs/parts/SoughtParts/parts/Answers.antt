@@ -1,5 +1,4 @@
-use Rattle.std.proofs.Common.{◌∙◌, map, sym, arith}
-use Rattle.abnfread.specs.AbnfViews.{rules_of}
+use Rattle.std.proofs.Common.{map, arith}
 use Rattle.refusedlines.specs.ShownParts.{awaited_part}
 use Rattle.refusedlines.specs.SoughtParts.{is_sought, operand_of}
 use Rattle.refusedlines.proofs.SoughtPartsLemmas.{rule_added, rules_added}
@@ -9,8 +8,8 @@ pub loop-id-preserved : goal.loop-id-preserved
 loop-id-preserved c =
     let self = c.args.self.now in
     rule_added (operand_of self.tables.now) (is_sought self) self.tables.now.bodies.items c.args.rules.now.rules
-    c.loop-id.id c.body.result.now c.copied-node.result (map awaited_part c.loop-id.parts.items)
-    (map awaited_part c.add_parts.new.parts.items) _ c.body.ensures (c.copied-node.ensures ∙ c.get.ensures.lookup)
+    c.loop-id.id c.body.result.now c.body-node.result (map awaited_part c.loop-id.parts.items)
+    (map awaited_part c.add_parts.new.parts.items) _ c.body.ensures c.body-node.ensures
     c.loop-id.invariant c.in_ok-add_parts.ensures
 
 pub returns : goal.returns
