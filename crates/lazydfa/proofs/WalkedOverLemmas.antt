@@ -268,8 +268,8 @@ module _ (tables : code_flat.Tables) (first : List Cont) (given suffixes : List 
     older_now : AreOlder conts
     older_now = down.kept.older older
 
-    some_stack : (b : List Dot) → IsStackOf conts ids b → b ≡ [] → ⊥
-    some_stack = stacks_some conts ids older_now down.within
+    tops_some : (b : List Dot) → IsStackOf conts ids b → b ≡ [] → ⊥
+    tops_some = stacks_some conts ids older_now down.within
 
     abbrev under : List Dot
     under = below_of conts (take left suffixes)
@@ -281,7 +281,7 @@ module _ (tables : code_flat.Tables) (first : List Cont) (given suffixes : List 
         by : In s parts ⊎ IsPartOnTop tables (IsStackOf new more) s → In s before ⊎ IsPartOnTop tables
             (IsWalkedOver tables first given suffixes) s
         by (inl earlier) = down.found s earlier
-        by (inr p) = inr (down.back s (top_part tables (IsStackOf conts ids) under some_stack
+        by (inr p) = inr (down.back s (top_part tables (IsStackOf conts ids) under tops_some
             ((walk_parts tables conts new ids more ended walked).0 p)))
 
     earlier_found : (s : DottedRule) → In s parts → In s added
@@ -305,7 +305,7 @@ module _ (tables : code_flat.Tables) (first : List Cont) (given suffixes : List 
         last : (s : DottedRule) → In s parts ⊎ IsPartOnTop tables (IsWalkedOver tables conts ids (take left suffixes)) s
             → In s added
         last s (inl h) = earlier_found s h
-        last s (inr p) = which s (split_parts tables (IsStackOf conts ids) under some_stack p)
+        last s (inr p) = which s (split_parts tables (IsStackOf conts ids) under tops_some p)
 
     pub not_ended : ended ≡ false → AddsParts tables (IsWalkedOver tables first given suffixes) before added
     not_ended is_false = down_done (λ s e p. let is_true = (walk_ends tables conts new ids more ended walked).1 e in
@@ -375,7 +375,7 @@ module _ (tables : code_flat.Tables) (first : List Cont) (given suffixes : List 
         most = let le = down.most in omega (arith, le, left_is);
         found = over_found;
         rest = λ s h. after s (down.rest s h);
-        back = λ s p. down.back s (under_part tables (IsStackOf conts ids) under some_stack
+        back = λ s p. down.back s (under_part tables (IsStackOf conts ids) under tops_some
             ((walk_ends tables conts new ids more ended walked).0 is_ended)
             (parts_more (λ a h. led_more from_next h) p));
       }
@@ -391,4 +391,4 @@ module _ (tables : code_flat.Tables) (first : List Cont) (given suffixes : List 
               (IsWalkedOver tables conts ids (take left suffixes)) s
               → In s added ⊎ IsPartOnTop tables (IsWalkedOver tables new next older_suffixes) s
           after s (inl h) = inl (earlier_found s h)
-          after s (inr p) = which s (split_parts tables (IsStackOf conts ids) under some_stack p)
+          after s (inr p) = which s (split_parts tables (IsStackOf conts ids) under tops_some p)

@@ -3,8 +3,9 @@
 use Rattle.std.proofs.Common.{◌≡◌, ◌↔◌, ℕ, zero, suc, ◌+◌, ◌<◌, ◌≤◌, ◌⊎◌, inl, inr, ⊎_elim, Bool, true, false, List, []}
 use Rattle.std.proofs.Common.{◌∷◌, ◌++◌, length, length-append, map, take, Option, Some, None, refl, sym, ◌∙◌, ap}
 use Rattle.std.proofs.Common.{subst}
-use Rattle.std.proofs.Common.{add-one, arith, ltb, lt-ltb, ltb-true}
-use Rattle.std.specs.Prelude.{slice_get, Contains, if◌then◌else◌, ◌==◌}
+use Rattle.std.proofs.Common.{add-one, arith, cond, lt-ltb, ltb-true}
+use Rattle.std.specs.Prelude.{slice_get, Contains, ◌==◌}
+use Rattle.std.proofs.lemmas.Bool.{eqb-true}
 use Rattle.std.proofs.lemmas.List.{get_or-take, length-map}
 use Rattle.std.proofs.lemmas.List.Elements.{Contains-append_cases, Contains-append_left, Contains-append_right}
 use Rattle.fixpoint.specs.Demands.{Demand, All, One, row_of, AreNeedsWithin}
@@ -29,13 +30,20 @@ use Rattle.lowering.proofs.ArePrunedLemmas.{body_was, still_productive}
 use Rattle.lowering.proofs.KeepsLemmas.{times_derived}
 
 -- rows by a fact
-in_if : (c : Bool) (xs : List ℕ) (m : ℕ) → Contains (if c then xs else []) m → (c ≡ true) × Contains xs m
+in_if : (c : Bool) (xs : List ℕ) (m : ℕ) → Contains (cond c xs []) m → (c ≡ true) × Contains xs m
 in_if true xs m h = (refl, h)
 in_if false xs m h = absurd (none_of m h)
 
-in_unless : (c : Bool) (n m : ℕ) → Contains (if c then [] else n ∷ []) m → n ≡ m
+in_unless : (c : Bool) (n m : ℕ) → Contains (cond c [] (n ∷ [])) m → n ≡ m
 in_unless true n m h = absurd (none_of m h)
 in_unless false n m h = only_one n m h
+
+some_unless : (xs : List ℕ) (n : ℕ) → 0 < length xs → cond (length xs == 0) [] (n ∷ []) ≡ n ∷ []
+some_unless xs n lt = by (length xs == 0) refl
+  where
+    by : (b : Bool) → (length xs == 0) ≡ b → cond b [] (n ∷ []) ≡ n ∷ []
+    by true is = absurd (let none = eqb-true (length xs) 0 is in omega (arith, lt, none))
+    by false is = refl
 
 some_of : (w v : List ℕ) → 0 < length (w ++ v) → (0 < length w) ⊎ (0 < length v)
 some_of [] v lt = inr lt
@@ -151,14 +159,12 @@ module _ (left : List Rule) where
   letter_source : HasSource (length left ∷ [])
   letter_source = (length left, in_first (length left) [], last_comes)
 
-  text_source : {folds : Bool} {t w : List ℕ} → Spelled folds t w → 0 < length w
-      → HasSource (sources left (e.Text folds t))
-  text_source der.end lt = absurd (omega (arith, lt))
-  text_source (der.next s rest) lt = letter_source
+  spelled_some : {folds : Bool} {t w : List ℕ} → Spelled folds t w → 0 < length w → 0 < length t
+  spelled_some der.end lt = lt
+  spelled_some (der.next s rest) lt = omega arith
 
-  values_source : (vs : List ℕ) → 0 < length vs → HasSource (sources left (e.Values vs))
-  values_source [] lt = absurd (omega (arith, lt))
-  values_source (v ∷ vs) lt = letter_source
+  symbols_source : (xs : List ℕ) → 0 < length xs → HasSource (cond (length xs == 0) [] (length left ∷ []))
+  symbols_source xs lt = subst HasSource (sym (some_unless xs (length left) lt)) letter_source
 
   module _ (has : ℕ → Bool) where
     times_some : {el : Element} {k : ℕ} {w : List ℕ} → DerivesTimes has left el k w → 0 < length w → 0 < k
@@ -167,15 +173,15 @@ module _ (left : List Rule) where
 
     mutual
       derives_source : {el : Element} {w : List ℕ} → Derives has left el w → 0 < length w → HasSource (sources left el)
-      derives_source (der.text s) lt = text_source s lt
-      derives_source (der.values {vs = vs} letters) lt = values_source vs lt
+      derives_source (der.text {t = t} s) lt = symbols_source t (spelled_some s lt)
+      derives_source (der.values {vs = vs} letters) lt = symbols_source vs lt
       derives_source (der.range from to letter) lt = letter_source
       derives_source (der.concat ds) lt = all_source ds lt
       derives_source (der.alt ds) lt = some_source ds lt
       derives_source (der.rep {k = k} {b = b} {e = el} low within ds) lt =
           let s = times_source ds lt in (
             s.0,
-            subst (λ v. Contains (if v then sources left el else []) s.0)
+            subst (λ v. Contains (cond v (sources left el) []) s.0)
                 (sym (within_iterates k b (times_some ds lt) within)) s.1,
             s.2,
           )

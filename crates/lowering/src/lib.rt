@@ -5,12 +5,12 @@ mod item_laws;
 mod letter_law;
 mod lower_elem;
 mod lowered;
-mod more_marks;
 mod pruned;
+mod sources;
 mod viable_lowered;
 
 pub use item_laws::items_decide;
 pub use letter_law::values_are_letters;
 pub use lowered::{lower, lower_rules};
-pub use more_marks::more_marks;
+pub use sources::more_marks;
 pub use viable_lowered::{lower_viable, productive_rules};

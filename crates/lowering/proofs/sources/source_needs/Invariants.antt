@@ -3,7 +3,7 @@ use Rattle.std.proofs.Common.{◌≡◌, map, take}
 use Rattle.fixpoint.specs.Demands.{One, owned_demands_of}
 use Rattle.abnfread.specs.AbnfViews.{rules_of}
 use Rattle.lowering.specs.MoreMarks.{sources}
-use Rattle.lowering.proofs.more_marks.source_needs.Given as goal
+use Rattle.lowering.proofs.sources.source_needs.Given as goal
 
 abbrev pub invariant-loop-id : goal.invariant-loop-id
 invariant-loop-id l =

@@ -2,7 +2,7 @@
 use Rattle.std.proofs.Common.{◌≡◌, ◌++◌, drop}
 use Rattle.abnfread.specs.AbnfViews.{elements_of, rules_of}
 use Rattle.lowering.specs.MoreMarks.{all_sources}
-use Rattle.lowering.proofs.more_marks.+sourcing.Given as goal
+use Rattle.lowering.proofs.sources.+sourcing.Given as goal
 
 abbrev pub invariant-add_all_sources-loop-member : goal.invariant-add_all_sources-loop-member
 invariant-add_all_sources-loop-member l =

@@ -6,7 +6,7 @@ use Rattle.fixpoint.specs.Least.{AreMarksOfThose}
 use Rattle.abnfread.specs.AbnfViews.{rule_of, rules_of}
 use Rattle.lowering.specs.MoreMarks.{source_demands}
 use Rattle.lowering.proofs.MoreMarksLemmas.{are_more_marks, demands_count, needs_within}
-use Rattle.lowering.proofs.more_marks.more_marks.Goals as goal
+use Rattle.lowering.proofs.sources.more_marks.Goals as goal
 
 -- what is lent asks for the same
 lent_needs : (c : goal.After-deref-2) → demands_of c.deref-2.result.now ≡ source_demands (rules_of c.args.rules.now)
