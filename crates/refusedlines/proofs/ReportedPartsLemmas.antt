@@ -13,15 +13,10 @@ use Rattle.abnfcheck.specs.Derivable.{AreLetters, RuleDerives}
 use Rattle.flatgrammar.specs.CalledParts.{AreAwaited}
 use Rattle.flatgrammar.specs.Flat as g
 use Rattle.flatgrammar.specs.Flat.{Dot, at, Flat, Node, Starts, starts, Begins}
-use Rattle.flatgrammar.specs.FlatViews.{node_of}
 use Rattle.flatgrammar.specs.ItemClosures.{dot}
-use Rattle.flatgrammar.specs.NodeSteps.{flat_of}
 use Rattle.flatgrammar.specs.OldItems as old
 use Rattle.flatgrammar.specs.OldItems.{HasPart, IsOld}
 use Rattle.flatgrammar.specs.declared.closure.DottedRule.{DottedRule}
-use Rattle.flatgrammar.specs.declared.flat_node.Node as code_node
-use Rattle.flatgrammar.specs.declared.tables.Tables as code_flat
-use Rattle.flatgrammar.proofs.CallOfLemmas.{get_map, get_unmap}
 use Rattle.flatgrammar.proofs.SliceGetLemmas.{get_below}
 use Rattle.lowering.specs.AwaitedParts.{IsAwaited, StandsIn, itself, inside, element_at}
 use Rattle.lowering.specs.Lowered.{IsLowered, OperandAt, Shows, shows_name, Spells, spells}
@@ -94,41 +89,36 @@ marked_below marks r is = by (cases_lt r (length marks))
     by (inl lt) = lt
     by (inr le) = let past = past_marks marks r le in absurd (cc (past, is))
 
--- where a node stands, by the tables
-module _ (tables : code_flat.Tables) (sought : ℕ → ℕ → Bool) where
+-- where a node stands
+module _ (flat : Flat) (sought : ℕ → ℕ → Bool) where
   abbrev node_from : ℕ → List ℕ → Option ℕ
-  node_from n z = node_below tables.bodies.items (operand_of tables) sought n z
+  node_from n z = node_below flat.bodies (operand_of flat) sought n z
 
-  operand_node : (n i m : ℕ) → operand_of tables n i ≡ Some m → (node : Node)
-      × (slice_get (flat_of tables).nodes n ≡ Some node) × OperandAt node i m
-  operand_node n i m is = by (slice_get tables.nodes.items n) refl
+  operand_node : (n i m : ℕ) → operand_of flat n i ≡ Some m → (node : Node) × (slice_get flat.nodes n ≡ Some node)
+      × OperandAt node i m
+  operand_node n i m is = by (slice_get flat.nodes n) refl
     where
-      by : (o : Option code_node.Node) → slice_get tables.nodes.items n ≡ o → (node : Node)
-          × (slice_get (flat_of tables).nodes n ≡ Some node) × OperandAt node i m
+      by : (o : Option Node) → slice_get flat.nodes n ≡ o → (node : Node) × (slice_get flat.nodes n ≡ Some node)
+          × OperandAt node i m
       by None none = let nothing = ap (λ v. operand_at v i) none in absurd (cc (nothing, is))
-      by (Some node) there = (
-        node_of node,
-        get_map node_of tables.nodes.items n there,
-        operand_there (node_of node) i m (sym (ap (λ v. operand_at v i) there) ∙ is),
-      )
+      by (Some node) there =
+          (node, there, operand_there node i m (sym (ap (λ v. operand_at v i) there) ∙ is))
 
-  node_operand : (n i m : ℕ) (node : Node) → slice_get (flat_of tables).nodes n ≡ Some node → OperandAt node i m
-      → operand_of tables n i ≡ Some m
-  node_operand n i m node is op =
-      let u = get_unmap node_of tables.nodes.items n node is in
-      ap (λ v. operand_at v i) u.at ∙ (ap (λ (v : Node). operand_in v i) u.is ∙ there_operand node i m op)
+  node_operand : (n i m : ℕ) (node : Node) → slice_get flat.nodes n ≡ Some node → OperandAt node i m
+      → operand_of flat n i ≡ Some m
+  node_operand n i m node is op = ap (λ v. operand_at v i) is ∙ there_operand node i m op
 
-  stands_below : {s t : ℕ} {z : List ℕ} → StandsIn (flat_of tables) s z t → node_from s z ≡ Some t
+  stands_below : {s t : ℕ} {z : List ℕ} → StandsIn flat s z t → node_from s z ≡ Some t
   stands_below itself = refl
   stands_below (inside {s = s} {m = m} {i = i} {z = z} {node = node} is op stands) =
       ap (λ (o : Option ℕ). on_node o (λ n. node_from n z)) (node_operand s i m node is op) ∙ stands_below stands
 
-  below_stands : (z : List ℕ) (s t : ℕ) → node_from s z ≡ Some t → StandsIn (flat_of tables) s z t
+  below_stands : (z : List ℕ) (s t : ℕ) → node_from s z ≡ Some t → StandsIn flat s z t
   below_stands [] s t is =
       let same : s ≡ t = cc is in
-      subst (λ (v : ℕ). StandsIn (flat_of tables) s [] v) same itself
+      subst (λ (v : ℕ). StandsIn flat s [] v) same itself
   below_stands (i ∷ z) s t is =
-      let first = on_there (operand_of tables s i) (λ n. node_from n z) is in
+      let first = on_there (operand_of flat s i) (λ n. node_from n z) is in
       let node = operand_node s i first.0 first.1 in
       inside node.1 node.2 (below_stands z first.0 t first.2)
 
@@ -163,48 +153,48 @@ pub record Laws (test : ℕ → Bool) (rules : List Rule) (judged : ℕ) (flat :
   pub starts : (s id : ℕ) (w : List ℕ) → slice_get flat.nodes s ≡ Some (g.Name id) → RuleDerives test rules id w
       → (p : Dot) × Starts flat s p
 
-module _ (alphabet : Alphabet) (rules : List Rule) (judged : ℕ) (tables : code_flat.Tables) (x : List ℕ) (n : ℕ)
-    (lowered : IsLowered rules judged (flat_of tables)) (short : length x ≤ (flat_of tables).limit)
-    (letters : AreLetters (has alphabet) x) (laws : Laws (has alphabet) rules judged (flat_of tables) x n)
+module _ (alphabet : Alphabet) (rules : List Rule) (judged : ℕ) (flat : Flat) (x : List ℕ) (n : ℕ)
+    (lowered : IsLowered rules judged flat) (short : length x ≤ flat.limit)
+    (letters : AreLetters (has alphabet) x) (laws : Laws (has alphabet) rules judged flat x n)
     (marks : List Bool) (count : length marks ≡ length rules)
     (marked : (id : ℕ) → id < length rules → (get_or marks id false ≡ true) ↔ DerivesMore (has alphabet) rules id)
-    (dots : List DottedRule) (awaited : AreAwaited (flat_of tables) x n dots) (sought : ℕ → ℕ → Bool)
+    (dots : List DottedRule) (awaited : AreAwaited flat x n dots) (sought : ℕ → ℕ → Bool)
     (sought_is : (s k : ℕ) → sought s k
-    ≡ (has_dot dots s k && is_marked_at marks (slice_get tables.nodes.items s))) where
+    ≡ (has_dot dots s k && is_marked_at marks (slice_get flat.nodes s))) where
   abbrev found_so : RulePart → Bool
-  found_so p = is_found tables.bodies.items (operand_of tables) sought p
+  found_so p = is_found flat.bodies (operand_of flat) sought p
 
   abbrev node_at_site : RulePart → Option ℕ
-  node_at_site p = site_node tables.bodies.items (operand_of tables) sought p.rule p.site
+  node_at_site p = site_node flat.bodies (operand_of flat) sought p.rule p.site
 
   part_had : (p : RulePart) → IsAwaited (has alphabet) rules judged x n p.rule p.site p.element p.read
-      → HavePart rules (flat_of tables) x n p.rule p.site p.element p.read
-  part_had p is = awaited_part (has alphabet) rules judged (flat_of tables) lowered x short letters n p.rule p.site
+      → HavePart rules flat x n p.rule p.site p.element p.read
+  part_had p is = awaited_part (has alphabet) rules judged flat lowered x short letters n p.rule p.site
       p.element p.read is
 
-  part_at : (p : RulePart) (h : HavePart rules (flat_of tables) x n p.rule p.site p.element p.read)
+  part_at : (p : RulePart) (h : HavePart rules flat x n p.rule p.site p.element p.read)
       → node_at_site p ≡ Some h.node
   part_at p h =
-      ap (λ (o : Option ℕ). on_node o (λ top. node_below tables.bodies.items (operand_of tables) sought top p.site))
+      ap (λ (o : Option ℕ). on_node o (λ top. node_below flat.bodies (operand_of flat) sought top p.site))
       h.is.top_is
-      ∙ stands_below tables sought h.is.stands
+      ∙ stands_below flat sought h.is.stands
 
-  one_node : (p : RulePart) (h : HavePart rules (flat_of tables) x n p.rule p.site p.element p.read) (s : ℕ)
+  one_node : (p : RulePart) (h : HavePart rules flat x n p.rule p.site p.element p.read) (s : ℕ)
       → node_at_site p ≡ Some s → s ≡ h.node
   one_node p h s is = let there = part_at p h in cc (is, there)
 
   -- a node that is a name, of a part that is reported
-  rule_more : (p : RulePart) (h : HavePart rules (flat_of tables) x n p.rule p.site p.element p.read)
-      → NamesMore (has alphabet) rules p.element → (r : ℕ) → slice_get (flat_of tables).nodes h.node ≡ Some (g.Name r)
+  rule_more : (p : RulePart) (h : HavePart rules flat x n p.rule p.site p.element p.read)
+      → NamesMore (has alphabet) rules p.element → (r : ℕ) → slice_get flat.nodes h.node ≡ Some (g.Name r)
       → DerivesMore (has alphabet) rules r
   rule_more p h more r is = by h.is.spelled is
     where
-      by : {s : ℕ} → Spells rules (flat_of tables).limit (flat_of tables).nodes s p.element
-          → slice_get (flat_of tables).nodes s ≡ Some (g.Name r) → DerivesMore (has alphabet) rules r
+      by : {s : ℕ} → Spells rules flat.limit flat.nodes s p.element
+          → slice_get flat.nodes s ≡ Some (g.Name r) → DerivesMore (has alphabet) rules r
       by (spells {node = node} at_s shown) is =
           let same : node ≡ g.Name r = cc (at_s, is) in
           name_shown (has alphabet) rules
-          (subst (λ (v : Node). Shows rules (flat_of tables).limit (flat_of tables).nodes v p.element) same shown) more
+          (subst (λ (v : Node). Shows rules flat.limit flat.nodes v p.element) same shown) more
 
   mark_true : (r : ℕ) → DerivesMore (has alphabet) rules r → get_or marks r false ≡ true
   mark_true r more =
@@ -212,16 +202,16 @@ module _ (alphabet : Alphabet) (rules : List Rule) (judged : ℕ) (tables : code
       let size = length-map rules (λ rule. rule.body) in
       (marked r (omega (arith, below, size))).1 more
 
-  start_of : (p : RulePart) (h : HavePart rules (flat_of tables) x n p.rule p.site p.element p.read)
-      → NamesMore (has alphabet) rules p.element → (q : Dot) × Starts (flat_of tables) h.node q
+  start_of : (p : RulePart) (h : HavePart rules flat x n p.rule p.site p.element p.read)
+      → NamesMore (has alphabet) rules p.element → (q : Dot) × Starts flat h.node q
   start_of p h more = by h.has_part refl
     where
-      by : {s k : ℕ} → HasPart (flat_of tables) x n (IsOld (flat_of tables) x n) s k → s ≡ h.node → (q : Dot)
-          × Starts (flat_of tables) h.node q
+      by : {s k : ℕ} → HasPart flat x n (IsOld flat x n) s k → s ≡ h.node → (q : Dot)
+          × Starts flat h.node q
       by (old.reads {s = s} held o is lt) same =
-          subst (λ (v : ℕ). ((q : Dot) × Starts (flat_of tables) v q)) same (at s 0, starts is Begins.letters)
+          subst (λ (v : ℕ). ((q : Dot) × Starts flat v q)) same (at s 0, starts is Begins.letters)
       by (old.calls held o c name) same =
-          let is = subst (λ (v : ℕ). slice_get (flat_of tables).nodes v ≡ Some (g.Name name.0)) same name.1 in
+          let is = subst (λ (v : ℕ). slice_get flat.nodes v ≡ Some (g.Name name.0)) same name.1 in
           let derived = rule_more p h more name.0 is in
           laws.starts h.node name.0 (derived.first ∷ derived.rest) is derived.derives
 
@@ -230,61 +220,63 @@ module _ (alphabet : Alphabet) (rules : List Rule) (judged : ℕ) (tables : code
       let h = part_had p r.0 in
       let start = start_of p h r.1 in
       let among = awaited.whole (dot h.node p.read) start.0 h.has_part start.1 in
-      ap (λ (o : Option ℕ). is_sought_at tables.bodies.items (operand_of tables) sought o p.read) (part_at p h)
+      ap (λ (o : Option ℕ). is_sought_at flat.bodies (operand_of flat) sought o p.read) (part_at p h)
       ∙ (sought_is h.node p.read
-      ∙ and_from (has_dot dots h.node p.read) (is_marked_at marks (slice_get tables.nodes.items h.node))
-      (in_dot dots (dot h.node p.read) among) (by h (slice_get tables.nodes.items h.node) refl))
+      ∙ and_from (has_dot dots h.node p.read) (is_marked_at marks (slice_get flat.nodes h.node))
+      (in_dot dots (dot h.node p.read) among) (by h (slice_get flat.nodes h.node) refl))
     where
-      by : (h : HavePart rules (flat_of tables) x n p.rule p.site p.element p.read) (o : Option code_node.Node)
-          → slice_get tables.nodes.items h.node ≡ o → is_marked_at marks o ≡ true
+      by : (h : HavePart rules flat x n p.rule p.site p.element p.read) (o : Option Node)
+          → slice_get flat.nodes h.node ≡ o → is_marked_at marks o ≡ true
       by h None is = refl
-      by h (Some node) is = marks_true marks (node_of node) (λ q same.
-          mark_true q (rule_more p h r.1 q (get_map node_of tables.nodes.items h.node is
-          ∙ ap (λ (v : Node). Some v) same)))
+      by h (Some node) is = marks_true marks node (λ q same.
+          mark_true q (rule_more p h r.1 q (is ∙ ap (λ (v : Node). Some v) same)))
 
   -- the name of a part that is found
-  name_more : (p : RulePart) (h : HavePart rules (flat_of tables) x n p.rule p.site p.element p.read)
-      → is_marked_at marks (slice_get tables.nodes.items h.node) ≡ true → (m : List ℕ) → p.element ≡ e.Name m
+  name_more : (p : RulePart) (h : HavePart rules flat x n p.rule p.site p.element p.read)
+      → is_marked_at marks (slice_get flat.nodes h.node) ≡ true → (m : List ℕ) → p.element ≡ e.Name m
       → DerivesMore (has alphabet) rules (id_of rules m)
   name_more p h passed m is = by h.is.spelled refl is
     where
-      by : {s : ℕ} {el : Element} → Spells rules (flat_of tables).limit (flat_of tables).nodes s el → s ≡ h.node
+      by : {s : ℕ} {el : Element} → Spells rules flat.limit flat.nodes s el → s ≡ h.node
           → el ≡ e.Name m → DerivesMore (has alphabet) rules (id_of rules m)
       by (spells {s = s} {node = node} at_s shown) same named =
           let node_is = shown_name (has alphabet) rules
-          (subst (λ (v : Element). Shows rules (flat_of tables).limit (flat_of tables).nodes node v) named shown) in
-          let there = subst (λ (v : ℕ). slice_get (flat_of tables).nodes v ≡ Some (g.Name (id_of rules m))) same
+          (subst (λ (v : Element). Shows rules flat.limit flat.nodes node v) named shown) in
+          let there = subst (λ (v : ℕ). slice_get flat.nodes v ≡ Some (g.Name (id_of rules m))) same
           (at_s ∙ ap (λ (v : Node). Some v) node_is) in
-          let u = get_unmap node_of tables.nodes.items h.node (g.Name (id_of rules m)) there in
-          let mark : get_or marks (id_of rules m) false ≡ true =
-          sym (ap (λ v. is_marked_at marks v) u.at ∙ ap (λ (v : Node). names_marked marks v) u.is) ∙ passed in
+          let mark : get_or marks (id_of rules m) false ≡ true = sym (ap (λ v. is_marked_at marks v) there) ∙ passed in
           let below = marked_below marks (id_of rules m) mark in
           (marked (id_of rules m) (omega (arith, below, count))).0 mark
+
+  as_element : (p : RulePart) (el : Element) → el ≡ p.element
+      → IsAwaited (has alphabet) rules judged x n p.rule p.site el p.read
+      → IsAwaited (has alphabet) rules judged x n p.rule p.site p.element p.read
+  as_element p el same is =
+      subst (λ (v : Element). IsAwaited (has alphabet) rules judged x n p.rule p.site v p.read) same is
 
   pub found_reported : (p : RulePart) → IsPlaced rules p → found_so p ≡ true
       → IsPartReported alphabet rules judged x n p
   found_reported p placed passed = by (node_at_site p) refl passed
     where
       by : (o : Option ℕ) → node_at_site p ≡ o
-          → is_sought_at tables.bodies.items (operand_of tables) sought o p.read ≡ true
+          → is_sought_at flat.bodies (operand_of flat) sought o p.read ≡ true
           → IsPartReported alphabet rules judged x n p
       by None is passed = absurd (cc passed)
       by (Some s) is passed =
-          let both = and_parts (has_dot dots s p.read) (is_marked_at marks (slice_get tables.nodes.items s))
+          let both = and_parts (has_dot dots s p.read) (is_marked_at marks (slice_get flat.nodes s))
           (sym (sought_is s p.read) ∙ passed) in
-          let top = on_there (slice_get tables.bodies.items p.rule)
-          (λ t. node_below tables.bodies.items (operand_of tables) sought t p.site) is in
-          let stands = below_stands tables sought p.site top.0 s top.2 in
+          let top = on_there (slice_get flat.bodies p.rule)
+          (λ t. node_below flat.bodies (operand_of flat) sought t p.site) is in
+          let stands = below_stands flat sought p.site top.0 s top.2 in
           let part = (laws.awaited p.rule top.0 s p.read p.site top.1 stands).1
           (awaited.sound (dot s p.read) (dot_in dots s p.read both.0)) in
           let there = laws.element p.rule p.read p.site placed.body part.0 placed.body_is part.1 in
           let same : part.0 ≡ p.element = cc (there, placed.there) in
-          let reported = subst (λ (v : Element). IsAwaited (has alphabet) rules judged x n p.rule p.site v p.read) same
-          part.1 in
+          let reported = as_element p part.0 same part.1 in
           let h = part_had p reported in (
             reported,
             names_more (has alphabet) rules p.element (name_more p h
-                (subst (λ (v : ℕ). is_marked_at marks (slice_get tables.nodes.items v) ≡ true) (one_node p h s is)
+                (subst (λ (v : ℕ). is_marked_at marks (slice_get flat.nodes v) ≡ true) (one_node p h s is)
                 both.1)),
           )
 
@@ -296,30 +288,10 @@ module _ (alphabet : Alphabet) (rules : List Rule) (judged : ℕ) (tables : code
       ((reported_found p, found_reported p each.0), each_decided all each.1)
 
   pub are_reported : AreReportedParts (IsPartReported alphabet rules judged x n) (parts_from 0 rules)
-      (sought_from (operand_of tables) sought tables.bodies.items 0 rules)
+      (sought_from (operand_of flat) sought flat.bodies 0 rules)
   are_reported = record {
     parts = filter found_so (parts_from 0 rules);
     chosen = chosen_by (IsPartReported alphabet rules judged x n) found_so (parts_from 0 rules)
         (each_decided (parts_from 0 rules) (all_placed rules));
-    shown_as = sym (all_found tables.bodies.items (operand_of tables) sought rules 0);
+    shown_as = sym (all_found flat.bodies (operand_of flat) sought rules 0);
   }
-
--- .. of the flat grammar that the tables are of
-pub parts_listed : (alphabet : Alphabet) (rules : List Rule) (judged : ℕ) (tables : code_flat.Tables) (x : List ℕ)
-    (n : ℕ) (flat : Flat) → flat_of tables ≡ flat → IsLowered rules judged flat → length x ≤ flat.limit
-    → AreLetters (has alphabet) x → Laws (has alphabet) rules judged flat x n → (marks : List Bool)
-    → length marks ≡ length rules
-    → ((id : ℕ) → id < length rules → (get_or marks id false ≡ true) ↔ DerivesMore (has alphabet) rules id)
-    → (dots : List DottedRule) → AreAwaited flat x n dots → (sought : ℕ → ℕ → Bool)
-    → ((s k : ℕ) → sought s k ≡ (has_dot dots s k && is_marked_at marks (slice_get tables.nodes.items s)))
-    → AreReportedParts (IsPartReported alphabet rules judged x n) (parts_from 0 rules)
-    (sought_from (operand_of tables) sought tables.bodies.items 0 rules)
-parts_listed alphabet rules judged tables x n flat view =
-    subst (λ (f : Flat). IsLowered rules judged f → length x ≤ f.limit → AreLetters (has alphabet) x
-    → Laws (has alphabet) rules judged f x n → (marks : List Bool) → length marks ≡ length rules
-    → ((id : ℕ) → id < length rules → (get_or marks id false ≡ true) ↔ DerivesMore (has alphabet) rules id)
-    → (dots : List DottedRule) → AreAwaited f x n dots → (sought : ℕ → ℕ → Bool)
-    → ((s k : ℕ) → sought s k ≡ (has_dot dots s k && is_marked_at marks (slice_get tables.nodes.items s)))
-    → AreReportedParts (IsPartReported alphabet rules judged x n) (parts_from 0 rules)
-    (sought_from (operand_of tables) sought tables.bodies.items 0 rules)) view
-    (are_reported alphabet rules judged tables x n)

@@ -139,7 +139,8 @@ module _ (operand : ℕ → ℕ → Option ℕ) (sought : ℕ → ℕ → Bool) 
       let rest = sought_from operand sought bodies (id + 1) (map rule_of (drop (id + 1) rows)) in
       let here = at_node (slice_get bodies id) (λ m. sought_in operand sought id m (element_of e)) in
       ap (λ (v : List ShownPart). v ++ rest) more_is
-      ∙ (ap (λ (o : Option ℕ). (parts ++ at_node o (λ m. sought_in operand sought id m (element_of e))) ++ rest) place_is
+      ∙ (ap (λ (o : Option ℕ). (parts ++ at_node o (λ m. sought_in operand sought id m (element_of e))) ++ rest)
+      place_is
       ∙ (append_assoc parts here rest
       ∙ (ap (λ (v : Elem). parts ++ (at_node (slice_get bodies id) (λ m. sought_in operand sought id m (element_of v))
       ++ rest)) (sym next.2)

@@ -6,11 +6,8 @@ use Rattle.std.specs.List.{filter, list_any}
 use Rattle.abnfread.specs.Element.{Element, Elements, Text, Values, Range, Concat, Alt, Rep, Opt, Name, Prose, none}
 use Rattle.abnfread.specs.Element.{more, Rule}
 use Rattle.flatgrammar.specs.Flat as flat
-use Rattle.flatgrammar.specs.Flat.{Node}
-use Rattle.flatgrammar.specs.FlatViews.{node_of}
+use Rattle.flatgrammar.specs.Flat.{Flat, Node}
 use Rattle.flatgrammar.specs.declared.closure.DottedRule.{DottedRule}
-use Rattle.flatgrammar.specs.declared.flat_node.Node as code_node
-use Rattle.flatgrammar.specs.declared.tables.Tables as code_flat
 use Rattle.refusedlines.specs.RefusedParts.{ShownPart, counts}
 use Rattle.refusedlines.specs.declared.parts.SoughtParts.{SoughtParts}
 
@@ -25,12 +22,12 @@ operand_in (flat.Opt m) i = if eqb i 0 then Some m else None
 operand_in (flat.Name r) i = None
 operand_in flat.Nothing i = None
 
-abbrev pub operand_at : Option code_node.Node → ℕ → Option ℕ
+abbrev pub operand_at : Option Node → ℕ → Option ℕ
 operand_at None i = None
-operand_at (Some node) i = operand_in (node_of node) i
+operand_at (Some node) i = operand_in node i
 
-abbrev pub operand_of : code_flat.Tables → ℕ → ℕ → Option ℕ
-operand_of tables n i = operand_at (slice_get tables.nodes.items n) i
+abbrev pub operand_of : Flat → ℕ → ℕ → Option ℕ
+operand_of grammar n i = operand_at (slice_get grammar.nodes n) i
 
 -- a name is one of a marked rule
 abbrev pub names_marked : List Bool → Node → Bool
@@ -43,9 +40,9 @@ names_marked marks (flat.Opt m) = true
 names_marked marks (flat.Name r) = get_or marks r false
 names_marked marks flat.Nothing = true
 
-abbrev pub is_marked_at : List Bool → Option code_node.Node → Bool
+abbrev pub is_marked_at : List Bool → Option Node → Bool
 is_marked_at marks None = true
-is_marked_at marks (Some node) = names_marked marks (node_of node)
+is_marked_at marks (Some node) = names_marked marks node
 
 -- two pairs are the same
 abbrev pub is_pair : ℕ × ℕ → ℕ × ℕ → Bool
@@ -62,7 +59,7 @@ AreDotsIn dots set = (n k : ℕ) → contains is_pair set (n, k) ≡ has_dot dot
 -- a part with that node and that step is sought
 abbrev pub is_sought : SoughtParts → ℕ → ℕ → Bool
 is_sought sought n k = contains is_pair sought.dots.now (n, k)
-    && is_marked_at sought.more.now (slice_get sought.tables.now.nodes.items n)
+    && is_marked_at sought.more.now (slice_get sought.flat.now.nodes n)
 
 -- nothing where there is no node
 abbrev pub at_node : Option ℕ → (ℕ → List ShownPart) → List ShownPart

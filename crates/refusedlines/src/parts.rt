@@ -1,5 +1,5 @@
 //! The names and terminals of rules that can come next after a prefix of a line.
-ghost use Rattle.std.specs.Prelude.{◌≡◌, ◌≤◌, ◌++◌, ℕ, List, length, map, slice_get, IfOk, OnOk};
+ghost use Rattle.std.specs.Prelude.{◌≡◌, ◌≤◌, ◌++◌, ℕ, List, length, map, IfOk, OnOk};
 ghost use Rattle.abnfread.specs.AbnfViews.{element_of, elements_of, rules_of};
 ghost use Rattle.abnfread.specs.Element.{Rule};
 ghost use Rattle.abnfcheck.specs.Derivable.{AreLetters};
@@ -27,7 +27,7 @@ ghost use Rattle.refusedlines.specs.SoughtParts.{
 };
 
 use abnfread::Elem;
-use flatgrammar::{DottedRule, Flat, Node, Tables};
+use flatgrammar::{DottedRule, Flat, Node};
 use lowering::items_decide;
 use ruletable::{Memory, RuleTable};
 use std::alloc::Global;
@@ -48,7 +48,7 @@ pub(crate) struct AwaitedPart<'a> {
 #[derive(Drop)]
 pub(crate) struct SoughtParts<'a> {
     /// The flat grammar of the rules.
-    tables: &'a Tables,
+    flat: &'a Flat,
     /// Of each rule whether it derives a list of symbols that is not empty.
     more: &'a [bool],
     /// The node and the step of each dotted rule that is sought.
@@ -101,20 +101,14 @@ fn dots_in(alloc: Global, dots: &[DottedRule]) -> Result<HashSet<(usize, usize)>
 }
 
 impl SoughtParts<'_> {
-    // Returns the node of a rule's body, if there is such a rule.
-    fn body(&self, rule: usize) -> Option<usize>
-        ensures { result ≡ slice_get self.now.tables.now.bodies.items rule }
-    {
-        self.tables.bodies.get(rule).copied()
-    }
-
     // Returns the operand of that number of a node, if there is one.
     fn operand(&self, node: usize, number: usize) -> Option<usize>
-        ensures { result ≡ operand_of self.now.tables.now node number }
+        ensures { result ≡ operand_of self.now.flat.now node number }
     {
-        match self.tables.nodes.get(node) {
-            Some(node) => node_operand(node, number),
-            None => None,
+        if node < self.flat.nodes() {
+            node_operand(self.flat.node(node), number)
+        } else {
+            None
         }
     }
 
@@ -125,9 +119,10 @@ impl SoughtParts<'_> {
         if !self.dots.contains(&(node, step)) {
             return false;
         }
-        match self.tables.nodes.get(node) {
-            Some(node) => names_marked(self.more, node),
-            None => true,
+        if node < self.flat.nodes() {
+            names_marked(self.more, self.flat.node(node))
+        } else {
+            true
         }
     }
 
@@ -141,7 +136,7 @@ impl SoughtParts<'_> {
         parts: &mut Vec<AwaitedPart<'a>>,
     ) -> Result<(), Memory>
         ensures { OnOk result (map awaited_part parts.new.items ≡ map awaited_part parts.old.items
-            ++ sought_reads (operand_of self.now.tables.now) (the_test self.now) rule node (element_of element.now)
+            ++ sought_reads (operand_of self.now.flat.now) (the_test self.now) rule node (element_of element.now)
             size) }
     {
         for read in 0..size {
@@ -166,7 +161,7 @@ impl SoughtParts<'_> {
         parts: &mut Vec<AwaitedPart<'a>>,
     ) -> Result<(), Memory>
         ensures { OnOk result (map awaited_part parts.new.items ≡ map awaited_part parts.old.items
-            ++ at_node node (λ m. sought_in (operand_of self.now.tables.now) (the_test self.now) rule m
+            ++ at_node node (λ m. sought_in (operand_of self.now.flat.now) (the_test self.now) rule m
             (element_of e.now))) }
     {
         let Some(node) = node else {
@@ -197,7 +192,7 @@ impl SoughtParts<'_> {
         parts: &mut Vec<AwaitedPart<'a>>,
     ) -> Result<(), Memory>
         ensures { OnOk result (map awaited_part parts.new.items ≡ map awaited_part parts.old.items
-            ++ sought_operands (operand_of self.now.tables.now) (the_test self.now) rule node 0
+            ++ sought_operands (operand_of self.now.flat.now) (the_test self.now) rule node 0
             (elements_of operands.now)) }
     {
         for (i, operand) in operands.iter().enumerate() {
@@ -213,12 +208,12 @@ impl SoughtParts<'_> {
         rules: &'a RuleTable<Elem>,
     ) -> Result<Vec<AwaitedPart<'a>>, Memory>
         ensures { IfOk result (λ parts. map awaited_part parts.items ≡ sought_from
-            (operand_of self.now.tables.now) (the_test self.now) self.now.tables.now.bodies.items 0
+            (operand_of self.now.flat.now) (the_test self.now) self.now.flat.now.bodies 0
             (rules_of rules.now)) }
     {
         let mut parts = Vec::new(alloc);
         for id in 0..rules.len() {
-            let node = self.body(id);
+            let node = self.flat.body(id);
             self.add_parts(id, node, rules.body(id), &mut parts)?;
         }
         Ok(parts)
@@ -247,10 +242,9 @@ pub(crate) fn awaited_parts<'a>(
         (map awaited_part parts.items)) }
 {
     items_decide();
-    let tables = flat.share()?;
     let set = dots_in(alloc, dots)?;
     let sought = SoughtParts {
-        tables: &tables,
+        flat,
         more,
         dots: &set,
     };

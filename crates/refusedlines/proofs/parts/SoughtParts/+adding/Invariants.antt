@@ -7,7 +7,7 @@ use Rattle.refusedlines.proofs.parts.SoughtParts.+adding.Given as goal
 -- the parts so far, and those of the operands that are left
 abbrev pub invariant-add_operands-loop-i : goal.invariant-add_operands-loop-i
 invariant-add_operands-loop-i l = map awaited_part l.parts.items
-    ++ sought_operands (operand_of l.self.tables.now) (is_sought l.self) l.rule l.node l.i
+    ++ sought_operands (operand_of l.self.flat.now) (is_sought l.self) l.rule l.node l.i
     (elements_of (drop l.i l.operands))
     ≡ map awaited_part l.fn.parts.items
-    ++ sought_operands (operand_of l.self.tables.now) (is_sought l.self) l.rule l.node 0 (elements_of l.operands)
+    ++ sought_operands (operand_of l.self.flat.now) (is_sought l.self) l.rule l.node 0 (elements_of l.operands)
