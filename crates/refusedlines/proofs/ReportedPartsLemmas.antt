@@ -183,6 +183,12 @@ module _ (alphabet : Alphabet) (rules : List Rule) (judged : ℕ) (flat : Flat) 
       → node_at_site p ≡ Some s → s ≡ h.node
   one_node p h s is = let there = part_at p h in cc (is, there)
 
+  mark_there : (p : RulePart) (h : HavePart rules flat x n p.rule p.site p.element p.read) (s : ℕ)
+      → node_at_site p ≡ Some s → is_marked_at marks (slice_get flat.nodes s) ≡ true
+      → is_marked_at marks (slice_get flat.nodes h.node) ≡ true
+  mark_there p h s is passed =
+      subst (λ (v : ℕ). is_marked_at marks (slice_get flat.nodes v) ≡ true) (one_node p h s is) passed
+
   -- a node that is a name, of a part that is reported
   rule_more : (p : RulePart) (h : HavePart rules flat x n p.rule p.site p.element p.read)
       → NamesMore (has alphabet) rules p.element → (r : ℕ) → slice_get flat.nodes h.node ≡ Some (g.Name r)
@@ -275,9 +281,7 @@ module _ (alphabet : Alphabet) (rules : List Rule) (judged : ℕ) (flat : Flat) 
           let reported = as_element p part.0 same part.1 in
           let h = part_had p reported in (
             reported,
-            names_more (has alphabet) rules p.element (name_more p h
-                (subst (λ (v : ℕ). is_marked_at marks (slice_get flat.nodes v) ≡ true) (one_node p h s is)
-                both.1)),
+            names_more (has alphabet) rules p.element (name_more p h (mark_there p h s is both.1)),
           )
 
   each_decided : (all : List RulePart) → AllByRecursion (IsPlaced rules) all

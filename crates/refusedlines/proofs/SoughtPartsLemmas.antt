@@ -134,13 +134,13 @@ module _ (operand : ℕ → ℕ → Option ℕ) (sought : ℕ → ℕ → Bool) 
       → parts ++ sought_from operand sought bodies id (map rule_of (drop id rows)) ≡ total
       → added ≡ parts ++ at_node node (λ m. sought_in operand sought id m (element_of e))
       → added ++ sought_from operand sought bodies (id + 1) (map rule_of (drop (id + 1) rows)) ≡ total
-  rule_added bodies rows id e place parts added total body place_is so_far more_is =
+  rule_added bodies rows id e top parts added total body top_is so_far more_is =
       let next = next_rules rows id e body in
       let rest = sought_from operand sought bodies (id + 1) (map rule_of (drop (id + 1) rows)) in
       let here = at_node (slice_get bodies id) (λ m. sought_in operand sought id m (element_of e)) in
       ap (λ (v : List ShownPart). v ++ rest) more_is
       ∙ (ap (λ (o : Option ℕ). (parts ++ at_node o (λ m. sought_in operand sought id m (element_of e))) ++ rest)
-      place_is
+      top_is
       ∙ (append_assoc parts here rest
       ∙ (ap (λ (v : Elem). parts ++ (at_node (slice_get bodies id) (λ m. sought_in operand sought id m (element_of v))
       ++ rest)) (sym next.2)

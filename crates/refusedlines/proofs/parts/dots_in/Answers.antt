@@ -10,14 +10,11 @@ loop-dot-init c = λ n k. ap (λ v. list_any (is_pair (n, k)) v) c.new-set.ensur
 
 pub loop-dot-preserved : goal.loop-dot-preserved
 loop-dot-preserved c = λ n k.
+    let none : DottedRule = record { node = 0; step = 0 } in
+    let dot : DottedRule = get_or c.args.dots.now c.loop-dot.dot-index none in
     c.in_ok-insert.ensures.updates.0 (n, k)
-    ∙ (ap (λ (b : Bool). cond (is_pair (
-      (get_or c.args.dots.now c.loop-dot.dot-index
-          (record { node = 0; step = 0 })).node,
-      (get_or c.args.dots.now c.loop-dot.dot-index
-          (record { node = 0; step = 0 })).step,
-    ) (n, k)) true b) (c.loop-dot.invariant n k)
-    ∙ sym (dot_added c.args.dots.now c.loop-dot.dot-index (record { node = 0; step = 0 }) c.loop-dot-test.true n k))
+    ∙ (ap (λ (b : Bool). cond (is_pair (dot.node, dot.step) (n, k)) true b) (c.loop-dot.invariant n k)
+    ∙ sym (dot_added c.args.dots.now c.loop-dot.dot-index none c.loop-dot-test.true n k))
 
 pub returns : goal.returns
 returns c =
