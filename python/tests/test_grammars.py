@@ -130,10 +130,11 @@ def test_lines_may_hold_any_byte():
 
 
 def test_findings_on_an_input():
-    err = b'line 1, letter 3: expected "-"\n  12x3\n    ^\nline 3 ends too early: expected DIGIT\n  12-\n     ^\n'
+    err = b'line 1, letter 3: expected "-" in d\n  12x3\n    ^\n'
+    err += b"line 3 ends too early: expected DIGIT in d\n  12-\n     ^\n"
     assert [it[:7] for it in read_findings(err)] == [
-        ("", 1, 3, "error", "refused", 'expected "-"', "input"),
-        ("", 3, None, "error", "refused", "expected DIGIT", "input"),
+        ("", 1, 3, "error", "refused", 'expected "-" in d', "input"),
+        ("", 3, None, "error", "refused", "expected DIGIT in d", "input"),
     ]
     err = b"no match at byte 10\n  byte 12, line 2, column 8, in the unit at byte 10\n  z=;\n    ^\n"
     (found,) = read_findings(err + b"  expected [0-9] in N\n")
@@ -152,7 +153,8 @@ def test_refusals():
     assert (found.at, found.can_end, found.picture) == (4, False, "1985\n    ^")
     assert len(found.expected) == 1 and found.expected[0].startswith('"-"')
     assert day.refusal("1985-04-12 ") == Refusal(10, (), True, "1985-04-12 \n          ^")
-    assert str(day.refusal("1985x")).startswith('refused after 4 letters: expected "-"')
+    assert str(day.refusal("1985x")).startswith('refused after 4 letters: expected "-" in day')
+    assert day.refusal("1985x").parts == ('"-" in day',)
     assert str(day.refusal("1985x")).endswith("\n1985x\n    ^")
     assert str(Refusal(2, ("%x41", '"b"'), True, "")) == 'refused after 2 letters: expected %x41 / "b" or the end'
     for line, at in (("1985-4-12", 6), ("", 0), (b"\xff", 0)):
@@ -177,13 +179,18 @@ def test_refusals_of_all_kinds():
         Abnf(DAY, limit=3).refusal("1985")
 
 
-def test_further_forms_of_refusals():
-    text = b'line 2 ends too early: expected "," / DIGIT in day / %s"e" of %x66.65 in f or the end of the line\n'
-    assert read_refusal(3, text) == Refusal(3, ('","', "DIGIT in day", '%s"e" of %x66.65 in f'), True, "")
-    text = 'line 1, letter 1: expected DIGIT / "\xe9" (%xE9) and 2 more or the end of the line\n'.encode()
-    found = read_refusal(0, text)
-    assert found == Refusal(0, ("DIGIT", '"\xe9" (%xE9)'), True, "", 2)
-    assert str(found) == 'refused after 0 letters: expected DIGIT / "\xe9" (%xE9) and 2 more or the end'
+def test_parts_of_refusals():
+    text = b'line 1 ends too early: expected %s"e" of %x66.65 in f or the end of the line\n  f\n   ^\n'
+    found = read_refusal(1, text)
+    assert found == Refusal(1, ('%s"e"',), True, "f\n ^", 0, ('%s"e" of %x66.65 in f',))
+    assert str(found) == 'refused after 1 letters: expected %s"e" of %x66.65 in f or the end\nf\n ^'
+    text = 'line 1, letter 1: expected DIGIT / "\xe9" (%xE9) and 2 more or the end of the line\n  x\n  ^\n  a in b\n'
+    found = read_refusal(0, (text + '  "\xe9" (%xE9) in b\n  and 3 more\n').encode())
+    assert found == Refusal(0, ("DIGIT", '"\xe9" (%xE9)'), True, "x\n^", 2, ("a in b", '"\xe9" (%xE9) in b'), 3)
+    said = 'refused after 0 letters: expected DIGIT / "\xe9" (%xE9) and 2 more or the end\nx\n^\na in b\n'
+    assert str(found) == said + '"\xe9" (%xE9) in b\nand 3 more'
+    found = read_refusal(0, b'line 1 ends too early: expected "A" / "B"\n  "A" in r\n  "B" in r\n')
+    assert (found.expected, found.picture, found.parts) == (('"A"', '"B"'), "", ('"A" in r', '"B" in r'))
 
 
 def test_files(tmp_path):

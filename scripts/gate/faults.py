@@ -106,8 +106,8 @@ STOP_EXPLAINED = peg("a stop explained", b"S <- 'a' ('=' [0-9]+ ';')* {x}", b"a=
                      b'  expected ";" in S\n  expected [0-9] in S\n', 1, words=["-x"])
 REFUSED_EXPLAINED = abnf("refused lines explained", b'd = 2DIGIT "-" 2DIGIT\n', b"12x3\n12-34\n12-\n123456\n",
                          [NO, YES, NO],
-                         b'line 1, letter 3: expected "-"\n  12x3\n    ^\n'
-                         b"line 3 ends too early: expected DIGIT\n  12-\n     ^\n"
+                         b'line 1, letter 3: expected "-" in d\n  12x3\n    ^\n'
+                         b"line 3 ends too early: expected DIGIT in d\n  12-\n     ^\n"
                          b"line 4 longer than 5 bytes\n  -l allows at most 16777216\n", 3, words=["-x", "-l", "5"])
 HINTED = abnf("hints on a grammar", b'a = "x" b / "y"\nb = %x39-30\n', b"y\n", [YES],
               b"rule 'b' derives nothing\n  line 2: 'b' is defined\n"
@@ -135,7 +135,7 @@ COMPARED = compared("rules that differ", b's = 1*ALPHA "\\"\n', b't = 1*2ALPHA "
 COMPARED_EXPLAINED = compared("lines of one rule alone explained", b's = "ab"\n', b's = "a" / "b"\n',
                               [b'differ\n< "AB"\n> "A"\n'
                                b'new, letter 2: expected the end of the line\n  AB\n   ^\n'
-                               b'old ends too early: expected "B"\n  A\n   ^\n'], status=1, words=["-x"])
+                               b'old ends too early: expected "B" of "ab" in s\n  A\n   ^\n'], status=1, words=["-x"])
 ALIKE = compared("rules that derive the same lines", b's = "a" s / "b"\n', b's = *"a" "b"\n', [b"same\n"])
 REJECTED = compared("grammars that are rejected", b"s = <any>\n", b"s : x\n", [],
                     b"old: prose in rule 's'\nnew: line 1: syntax error\n", 2)
@@ -148,7 +148,7 @@ LISTED = listed("lines of a rule", b'd = 1*2BIT "x"\nu = d\n', [b"0X\n", b"0x\n"
 ALL_LISTED = listed("all lines of a rule", b's = "a" / %s"bc"\n', [b"A\0", b"a\0", b"bc\0"], words=["-z"])
 DRAWN = listed("lines by lot", b's = %s"bc"\n', [b"bc\n"] * 3, words=["-m", "random", "-c", "3", "-l", "9"])
 MISSED = listed("rejected lines explained", b's = "0"\n', [b"\n", b"!\n", b"0!\n"],
-                b'line 1 ends too early: expected "0"\nline 2, letter 1: expected "0"\n  !\n  ^\n'
+                b'line 1 ends too early: expected "0" in s\nline 2, letter 1: expected "0" in s\n  !\n  ^\n'
                 b'line 3, letter 2: expected the end of the line\n  0!\n   ^\n', words=["-m", "miss", "-x"])
 NONE_LISTED = listed("a rule without lines", b's = "a" s\n', [], status=1)
 UNLISTED = listed("a grammar whose lines are not listed", b's = <any>\n', [], b"prose in rule 's'\n", 2)

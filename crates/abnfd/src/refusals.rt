@@ -2,16 +2,14 @@
 ghost use Rattle.std.specs.Prelude.{◌≡◌, ◌+◌, ◌≤◌, [], IfOk, length};
 ghost use Rattle.abnfd.specs.AloneRefusals.{AreAskedRefusals, AreRefusals, IsRefusalBy, IsRefusalOfAlone};
 ghost use Rattle.abnfread.specs.AbnfViews.{rules_of};
-ghost use Rattle.ruletable.specs.Letters.{has};
-ghost use Rattle.lowering.specs.GivenPrefixes.{GivesPrefixes};
+ghost use Rattle.refusedlines.specs.PrunedGrammars.{IsPrunedOf};
 ghost use Rattle.refusedlines.specs.Refusals.{IsRefusalReported};
 
 use crate::compared::CompareSettings;
 use abnfcheck::SoundAbnf;
 use earley::Chart;
 use lazydfa::Automaton;
-use lowering::lower_viable;
-use refusedlines::{Explainer, LineUnit, RefusedLine, explain_refused};
+use refusedlines::{Explainer, LineUnit, PrunedGrammar, RefusedLine, explain_refused};
 use rulelines::{Alone, Comparison, line_bytes};
 use ruletable::{Alphabet, Memory};
 use std::alloc::Global;
@@ -21,13 +19,13 @@ const FIRST_LINE: &[u8] = b"line 1";
 
 // Explains a rejected line, as the first one of an input. `Memory` if an allocation fails.
 fn explain_first(alloc: Global, explainer: &Explainer<'_>, line: &[u8]) -> Result<Vec<u8>, Memory>
-    requires within { length line.now + 1 ≤ explainer.now.flat.now.limit }
-    requires prefixes { GivesPrefixes (has explainer.now.letters) (rules_of explainer.now.grammar.now.rules)
-        explainer.now.grammar.now.judged explainer.now.flat.now }
+    requires within { length line.now + 1 ≤ explainer.now.pruned.now.flat.limit }
+    requires pruned { IsPrunedOf explainer.now.letters (rules_of explainer.now.grammar.now.rules)
+        explainer.now.grammar.now.judged explainer.now.pruned.now }
     ensures { IfOk result (λ why. IsRefusalReported LineUnit.Line explainer.now.letters
         (rules_of explainer.now.grammar.now.rules) explainer.now.grammar.now.judged line.now 1 why.items) }
 {
-    let mut automaton = Automaton::new(alloc, explainer.flat)?;
+    let mut automaton = Automaton::new(alloc, &explainer.pruned.flat)?;
     let mut chart = Chart::new(alloc);
     let mut why = Vec::new(alloc);
     let refused = RefusedLine {
@@ -56,11 +54,11 @@ fn explain_bytes(
     ensures { IfOk result (λ why. IsRefusalReported LineUnit.Line letters (rules_of grammar.now.rules)
         grammar.now.judged line.now 1 why.items) }
 {
-    let flat = lower_viable(alloc, grammar, letters, line.len() + 1)?;
+    let pruned = PrunedGrammar::new(alloc, grammar, letters, line.len() + 1)?;
     let explainer = Explainer {
         grammar,
         letters,
-        flat: &flat,
+        pruned: &pruned,
         budget: None,
     };
     explain_first(alloc, &explainer, line)

@@ -2,14 +2,11 @@
 -- Serves: abnfg_main (right)
 use Rattle.std.proofs.Common.{◌≡◌, ℕ, zero, suc, ◌<◌, ◌≤◌, List, [], ◌∷◌, ◌++◌, length, refl, sym, ◌∙◌, ap}
 use Rattle.std.proofs.Common.{append_assoc, arith, get_or, Option, None, Some}
-use Rattle.std.proofs.lemmas.List.{get_or_past, length-map}
 use Rattle.abnfg.specs.CoverGoals.{alternative_of, element_or}
-use Rattle.abnfread.specs.AbnfViews.{element_of, elements_of, rule_of, rules_of}
+use Rattle.abnfread.specs.AbnfViews.{element_of, elements_of}
 use Rattle.abnfread.specs.Element.{Alt, Element}
 use Rattle.abnfread.specs.declared.elem.Elem.{Elem}
 use Rattle.coverlines.specs.Goals.{member_at}
-use Rattle.refusedlines.specs.Refusals.{name_at}
-use Rattle.ruletable.specs.Rules as table
 
 -- the alternative of a number
 member_there : (es : List Elem) (i : ℕ) (e : Elem) → i < length es → e ≡ get_or es i e
@@ -32,13 +29,6 @@ pub no_alternative : (es : List Elem) (i : ℕ) → length es ≤ i
     → Alt (elements_of es) ≡ alternative_of (Alt (elements_of es)) i
 no_alternative es i le =
     sym (ap (λ (o : Option Element). element_or o (Alt (elements_of es))) (no_member es i le))
-
--- no rule has that id
-pub no_name : (rules : table.Rules Elem) (id : ℕ) → length rules.rules ≤ id → [] ≡ name_at (rules_of rules) id
-no_name rules id le =
-    let a = length-map (rules_of rules) (λ rule. rule.name) in
-    let b = length-map rules.rules rule_of in
-    sym (get_or_past _ id [] (omega (arith, a, b, le)))
 
 -- texts that are added, one after another
 pub three_pushed : (o a b c u v w : List ℕ) → a ≡ o ++ u → b ≡ a ++ v → c ≡ b ++ w → c ≡ o ++ (u ++ (v ++ w))

@@ -13,8 +13,8 @@ use Rattle.coverlines.specs.declared.way.CoverGoal.{CoverGoal}
 use Rattle.coverlines.specs.declared.cover.CoverLine.{CoverLine}
 use Rattle.coverlines.specs.declared.way.GoalWay.{GoalWay}
 use Rattle.coverlines.specs.declared.way.GoalWay.TheVariants.{Chosen, Taken, LeftOut, Rounds, First, Last, OtherCase}
-use Rattle.refusedlines.specs.Refusals.{name_at}
 use Rattle.refusedlines.specs.RefusedText.{unit_word}
+use Rattle.refusedlines.specs.RuleNames.{name_at}
 use Rattle.refusedlines.specs.declared.refusal.LineUnit.{LineUnit}
 
 -- an element, or another one in its place

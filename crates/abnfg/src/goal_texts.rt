@@ -14,39 +14,14 @@ ghost use Rattle.abnfg.specs.CoverGoals.{
   opening_words,
   rounds_text,
 };
-ghost use Rattle.abnfprint.specs.CanonicalAbnf.{text_of};
 ghost use Rattle.abnfread.specs.AbnfViews.{element_of, rules_of};
-ghost use Rattle.refusedlines.specs.Refusals.{name_at};
 
-use abnfprint::print_elem;
 use abnfread::Elem;
 use coverlines::{CoverGoal, CoverLine, GoalWay};
 use diagnostics::push_number;
-use refusedlines::{LineUnit, unit_word};
-use ruletable::{Memory, RuleTable, SinkOf};
+use refusedlines::{LineUnit, elem_text, rule_name, unit_word};
+use ruletable::{Memory, RuleTable};
 use std::alloc::Global;
-
-// Returns the canonical text of an element. `Memory` if an allocation fails.
-fn elem_text(alloc: Global, e: &Elem) -> Result<Vec<u8>, Memory>
-    ensures { IfOk result (λ text. text.items ≡ text_of (element_of e.now)) }
-{
-    let mut text = SinkOf::new(Vec::new(alloc));
-    match print_elem(e, &mut text) {
-        Ok(()) => Ok(text.into_inner()),
-        Err(_) => Err(Memory),
-    }
-}
-
-// Returns the name of the rule of an id; none if there is no such rule.
-fn rule_name(rules: &RuleTable<Elem>, id: usize) -> &[u8]
-    ensures { result.now ≡ name_at (rules_of rules.now) id }
-{
-    if id < rules.len() {
-        rules.name(id)
-    } else {
-        b""
-    }
-}
 
 // Returns the alternative of that number; the element itself if it has none.
 fn alternative(e: &Elem, i: usize) -> &Elem

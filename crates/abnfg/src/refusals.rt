@@ -3,15 +3,13 @@ ghost use Rattle.std.specs.Prelude.{◌≡◌, ◌+◌, ◌≤◌, IfOk, length}
 ghost use Rattle.std.specs.List.{All};
 ghost use Rattle.abnfg.specs.ListRefusals.{AreRefusalsFrom};
 ghost use Rattle.abnfread.specs.AbnfViews.{rules_of};
-ghost use Rattle.ruletable.specs.Letters.{has};
-ghost use Rattle.lowering.specs.GivenPrefixes.{GivesPrefixes};
+ghost use Rattle.refusedlines.specs.PrunedGrammars.{IsPrunedOf};
 ghost use Rattle.rulelines.specs.MissLists.{item_lines};
 
 use abnfcheck::SoundAbnf;
 use earley::Chart;
 use lazydfa::Automaton;
-use lowering::lower_viable;
-use refusedlines::{Explainer, LineUnit, RefusedLine, explain_refused};
+use refusedlines::{Explainer, LineUnit, PrunedGrammar, RefusedLine, explain_refused};
 use ruletable::{Alphabet, Memory};
 use std::alloc::Global;
 
@@ -26,22 +24,22 @@ fn above_lengths(lines: &[Vec<u8>]) -> usize
     above
 }
 
-// Explains lines or records that a grammar rejects, by the flat grammar of an explainer. They have the numbers from 1
-// on. `Memory` if an allocation fails.
+// Explains lines or records that a grammar rejects, by its productive parts. They have the numbers from 1 on. `Memory`
+// if an allocation fails.
 fn explain_all(
     alloc: Global,
     explainer: &Explainer<'_>,
     unit: LineUnit,
     lines: &[Vec<u8>],
 ) -> Result<Vec<u8>, Memory>
-    requires within { All (λ line. length line.items + 1 ≤ explainer.now.flat.now.limit) lines.now }
-    requires prefixes { GivesPrefixes (has explainer.now.letters) (rules_of explainer.now.grammar.now.rules)
-        explainer.now.grammar.now.judged explainer.now.flat.now }
+    requires within { All (λ line. length line.items + 1 ≤ explainer.now.pruned.now.flat.limit) lines.now }
+    requires pruned { IsPrunedOf explainer.now.letters (rules_of explainer.now.grammar.now.rules)
+        explainer.now.grammar.now.judged explainer.now.pruned.now }
     ensures { IfOk result (λ text. AreRefusalsFrom unit explainer.now.letters
         (rules_of explainer.now.grammar.now.rules) explainer.now.grammar.now.judged 1 (item_lines lines.now)
         text.items) }
 {
-    let mut automaton = Automaton::new(alloc, explainer.flat)?;
+    let mut automaton = Automaton::new(alloc, &explainer.pruned.flat)?;
     let mut chart = Chart::new(alloc);
     let mut text = Vec::new(alloc);
     for (index, line) in lines.iter().enumerate() {
@@ -77,11 +75,11 @@ pub(crate) fn explain_lines(
     if lines.is_empty() {
         return Ok(Vec::new(alloc));
     }
-    let flat = lower_viable(alloc, grammar, letters, above_lengths(lines))?;
+    let pruned = PrunedGrammar::new(alloc, grammar, letters, above_lengths(lines))?;
     let explainer = Explainer {
         grammar,
         letters,
-        flat: &flat,
+        pruned: &pruned,
         budget: None,
     };
     explain_all(alloc, &explainer, unit, lines)

@@ -7,6 +7,8 @@ use Rattle.flatgrammar.specs.Flat.{Flat}
 use Rattle.lowering.specs.Lowered.{IsLowered}
 use Rattle.lowering.specs.GivenPrefixes.{GivesPrefixes}
 use Rattle.abnfrun.specs.JudgedAlike.{AreJudgedAlike}
+use Rattle.refusedlines.specs.PrunedGrammars.{IsPrunedOf}
+use Rattle.refusedlines.specs.declared.pruned.PrunedGrammar.{PrunedGrammar}
 use Rattle.ruletable.specs.Letters.{has}
 use Rattle.ruletable.specs.declared.alphabet.Alphabet.{Alphabet}
 
@@ -26,8 +28,9 @@ pub record IsReadyFor (grammar : Grammar) (letters : Alphabet) (viable : Bool) (
   pub prefixes : viable ≡ true → GivesPrefixes (has letters) (rules_of grammar.rules) grammar.judged flat
   pub alike : IfSome automaton (AreJudgedAlike (has letters) viable flat)
 
--- The flat grammar answers for the viable prefixes of lines of one symbol more than so many. It explains rejected lines
--- of so many.
-pub record ExplainsLines (rules : List Rule) (judged : ℕ) (letters : Alphabet) (limit : ℕ) (more : Flat) : Type 0 where
-  pub longer : more.limit ≡ limit + 1
-  pub prefixes : GivesPrefixes (has letters) rules judged more
+-- The productive parts of the rules, with a flat grammar for lines of one symbol more than so many. They explain
+-- rejected lines of so many.
+pub record ExplainsLines (rules : List Rule) (judged : ℕ) (letters : Alphabet) (limit : ℕ) (pruned : PrunedGrammar)
+    : Type 0 where
+  pub longer : pruned.flat.limit ≡ limit + 1
+  pub parts : IsPrunedOf letters rules judged pruned

@@ -26,7 +26,7 @@ use flatgrammar::{Flat, Verdict};
 use lazydfa::Automaton;
 use linejudge::{Answer, Judge, LineForm, NoAnswer, Printed};
 use lowering::{items_decide, lower, lower_viable, values_are_letters};
-use refusedlines::{Explainer, LineUnit, RefusedLine, explain_refused};
+use refusedlines::{Explainer, LineUnit, PrunedGrammar, RefusedLine, explain_refused};
 use ruletable::{Alphabet, CodePoint, Letter, Memory, decode, utf8_is_decided, utf8_len};
 use std::alloc::Global;
 
@@ -51,9 +51,9 @@ pub struct LineJudge<'a> {
     pub(crate) explains: bool,
     /// What explanations call a line.
     pub(crate) unit: LineUnit,
-    /// The flat grammar for lines of one symbol more, by which rejected lines are explained; `None` if they are not, or
-    /// an allocation failed in making it.
-    pub(crate) explainer: Option<&'a Flat>,
+    /// The productive parts of the grammar, with a flat grammar for lines of one symbol more, by which rejected lines
+    /// are explained; `None` if they are not, or an allocation failed in making them.
+    pub(crate) explainer: Option<&'a PrunedGrammar>,
     ghost lowered: { viable ≡ false → ∥ IsLowered (rules_of grammar.now.rules) grammar.now.judged flat.now ∥₁ },
     ghost prefixes: { viable ≡ true → ∥ GivesPrefixes (has letters) (rules_of grammar.now.rules) grammar.now.judged
         flat.now ∥₁ },
@@ -209,21 +209,21 @@ fn judge_points(judges: &LineJudge<'_>, work: &mut Work, line: &[u8]) -> Result<
     Ok(Answer::No)
 }
 
-/// Returns the lines that explain a rejected line of that number, by the flat grammar for lines of one symbol more. It
-/// frees all memory that it takes but that of an automaton, which serves the next lines. `Memory` if an allocation
-/// fails; then that automaton is freed too.
+/// Returns the lines that explain a rejected line of that number, by the productive parts of the grammar. It frees all
+/// memory that it takes but that of an automaton, which serves the next lines. `Memory` if an allocation fails; then
+/// that automaton is freed too.
 fn explain_line(
     judges: &LineJudge<'_>,
-    more: &Flat,
+    pruned: &PrunedGrammar,
     work: &mut Work,
     line: RefusedLine<'_>,
 ) -> Result<Vec<u8>, Memory>
     requires within { length line.bytes.now ≤ judges.now.flat.now.limit }
     requires explains { ExplainsLines (rules_of judges.now.grammar.now.rules) judges.now.grammar.now.judged
-        judges.now.letters judges.now.flat.now.limit more.now }
-    requires more { IfSome work.old.explainer (λ a. a ≡ more.now) }
+        judges.now.letters judges.now.flat.now.limit pruned.now }
+    requires flat { IfSome work.old.explainer (λ a. a ≡ pruned.now.flat) }
     ensures same { work.new.engines ≡ work.old.engines }
-    ensures more { IfSome work.new.explainer (λ a. a ≡ more.now) }
+    ensures flat { IfSome work.new.explainer (λ a. a ≡ pruned.now.flat) }
     ensures reported { IfOk result (λ why. IsRefusalReported line.entry.unit judges.now.letters
         (rules_of judges.now.grammar.now.rules) judges.now.grammar.now.judged line.entry.bytes.now line.entry.number
         why.items) }
@@ -231,11 +231,11 @@ fn explain_line(
     let explainer = Explainer {
         grammar: judges.grammar,
         letters: judges.letters,
-        flat: more,
+        pruned,
         budget: judges.budget,
     };
     if work.explainer.is_none() {
-        work.explainer = automaton_of(work.alloc, more, judges.budget);
+        work.explainer = automaton_of(work.alloc, &pruned.flat, judges.budget);
     }
     let mut chart = Chart::new(work.alloc);
     let mut why = Vec::new(work.alloc);
@@ -268,8 +268,8 @@ impl Judge<Work> for LineJudge<'_> {
     ghost served = { λ j. j.flat.now.limit };
 
     ghost works_in = { λ j work. IfSome work.engines.automaton (AreJudgedAlike (has j.letters) j.viable j.flat.now)
-        × IfSome j.explainer (λ more. ExplainsLines (rules_of j.grammar.now.rules) j.grammar.now.judged j.letters
-        j.flat.now.limit more.now × IfSome work.explainer (λ a. a ≡ more.now)) };
+        × IfSome j.explainer (λ pruned. ExplainsLines (rules_of j.grammar.now.rules) j.grammar.now.judged j.letters
+        j.flat.now.limit pruned.now × IfSome work.explainer (λ a. a ≡ pruned.now.flat)) };
 
     fn judge(&self, work: &mut Work, line: &[u8]) -> Result<Answer, NoAnswer> {
         match self.letters {
@@ -287,13 +287,13 @@ impl Judge<Work> for LineJudge<'_> {
 
     fn explain(&self, work: &mut Work, line: &[u8], number: usize) -> Result<Vec<u8>, Memory> {
         match self.explainer {
-            Some(more) => {
+            Some(pruned) => {
                 let refused = RefusedLine {
                     unit: self.unit,
                     bytes: line,
                     number,
                 };
-                explain_line(self, more, work, refused)
+                explain_line(self, pruned, work, refused)
             }
             None => Err(Memory),
         }
@@ -340,13 +340,13 @@ pub(crate) fn lowered(
     lower(alloc, grammar, judged_limit(settings))
 }
 
-/// Lowers a grammar for lines of one symbol more than settings allow, by which rejected lines are explained. `None` if
-/// settings do not ask for that, or an allocation fails.
+/// Returns the productive parts of a grammar, lowered for lines of one symbol more than settings allow, by which
+/// rejected lines are explained. `None` if settings do not ask for that, or an allocation fails.
 pub(crate) fn explainer_of(
     alloc: Global,
     grammar: &SoundAbnf,
     settings: &AbnfSettings<'_>,
-) -> Option<Flat>
+) -> Option<PrunedGrammar>
     ensures { IfSome result (ExplainsLines (rules_of grammar.now.rules) grammar.now.judged
         settings.now.options.letters (judged_size settings.now settings.now.limit)) }
 {
@@ -354,7 +354,7 @@ pub(crate) fn explainer_of(
         return None;
     }
     let limit = judged_limit(settings) + 1;
-    lower_viable(alloc, grammar, settings.options.letters, limit).ok()
+    PrunedGrammar::new(alloc, grammar, settings.options.letters, limit).ok()
 }
 
 /// Returns an automaton of a flat grammar; `None` if it has none, or an allocation fails. With a budget it keeps at

@@ -2,15 +2,16 @@
 -- Serves: find_following
 use Rattle.std.proofs.Common.{◌≡◌, ◌↔◌, ℕ, zero, suc, ◌+◌, ◌<◌, ◌≤◌, Bool, true, List, [], ◌∷◌, ◌++◌}
 use Rattle.std.proofs.Common.{Option, Some, None, length, take, slice_get, refl, sym, ◌∙◌, ap, subst, arith}
-use Rattle.std.proofs.Common.{append-nil, length-append}
+use Rattle.std.proofs.Common.{append-nil, length-append, map}
 use Rattle.std.proofs.Common.{IsTrue}
-use Rattle.std.proofs.lemmas.List.{length-take-le, take_all}
+use Rattle.std.proofs.lemmas.List.{length-take-le, take-map, take_all}
 use Rattle.std.proofs.Math.Seq.{take-length}
 use Rattle.abnfread.specs.Element.{Rule}
 use Rattle.abnfcheck.specs.Prefixes.{BeginsMember, IsFurthest}
 use Rattle.abnfcheck.specs.Derivable.{AreLetters, RuleDerives}
 use Rattle.flatgrammar.proofs.CallOfLemmas.{some_same}
 use Rattle.flatgrammar.proofs.PositionsLemmas.{holds_origin}
+use Rattle.flatgrammar.specs.CalledParts.{AreAwaited}
 use Rattle.flatgrammar.specs.Flat.{Flat, Dot, at, Set, Has, Node, Reads, reads, letter, Letters, Concat, Alt, Rep}
 use Rattle.flatgrammar.specs.Flat.{Iterations, Opt, Name, Nothing}
 use Rattle.flatgrammar.specs.FlatVerdicts.{IsLastSet}
@@ -253,7 +254,7 @@ last_is_furthest has rules id flat prefixes x n short letters last = record {
       last.last m past most ((prefixes.viable x m short letters (omega (arith, past)) most).1 begins);
 }
 
-letters_front : (has : ℕ → Bool) (n : ℕ) (x : List ℕ) → AreLetters has x → AreLetters has (take n x)
+pub letters_front : (has : ℕ → Bool) (n : ℕ) (x : List ℕ) → AreLetters has x → AreLetters has (take n x)
 letters_front has zero x all = tt
 letters_front has (suc n) [] all = tt
 letters_front has (suc n) (a ∷ x) all = (all.0, letters_front has n x all.1)
@@ -275,3 +276,11 @@ following_of_set has rules id flat prefixes x n short letters within dots are ru
       λ yes. same_held flat x (take n x) n (agree_front x n) (end.0 yes) (omega arith),
       λ held. end.1 (same_held flat (take n x) x n (λ k lt. sym (agree_front x n k lt)) held (omega arith)),
     )))
+
+-- what is awaited after a prefix
+pub awaited_after : {A : Type 0} (number : A → ℕ) (line : List A) (n : ℕ) (flat : Flat) (dots : List DottedRule)
+    → n ≤ length line → AreAwaited flat (map number (take n line)) (length (take n line)) dots
+    → AreAwaited flat (take n (map number line)) n dots
+awaited_after number line n flat dots within are =
+    subst (λ (v : List ℕ). AreAwaited flat v n dots) (sym (take-map number n line))
+    (subst (λ (v : ℕ). AreAwaited flat (map number (take n line)) v dots) (length-take-le n line within) are)

@@ -5,3 +5,10 @@ pub mod OneRefusalLemmas
 pub mod LetterRunLemmas
 pub mod ReportedTextLemmas
 pub mod SymbolPiecesLemmas
+pub mod PartTextsLemmas
+pub mod PartLinesLemmas
+pub mod RefusedPartsLemmas
+pub mod SoughtPartsLemmas
+pub mod FoundPartsLemmas
+pub mod PartSitesLemmas
+pub mod ReportedPartsLemmas

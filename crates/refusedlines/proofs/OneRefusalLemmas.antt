@@ -16,7 +16,11 @@ use Rattle.refusedlines.specs.declared.letterruns.run.LetterRun.{LetterRun}
 use Rattle.refusedlines.specs.Following.{AreFollowing, DerivesNothing}
 use Rattle.refusedlines.specs.RefusedText.{column_after, refused_at, unit_text}
 use Rattle.refusedlines.specs.declared.refusal.LineUnit.{LineUnit}
-use Rattle.refusedlines.specs.Refusals.{AreFirstLetters, IsRefusalReported, name_at, octet_count}
+use Rattle.refusedlines.specs.PartTexts.{AreTextsAfter}
+use Rattle.refusedlines.specs.Refusals.{AreFirstLetters, IsRefusalReported, octet_count}
+use Rattle.refusedlines.specs.RuleNames.{name_at}
+use Rattle.refusedlines.proofs.PartTextsLemmas.{after_one}
+use Rattle.lowering.specs.Pruned.{ArePruned}
 
 longest_one : (line : List ℕ) (a b : ℕ) → IsLongestText line a → IsLongestText line b → a ≡ b
 longest_one line a b f g = by (cases_lt a b) (cases_lt b a)
@@ -31,7 +35,9 @@ module _ (one_spelled : (line points others : List ℕ) → Spells points line �
     → IsFurthest has rules id x b → a ≡ b)
     (one_following : (has : ℕ → Bool) (rules : List Rule) (id : ℕ) (x : List ℕ) (n : ℕ) (runs others : List LetterRun)
     (ends end : Bool) → AreFollowing has rules id x n runs ends → AreFollowing has rules id x n others end
-    → (runs ≡ others) × (ends ≡ end)) where
+    → (runs ≡ others) × (ends ≡ end))
+    (one_pruned : (has : ℕ → Bool) (rules left other : List Rule) → ArePruned has rules left → ArePruned has rules other
+    → left ≡ other) where
   letters_one : (alphabet : Alphabet) (line x y : List ℕ) (s t : ℕ) → AreFirstLetters alphabet line x s
       → AreFirstLetters alphabet line y t → (x ≡ y) × (s ≡ t)
   letters_one Bytes line x y s t h g = (h.0 ∙ sym g.0, h.1 ∙ sym g.1)
@@ -51,9 +57,16 @@ module _ (one_spelled : (line points others : List ℕ) → Spells points line �
       let moved = subst (λ v. AreFollowing (has alphabet) rules judged q.first v p.runs p.ends) n
       (subst (λ v. AreFollowing (has alphabet) rules judged v p.after p.runs p.ends) x p.following) in
       let f = one_following (has alphabet) rules judged q.first q.after p.runs q.runs p.ends q.ends moved q.following in
+      let left = one_pruned (has alphabet) rules p.left q.left p.pruned q.pruned in
+      let front : take p.after p.first ≡ take q.after q.first = λ i. take (n i) (x i) in
+      let texts = subst (λ v. AreTextsAfter alphabet q.left judged v q.after p.parts) front
+      (subst (λ v. AreTextsAfter alphabet q.left judged (take p.after p.first) v p.parts) n
+      (subst (λ v. AreTextsAfter alphabet v judged (take p.after p.first) p.after p.parts) left p.texts)) in
+      let parts = after_one alphabet q.left judged (take q.after q.first) q.after p.parts q.parts texts q.texts in
       p.is
       ∙ (λ i. unit_text unit alphabet (name_at rules judged) number line (refused_at (n i) (length (x i)) (nat_lt (s i)
-      (length line))) (octet_count alphabet (take (n i) (x i))) (column_after (take (n i) (x i))) (f.0 i) (f.1 i))
+      (length line))) (octet_count alphabet (take (n i) (x i))) (column_after (take (n i) (x i))) (f.0 i) (f.1 i)
+      (parts i))
       ∙ sym q.is
 
 module _ (has : ℕ → Bool) (rules : List Rule) (id : ℕ) (x : List ℕ) (n : ℕ) (furthest : IsFurthest has rules id x n)

@@ -1,10 +1,10 @@
 -- The texts that explain rejected lines.
 -- Serves: explain_refused
 use Rattle.std.proofs.Common.{◌≡◌, ℕ, zero, suc, ◌+◌, ◌<◌, ◌≤◌, nat_lt, Bool, false, List, [], ◌∷◌, ◌++◌, map}
-use Rattle.std.proofs.Common.{Some, length, take, get_or, slice_get, slice_index_or, refl, sym, ◌∙◌, ap, subst, arith}
-use Rattle.std.proofs.Common.{append_assoc, codes, decimal, drop, length-append, ◌-◌, ◌==◌}
+use Rattle.std.proofs.Common.{Option, Some, length, take, get_or, slice_get, slice_index_or, refl, sym, ◌∙◌, ap, subst}
+use Rattle.std.proofs.Common.{append_assoc, arith, codes, decimal, drop, length-append, ◌-◌, ◌==◌}
 use Rattle.std.proofs.lemmas.Bool.{le-ltb, lt-ltb}
-use Rattle.std.proofs.lemmas.List.{length-map, length-take-le, map-append, take-map, take_more}
+use Rattle.std.proofs.lemmas.List.{get_or_past, length-map, length-take-le, map-append, take-map, take_more}
 use Rattle.std.proofs.lemmas.Option.{get_or_from_slice_get}
 use Rattle.std.specs.List.{position_or_len}
 use Prim.Native.Char.{code}
@@ -20,27 +20,35 @@ use Rattle.ruletable.specs.declared.point.CodePoint.{CodePoint}
 use Rattle.refusedlines.specs.declared.letterruns.run.LetterRun.{LetterRun}
 use Rattle.ruletable.specs.Rules as table
 use Rattle.refusedlines.specs.Following.{AreFollowing}
-use Rattle.refusedlines.specs.RefusedText.{at_record, at_text, column_after, expected_text, line_in_record}
-use Rattle.refusedlines.specs.RefusedText.{line_picture}
-use Rattle.refusedlines.specs.RefusedText.{record_end, record_expected, refused_at, reported_expected, unit_text}
+use Rattle.refusedlines.specs.RefusedText.{column_after, line_in_record, only_part, part_lines, refused_at}
+use Rattle.refusedlines.specs.RefusedText.{symbols_text, expected_rest, unit_text}
 use Rattle.ruletable.specs.declared.lines.LineRule.TheVariants.{Lf}
 use Rattle.diagnostics.specs.LinesAround.{bytes_before}
 use Rattle.refusedlines.specs.declared.refusal.LineUnit.{LineUnit}
-use Rattle.refusedlines.specs.Refusals.{IsExplained, name_at, octet_count, octets}
+use Rattle.refusedlines.specs.PartTexts.{AreTextsAfter}
+use Rattle.refusedlines.specs.Refusals.{IsExplained, octet_count, octets}
+use Rattle.refusedlines.specs.RuleNames.{name_at}
+use Rattle.lowering.specs.Pruned.{ArePruned}
 use Rattle.refusedlines.specs.declared.refusal.RefusedAt.{RefusedAt}
 
--- the lines, put one after another
-pub lines_pushed : (alphabet : Alphabet) (number : ℕ) (line : List ℕ) (at : RefusedAt) (position : ℕ)
-    (shown runs : List LetterRun) (ends : Bool) (old a b c new : List ℕ) → shown ≡ runs → a ≡ old ++ at_text number at
-    → b ≡ a ++ expected_text alphabet shown ends → c ≡ b ++ codes "\n" → new ≡ c ++ line_picture line position
-    → new ≡ old ++ reported_expected alphabet number line at position runs ends
-lines_pushed alphabet number line at position shown runs ends old a b c new same e f g h =
-    let x = at_text number at in
-    let y = expected_text alphabet runs ends in
-    let z = codes "\n" in
-    let w = line_picture line position in
-    let expected : b ≡ a ++ y = f ∙ ap (λ v. a ++ expected_text alphabet v ends) same in
-    h ∙ ap (λ v. v ++ w) (g ∙ ap (λ v. v ++ z) (expected ∙ ap (λ v. v ++ y) e))
+-- where a line is rejected, what is expected there, a picture, and the parts, put one after another
+pub expected_pushed : (alphabet : Alphabet) (shown runs : List LetterRun) (parts : List (List ℕ)) (symbols : List ℕ)
+    (only : Option (List ℕ)) (words ended at_words pictured old a b c new : List ℕ) → shown ≡ runs
+    → symbols ≡ symbols_text alphabet shown → only ≡ only_part symbols parts → words ≡ ended → a ≡ old ++ at_words
+    → b ≡ a ++ expected_rest symbols only words → c ≡ b ++ pictured → new ≡ c ++ part_lines only parts
+    → new ≡ old ++ (at_words ++ (expected_rest (symbols_text alphabet runs)
+    (only_part (symbols_text alphabet runs) parts) ended
+    ++ (pictured ++ part_lines (only_part (symbols_text alphabet runs) parts) parts)))
+expected_pushed alphabet shown runs parts symbols only words ended x z old a b c new same is one said e f g h =
+    let text : symbols ≡ symbols_text alphabet runs =
+    is ∙ ap (λ (v : List LetterRun). symbols_text alphabet v) same in
+    let part : only ≡ only_part (symbols_text alphabet runs) parts =
+    one ∙ ap (λ (v : List ℕ). only_part v parts) text in
+    let y = expected_rest (symbols_text alphabet runs) (only_part (symbols_text alphabet runs) parts) ended in
+    let w = part_lines (only_part (symbols_text alphabet runs) parts) parts in
+    let expected : b ≡ a ++ y = f ∙ (λ i. a ++ expected_rest (text i) (part i) (said i)) in
+    let listed : new ≡ c ++ w = h ∙ ap (λ (v : Option (List ℕ)). c ++ part_lines v parts) part in
+    listed ∙ ap (λ v. v ++ w) (g ∙ ap (λ v. v ++ z) (expected ∙ ap (λ v. v ++ y) e))
     ∙ append_assoc ((old ++ x) ++ y) z w ∙ append_assoc (old ++ x) y (z ++ w) ∙ append_assoc old x (y ++ (z ++ w))
 
 pub at_pushed : (old a b c : List ℕ) (line n : ℕ) (reported : List ℕ) → a ≡ old ++ codes "line " → b ≡ a ++ decimal line
@@ -69,23 +77,6 @@ line_shown bytes position before after e f within =
     ap (λ (n : ℕ). take n (drop (position - before) bytes)) size
     ∙ (λ i. take (e i + f i) (drop (position - e i) bytes))
 
--- the lines on a record, put one after another
-pub record_pushed : (alphabet : Alphabet) (number : ℕ) (line : List ℕ) (at : RefusedAt) (position column : ℕ)
-    (shown runs : List LetterRun) (ends : Bool) (old a b c d new words : List ℕ) → shown ≡ runs
-    → words ≡ record_end shown ends → a ≡ old ++ at_record number (take position line) column at
-    → b ≡ a ++ expected_text alphabet shown false → c ≡ b ++ words → d ≡ c ++ codes "\n"
-    → new ≡ d ++ line_picture (line_in_record line position) (bytes_before Lf (take position line))
-    → new ≡ old ++ record_expected alphabet number line at position column runs ends
-record_pushed alphabet number line at position column shown runs ends old a b c d new words same said e f g h i =
-    let x = at_record number (take position line) column at in
-    let y = expected_text alphabet runs false in
-    let z = record_end runs ends in
-    let w = codes "\n" in
-    let v = line_picture (line_in_record line position) (bytes_before Lf (take position line)) in
-    let expected : b ≡ a ++ y = f ∙ ap (λ u. a ++ expected_text alphabet u false) same in
-    let ended : c ≡ b ++ z = g ∙ ap (λ u. b ++ u) (said ∙ ap (λ (u : List LetterRun). record_end u ends) same) in
-    five_pushed old x y z w v a b c d new e expected ended h i
-
 -- the names of rules
 names_same : (rs : List (table.Rule Elem)) → map (λ rule. rule.name) (map rule_of rs) ≡ map (λ rule. rule.name) rs
 names_same [] = refl
@@ -96,6 +87,13 @@ pub name_found : (rules : table.Rules Elem) (id : ℕ) (name : List ℕ) → sli
 name_found rules id name is =
     sym (ap (λ v. slice_index_or v id []) (names_same rules.rules)
     ∙ get_or_from_slice_get (table.names_of rules) id name [] is)
+
+-- no rule has that id
+pub no_name : (rules : table.Rules Elem) (id : ℕ) → length rules.rules ≤ id → [] ≡ name_at (rules_of rules) id
+no_name rules id le =
+    let a = length-map (rules_of rules) (λ rule. rule.name) in
+    let b = length-map rules.rules rule_of in
+    sym (get_or_past _ id [] (omega (arith, a, b, le)))
 
 -- how many bytes letters take
 octets_push : (alphabet : Alphabet) (xs : List ℕ) (c : ℕ)
@@ -152,17 +150,19 @@ octets_at_least (x ∷ xs) = let rest = octets_at_least xs in let some = octets_
 
 module _ (unit : LineUnit) (rules : List Rule) (judged : ℕ) (line : List ℕ) (number_of : ℕ) (runs : List LetterRun)
     (ends : Bool) (name : List ℕ) (at : RefusedAt) (position column : ℕ) (old new : List ℕ)
-    (named : name ≡ name_at rules judged) where
-  pub reported_bytes : new ≡ old ++ unit_text unit Bytes name number_of line at position column runs ends
+    (named : name ≡ name_at rules judged) (left : List Rule) (parts : List (List ℕ)) where
+  pub reported_bytes : new ≡ old ++ unit_text unit Bytes name number_of line at position column runs ends parts
       → IsFurthest (has Bytes) rules judged line position
-      → AreFollowing (has Bytes) rules judged line position runs ends → at ≡ refused_at position (length line) false
+      → AreFollowing (has Bytes) rules judged line position runs ends → ArePruned (has Bytes) rules left
+      → AreTextsAfter Bytes left judged (take position line) position parts
+      → at ≡ refused_at position (length line) false
       → column ≡ column_after (take position line) → IsExplained unit Bytes rules judged line number_of old new
-  reported_bytes put furthest following where_at columned =
+  reported_bytes put furthest following pruned texts where_at columned =
       let torn : nat_lt (length line) (length line) ≡ false = le-ltb (length line) (length line) (omega arith) in
       let within = furthest.within in
       let count : octet_count Bytes (take position line) ≡ position =
       bytes_count (take position line) ∙ length-take-le position line within in (
-        unit_text unit Bytes name number_of line at position column runs ends,
+        unit_text unit Bytes name number_of line at position column runs ends parts,
         put,
         record {
           first = line;
@@ -173,19 +173,24 @@ module _ (unit : LineUnit) (rules : List Rule) (judged : ℕ) (line : List ℕ) 
           runs = runs;
           ends = ends;
           following = following;
+          left = left;
+          pruned = pruned;
+          parts = parts;
+          texts = texts;
           is = rw (named, where_at, columned, torn, count) refl;
         },
       )
 
-  pub reported_points : new ≡ old ++ unit_text unit Utf8 name number_of line at position column runs ends
+  pub reported_points : new ≡ old ++ unit_text unit Utf8 name number_of line at position column runs ends parts
       → (points : List ℕ) (size after : ℕ) → IsLongestText line size → Spells points (take size line)
       → IsFurthest (has Utf8) rules judged points after
-      → AreFollowing (has Utf8) rules judged points after runs ends
+      → AreFollowing (has Utf8) rules judged points after runs ends → ArePruned (has Utf8) rules left
+      → AreTextsAfter Utf8 left judged (take after points) after parts
       → at ≡ refused_at after (length points) (nat_lt size (length line))
       → position ≡ octet_count Utf8 (take after points) → column ≡ column_after (take after points)
       → IsExplained unit Utf8 rules judged line number_of old new
-  reported_points put points size after longest spelled furthest following where_at count columned = (
-    unit_text unit Utf8 name number_of line at position column runs ends,
+  reported_points put points size after longest spelled furthest following pruned texts where_at count columned = (
+    unit_text unit Utf8 name number_of line at position column runs ends parts,
     put,
     record {
       first = points;
@@ -196,6 +201,10 @@ module _ (unit : LineUnit) (rules : List Rule) (judged : ℕ) (line : List ℕ) 
       runs = runs;
       ends = ends;
       following = following;
+      left = left;
+      pruned = pruned;
+      parts = parts;
+      texts = texts;
       is = rw (named, where_at, columned, count) refl;
     },
   )

@@ -1,8 +1,14 @@
 pub mod CoreSymbols
 pub mod Following
 pub mod ReadLetters
+pub mod PartTexts
+pub mod PrunedGrammars
+pub mod RefusedParts
 pub mod RefusedText
 pub mod Refusals
+pub mod RuleNames
+pub mod ShownParts
 pub mod LetterRuns
 pub mod SymbolPieces
 pub mod ReportedLetters
+pub mod SoughtParts

@@ -1,14 +1,17 @@
 -- The lines that explain a rejected line.
 use Prim.Native.Char.{code}
 use Rattle.std.specs.Prelude.{ℕ, ◌+◌, nat_lt, Bool, true, false, if◌then◌else◌, List, [], ◌∷◌, ◌++◌, codes, decimal}
-use Rattle.std.specs.Prelude.{zero, suc, map, take, drop, length, not, ◌-◌, ◌==◌}
-use Rattle.std.specs.List.{flat_map, position_or_len, suffix_len}
+use Rattle.std.specs.Prelude.{zero, suc, map, take, drop, length, not, ◌-◌, ◌==◌, ◌&&◌, ◌||◌, bytes_eq}
+use Rattle.std.specs.Prelude.{Option, Some, None}
+use Rattle.std.specs.List.{flat_map, position_or_len, starts_with, suffix_len}
 use Rattle.ruletable.specs.declared.alphabet.Alphabet.{Alphabet}
 use Rattle.refusedlines.specs.SymbolPieces.{pieces}
 use Rattle.refusedlines.specs.ReportedLetters.{reported_text}
 use Rattle.refusedlines.specs.declared.letterruns.reported.ReportedLetters.{ReportedLetters}
 use Rattle.refusedlines.specs.declared.letterruns.run.LetterRun.{LetterRun}
+use Rattle.diagnostics.specs.FirstBytes.{fact_line}
 use Rattle.diagnostics.specs.LinesAround.{bytes_before}
+use Rattle.diagnostics.specs.NoteLines.{more_reported}
 use Rattle.diagnostics.specs.Pictures.{picture}
 use Rattle.diagnostics.specs.ShownBytes.{cut}
 use Rattle.refusedlines.specs.declared.refusal.LineUnit.{LineUnit}
@@ -36,15 +39,46 @@ more_text (suc n) = codes " and " ++ (decimal (suc n) ++ codes " more")
 abbrev pub pieces_text : List ReportedLetters → List ℕ
 pieces_text all = slashed (map reported_text (take shown_pieces all)) ++ more_text (length all - shown_pieces)
 
+-- the text of the symbols that can follow
+abbrev pub symbols_text : Alphabet → List LetterRun → List ℕ
+symbols_text alphabet runs = pieces_text (pieces alphabet runs)
+
+-- a text begins with another
+abbrev pub has_front : List ℕ → List ℕ → Bool
+has_front text front = starts_with (λ a b. a == b) text front
+
+-- the text of a part restates that of the symbols: it begins with that, and with ` in ` or ` of ` after it
+abbrev pub restates : List ℕ → List ℕ → Bool
+restates symbols part = bytes_eq (take (length symbols) part) symbols
+    && (has_front (drop (length symbols) part) (codes " in ")
+    || has_front (drop (length symbols) part) (codes " of "))
+
+-- of the texts of the parts the only one, if it restates that of the symbols
+abbrev pub only_part : List ℕ → List (List ℕ) → Option (List ℕ)
+only_part symbols [] = None
+only_part symbols (part ∷ []) = if restates symbols part then Some part else None
+only_part symbols (part ∷ other ∷ parts) = None
+
+-- it is reported in place of the symbols
+abbrev pub expected_by : List ℕ → Option (List ℕ) → List ℕ
+expected_by symbols None = symbols
+expected_by symbols (Some part) = part
+
+-- what is expected: the symbols, or that part, and then the words for the end
+abbrev pub expected_rest : List ℕ → Option (List ℕ) → List ℕ → List ℕ
+expected_rest symbols only ended = expected_by symbols only ++ (ended ++ codes "\n")
+
+-- The parts, if none is reported in place of the symbols: a line of each of the first ones, and how many more there
+-- are.
+abbrev pub part_lines : Option (List ℕ) → List (List ℕ) → List ℕ
+part_lines None parts = flat_map fact_line (take 16 parts) ++ more_reported (length parts - 16)
+part_lines (Some part) parts = []
+
 -- that a line may end, after the symbols that can follow
 abbrev pub end_text : List LetterRun → Bool → List ℕ
 end_text runs false = []
 end_text [] true = codes "the end of the line"
 end_text (run ∷ runs) true = codes " or the end of the line"
-
--- what can follow: symbols, or the end
-abbrev pub expected_text : Alphabet → List LetterRun → Bool → List ℕ
-expected_text alphabet runs ends = pieces_text (pieces alphabet runs) ++ end_text runs ends
 
 -- Where a line is rejected: at the symbol after its longest viable prefix; if that has all its symbols, at bytes that
 -- are not UTF-8, or at its end. Symbols count from 1.
@@ -89,10 +123,13 @@ abbrev pub line_picture : List ℕ → ℕ → List ℕ
 line_picture [] position = []
 line_picture (b ∷ line) position = picture (b ∷ line) position
 
--- what is expected at a position of a line of bytes, and a picture of the position
-abbrev pub reported_expected : Alphabet → ℕ → List ℕ → RefusedAt → ℕ → List LetterRun → Bool → List ℕ
-reported_expected alphabet number line at position runs ends = at_text number at ++ (expected_text alphabet runs ends
-    ++ (codes "\n" ++ line_picture line position))
+-- what is expected at a position of a line of bytes: symbols, or the end; a picture of the position; and the parts
+abbrev pub reported_expected : Alphabet → ℕ → List ℕ → RefusedAt → ℕ → List LetterRun → Bool → List (List ℕ) → List ℕ
+reported_expected alphabet number line at position runs ends parts =
+    let symbols = symbols_text alphabet runs in
+    let only = only_part symbols parts in
+    at_text number at ++ (expected_rest symbols only (end_text runs ends) ++ (line_picture line position
+    ++ part_lines only parts))
 
 -- that a record may end, after the symbols that can follow
 abbrev pub record_end : List LetterRun → Bool → List ℕ
@@ -100,11 +137,13 @@ record_end runs false = []
 record_end [] true = codes "the end of the record"
 record_end (run ∷ runs) true = codes " or the end of the record"
 
--- what is expected at a position of a record, and a picture of the position
-abbrev pub record_expected : Alphabet → ℕ → List ℕ → RefusedAt → ℕ → ℕ → List LetterRun → Bool → List ℕ
-record_expected alphabet number line at position column runs ends =
-    at_record number (take position line) column at ++ (expected_text alphabet runs false ++ (record_end runs ends
-    ++ (codes "\n" ++ line_picture (line_in_record line position) (bytes_before Lf (take position line)))))
+-- .. at a position of a record
+abbrev pub record_expected : Alphabet → ℕ → List ℕ → RefusedAt → ℕ → ℕ → List LetterRun → Bool → List (List ℕ) → List ℕ
+record_expected alphabet number line at position column runs ends parts =
+    let symbols = symbols_text alphabet runs in
+    let only = only_part symbols parts in
+    at_record number (take position line) column at ++ (expected_rest symbols only (record_end runs ends)
+    ++ (line_picture (line_in_record line position) (bytes_before Lf (take position line)) ++ part_lines only parts))
 
 -- what is rejected
 abbrev pub unit_word : LineUnit → List ℕ
@@ -117,14 +156,16 @@ none_of unit number name = unit_word unit ++ (decimal number ++ (codes ": rule '
     ++ codes "' derives nothing\n")))
 
 -- what is expected, in a line or a record
-abbrev pub expected_of : LineUnit → Alphabet → ℕ → List ℕ → RefusedAt → ℕ → ℕ → List LetterRun → Bool → List ℕ
-expected_of Line alphabet number line at position column runs ends =
-    reported_expected alphabet number line at position runs ends
-expected_of Record alphabet number line at position column runs ends =
-    record_expected alphabet number line at position column runs ends
+abbrev pub expected_of : LineUnit → Alphabet → ℕ → List ℕ → RefusedAt → ℕ → ℕ → List LetterRun → Bool
+    → List (List ℕ) → List ℕ
+expected_of Line alphabet number line at position column runs ends parts =
+    reported_expected alphabet number line at position runs ends parts
+expected_of Record alphabet number line at position column runs ends parts =
+    record_expected alphabet number line at position column runs ends parts
 
--- what explains a rejected line or record
-abbrev pub unit_text : LineUnit → Alphabet → List ℕ → ℕ → List ℕ → RefusedAt → ℕ → ℕ → List LetterRun → Bool → List ℕ
-unit_text unit alphabet name number line at position column runs ends =
+-- what explains a rejected line or record, where the parts that can come next have these texts
+abbrev pub unit_text : LineUnit → Alphabet → List ℕ → ℕ → List ℕ → RefusedAt → ℕ → ℕ → List LetterRun → Bool
+    → List (List ℕ) → List ℕ
+unit_text unit alphabet name number line at position column runs ends parts =
     if is_none runs ends then none_of unit number name
-    else expected_of unit alphabet number line at position column runs ends
+    else expected_of unit alphabet number line at position column runs ends parts

@@ -1,11 +1,15 @@
 //! The explanations of rejected lines.
 ghost use Rattle.std.specs.Prelude.{◌≡◌, ◌+◌, ◌<◌, ◌≤◌, ◌^◌, ℕ, Bool, false, List, [], length, map, take, IfOk, IfSome};
+ghost use Rattle.abnfcheck.specs.Derivable.{AreLetters};
 ghost use Rattle.abnfcheck.specs.Prefixes.{IsFurthest};
 ghost use Rattle.abnfread.specs.Element.{Rule};
 ghost use Rattle.ruletable.specs.declared.alphabet.Alphabet.{Alphabet as the_alphabet};
 ghost use Rattle.refusedlines.specs.Following.{AreFollowing, DerivesNothing};
 ghost use Rattle.abnfread.specs.AbnfViews.{rules_of};
-ghost use Rattle.lowering.specs.GivenPrefixes.{GivesPrefixes};
+ghost use Rattle.flatgrammar.specs.CalledParts.{AreAwaited};
+ghost use Rattle.refusedlines.specs.PartTexts.{AreTextsAfter};
+ghost use Rattle.refusedlines.specs.PrunedGrammars.{IsPrunedOf};
+ghost use Rattle.ruletable.specs.Rules.{names_of};
 ghost use Rattle.ruletable.specs.Letters.{has};
 ghost use Rattle.ruletable.specs.Utf8Text.{IsLongestText, Spells, numbers};
 ghost use Rattle.refusedlines.specs.RefusedText.{column_after as the_column};
@@ -13,17 +17,20 @@ ghost use Rattle.refusedlines.specs.declared.refusal.LineUnit.{LineUnit as the_u
 ghost use Rattle.refusedlines.specs.Refusals.{
   IsExplained,
   IsRefusalReported,
-  name_at,
   octet_count,
   octets as the_octets,
 };
 
 use crate::following::{find_following, following_is_one};
+use crate::part_texts::{TextSet, part_texts, rule_name};
+use crate::parts::awaited_parts;
+use crate::pruned::PrunedGrammar;
 use crate::refusal::{Refusal, RefusedLine, push_refusal, refused_at};
 use abnfcheck::{SoundAbnf, furthest_is_found};
 use earley::Chart;
-use flatgrammar::Flat;
+use flatgrammar::DottedRule;
 use lazydfa::Automaton;
+use lowering::{items_decide, values_are_letters};
 use ruletable::{Alphabet, CodePoint, Letter, Memory, decode, utf8_is_decided, utf8_len};
 use std::alloc::Global;
 
@@ -34,8 +41,8 @@ pub struct Explainer<'a> {
     pub grammar: &'a SoundAbnf,
     /// The alphabet of lines.
     pub letters: Alphabet,
-    /// The flat grammar that `lower_viable` gives for that alphabet.
-    pub flat: &'a Flat,
+    /// The productive parts of the grammar over that alphabet.
+    pub pruned: &'a PrunedGrammar,
     /// How many items the sets of a line may have where they are needed; any number if it is `None`.
     pub budget: Option<usize>,
 }
@@ -106,12 +113,23 @@ fn column_after<L: Letter>(symbols: &[L]) -> usize
     column
 }
 
-// Returns the name of the judged rule.
-fn judged_name(grammar: &SoundAbnf) -> &[u8]
-    ensures { result.now ≡ name_at (rules_of grammar.now.rules) grammar.now.judged }
+// Returns the texts of the parts that can come next after so many symbols of a line, where these dotted rules are
+// awaited.
+fn texts_of(
+    alloc: Global,
+    explainer: &Explainer<'_>,
+    awaited: &[DottedRule],
+) -> Result<TextSet, Memory>
+    requires { IsPrunedOf explainer.now.letters (rules_of explainer.now.grammar.now.rules)
+        explainer.now.grammar.now.judged explainer.now.pruned.now }
+    ensures { IfOk result (λ texts. (x : List ℕ) (n : ℕ) → length x ≤ explainer.now.pruned.now.flat.limit
+        → AreLetters (has explainer.now.letters) x → AreAwaited explainer.now.pruned.now.flat x n awaited.now
+        → AreTextsAfter explainer.now.letters (rules_of explainer.now.pruned.now.rules)
+        explainer.now.grammar.now.judged x n (names_of texts)) }
 {
-    let id = grammar.judged();
-    grammar.rules().name(id)
+    let pruned = explainer.pruned;
+    let parts = awaited_parts(alloc, &pruned.rules, &pruned.flat, &pruned.more, awaited)?;
+    part_texts(alloc, explainer.letters, &pruned.rules, &parts)
 }
 
 // Explains a rejected line of bytes.
@@ -123,23 +141,27 @@ fn explain_bytes(
     line: RefusedLine<'_>,
     out: &mut Vec<u8>,
 ) -> Result<(), Memory>
-    requires within { length line.bytes.now + 1 ≤ explainer.now.flat.now.limit }
-    requires flat { IfSome automaton.old (λ a. a ≡ explainer.now.flat.now) }
-    requires prefixes { GivesPrefixes (has Alphabet.Bytes) (rules_of explainer.now.grammar.now.rules)
-        explainer.now.grammar.now.judged explainer.now.flat.now }
-    ensures flat { IfSome automaton.new (λ a. a ≡ explainer.now.flat.now) }
+    requires letters { explainer.now.letters ≡ Alphabet.Bytes }
+    requires within { length line.bytes.now + 1 ≤ explainer.now.pruned.now.flat.limit }
+    requires flat { IfSome automaton.old (λ a. a ≡ explainer.now.pruned.now.flat) }
+    requires pruned { IsPrunedOf explainer.now.letters (rules_of explainer.now.grammar.now.rules)
+        explainer.now.grammar.now.judged explainer.now.pruned.now }
+    ensures flat { IfSome automaton.new (λ a. a ≡ explainer.now.pruned.now.flat) }
     ensures reported { IfOk result (λ done. IsExplained line.entry.unit Alphabet.Bytes
         (rules_of explainer.now.grammar.now.rules) explainer.now.grammar.now.judged line.entry.bytes.now
         line.entry.number out.old.items out.new.items) }
 {
+    items_decide();
+    values_are_letters(line.bytes);
     let following = find_following(
         alloc,
         chart,
         automaton,
-        explainer.flat,
+        &explainer.pruned.flat,
         explainer.budget,
         line.bytes,
     )?;
+    let parts = texts_of(alloc, explainer, &following.awaited)?;
     let position = following.after;
     let at = refused_at(position, line.bytes.len(), false);
     let column = column_after(&line.bytes[..position]);
@@ -149,8 +171,11 @@ fn explain_bytes(
         position,
         column,
         following,
+        parts,
     };
-    push_refusal(alloc, judged_name(explainer.grammar), line, &refusal, out)?;
+    let grammar = explainer.grammar;
+    let name = rule_name(grammar.rules(), grammar.judged());
+    push_refusal(alloc, name, line, &refusal, out)?;
     Ok(())
 }
 
@@ -163,25 +188,29 @@ fn explain_points(
     line: RefusedLine<'_>,
     out: &mut Vec<u8>,
 ) -> Result<(), Memory>
-    requires within { length line.bytes.now + 1 ≤ explainer.now.flat.now.limit }
-    requires flat { IfSome automaton.old (λ a. a ≡ explainer.now.flat.now) }
-    requires prefixes { GivesPrefixes (has Alphabet.Utf8) (rules_of explainer.now.grammar.now.rules)
-        explainer.now.grammar.now.judged explainer.now.flat.now }
-    ensures flat { IfSome automaton.new (λ a. a ≡ explainer.now.flat.now) }
+    requires letters { explainer.now.letters ≡ Alphabet.Utf8 }
+    requires within { length line.bytes.now + 1 ≤ explainer.now.pruned.now.flat.limit }
+    requires flat { IfSome automaton.old (λ a. a ≡ explainer.now.pruned.now.flat) }
+    requires pruned { IsPrunedOf explainer.now.letters (rules_of explainer.now.grammar.now.rules)
+        explainer.now.grammar.now.judged explainer.now.pruned.now }
+    ensures flat { IfSome automaton.new (λ a. a ≡ explainer.now.pruned.now.flat) }
     ensures reported { IfOk result (λ done. IsExplained line.entry.unit Alphabet.Utf8
         (rules_of explainer.now.grammar.now.rules) explainer.now.grammar.now.judged line.entry.bytes.now
         line.entry.number out.old.items out.new.items) }
 {
+    items_decide();
     let first = first_points(alloc, line.bytes)?;
     let points = first.points.as_slice();
+    values_are_letters(points);
     let following = find_following(
         alloc,
         chart,
         automaton,
-        explainer.flat,
+        &explainer.pruned.flat,
         explainer.budget,
         points,
     )?;
+    let parts = texts_of(alloc, explainer, &following.awaited)?;
     let after = following.after;
     let at = refused_at(after, points.len(), first.size < line.bytes.len());
     let before = &points[..after];
@@ -193,16 +222,21 @@ fn explain_points(
         position,
         column,
         following,
+        parts,
     };
-    push_refusal(alloc, judged_name(explainer.grammar), line, &refusal, out)?;
+    let grammar = explainer.grammar;
+    let name = rule_name(grammar.rules(), grammar.judged());
+    push_refusal(alloc, name, line, &refusal, out)?;
     Ok(())
 }
 
-/// Adds the lines that explain a rejected line or record: where it is rejected, what can follow there, and a picture of
-/// that position, in a record of the line there, if that line is not empty; or that the judged rule derives nothing.
+/// Adds the lines that explain a rejected line or record: where it is rejected, what can follow there, a picture of
+/// that position, in a record of the line there, if that line is not empty, and the parts that can come next: each name
+/// of a rule that derives a line that is not empty, and each terminal, with the rule in whose body it is. Or they
+/// report that the judged rule derives nothing.
 ///
-/// The flat grammar must be that of `lower_viable` for the grammar and its symbols, the automaton, if there is one,
-/// that of it, and the line must have fewer bytes than `flat.limit()`. The chart is filled anew where the automaton
+/// The productive parts must be those of the grammar for its symbols, the automaton, if there is one, that of their
+/// flat grammar, and the line must have fewer bytes than its `limit()`. The chart is filled anew where the automaton
 /// gives no answer.
 ///
 /// # Errors
@@ -216,11 +250,11 @@ pub fn explain_refused(
     line: RefusedLine<'_>,
     out: &mut Vec<u8>,
 ) -> Result<(), Memory>
-    requires within { length line.bytes.now + 1 ≤ explainer.now.flat.now.limit }
-    requires flat { IfSome automaton.old (λ a. a ≡ explainer.now.flat.now) }
-    requires prefixes { GivesPrefixes (has explainer.now.letters) (rules_of explainer.now.grammar.now.rules)
-        explainer.now.grammar.now.judged explainer.now.flat.now }
-    ensures flat { IfSome automaton.new (λ a. a ≡ explainer.now.flat.now) }
+    requires within { length line.bytes.now + 1 ≤ explainer.now.pruned.now.flat.limit }
+    requires flat { IfSome automaton.old (λ a. a ≡ explainer.now.pruned.now.flat) }
+    requires pruned { IsPrunedOf explainer.now.letters (rules_of explainer.now.grammar.now.rules)
+        explainer.now.grammar.now.judged explainer.now.pruned.now }
+    ensures flat { IfSome automaton.new (λ a. a ≡ explainer.now.pruned.now.flat) }
     ensures reported { IfOk result (λ done. IsExplained line.entry.unit explainer.now.letters
         (rules_of explainer.now.grammar.now.rules) explainer.now.grammar.now.judged line.entry.bytes.now
         line.entry.number out.old.items out.new.items) }
@@ -239,6 +273,7 @@ pub fn refusal_is_one()
 {
     furthest_is_found();
     following_is_one();
+    items_decide();
     utf8_is_decided();
 }
 

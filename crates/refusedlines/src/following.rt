@@ -1,8 +1,9 @@
 //! Symbols that can follow the longest viable prefix of a line.
-ghost use Rattle.std.specs.Prelude.{◌≡◌, ◌↔◌, ◌+◌, ◌≤◌, ℕ, Bool, List, length, map, IfOk, IfSome, IsTrue};
+ghost use Rattle.std.specs.Prelude.{◌≡◌, ◌↔◌, ◌+◌, ◌≤◌, ℕ, Bool, List, length, map, take, IfOk, IfSome, IsTrue};
 ghost use Rattle.abnfread.specs.Element.{Rule};
 ghost use Rattle.abnfcheck.specs.Prefixes.{IsFurthest};
 ghost use Rattle.earleyitems.specs.ChartSets.{IsSet, set_at};
+ghost use Rattle.flatgrammar.specs.CalledParts.{AreAwaited};
 ghost use Rattle.flatgrammar.specs.FlatVerdicts.{DerivesLine, IsFlatVerdict};
 ghost use Rattle.lowering.specs.GivenPrefixes.{GivesPrefixes};
 ghost use Rattle.ruletable.specs.Letters.{has};
@@ -11,8 +12,8 @@ ghost use Rattle.refusedlines.specs.Following.{AreFollowing};
 
 use crate::letterruns::{LetterRun, runs_are_one};
 use crate::read_letters::letters_read;
-use earley::{Chart, judge, judge_few, viable, viable_few};
-use flatgrammar::{Flat, Verdict};
+use earley::{Chart, awaited_at, judge, judge_few, viable, viable_few};
+use flatgrammar::{DottedRule, Flat, Verdict};
 use lazydfa::Automaton;
 use lowering::{items_decide, values_are_letters};
 use ruletable::{Letter, Memory};
@@ -27,6 +28,8 @@ pub struct Following {
     pub runs: Vec<LetterRun>,
     /// Whether the line may end there.
     pub ends: bool,
+    /// The names and the terminals that can come next there, in what began before, as dotted rules of the flat grammar.
+    pub awaited: Vec<DottedRule>,
 }
 
 // Fills the chart with the item sets of a line, and returns whether the flat grammar derives the line. `Memory` if an
@@ -91,7 +94,7 @@ fn furthest_position<L: Letter>(
     }
 }
 
-// Returns the symbols that can follow those of a line.
+// Returns what can follow the symbols of a line.
 fn find_after<L: Letter>(
     alloc: Global,
     chart: &mut Chart,
@@ -104,20 +107,52 @@ fn find_after<L: Letter>(
     ensures following { IfOk result (λ f. (rules : List Rule) (judged : ℕ)
         → GivesPrefixes (has L.ALPHABET) rules judged flat.now →
         AreFollowing (has L.ALPHABET) rules judged (map L.number line.now) (length line.now) f.runs.items f.ends) }
+    ensures awaited { IfOk result (λ f. AreAwaited flat.now (map L.number line.now) (length line.now) f.awaited.items) }
 {
     values_are_letters(line);
     let after = line.len();
     let ends = judge_within_budget(chart, flat, budget, line)?;
     let dots = chart.dots(after)?;
     let runs = letters_read(alloc, L::ALPHABET, flat, &dots)?;
-    Ok(Following { after, runs, ends })
+    let awaited = awaited_at(alloc, chart, flat, after)?;
+    Ok(Following {
+        after,
+        runs,
+        ends,
+        awaited,
+    })
 }
 
-// Returns the symbols that can follow a line by the automaton; `None` if it gives no answer, or an allocation fails.
+// Returns the dotted rules that are awaited after a prefix: by the automaton, or if it gives no answer, by the chart,
+// which is filled with the prefix.
+fn find_awaited<L: Letter>(
+    alloc: Global,
+    chart: &mut Chart,
+    states: &mut Automaton,
+    flat: &Flat,
+    budget: Option<usize>,
+    prefix: &[L],
+) -> Result<Vec<DottedRule>, Memory>
+    requires within { length prefix.now ≤ flat.now.limit }
+    requires flat { states.old ≡ flat.now }
+    ensures flat { states.new ≡ flat.now }
+    ensures awaited { IfOk result (λ dots. AreAwaited flat.now (map L.number prefix.now) (length prefix.now)
+        dots.items) }
+{
+    if let Ok(Some(dots)) = states.awaited(prefix) {
+        return Ok(dots);
+    }
+    let _ends = judge_within_budget(chart, flat, budget, prefix)?;
+    awaited_at(alloc, chart, flat, prefix.len())
+}
+
+// Returns what can follow a line by the automaton; `None` if it gives no answer.
 fn find_by_states<L: Letter>(
     alloc: Global,
+    chart: &mut Chart,
     automaton: &mut Option<Automaton>,
     flat: &Flat,
+    budget: Option<usize>,
     line: &[L],
 ) -> Result<Option<Following>, Memory>
     requires within { length line.now + 1 ≤ flat.now.limit }
@@ -130,6 +165,8 @@ fn find_by_states<L: Letter>(
     ensures following { IfOk result (λ reported. IfSome reported (λ f. (rules : List Rule) (judged : ℕ)
         → GivesPrefixes (has L.ALPHABET) rules judged flat.now →
         AreFollowing (has L.ALPHABET) rules judged (map L.number line.now) f.after f.runs.items f.ends)) }
+    ensures awaited { IfOk result (λ reported. IfSome reported (λ f. AreAwaited flat.now
+        (take f.after (map L.number line.now)) f.after f.awaited.items)) }
 {
     values_are_letters(line);
     let Some(states) = automaton else {
@@ -139,20 +176,23 @@ fn find_by_states<L: Letter>(
         return Ok(None);
     };
     let runs = letters_read(alloc, L::ALPHABET, flat, &reported.dots)?;
+    let after = reported.after;
+    let awaited = find_awaited(alloc, chart, states, flat, budget, &line[..after])?;
     Ok(Some(Following {
-        after: reported.after,
+        after,
         runs,
         ends: reported.ends,
+        awaited,
     }))
 }
 
-/// Finds all symbols that can follow the longest viable prefix of a line, and whether the line may end there. The flat
-/// grammar is that of `lower_viable` for the alphabet of the symbols. The line must have fewer symbols than
-/// `flat.limit()`.
+/// Finds all symbols that can follow the longest viable prefix of a line, whether the line may end there, and the
+/// dotted rules that are awaited there. The flat grammar is that of `lower_viable` for the alphabet of the symbols. The
+/// line must have fewer symbols than `flat.limit()`.
 ///
-/// The automaton, if there is one, answers by one run over the line. Where it gives no answer, the chart is filled with
-/// the item sets of the line, and then with those of that prefix, and the symbols are those that the items of its last
-/// set read.
+/// The automaton, if there is one, answers by one run over the line, and one over that prefix. Where it gives no
+/// answer, the chart is filled with the item sets of the line, and then with those of that prefix. The symbols are then
+/// those that the items of its last set read.
 ///
 /// `Memory` if an allocation fails, or the sets that are filled have more items than the budget, if there is one.
 pub fn find_following<L: Letter>(
@@ -173,8 +213,10 @@ pub fn find_following<L: Letter>(
     ensures following { IfOk result (λ f. (rules : List Rule) (judged : ℕ)
         → GivesPrefixes (has L.ALPHABET) rules judged flat.now →
         AreFollowing (has L.ALPHABET) rules judged (map L.number line.now) f.after f.runs.items f.ends) }
+    ensures awaited { IfOk result (λ f. AreAwaited flat.now (take f.after (map L.number line.now)) f.after
+        f.awaited.items) }
 {
-    if let Some(reported) = find_by_states(alloc, automaton, flat, line)? {
+    if let Some(reported) = find_by_states(alloc, chart, automaton, flat, budget, line)? {
         return Ok(reported);
     }
     let after = furthest_position(chart, flat, budget, line)?;

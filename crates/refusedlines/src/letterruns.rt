@@ -12,5 +12,5 @@ pub use core_rule::CoreRule;
 pub use merged::{merge_runs, runs_are_one};
 pub use pieces::symbol_pieces;
 pub use reported::{ReportedLetters, reported_letters};
-pub use reported_text::push_expected;
+pub use reported_text::symbols_text;
 pub use run::LetterRun;

@@ -1,5 +1,5 @@
-//! The symbols that items read.
-ghost use Rattle.std.specs.Prelude.{◌≡◌, ◌↔◌, ◌⊎◌, ◌≤◌, ℕ, true, All, IfOk};
+//! The symbols that items read, and those of sets.
+ghost use Rattle.std.specs.Prelude.{◌≡◌, ◌↔◌, ◌⊎◌, ◌≤◌, ℕ, true, option_map, All, IfOk};
 ghost use Rattle.flatgrammar.specs.Flat.{EitherCase, Has};
 ghost use Rattle.flatgrammar.specs.FlatViews.{node_of, set_of};
 ghost use Rattle.flatgrammar.specs.NodeSteps.{IfSomeSet, read_at};
@@ -134,5 +134,24 @@ pub(crate) fn letters_read(
     for dot in dots {
         add_dot(alphabet, flat, *dot, &mut runs)?;
     }
+    merge_runs(alloc, runs)
+}
+
+/// Returns the maximal runs of the symbols of an alphabet in a set, in ascending order; none without a set. `Memory` if
+/// an allocation fails.
+pub(crate) fn set_letters(
+    alloc: Global,
+    alphabet: Alphabet,
+    set: Option<Set>,
+) -> Result<Vec<LetterRun>, Memory>
+    ensures apart { IfOk result (λ runs. AreApartFrom 0 runs.items) }
+    ensures letters { IfOk result (λ runs. (c : ℕ) → RunsHave runs.items c
+        ↔ ((has alphabet c ≡ true) × IfSomeSet (option_map set_of set) c)) }
+{
+    let mut runs = Vec::new(alloc);
+    let Some(some) = set else {
+        return Ok(runs);
+    };
+    add_set(alphabet, some, &mut runs)?;
     merge_runs(alloc, runs)
 }

@@ -5,7 +5,7 @@ ghost use Rattle.diagnostics.specs.LinesAround.{bytes_before};
 ghost use Rattle.refusedlines.specs.RefusedText.{
   at_record,
   at_text,
-  expected_text,
+  end_text,
   line_in_record,
   line_picture,
   none_of,
@@ -17,9 +17,12 @@ ghost use Rattle.refusedlines.specs.RefusedText.{
   unit_text,
   unit_word as the_word,
 };
+ghost use Rattle.ruletable.specs.Rules.{names_of};
 
 use crate::following::Following;
-use crate::letterruns::{LetterRun, push_expected};
+use crate::letterruns::{LetterRun, symbols_text};
+use crate::part_lines::{only_part, push_expected, push_part_lines};
+use crate::part_texts::TextSet;
 use diagnostics::{LineAround, push_cut, push_number, push_picture};
 use ruletable::{Alphabet, LineRule, Memory, line_of};
 use std::alloc::Global;
@@ -68,6 +71,8 @@ pub(crate) struct Refusal {
     pub(crate) column: usize,
     /// The symbols that can follow there.
     pub(crate) following: Following,
+    /// The texts of the parts that can come next there.
+    pub(crate) parts: TextSet,
 }
 
 /// Returns where a line is rejected: after so many of its symbols, of which there are that many, before bytes that are
@@ -120,7 +125,20 @@ fn push_line_picture(line: &[u8], before: usize, out: &mut Vec<u8>) -> Result<()
     push_picture(out, LineAround { line, before })
 }
 
-// Adds what is expected at a position of a line, and a picture of the position.
+// Returns the words for the end of a line, after the symbols that can follow.
+fn end_words(runs: &[LetterRun], ends: bool) -> &'static [u8]
+    ensures { result.now ≡ end_text runs.now ends }
+{
+    if !ends {
+        return b"";
+    }
+    if runs.is_empty() {
+        return b"the end of the line";
+    }
+    b" or the end of the line"
+}
+
+// Adds what is expected at a position of a line, a picture of the position, and the parts.
 fn push_lines(
     alloc: Global,
     line: RefusedLine<'_>,
@@ -130,18 +148,16 @@ fn push_lines(
     requires { refusal.now.position ≤ length line.bytes.now }
     ensures { OnOk result (out.new.items ≡ out.old.items ++ reported_expected refusal.now.alphabet line.entry.number
         line.entry.bytes.now refusal.now.at refusal.now.position refusal.now.following.runs.items
-        refusal.now.following.ends) }
+        refusal.now.following.ends (names_of refusal.now.parts)) }
 {
+    let runs = refusal.following.runs.as_slice();
+    let text = symbols_text(alloc, refusal.alphabet, runs)?;
+    let symbols = text.as_slice();
+    let only = only_part(symbols, &refusal.parts);
     push_at(line.number, refusal.at, out)?;
-    push_expected(
-        alloc,
-        refusal.alphabet,
-        &refusal.following.runs,
-        refusal.following.ends,
-        out,
-    )?;
-    out.extend_from_slice(b"\n")?;
-    push_line_picture(line.bytes, refusal.position, out)
+    push_expected(symbols, only, end_words(runs, refusal.following.ends), out)?;
+    push_line_picture(line.bytes, refusal.position, out)?;
+    push_part_lines(only, &refusal.parts, out)
 }
 
 // Returns what is reported of a record after the position where it is rejected.
@@ -233,7 +249,7 @@ fn push_record_picture(bytes: &[u8], position: usize, out: &mut Vec<u8>) -> Resu
     push_line_picture(&bytes[position - before..position + after], before, out)
 }
 
-// Adds what is expected at a position of a record, and a picture of the position.
+// Adds what is expected at a position of a record, a picture of the position, and the parts.
 fn push_record(
     alloc: Global,
     line: RefusedLine<'_>,
@@ -243,15 +259,22 @@ fn push_record(
     requires { refusal.now.position ≤ length line.bytes.now }
     ensures { OnOk result (out.new.items ≡ out.old.items ++ record_expected refusal.now.alphabet line.entry.number
         line.entry.bytes.now refusal.now.at refusal.now.position refusal.now.column
-        refusal.now.following.runs.items refusal.now.following.ends) }
+        refusal.now.following.runs.items refusal.now.following.ends (names_of refusal.now.parts)) }
 {
+    let runs = refusal.following.runs.as_slice();
+    let text = symbols_text(alloc, refusal.alphabet, runs)?;
+    let symbols = text.as_slice();
+    let only = only_part(symbols, &refusal.parts);
     let before = &line.bytes[..refusal.position];
     push_at_record(line.number, before, refusal.column, refusal.at, out)?;
-    let runs = refusal.following.runs.as_slice();
-    push_expected(alloc, refusal.alphabet, runs, false, out)?;
-    out.extend_from_slice(record_end_words(runs, refusal.following.ends))?;
-    out.extend_from_slice(b"\n")?;
-    push_record_picture(line.bytes, refusal.position, out)
+    push_expected(
+        symbols,
+        only,
+        record_end_words(runs, refusal.following.ends),
+        out,
+    )?;
+    push_record_picture(line.bytes, refusal.position, out)?;
+    push_part_lines(only, &refusal.parts, out)
 }
 
 /// Returns the word for what is rejected, and a space.
@@ -276,9 +299,9 @@ fn push_none(name: &[u8], line: RefusedLine<'_>, out: &mut Vec<u8>) -> Result<()
     Ok(())
 }
 
-/// Adds the lines that explain a rejected line or record: the symbols that are expected where it is rejected, and a
-/// picture of that position, if the line there is not empty. If nothing can follow there, they report that the rule of
-/// that name derives nothing. The position must be within the line.
+/// Adds the lines that explain a rejected line or record: the symbols that are expected where it is rejected, a picture
+/// of that position, if the line there is not empty, and the parts that can come next. If nothing can follow there,
+/// they report that the rule of that name derives nothing. The position must be within the line.
 pub(crate) fn push_refusal(
     alloc: Global,
     name: &[u8],
@@ -289,7 +312,7 @@ pub(crate) fn push_refusal(
     requires { refusal.now.position ≤ length line.bytes.now }
     ensures { OnOk result (out.new.items ≡ out.old.items ++ unit_text line.entry.unit refusal.now.alphabet name.now
         line.entry.number line.entry.bytes.now refusal.now.at refusal.now.position refusal.now.column
-        refusal.now.following.runs.items refusal.now.following.ends) }
+        refusal.now.following.runs.items refusal.now.following.ends (names_of refusal.now.parts)) }
 {
     if refusal.following.runs.is_empty() && !refusal.following.ends {
         return push_none(name, line, out);

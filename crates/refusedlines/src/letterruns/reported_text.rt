@@ -1,9 +1,9 @@
 //! The text of terms for symbols.
-ghost use Rattle.std.specs.Prelude.{◌≡◌, ◌-◌, ◌<◌, ◌==◌, ◌++◌, [], true, if◌then◌else◌, codes, length, map, OnOk};
+ghost use Rattle.std.specs.Prelude.{◌≡◌, ◌-◌, ◌<◌, ◌==◌, ◌++◌, [], true, if◌then◌else◌, codes, length, map, IfOk, OnOk};
 ghost use Rattle.std.specs.Char.{encode_utf8};
 ghost use Rattle.std.specs.Fmt.{digit_glyph};
 ghost use Rattle.abnfprint.specs.CanonicalAbnf.{hexadecimal, upper_digits};
-ghost use Rattle.refusedlines.specs.RefusedText.{end_text, expected_text, more_text, pieces_text, slashed};
+ghost use Rattle.refusedlines.specs.RefusedText.{more_text, pieces_text, slashed, symbols_text as the_text};
 ghost use Rattle.refusedlines.specs.ReportedLetters.{reported_text};
 
 use crate::letterruns::core_rule::core_name;
@@ -135,36 +135,20 @@ fn push_pieces(all: &[ReportedLetters], out: &mut Vec<u8>) -> Result<(), Memory>
     push_more(all.len().saturating_sub(SHOWN_PIECES), out)
 }
 
-// Returns the words for the end of a line, after the symbols of runs.
-fn end_words(runs: &[LetterRun], ends: bool) -> &'static [u8]
-    ensures { result.now ≡ end_text runs.now ends }
-{
-    if !ends {
-        return b"";
-    }
-    if runs.is_empty() {
-        return b"the end of the line";
-    }
-    b" or the end of the line"
-}
-
-/// Adds what can follow at a position of a line: the symbols of some runs, by the names of core rules (RFC 5234,
-/// appendix B.1) and as ABNF writes them (section 2.3; RFC 7405, section 2.1), with slashes between, and the end, if
-/// the line can end there.
+/// Returns the text of the symbols of some runs: by the names of core rules (RFC 5234, appendix B.1) and as ABNF writes
+/// them (section 2.3; RFC 7405, section 2.1), with slashes between.
 ///
 /// # Errors
 /// `Memory` if an allocation fails.
-pub fn push_expected(
+pub fn symbols_text(
     alloc: Global,
     alphabet: Alphabet,
     runs: &[LetterRun],
-    ends: bool,
-    out: &mut Vec<u8>,
-) -> Result<(), Memory>
-    ensures { OnOk result (out.new.items ≡ out.old.items ++ expected_text alphabet runs.now ends) }
+) -> Result<Vec<u8>, Memory>
+    ensures { IfOk result (λ text. text.items ≡ the_text alphabet runs.now) }
 {
     let all = symbol_pieces(alloc, alphabet, runs)?;
-    push_pieces(&all, out)?;
-    out.extend_from_slice(end_words(runs, ends))?;
-    Ok(())
+    let mut text = Vec::new(alloc);
+    push_pieces(&all, &mut text)?;
+    Ok(text)
 }

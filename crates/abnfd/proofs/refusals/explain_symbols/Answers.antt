@@ -9,7 +9,8 @@ use Rattle.diagnostics.specs.ShownBytes.{cut}
 use Rattle.ruletable.specs.declared.alphabet.Alphabet.{Alphabet}
 use Rattle.refusedlines.specs.RefusedText.{column_after, is_none, none_of, refused_at, reported_expected}
 use Rattle.refusedlines.specs.RefusedText.{unit_text}
-use Rattle.refusedlines.specs.Refusals.{IsRefusalReported, name_at, octet_count}
+use Rattle.refusedlines.specs.Refusals.{IsRefusalReported, octet_count}
+use Rattle.refusedlines.specs.RuleNames.{name_at}
 use Rattle.refusedlines.specs.declared.letterruns.run.LetterRun.{LetterRun}
 use Rattle.refusedlines.specs.declared.refusal.LineUnit.TheVariants.{Line}
 use Rattle.rulelines.specs.LineBytes.{line_bytes}
@@ -34,27 +35,27 @@ either_case P true x y p q = p
 either_case P false x y p q = q
 
 expected_of_first : (alphabet : Alphabet) (line : List ℕ) (n count : ℕ) (torn : Bool) (position : ℕ)
-    (runs : List LetterRun) (ends : Bool)
-    → IsOfFirst (reported_expected alphabet 1 line (refused_at n count torn) position runs ends)
-expected_of_first alphabet line n count torn position runs ends =
-    either_case (λ at. IsOfFirst (reported_expected alphabet 1 line at position runs ends)) (nat_lt n count) _ _
+    (runs : List LetterRun) (ends : Bool) (parts : List (List ℕ))
+    → IsOfFirst (reported_expected alphabet 1 line (refused_at n count torn) position runs ends parts)
+expected_of_first alphabet line n count torn position runs ends parts =
+    either_case (λ at. IsOfFirst (reported_expected alphabet 1 line at position runs ends parts)) (nat_lt n count) _ _
     (parts_of_first _ _)
-    (either_case (λ at. IsOfFirst (reported_expected alphabet 1 line at position runs ends)) torn _ _
+    (either_case (λ at. IsOfFirst (reported_expected alphabet 1 line at position runs ends parts)) torn _ _
     (parts_of_first _ _) (parts_of_first _ _))
 
 text_of_first : (alphabet : Alphabet) (name line : List ℕ) (n count : ℕ) (torn : Bool) (position column : ℕ)
-    (runs : List LetterRun) (ends : Bool)
-    → IsOfFirst (unit_text Line alphabet name 1 line (refused_at n count torn) position column runs ends)
-text_of_first alphabet name line n count torn position column runs ends =
+    (runs : List LetterRun) (ends : Bool) (parts : List (List ℕ))
+    → IsOfFirst (unit_text Line alphabet name 1 line (refused_at n count torn) position column runs ends parts)
+text_of_first alphabet name line n count torn position column runs ends parts =
     either_case IsOfFirst (is_none runs ends) (none_of Line 1 name)
-    (reported_expected alphabet 1 line (refused_at n count torn) position runs ends)
-    (nothing_of_first name) (expected_of_first alphabet line n count torn position runs ends)
+    (reported_expected alphabet 1 line (refused_at n count torn) position runs ends parts)
+    (nothing_of_first name) (expected_of_first alphabet line n count torn position runs ends parts)
 
 refusal_of_first : (alphabet : Alphabet) (rules : List Rule) (judged : ℕ) (line text : List ℕ)
     → IsRefusalReported Line alphabet rules judged line 1 text → IsOfFirst text
 refusal_of_first alphabet rules judged line text r = subst IsOfFirst (sym r.is)
     (text_of_first alphabet (name_at rules judged) line r.after (length r.first) (nat_lt r.size (length line))
-    (octet_count alphabet (take r.after r.first)) (column_after (take r.after r.first)) r.runs r.ends)
+    (octet_count alphabet (take r.after r.first)) (column_after (take r.after r.first)) r.runs r.ends r.parts)
 
 first_has_number : (alphabet : Alphabet) (rules : List Rule) (judged : ℕ) (line text part : List ℕ)
     → IsRefusalReported Line alphabet rules judged line 1 text → part ≡ text → 6 ≤ length part

@@ -9,5 +9,5 @@ abbrev pub invariant-loop-index : goal.invariant-loop-index
 invariant-loop-index l = record {
   reported : AreRefusalsFrom l.unit l.explainer.letters (rules_of l.explainer.grammar.now.rules)
       l.explainer.grammar.now.judged 1 (item_lines (take l.index l.lines)) l.text.items;
-  flat : IfSome l.automaton (λ a. a ≡ l.explainer.flat.now);
+  flat : IfSome l.automaton (λ a. a ≡ l.explainer.pruned.now.flat);
 }

@@ -21,3 +21,9 @@ returns-clause-following g c = λ rules judged prefixes.
     c.in_ok-runs.runs.items c.in_ok-ends.ends
     c.in_ok-runs.ensures.apart (rw (c.ALPHABET.ensures, c.deref.ensures.value) at c.in_ok-runs.ensures.letters)
     c.in_ok-ends.ensures.answer)
+
+pub returns-clause-awaited : goal.returns-clause-awaited
+returns-clause-awaited g c =
+    let x = map g.L.Letter.number c.args.line.now in
+    let n = length c.args.line.now in
+    c.in_ok-awaited.ensures x (c.in_ok-ends.ensures.sets n)

@@ -1,7 +1,7 @@
+-- The rule is there, or it is not.
 use Rattle.std.proofs.Common.{arith}
-use Rattle.refusedlines.proofs.RefusalLemmas.{name_found}
-use Rattle.abnfg.proofs.GoalTextLemmas.{no_name}
-use Rattle.abnfg.proofs.goal_texts.rule_name.Goals as goal
+use Rattle.refusedlines.proofs.RefusalLemmas.{name_found, no_name}
+use Rattle.refusedlines.proofs.part_texts.rule_name.Goals as goal
 
 pub returns-then-id-len : goal.returns-then-id-len
 returns-then-id-len c = name_found c.args.rules.now c.args.id c.name.result.now c.name.ensures
