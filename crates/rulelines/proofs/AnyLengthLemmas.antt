@@ -95,6 +95,13 @@ module _ (has : ℕ → Bool) (rules : List Rule) (judged : ℕ) (flat : Flat) (
     body = lowered.body;
     body_is = lowered.body_is;
     whole = lowered.whole;
+    placed = record {
+      forest = lowered.placed.forest;
+      apart = lowered.placed.apart;
+      above = lowered.placed.above;
+      start = lowered.placed.start;
+      no_body = lowered.placed.no_body;
+    };
   }
 
   derives_any : (m : ℕ) → flat.limit ≤ m → length x ≤ m → DerivesLine flat x ↔ RuleDerives has rules judged x
