@@ -82,7 +82,7 @@ LARGEST_CRATE = 105
 # would make it public.
 # abnftexts: its functions on values and on the list need what `Gathered` has.
 # pegexplain: its hints need what its notes have, and a crate of their own would be the 49th.
-LARGER = {"lazydfa": 144, "abnftexts": 130, "pegexplain": 119}
+LARGER = {"lazydfa": 144, "abnftexts": 130, "pegexplain": 132}
 # The most entries that a folder has, and the folders that have more.
 LARGEST_FOLDER = 40
 WIDER = {
