@@ -85,7 +85,7 @@ LARGEST_CRATE = 105
 # abnftexts: its functions on values and on the list need what `Gathered` has.
 # pegexplain: its hints need what its notes have, and a crate of their own would be the 49th.
 # refusedlines: the list of parts and their texts need what `Following` and the pruned grammar have.
-LARGER = {"earley": 111, "lazydfa": 152, "abnftexts": 130, "pegexplain": 119, "refusedlines": 114}
+LARGER = {"earley": 111, "lazydfa": 152, "abnftexts": 130, "pegexplain": 132, "refusedlines": 114}
 # The most entries that a folder has, and the folders that have more.
 LARGEST_FOLDER = 40
 WIDER = {

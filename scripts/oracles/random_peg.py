@@ -4,7 +4,8 @@ import slow_peg
 LETTERS = b"abc"
 NAMES = ["S", "A", "B", "C", "D_1"]
 TEMPLATES = [b"x", b" yytext ", b"[yytext] yyleng", b"yytext yytextual {yytext}", b"", b"\n y\t", b"yyleng-yytext",
-             rb" \nyytext\x79ytext\t", rb"\\n\x4 \X41\x7b\x7Dyyleng\r\xg0"]
+             rb" \nyytext\x79ytext\t", rb"\\n\x4 \X41\x7b\x7Dyyleng\r\xg0",
+             b"A <- x\r\n\tB<-{y}\rC_1 \t<-\n<- D-1 <-", b"{\r\n}S\n\n _ <- <-\n1A <-\n D-1 <-"]
 ESCAPES = {7: "\\a", 8: "\\b", 27: "\\e", 12: "\\f", 10: "\\n", 13: "\\r", 9: "\\t", 11: "\\v"}
 
 

@@ -135,10 +135,10 @@ def marks(e):
 
 
 def leaves(e, place=(), choices=()):
-    """Yields the kind of each expression without operands, and of which alternatives of which choices it is a part."""
+    """Yields each expression without operands, and of which alternatives of which choices it is a part."""
     parts = slow_peg.parts(e)
     if not parts and e[0] not in ("seq", "choice"):
-        yield e[0], dict(choices)
+        yield e, dict(choices)
     for number, part in enumerate(parts):
         inner = (*choices, (place, number)) if e[0] == "choice" else choices
         yield from leaves(part, (*place, number), inner)
@@ -147,10 +147,18 @@ def leaves(e, place=(), choices=()):
 def lone_ends(e):
     """Yields how many leaves stand before each `>` before which no `<` stands, outside alternatives beside its own."""
     found = list(leaves(e))
-    for position, (kind, own) in enumerate(found):
-        before = [it for other, it in found[:position] if other == "open"]
-        if kind == "close" and all(any(it.get(choice, own[choice]) != own[choice] for choice in own) for it in before):
+    for position, (leaf, own) in enumerate(found):
+        before = [it for other, it in found[:position] if other == ("open",)]
+        if leaf == ("close",) and all(any(it.get(at, own[at]) != own[at] for at in own) for it in before):
             yield position
+
+
+def definitions_held(template):
+    """Yields the names that lines of an action define by their form, each with how many lines stand before it."""
+    for ahead, line in enumerate(re.split(rb"\r\n|\r|\n", template)):
+        found = re.match(rb"[ \t]*([A-Za-z_][A-Za-z0-9_]*)[ \t]*<-", line)
+        if ahead and found:
+            yield ahead, found[1]
 
 
 def first_hints(reported):
@@ -265,20 +273,31 @@ class PegPositions(Places):
             yield from self.hidden(part, before)
             before = before + own
 
+    def leaf_hints(self, name, e):
+        """Returns the hints on the actions that hold definitions, and those on the ends of captures, in a rule."""
+        rule, kinds = f"in rule '{cut(name.encode())}'\n", [it[0] for it, _ in leaves(e)]
+        lines = [None] * len(kinds)
+        for line, at in zip(self.literals.get(name.encode(), []), [it for it, x in enumerate(kinds) if x != "name"]):
+            lines[at] = line
+        held = [f"action holds a definition {rule}  line {line + ahead}: '{cut(word)}' in the action of line {line}\n"
+                for (leaf, _), line in zip(leaves(e), lines) if leaf[0] == "act"
+                for ahead, word in definitions_held(leaf[1])]
+        return held, [f"\">\" without \"<\" {rule}  line {lines[at]}: no \"<\" stands before it in its alternative\n"
+                      for at in lone_ends(e)]
+
     def hints(self):
-        """Returns the report on alternatives that are never taken, and on ends of captures that begin nowhere."""
-        reported, ends = [], []
+        """Returns the report on alternatives that are never taken, on actions that hold definitions, and on ends of
+        captures that begin nowhere."""
+        reported, held, ends = [], [], []
         for name, e in self.rules.items():
             lines = {"use": [line for _, _, line in self.bodies.get(name.encode(), [])],
                      "literal": self.literals.get(name.encode(), [])}
             reported += [f"alternative never taken in rule '{cut(name.encode())}'\n"
                          f"  line {lines[mark][before.count(mark)]}: {reason}\n"
                          for before, mark, reason in self.hidden(e, [])]
-            kinds = [kind for kind, _ in leaves(e)]
-            ends += [f"\">\" without \"<\" in rule '{cut(name.encode())}'\n"
-                     f"  line {lines['literal'][at - kinds[:at].count('name')]}: "
-                     "no \"<\" stands before it in its alternative\n" for at in lone_ends(e)]
-        return first_hints(reported) + first_hints(ends)
+            of_actions, of_ends = self.leaf_hints(name, e)
+            held, ends = held + of_actions, ends + of_ends
+        return first_hints(reported) + first_hints(held) + first_hints(ends)
 
     def meant(self, name, start):
         """Returns which rule is perhaps meant by a name: the one given for the start rule, or one of the first ones."""

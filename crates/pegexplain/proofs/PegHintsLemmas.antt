@@ -32,7 +32,9 @@ use Rattle.pegexplain.specs.HiddenAlternatives.{HiddenBy, literal_if, named_lite
 use Rattle.pegexplain.specs.LeftNotes.{SettlesNullable}
 use Rattle.pegexplain.specs.NullTests.{null_mark_of, nullable_by}
 use Rattle.pegexplain.specs.BodyLeaves.{lone_ends}
-use Rattle.pegexplain.specs.PegHints.{ArePegHints, ends_reported, hint_line, hints_of, hints_reported, kind_lines}
+use Rattle.pegexplain.specs.HeldDefinitions.{held_definitions}
+use Rattle.pegexplain.specs.PegHints.{ArePegHints, ends_reported, helds_reported, hint_line, hints_of, hints_reported}
+use Rattle.pegexplain.specs.PegHints.{kind_lines}
 use Rattle.pegexplain.specs.PegHints.{rule_reported}
 use Rattle.pegexplain.specs.PegNotes.{ArePegPositions, sign_of}
 use Rattle.pegexplain.specs.SureNodes.{sure_by}
@@ -94,6 +96,12 @@ four-join o a b c d x y z u f g h k =
     let whole : d ≡ (((o ++ x) ++ y) ++ z) ++ u = rw (k, h, g, f) refl in
     whole ∙ simp append_assoc
 
+pub seven-join : (o a b c d e f g s t u v w x y : List ℕ) → a ≡ o ++ s → b ≡ a ++ t → c ≡ b ++ u → d ≡ c ++ v
+    → e ≡ d ++ w → f ≡ e ++ x → g ≡ f ++ y → g ≡ o ++ (s ++ (t ++ (u ++ (v ++ (w ++ (x ++ y))))))
+seven-join o a b c d e f g s t u v w x y i j k l m n p =
+    four-join o c d e g (s ++ (t ++ u)) v w (x ++ y) (three-join o a b c s t u i j k) l m
+    (rw n at p ∙ append_assoc e x y) ∙ simp append_assoc
+
 -- the rule of a hint, and its line after it
 pub hint-join : (named : List ℕ → Option (List ℕ)) (o a b rule : List ℕ) (hidden : HiddenBy) (line known : Option ℕ)
     → a ≡ o ++ rule_reported rule → b ≡ a ++ hint_line named line hidden → line ≡ known
@@ -128,7 +136,7 @@ module _ (rules : table.Rules Expr) (exact : rules.names ≡ Exact) where
 abbrev whole : (List ℕ → Option (List ℕ)) → (MentionKind → List ℕ → List ℕ) → (Pattern → Bool) → (Pattern → Bool)
     → List Rule → List ℕ
 whole named lines sure null rules = hints_reported named lines (hints_of named sure null rules)
-    ++ ends_reported lines (lone_ends rules)
+    ++ (helds_reported lines (held_definitions rules) ++ ends_reported lines (lone_ends rules))
 
 -- what the code reports by its positions
 module _ (text : List ℕ) (found : PegPositions) (are : ArePegPositions text found) where
@@ -145,7 +153,9 @@ module _ (text : List ℕ) (found : PegPositions) (are : ArePegPositions text fo
   pub positions-hint : (reported : List ℕ)
       → reported ≡ hints_reported (literal_at found.rules) (mention_lines_by found.positions)
       (hints_of (literal_at found.rules) sure_found null_found (rules_of found.rules))
-      ++ ends_reported (mention_lines_by found.positions) (lone_ends (rules_of found.rules)) → ArePegHints text reported
+      ++ (helds_reported (mention_lines_by found.positions) (held_definitions (rules_of found.rules))
+      ++ ends_reported (mention_lines_by found.positions) (lone_ends (rules_of found.rules)))
+      → ArePegHints text reported
   positions-hint reported e = record {
     tokens = are.positions.tokens;
     are_tokens = are.positions.are_tokens;

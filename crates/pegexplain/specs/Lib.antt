@@ -10,6 +10,7 @@ pub mod BodyLeaves
 pub mod CodeHints
 pub mod CodeLeaves
 pub mod FailsNowhere
+pub mod HeldDefinitions
 pub mod HiddenAlternatives
 pub mod SureNodes
 pub mod NeverTaken

@@ -1,6 +1,6 @@
 -- The hints on the grammar of a text.
-use Rattle.std.specs.Prelude.{◌≡◌, ℕ, ◌-◌, Bool, List, [], ◌∷◌, ◌++◌, length, map, take, Option, Some, None, slice_get}
-use Rattle.std.specs.Prelude.{codes, count_by, decimal}
+use Rattle.std.specs.Prelude.{◌≡◌, ℕ, ◌+◌, ◌-◌, Bool, List, [], ◌∷◌, ◌++◌, length, map, take, Option, Some, None}
+use Rattle.std.specs.Prelude.{codes, count_by, decimal, slice_get}
 use Rattle.std.specs.List.{flat_map}
 use Rattle.diagnostics.specs.BodyMentions.{is_kind}
 use Rattle.diagnostics.specs.ShownBytes.{cut}
@@ -13,10 +13,12 @@ use Rattle.pegread.specs.Definitions.{firsts}
 use Rattle.pegread.specs.Pattern.{Pattern, Bytes, Name, Rule}
 use Rattle.pegread.specs.Reading.{Reads}
 use Rattle.pegread.specs.Tokens.{Tok, AreTokens}
+use Rattle.ruletable.specs.Lines.{line_ends}
 use Rattle.ruletable.specs.declared.lines.LineRule.TheVariants.{Any}
 use Rattle.ruletable.specs.declared.table.NameCase.TheVariants.{Exact}
 use Rattle.pegexplain.specs.BodyLeaves.{RuleLeafAt, lone_ends}
 use Rattle.pegexplain.specs.FailsNowhere.{SettlesSure}
+use Rattle.pegexplain.specs.HeldDefinitions.{HeldAt, held_definitions}
 use Rattle.pegexplain.specs.HiddenAlternatives.{HiddenBy, HintAt, hints_in, marks_in, named_literal}
 use Rattle.pegexplain.specs.LeftNotes.{SettlesNullable}
 use Rattle.pegexplain.specs.PegNotes.{sign_of}
@@ -87,11 +89,29 @@ abbrev pub end_line : Option ℕ → List ℕ
 end_line None = []
 end_line (Some line) = codes "  line " ++ (decimal line ++ codes ": no \"<\" stands before it in its alternative\n")
 
+-- the line of a definition in an action, if that of the action is known
+abbrev pub held_line : Option ℕ → HeldAt → List ℕ
+held_line None h = []
+held_line (Some line) h = codes "  line " ++ (decimal (line + line_ends Any h.template h.at) ++ (codes ": '"
+    ++ (cut h.name ++ (codes "' in the action of line " ++ (decimal line ++ codes "\n")))))
+
 -- where it is known on which lines the marks of each kind in a rule stand
 module _ (lines : MentionKind → List ℕ → List ℕ) where
+  -- the line of a leaf
+  abbrev pub leaf_line : RuleLeafAt → Option ℕ
+  leaf_line action = mark_line (λ kind. lines kind action.rule) (marks_in action.body) action.position
+
+  abbrev pub held_reported : HeldAt → List ℕ
+  held_reported h = codes "action holds a definition in rule '" ++ (cut h.action.rule ++ (codes "'\n"
+      ++ held_line (leaf_line h.action) h))
+
+  -- the first 16 hints on definitions in actions, and how many more there are
+  abbrev pub helds_reported : List HeldAt → List ℕ
+  helds_reported helds = flat_map held_reported (take 16 helds) ++ more_reported (length helds - 16)
+
   abbrev pub end_reported : RuleLeafAt → List ℕ
   end_reported end = codes "\">\" without \"<\" in rule '" ++ (cut end.rule ++ (codes "'\n"
-      ++ end_line (mark_line (λ kind. lines kind end.rule) (marks_in end.body) end.position)))
+      ++ end_line (leaf_line end)))
 
   -- the first 16 hints on ends, and how many more there are
   abbrev pub ends_reported : List RuleLeafAt → List ℕ
@@ -117,4 +137,5 @@ pub record ArePegHints (text reported : List ℕ) : Type 0 where
   pub is_null : SettlesNullable (firsts [] definitions) null
   pub is : reported ≡ hints_reported (named_literal (firsts [] definitions)) (kind_lines text tokens)
       (hints_of (named_literal (firsts [] definitions)) sure null (firsts [] definitions))
-      ++ ends_reported (kind_lines text tokens) (lone_ends (firsts [] definitions))
+      ++ (helds_reported (kind_lines text tokens) (held_definitions (firsts [] definitions))
+      ++ ends_reported (kind_lines text tokens) (lone_ends (firsts [] definitions)))

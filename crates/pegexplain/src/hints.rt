@@ -1,8 +1,9 @@
-//! Hints on the grammar of a text in the syntax of peg(1): which alternatives are never taken, and which captures end
-//! that begin nowhere.
+//! Hints on the grammar of a text in the syntax of peg(1): which alternatives are never taken, which actions hold
+//! definitions, and which captures end that begin nowhere.
 
 mod alternatives;
 mod ends;
+mod held;
 mod hints;
 mod known;
 mod laws;

@@ -1,8 +1,8 @@
 -- Lines of a text that begin a rule by their form, and the next one after a fault. Own.
 use Prim.Native.Char.{code}
-use Rattle.std.specs.Prelude.{◌≡◌, ℕ, ◌+◌, ◌-◌, ◌==◌, ◌||◌, ◌&&◌, nat_le, Bool, false, List, []}
-use Rattle.std.specs.Prelude.{◌∷◌, Option, drop, length, codes, if◌then◌else◌, slice_index}
-use Rattle.std.specs.List.{starts_with}
+use Rattle.std.specs.Prelude.{◌≡◌, ℕ, ◌+◌, ◌-◌, ◌==◌, ◌||◌, ◌&&◌, nat_le, not, Bool, false, List, []}
+use Rattle.std.specs.Prelude.{◌∷◌, Option, Some, None, drop, length, take, codes, if◌then◌else◌, slice_index}
+use Rattle.std.specs.List.{list_any, starts_with}
 use Rattle.std.specs.Option.{option_map_or}
 use Rattle.diagnostics.specs.LaterFaults.{IsFirstAt}
 use Rattle.pegread.specs.Slices.{continues_name, starts_name}
@@ -42,6 +42,13 @@ begins_rule text = begins_name text && starts_with equals (past_blanks (past_nam
 abbrev pub begins_line : List ℕ → ℕ → Bool
 begins_line text at = (at == 0) || is_break (slice_index text (at - 1))
 
+-- the bytes of a name before the text
+abbrev pub leading_name : List ℕ → List ℕ
+leading_name text = take (length text - length (past_name text)) text
+
+abbrev pub has_dash : List ℕ → Bool
+has_dash name = list_any (λ b. b == code "-") name
+
 -- how many blanks stand there
 abbrev pub indent : List ℕ → ℕ → ℕ
 indent text at = length (drop at text) - length (past_blanks (drop at text))
@@ -49,6 +56,11 @@ indent text at = length (drop at text) - length (past_blanks (drop at text))
 -- a line begins there, and it begins a rule by its form
 abbrev pub is_rule_line : List ℕ → ℕ → Bool
 is_rule_line text at = begins_line text at && begins_rule (past_blanks (drop at text))
+
+-- the name that such a line defines, if no dash stands in it
+abbrev pub name_defined : List ℕ → ℕ → Option (List ℕ)
+name_defined text at = if is_rule_line text at && not (has_dash (leading_name (past_blanks (drop at text))))
+    then Some (leading_name (past_blanks (drop at text))) else None
 
 -- such a line has at most so many blanks, and its name stands so many bytes after another position, or further on
 abbrev pub goes_next : List ℕ → ℕ → ℕ → ℕ → ℕ → Bool

@@ -11,3 +11,4 @@ mod stand;
 
 pub use all_faults::{MAX_FAULTS, explain_faults};
 pub use laws::{nothing_left_out, one_explanation};
+pub use rule_lines::name_defined;

@@ -6,6 +6,6 @@ mod position;
 mod print;
 mod print_bytes;
 
-pub use faults::{MAX_FAULTS, explain_faults, nothing_left_out, one_explanation};
+pub use faults::{MAX_FAULTS, explain_faults, name_defined, nothing_left_out, one_explanation};
 pub use print::{is_read_back, print_expr, print_member, print_peg};
 pub use print_bytes::{print_literal, print_set};

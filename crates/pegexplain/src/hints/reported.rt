@@ -24,6 +24,7 @@ ghost use Rattle.pegexplain.specs.PegNotes.{ArePegPositions};
 use crate::PegPositions;
 use crate::hints::alternatives::Hidden;
 use crate::hints::ends::push_lone_ends;
+use crate::hints::held::push_held_definitions;
 use crate::hints::hints::{Hint, all_hints};
 use crate::hints::known::{KnownRules, named_literal};
 use crate::hints::lines::{MAX_HINTS, line_of};
@@ -242,8 +243,9 @@ fn push_first_hints(
 /// - or is a literal with which the later one begins. A name whose rule is a literal counts as that literal.
 ///
 /// Of each of the first `MAX_HINTS` it reports the rule and both alternatives, with the line of the later one; then it
-/// reports how many more there are. So it does of each `>` before which no `<` stands in its rule, outside alternatives
-/// beside its own.
+/// reports how many more there are. So it does of each line of an action, its first line left out, that begins a rule:
+/// blanks, a name, blanks, and `<-`. So it does then of each `>` before which no `<` stands in its rule, outside
+/// alternatives beside its own.
 ///
 /// # Errors
 /// `Memory` if an allocation fails.
@@ -259,6 +261,7 @@ pub fn peg_hints(alloc: Global, positions: &PegPositions) -> Result<Vec<u8>, Mem
     let hints = all_hints(alloc, known)?;
     let mut reported = Vec::new(alloc);
     push_first_hints(alloc, &mut reported, positions, &hints)?;
+    push_held_definitions(alloc, &mut reported, positions)?;
     push_lone_ends(alloc, &mut reported, positions)?;
     Ok(reported)
 }

@@ -1,8 +1,10 @@
 //! Lines that begin a rule by their form: blanks, a name, in which dashes may stand, blanks, and `<-`.
-ghost use Rattle.std.specs.Prelude.{◌≡◌, ◌+◌, ◌≤◌, length};
+ghost use Rattle.std.specs.Prelude.{◌≡◌, ◌+◌, ◌≤◌, length, option_map};
 ghost use Rattle.diagnostics.specs.LaterFaults.{IsFirstAt};
 ghost use Rattle.pegprint.specs.PegRuleLines.{IsMost, goes_next};
 ghost use Rattle.pegprint.specs.PegRuleLines.{past_blanks, past_name};
+ghost use Rattle.pegprint.specs.PegRuleLines.{has_dash as holds_dash, leading_name as name_at_front};
+ghost use Rattle.pegprint.specs.PegRuleLines.{name_defined as defined_at};
 ghost use Rattle.pegprint.specs.PegRuleLines.{begins_line as starts_line, begins_name as starts_name};
 ghost use Rattle.pegprint.specs.PegRuleLines.{begins_rule as starts_rule, is_name_byte, indent as blanks_at};
 ghost use Rattle.pegprint.specs.PegRuleLines.{is_blank as blank, is_break as breaks, is_rule_line as rule_line};
@@ -43,7 +45,8 @@ fn after_blanks(text: &[u8]) -> &[u8]
 
 // Returns a text without the bytes of a name before it.
 fn after_name(text: &[u8]) -> &[u8]
-    ensures { result.now ≡ past_name text.entry.now }
+    ensures same { result.now ≡ past_name text.entry.now }
+    ensures within { length result.now ≤ length text.entry.now }
 {
     let mut rest = text;
     while let Some((first, tail)) = rest.split_first() {
@@ -85,6 +88,35 @@ fn is_rule_line(text: &[u8], at: usize) -> bool
     ensures { result ≡ rule_line text.now at }
 {
     begins_line(text, at) && begins_rule(after_blanks(&text[at..]))
+}
+
+// Returns the bytes of a name before a text.
+fn leading_name(text: &[u8]) -> &[u8]
+    ensures { result.now ≡ name_at_front text.now }
+{
+    &text[..text.len() - after_name(text).len()]
+}
+
+fn has_dash(name: &[u8]) -> bool
+    ensures { result ≡ holds_dash name.now }
+{
+    name.iter().any(|b| *b == b'-')
+}
+
+/// Returns the name that the line at a position of a text defines, if it begins a rule by its form: blanks, a name,
+/// blanks, and `<-`. No dash stands in the name.
+pub fn name_defined(text: &[u8], at: usize) -> Option<&[u8]>
+    requires { at ≤ length text.now }
+    ensures { option_map (λ n. n.now) result ≡ defined_at text.now at }
+{
+    if !is_rule_line(text, at) {
+        return None;
+    }
+    let name = leading_name(after_blanks(&text[at..]));
+    if has_dash(name) {
+        return None;
+    }
+    Some(name)
 }
 
 // Returns how many blanks stand at a position of a text.
