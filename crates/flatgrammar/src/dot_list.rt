@@ -1,6 +1,8 @@
 //! The dotted rules of a closure that call or read.
-ghost use Rattle.std.specs.Prelude.{◌≡◌, ◌≤◌, ◌∷◌, ◌++◌, ℕ, List, [], Some};
+ghost use Rattle.std.specs.Prelude.{◌≡◌, ◌≤◌, ◌↔◌, ◌∷◌, ◌++◌, ℕ, List, [], Some};
 ghost use Rattle.std.specs.Prelude.{IsTrue, IfOk, IfSome, IfNone, OnOk, slice_get};
+ghost use Rattle.flatgrammar.specs.Flat.{Has};
+ghost use Rattle.flatgrammar.specs.FlatViews.{set_of};
 ghost use Rattle.flatgrammar.specs.ItemClosures.{closure_of, call_at, dots_of, Asks, AreAsks, Reads, ReadsAny, Picks};
 ghost use Rattle.flatgrammar.specs.ItemClosures.{AreByLetter, AreEnds, lists_in, IsDotList};
 ghost use Rattle.flatgrammar.specs.declared.closure.DottedRule.{DottedRule as TheRule};
@@ -8,8 +10,8 @@ ghost use Rattle.flatgrammar.specs.declared.tables.Tables.{Tables as TheTables};
 
 use crate::closure::DottedRule;
 use crate::flat_item::Item;
-use crate::flat_node::{Ends, Node, widened};
-use crate::tables::{Tables, call, dots, reads, sole_caller};
+use crate::flat_node::{Ends, Node, Set, ends_of_set, has, set_at, widened};
+use crate::tables::{Tables, call, dots, sole_caller};
 use ruletable::Memory;
 use std::alloc::Global;
 
@@ -74,16 +76,12 @@ fn reads_any(flat: &Tables, dot: DottedRule) -> bool
     }
 }
 
-// Returns whether a dotted rule reads that letter.
-fn reads_it(flat: &Tables, dot: DottedRule, value: u32) -> bool
-    ensures { Reads flat.now value dot → IsTrue result }
+// Returns the set of which a dotted rule reads a symbol; `None` if it reads none.
+fn set_of_dot(flat: &Tables, dot: DottedRule) -> Option<&Set>
+    ensures some { IfSome result (λ set. (c : ℕ) → Reads flat.now c dot ↔ Has (set_of set.now) c) }
+    ensures none { IfNone result ((c : ℕ) → Reads flat.now c dot → ⊥) }
 {
-    let item = Item {
-        node: dot.node,
-        step: dot.step,
-        origin: 0,
-    };
-    reads(flat, item, value)
+    set_at(flat.nodes.get(dot.node)?, dot.step)
 }
 
 // Returns what those ask for that call a target with a closure of its own.
@@ -155,10 +153,13 @@ fn add_reader(
     ensures { OnOk result ((dots : List TheRule) → AreByLetter flat.now dots lists.old.items
         → AreByLetter flat.now (dots ++ dot ∷ []) lists.new.items) }
 {
-    let ends = widened_by(flat, dot, NO_ENDS);
+    let Some(set) = set_of_dot(flat, dot) else {
+        return Ok(());
+    };
+    let ends = ends_of_set(set);
     let end = lists.len().min(ends.greatest as usize + 1);
     for value in ends.least as usize..end {
-        if reads_it(flat, dot, value as u32) {
+        if has(set, value as u32) {
             lists[value].push(dot)?;
         }
     }

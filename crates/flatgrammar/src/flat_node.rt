@@ -1,5 +1,5 @@
 //! Numbered nodes.
-ghost use Rattle.std.specs.Prelude.{◌≡◌, ◌≢◌, ◌↔◌, ◌+◌, ◌^◌, ◌<◌, ◌≤◌, ℕ, None, IsTrue};
+ghost use Rattle.std.specs.Prelude.{◌≡◌, ◌≢◌, ◌↔◌, ◌+◌, ◌^◌, ◌<◌, ◌≤◌, ℕ, Some, None, IsTrue, IfSome, IfNone};
 ghost use Rattle.ruletable.specs.Letters.{small};
 ghost use Rattle.flatgrammar.specs.Flat.{Has, Rep, Iterations};
 ghost use Rattle.flatgrammar.specs.FlatViews.{set_of, node_of};
@@ -73,8 +73,8 @@ pub struct Ends {
     pub greatest: u32,
 }
 
-// Returns ends between which a set's letters are.
-fn ends_of_set(set: &Set) -> Ends
+/// Returns ends between which the symbols of a set are.
+pub(crate) fn ends_of_set(set: &Set) -> Ends
     ensures { (c : ℕ) → Has (set_of set.now) c → (result.least ≤ c) × (c ≤ result.greatest) }
 {
     let (least, greatest) = match set {
@@ -256,6 +256,17 @@ pub(crate) fn takes(node: &Node) -> bool
     match node {
         Node::Iterations { .. } => true,
         _ => false,
+    }
+}
+
+/// Returns the set of which a step reads a symbol; `None` if it reads none.
+pub(crate) fn set_at(node: &Node, step: usize) -> Option<&Set>
+    ensures some { IfSome result (λ set. read_at (node_of node.now) step ≡ Some (set_of set.now)) }
+    ensures none { IfNone result (read_at (node_of node.now) step ≡ None) }
+{
+    match node {
+        Node::Letters(sets) => sets.get(step),
+        _ => None,
     }
 }
 
