@@ -40,7 +40,8 @@ loop-value-preserved c =
             count = ap length same ∙ c.loop-value.invariant.count;
             done = subst (λ v. AreDoneBelow flat c.args.dot old v (k + 1)) (sym same)
                 (reader_left flat c.args.dot old lists k
-                (λ reads. let t = c.has.ensures.1 ((c.in-Some.ensures.some k).0 reads) in let f = w.if-has.false in absurd (cc (t, f)))
+                (λ reads. let t = c.has.ensures.1 ((c.in-Some.ensures.some k).0 reads) in
+                let f = w.if-has.false in absurd (cc (t, f)))
                 c.loop-value.invariant.left c.loop-value.invariant.done);
             left = λ n le. let least : k ≤ n = omega (arith, le) in
                 ap (λ v. slice_get v n) same ∙ c.loop-value.invariant.left n least;
