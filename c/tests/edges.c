@@ -188,7 +188,7 @@ static void older_settings(void) {
         CHECK(got.status == FANQUBER_DONE && lines.is_open);
         fanquber_lines_close(&lines);
     }
-    CHECK(fanquber_compare(settings, 9, TEXT(LETTER_X), TEXT(""), TEXT(LETTER_X), TEXT(""), out, ROOM, out, 0, err, ROOM)
+    CHECK(fanquber_compare(settings, 10, TEXT(LETTER_X), TEXT(""), TEXT(LETTER_X), TEXT(""), out, ROOM, out, 0, err, ROOM)
               .status == FANQUBER_DONE);
     settings->size = OLDER_SIZE - 1; /* an unknown size, with no more bytes behind it */
     call(fanquber_abnf, settings, LETTER_X, "", TEXT("x\n"), out_size, err_size);
