@@ -30,6 +30,8 @@ name_of_code code.DerivesNothing = codes "derives-nothing"
 name_of_code code.NoLine = codes "no-line"
 name_of_code code.Reversed = codes "reversed"
 name_of_code code.NeverTaken = codes "never-taken"
+name_of_code code.HeldDefinition = codes "held-definition"
+name_of_code code.NoBegin = codes "no-begin"
 name_of_code code.Refused = codes "refused"
 name_of_code code.NoMatch = codes "no-match"
 

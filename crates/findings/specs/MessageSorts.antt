@@ -34,4 +34,6 @@ sort_of head =
     if starts_so head (codes "possible infinite left recursion in rule '") then sort code.LeftRecursion Rejects else
     if starts_so head (codes "possible infinite loop in rule '") then sort code.Loop Rejects else
     if starts_so head (codes "reversed numbers in rule '") then sort code.Reversed Warns else
-    if starts_so head (codes "alternative never taken in rule '") then sort code.NeverTaken Warns else None
+    if starts_so head (codes "alternative never taken in rule '") then sort code.NeverTaken Warns else
+    if starts_so head (codes "action holds a definition in rule '") then sort code.HeldDefinition Warns else
+    if starts_so head (codes "\">\" without \"<\" in rule '") then sort code.NoBegin Warns else None

@@ -7,7 +7,7 @@ use Rattle.findings.specs.Findings.{FurtherAt}
 use Rattle.findings.specs.MessageParts.{ReportAt, quoted_in, report_in}
 use Rattle.findings.specs.NameColumns.{name_location}
 use Rattle.findings.specs.declared.finding.Code.{Code}
-use Rattle.findings.specs.declared.finding.Code.TheVariants.{NeverTaken, Reversed}
+use Rattle.findings.specs.declared.finding.Code.TheVariants.{HeldDefinition, NeverTaken, NoBegin, Reversed}
 use Rattle.findings.specs.declared.finding.Location.{Location}
 use Rattle.findings.specs.declared.finding.Severity.{Severity}
 use Rattle.findings.specs.declared.finding.Severity.TheVariants.{Error, Warning}
@@ -69,6 +69,8 @@ with_more head mark (Some more) = head ++ mark ++ more
 -- a hint has what is reported of its line after it, another message the chain to its rule
 abbrev pub wording : Code → List ℕ → Option (List ℕ) → Option (List ℕ) → List ℕ
 wording NeverTaken head report chain = with_more head (codes ": ") report
+wording HeldDefinition head report chain = with_more head (codes ": ") report
+wording NoBegin head report chain = with_more head (codes ": ") report
 wording Reversed head report chain = with_more head (codes ": ") report
 wording _ head report chain = with_more head (codes ", ") chain
 

@@ -75,6 +75,10 @@ pub(crate) enum Code {
     Reversed,
     /// An alternative is never taken.
     NeverTaken,
+    /// An action holds a definition.
+    HeldDefinition,
+    /// A capture ends that begins nowhere.
+    NoBegin,
     /// A line is rejected.
     Refused,
     /// No unit matches.
@@ -103,6 +107,8 @@ impl Code {
             Code::NoLine => "no-line",
             Code::Reversed => "reversed",
             Code::NeverTaken => "never-taken",
+            Code::HeldDefinition => "held-definition",
+            Code::NoBegin => "no-begin",
             Code::Refused => "refused",
             Code::NoMatch => "no-match",
         }

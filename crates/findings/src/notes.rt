@@ -82,7 +82,7 @@ fn wording_of<'a>(
         (option_map (λ n. n.rest.now) report.entry) (option_map (λ b. b.now) chain.entry) }
 {
     let (mark, more): (&[u8], &[u8]) = match code {
-        Code::NeverTaken | Code::Reversed => match report {
+        Code::NeverTaken | Code::HeldDefinition | Code::NoBegin | Code::Reversed => match report {
             Some(report) => (b": ", report.rest),
             None => (b"", b""),
         },

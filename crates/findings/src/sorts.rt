@@ -62,6 +62,10 @@ pub(crate) fn sort_of(head: &[u8]) -> Option<Sort>
         (Code::Reversed, Rank::Warns)
     } else if head.starts_with(b"alternative never taken in rule '") {
         (Code::NeverTaken, Rank::Warns)
+    } else if head.starts_with(b"action holds a definition in rule '") {
+        (Code::HeldDefinition, Rank::Warns)
+    } else if head.starts_with(b"\">\" without \"<\" in rule '") {
+        (Code::NoBegin, Rank::Warns)
     } else {
         return None;
     };
