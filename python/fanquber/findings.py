@@ -20,6 +20,8 @@ _OF_GRAMMAR = [
     (r"rule '(?P<rule>[^']*)' derives no (?:line|record)", "no-line", "warning"),
     (r"reversed numbers in rule '(?P<rule>[^']*)'", "reversed", "warning"),
     (r"alternative never taken in rule '(?P<rule>[^']*)'", "never-taken", "warning"),
+    (r"action holds a definition in rule '(?P<rule>[^']*)'", "held-definition", "warning"),
+    (r"\">\" without \"<\" in rule '(?P<rule>[^']*)'", "no-begin", "warning"),
 ]
 # The first line of a message on an input. Lines and letters are counted from 1, bytes from 0.
 _OF_INPUT = [
