@@ -250,7 +250,7 @@ def test_every_message_of_the_rows_is_read():
         pytest.skip("no rows of the gate here")
     for path in rows.glob("explained*.txt"):
         lines = [
-            it[10:].replace("\\x20", " ")
+            it[10:].replace("\\x20", " ").replace("\\x0A", "\n")
             for it in path.read_text().splitlines()
             if it.startswith("  err ") and "\\{" not in it
         ]
