@@ -3,7 +3,7 @@
 use Rattle.std.proofs.Common.{◌≡◌, ℕ, zero, suc, ◌+◌, ◌++◌, ◌<◌, ◌≤◌, ◌⊎◌, inl, inr, Option, Some, None, List, [], ◌∷◌}
 use Rattle.std.proofs.Common.{◌||◌, if◌then◌else◌, Bool, true, false, nat_lt, ltb-true}
 use Rattle.std.proofs.Common.{length, take, slice_get, slice_index_or, Vec, Global, refl, sym, ◌∙◌, ap, subst, arith}
-use Rattle.std.proofs.Common.{get_or, set}
+use Rattle.std.proofs.Common.{get_or, set, ◌↔◌, ⊎_elim}
 use Rattle.std.proofs.lemmas.Bool.{cases_lt}
 use Rattle.std.proofs.lemmas.List.{map-append, take_all}
 use Rattle.std.proofs.lemmas.Option.{slice_get_read}
@@ -16,6 +16,7 @@ use Rattle.flatgrammar.specs.ItemClosures.{closure_in, closure_of, lists_of, lis
 use Rattle.flatgrammar.specs.ItemClosures.{call_at, dots_of, AreAsks}
 use Rattle.flatgrammar.specs.declared.flat_node.Ends.{Ends}
 use Rattle.flatgrammar.specs.ItemClosures.{Lists, Reads, AreEnds, Picks, AreByLetter, lists_in, IsDotList}
+use Rattle.flatgrammar.specs.ItemClosures.{IsAdded, AreAdded}
 use Rattle.flatgrammar.proofs.CallOfLemmas.{past_get}
 use Rattle.flatgrammar.proofs.SliceGetLemmas.{push_cases, set_cases, get_below}
 use Rattle.flatgrammar.proofs.InLemmas.{in_left, at_end, before_end, among_more, in_front, from_front, different_end}
@@ -149,62 +150,51 @@ leave_end Q d dots list never picks = (
     to q (inl h) is_q = picks.1 q h is_q
     to q (inr same) is_q = absurd (never (subst (λ v. Q v) same is_q))
 
--- if old lists are those of some dotted rules, the lists of the letters below k have one more that reads them
-abbrev pub AreDoneBelow : code_flat.Tables → DottedRule → List (Vec DottedRule Global) → List (Vec DottedRule Global)
-    → ℕ → Type 0
-AreDoneBelow flat d old lists k = (dots : List DottedRule) → AreByLetter flat dots old
-    → (c : ℕ) (list : Vec DottedRule Global) → c < k → slice_get lists c ≡ Some list
-    → Picks (Reads flat c) (dots ++ d ∷ []) list.items
+-- lists to which nothing was added
+pub none_added : (P : ℕ → Type 0) (d : DottedRule) (lists : List (Vec DottedRule Global)) → ((c : ℕ) → P c → ⊥)
+    → AreAdded P d lists lists
+none_added P d lists never c list at = inr (never c, at)
 
-module _ (flat : code_flat.Tables) (d : DottedRule) (old lists : List (Vec DottedRule Global)) (k : ℕ) where
-  same_below : AreDoneBelow flat d old lists k → (dots : List DottedRule) → AreByLetter flat dots old → (c : ℕ)
-      (list : Vec DottedRule Global) → c < k + 1 → (c ≡ k → ⊥) → slice_get lists c ≡ Some list
-      → Picks (Reads flat c) (dots ++ d ∷ []) list.items
-  same_below done dots are c list below other at = let less : c < k = omega (arith, below, other) in
-      done dots are c list less at
+-- a dotted rule was added at letters that are described in two ways
+pub added_as : (P Q : ℕ → Type 0) (d : DottedRule) (old new : List (Vec DottedRule Global))
+    → ((c : ℕ) → c < length new → P c ↔ Q c) → AreAdded P d old new → AreAdded Q d old new
+added_as P Q d old new same added c list at =
+    let is = same c (get_below new c at) in
+    ⊎_elim (λ h. inl (is.0 h.0, h.1)) (λ h. inr ((λ q. h.0 (is.1 q)), h.1)) (added c list at)
 
-  -- it is put into the list of the letter k
-  pub reader_taken : (before after : Vec DottedRule Global) → before ≡ get_or lists k before → k < length lists
-      → after.items ≡ before.items ++ d ∷ [] → ((c : ℕ) → k ≤ c → slice_get lists c ≡ slice_get old c)
-      → AreDoneBelow flat d old lists k → AreDoneBelow flat d old (set lists k after) (k + 1)
-  reader_taken before after is lt more left done dots are c list below at = by (set_cases lists k c after list at)
-    where
-      there : slice_get old k ≡ Some before
-      there = sym (left k (omega arith)) ∙ slice_get_read lists (length lists) k before refl lt is
+-- it was added at a letter
+pub added_at : (d : DottedRule) (lists : List (Vec DottedRule Global)) (k : ℕ) (before after : Vec DottedRule Global)
+    → before ≡ get_or lists k before → k < length lists → after.items ≡ before.items ++ d ∷ []
+    → AreAdded (λ c. c ≡ k) d lists (set lists k after)
+added_at d lists k before after is lt more c list at =
+    ⊎_elim (λ h. inl (h.0, (before, (ap (λ v. slice_get lists v) h.0 ∙ there), ap (λ v. v.items) (sym h.1) ∙ more)))
+    (λ h. inr h) (set_cases lists k c after list at)
+  where
+    there : slice_get lists k ≡ Some before
+    there = slice_get_read lists (length lists) k before refl lt is
 
-      by : ((c ≡ k) × (after ≡ list)) ⊎ ((c ≡ k → ⊥) × (slice_get lists c ≡ Some list))
-          → Picks (Reads flat c) (dots ++ d ∷ []) list.items
-      by (inl same) = subst (λ n. Picks (Reads flat n) (dots ++ d ∷ []) list.items) (sym same.0)
-          (subst (λ v. Picks (Reads flat k) (dots ++ d ∷ []) v) (sym more ∙ ap (λ v. v.items) same.1)
-          (pick_end (Reads flat k) d dots before.items (are k before there)))
-      by (inr other) = same_below done dots are c list below other.0 other.1
+-- it was added at some letters, and then at others
+pub added_twice : (P Q : ℕ → Type 0) (d : DottedRule) (old mid new : List (Vec DottedRule Global))
+    → ((c : ℕ) → P c → Q c → ⊥) → AreAdded P d old mid → AreAdded Q d mid new
+    → AreAdded (λ c. P c ⊎ Q c) d old new
+added_twice P Q d old mid new apart first second c list at = by (second c list at)
+  where
+    by : IsAdded (Q c) d (slice_get mid c) list → IsAdded (P c ⊎ Q c) d (slice_get old c) list
+    by (inl h) = ⊎_elim (λ f. absurd (apart c f.0 h.0)) (λ f. inl (inr h.0, (h.1.0, f.1, h.1.2)))
+        (first c h.1.0 h.1.1)
+    by (inr h) = ⊎_elim (λ f. inl (inl f.0, f.1)) (λ f. inr ((λ either. ⊎_elim f.0 h.0 either), f.1))
+        (first c list h.1)
 
-  -- it does not read the letter k
-  pub reader_left : (Reads flat k d → ⊥) → ((c : ℕ) → k ≤ c → slice_get lists c ≡ slice_get old c)
-      → AreDoneBelow flat d old lists k → AreDoneBelow flat d old lists (k + 1)
-  reader_left never left done dots are c list below at = by (cases_lt c k)
-    where
-      by : (c < k) ⊎ (k ≤ c) → Picks (Reads flat c) (dots ++ d ∷ []) list.items
-      by (inl lt) = done dots are c list lt at
-      by (inr le) = let same : k ≡ c = omega (arith, below, le) in
-          leave_end (Reads flat c) d dots list.items (subst (λ n. Reads flat n d → ⊥) same never)
-          (are c list (sym (left c le) ∙ at))
-
-  -- it reads none of the letters below k
-  pub readers_below : ((c : ℕ) → Reads flat c d → k ≤ c) → AreDoneBelow flat d old old k
-  readers_below least dots are c list lt at = leave_end (Reads flat c) d dots list.items
-      (λ reads. let le = least c reads in absurd (omega (arith, le, lt))) (are c list at)
-
-  -- it reads none of the letters from k on that have a list
-  pub readers_above : ((c : ℕ) → k ≤ c → c < length lists → Reads flat c d → ⊥)
-      → ((c : ℕ) → k ≤ c → slice_get lists c ≡ slice_get old c) → AreDoneBelow flat d old lists k
-      → (dots : List DottedRule) → AreByLetter flat dots old → AreByLetter flat (dots ++ d ∷ []) lists
-  readers_above never left done dots are c list at = by (cases_lt c k)
-    where
-      by : (c < k) ⊎ (k ≤ c) → Picks (Reads flat c) (dots ++ d ∷ []) list.items
-      by (inl lt) = done dots are c list lt at
-      by (inr le) = leave_end (Reads flat c) d dots list.items (never c le (get_below lists c at))
-          (are c list (sym (left c le) ∙ at))
+-- it was added at the letters that it reads
+pub added_by_letter : (flat : code_flat.Tables) (P : ℕ → Type 0) (d : DottedRule)
+    (old new : List (Vec DottedRule Global)) → ((c : ℕ) → Reads flat c d ↔ P c) → AreAdded P d old new
+    → (dots : List DottedRule) → AreByLetter flat dots old → AreByLetter flat (dots ++ d ∷ []) new
+added_by_letter flat P d old new reads added dots are c list at = by (added c list at)
+  where
+    by : IsAdded (P c) d (slice_get old c) list → Picks (Reads flat c) (dots ++ d ∷ []) list.items
+    by (inl h) = subst (λ v. Picks (Reads flat c) (dots ++ d ∷ []) v) (sym h.1.2)
+        (pick_end (Reads flat c) d dots h.1.0.items (are c h.1.0 h.1.1))
+    by (inr h) = leave_end (Reads flat c) d dots list.items (λ is. h.0 ((reads c).0 is)) (are c list h.1)
 
 -- one more dotted rule that asks
 pub pick_ask : (Q : DottedRule → Type 0) (dots : List DottedRule) (list new : List Ask) (k : ℕ) (d : DottedRule)

@@ -35,10 +35,3 @@ set_cases (y ∷ xs) zero (suc k) v x h = inr (λ e. absurd (omega (arith, e)), 
 set_cases (y ∷ xs) (suc i) zero v x h = inr (λ e. absurd (omega (arith, e)), h)
 set_cases (y ∷ xs) (suc i) (suc k) v x h = ⊎_elim (λ c. inl (ap (λ n. suc n) c.0, c.1))
     (λ c. inr ((λ e. c.0 (omega (arith, e))), c.1)) (set_cases xs i k v x h)
-
-pub set_other : {A : Type 0} (xs : List A) (i k : ℕ) (v : A) → i < k → slice_get (set xs i v) k ≡ slice_get xs k
-set_other [] i k v lt = refl
-set_other (y ∷ xs) zero zero v lt = absurd (omega (arith, lt))
-set_other (y ∷ xs) zero (suc k) v lt = refl
-set_other (y ∷ xs) (suc i) zero v lt = absurd (omega (arith, lt))
-set_other (y ∷ xs) (suc i) (suc k) v lt = set_other xs i k v (omega (arith, lt))

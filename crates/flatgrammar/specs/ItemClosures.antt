@@ -1,6 +1,7 @@
 -- What the prediction of a target implies, as a table made once: the dotted rules where it and the nodes that it alone
 -- calls begin.
 use Rattle.std.specs.Prelude.{◌≡◌, ℕ, ◌<◌, ◌≤◌, ◌⊎◌, ◌||◌, if◌then◌else◌, nat_lt, true, false, List, [], map}
+use Rattle.std.specs.Prelude.{◌++◌, ◌∷◌}
 use Rattle.std.specs.Prelude.{slice_get, Option, Some, None}
 use Rattle.std.proofs.Common.{Vec, Global}
 use Rattle.flatgrammar.specs.declared.flat_item.Item.{Item}
@@ -144,6 +145,16 @@ Picks Q dots list = ((p : DottedRule) → In p list → In p dots) × ((p : Dott
 abbrev pub AreByLetter : code_flat.Tables → List DottedRule → List (Vec DottedRule Global) → Type 0
 AreByLetter flat dots lists = (c : ℕ) (list : Vec DottedRule Global) → slice_get lists c ≡ Some list
     → Picks (Reads flat c) dots list.items
+
+-- a list has one more dotted rule at its end if P, and else is the list that it was
+abbrev pub IsAdded : Type 0 → DottedRule → Option (Vec DottedRule Global) → Vec DottedRule Global → Type 0
+IsAdded P d old list = (P × ((before : Vec DottedRule Global) × (old ≡ Some before)
+    × (list.items ≡ before.items ++ d ∷ []))) ⊎ ((P → ⊥) × (old ≡ Some list))
+
+-- so are lists by letter, for the letters of P
+abbrev pub AreAdded : (ℕ → Type 0) → DottedRule → List (Vec DottedRule Global) → List (Vec DottedRule Global) → Type 0
+AreAdded P d old new = (c : ℕ) (list : Vec DottedRule Global) → slice_get new c ≡ Some list
+    → IsAdded (P c) d (slice_get old c) list
 
 -- all letters that dotted rules of a list read are between the ends
 abbrev pub AreEnds : code_flat.Tables → List DottedRule → Ends → Type 0

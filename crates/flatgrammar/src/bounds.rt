@@ -22,6 +22,7 @@ pub(crate) fn empty_bounds(alloc: Global) -> Bounds {
     }
 }
 
+#[inline(always)]
 fn is_bound(bounds: &Bounds, number: u32) -> bool
     ensures { IsTrue result → Contains bounds.now.numbers.items number }
 {
@@ -34,17 +35,27 @@ fn is_bound(bounds: &Bounds, number: u32) -> bool
     }
 }
 
-/// Adds a number; one below 256 is added once. `Memory` if an allocation fails.
-pub(crate) fn add_bound(number: u32, bounds: &mut Bounds) -> Result<(), Memory>
+// Adds a number that was not found. `Memory` if an allocation fails.
+#[cold]
+#[inline(never)]
+fn push_bound(number: u32, bounds: &mut Bounds) -> Result<(), Memory>
     ensures { IfOk result (λ done. IsBoundAdded bounds.old.numbers.items bounds.new.numbers.items number) }
 {
-    if is_bound(bounds, number) {
-        return Ok(());
-    }
     let dot = bounds.numbers.len();
     bounds.numbers.push(number)?;
     if number < 256 {
         bounds.dots[number as usize] = dot;
     }
     Ok(())
+}
+
+/// Adds a number; one below 256 is added once. `Memory` if an allocation fails.
+#[inline(always)]
+pub(crate) fn add_bound(number: u32, bounds: &mut Bounds) -> Result<(), Memory>
+    ensures { IfOk result (λ done. IsBoundAdded bounds.old.numbers.items bounds.new.numbers.items number) }
+{
+    if is_bound(bounds, number) {
+        return Ok(());
+    }
+    push_bound(number, bounds)
 }

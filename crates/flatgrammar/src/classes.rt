@@ -4,11 +4,12 @@ ghost use Rattle.std.specs.List.Sorted.{IsStrictlyIncreasing};
 ghost use Rattle.flatgrammar.specs.Flat.{Flat, EitherCase};
 ghost use Rattle.flatgrammar.specs.FlatViews.{node_of, nodes_of, set_of};
 ghost use Rattle.flatgrammar.specs.NodeSteps.{flat_of};
-ghost use Rattle.flatgrammar.specs.ClassBounds.{AreCases, AreClasses, AreEndsAdded, AreLow, AreMoreBounds};
+ghost use Rattle.flatgrammar.specs.ClassBounds.{AreClasses, AreEndsAdded, AreLow, AreMoreBounds};
 ghost use Rattle.flatgrammar.specs.ClassBounds.{AreNodesSplit, AreParted, AreSplit, HaveClasses, IsClassOf};
 ghost use Rattle.flatgrammar.specs.ClassBounds.{IsNodeSplit, IsSplit};
 
 use crate::bounds::{Bounds, add_bound, empty_bounds};
+use crate::flat_node::other_case;
 use crate::{Node, Set, Tables};
 use ruletable::Memory;
 use std::alloc::Global;
@@ -32,19 +33,6 @@ fn add_ends(low: u32, high: u32, bounds: &mut Bounds) -> Result<(), Memory>
         add_bound(high + 1, bounds)?;
     }
     Ok(())
-}
-
-// Returns the other case of a letter, or else the value itself.
-fn other_case(value: u32) -> u32
-    ensures { AreCases value result }
-{
-    if 64 < value && value < 91 {
-        value + 32
-    } else if 96 < value && value < 123 {
-        value - 32
-    } else {
-        value
-    }
 }
 
 // Adds where both cases of a letter begin and end. `Memory` if an allocation fails.

@@ -1,16 +1,16 @@
 //! The dotted rules of a closure that call or read.
 ghost use Rattle.std.specs.Prelude.{◌≡◌, ◌≤◌, ◌↔◌, ◌∷◌, ◌++◌, ℕ, List, [], Some};
 ghost use Rattle.std.specs.Prelude.{IsTrue, IfOk, IfSome, IfNone, OnOk, slice_get};
-ghost use Rattle.flatgrammar.specs.Flat.{Has};
+ghost use Rattle.flatgrammar.specs.Flat.{Has, Between, EitherCase};
 ghost use Rattle.flatgrammar.specs.FlatViews.{set_of};
 ghost use Rattle.flatgrammar.specs.ItemClosures.{closure_of, call_at, dots_of, Asks, AreAsks, Reads, ReadsAny, Picks};
-ghost use Rattle.flatgrammar.specs.ItemClosures.{AreByLetter, AreEnds, lists_in, IsDotList};
+ghost use Rattle.flatgrammar.specs.ItemClosures.{AreAdded, AreByLetter, AreEnds, lists_in, IsDotList};
 ghost use Rattle.flatgrammar.specs.declared.closure.DottedRule.{DottedRule as TheRule};
 ghost use Rattle.flatgrammar.specs.declared.tables.Tables.{Tables as TheTables};
 
 use crate::closure::DottedRule;
 use crate::flat_item::Item;
-use crate::flat_node::{Ends, Node, Set, ends_of_set, has, set_at, widened};
+use crate::flat_node::{Ends, Node, Set, other_case, set_at, widened};
 use crate::tables::{Tables, call, dots, sole_caller};
 use ruletable::Memory;
 use std::alloc::Global;
@@ -144,6 +144,34 @@ fn no_readers(alloc: Global) -> Result<Vec<Vec<DottedRule>>, Memory>
     Ok(lists)
 }
 
+// Adds a dotted rule to the lists of the letters from `low` to `high`.
+fn add_range(
+    dot: DottedRule,
+    low: u32,
+    high: u32,
+    lists: &mut Vec<Vec<DottedRule>>,
+) -> Result<(), Memory>
+    ensures { OnOk result (AreAdded (Has (Between low high)) dot lists.old.items lists.new.items) }
+{
+    let end = lists.len().min(high as usize + 1);
+    for value in low as usize..end {
+        lists[value].push(dot)?;
+    }
+    Ok(())
+}
+
+// Adds a dotted rule to the lists of both cases of a letter.
+fn add_both(dot: DottedRule, value: u32, lists: &mut Vec<Vec<DottedRule>>) -> Result<(), Memory>
+    ensures { OnOk result (AreAdded (Has (EitherCase value)) dot lists.old.items lists.new.items) }
+{
+    add_range(dot, value, value, lists)?;
+    let other = other_case(value);
+    if other == value {
+        return Ok(());
+    }
+    add_range(dot, other, other, lists)
+}
+
 // Adds a dotted rule to the lists of the letters that it reads.
 fn add_reader(
     flat: &Tables,
@@ -153,17 +181,12 @@ fn add_reader(
     ensures { OnOk result ((dots : List TheRule) → AreByLetter flat.now dots lists.old.items
         → AreByLetter flat.now (dots ++ dot ∷ []) lists.new.items) }
 {
-    let Some(set) = set_of_dot(flat, dot) else {
-        return Ok(());
-    };
-    let ends = ends_of_set(set);
-    let end = lists.len().min(ends.greatest as usize + 1);
-    for value in ends.least as usize..end {
-        if has(set, value as u32) {
-            lists[value].push(dot)?;
-        }
+    match set_of_dot(flat, dot) {
+        Some(Set::Exactly(value)) => add_range(dot, *value, *value, lists),
+        Some(Set::EitherCase(value)) => add_both(dot, *value, lists),
+        Some(Set::Between { low, high }) => add_range(dot, *low, *high, lists),
+        None => Ok(()),
     }
-    Ok(())
 }
 
 // Returns for each letter below 256 those that read it, or no list if there are few of them.

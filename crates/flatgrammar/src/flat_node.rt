@@ -2,6 +2,7 @@
 ghost use Rattle.std.specs.Prelude.{◌≡◌, ◌≢◌, ◌↔◌, ◌+◌, ◌^◌, ◌<◌, ◌≤◌, ℕ, Some, None, IsTrue, IfSome, IfNone};
 ghost use Rattle.ruletable.specs.Letters.{small};
 ghost use Rattle.flatgrammar.specs.Flat.{Has, Rep, Iterations};
+ghost use Rattle.flatgrammar.specs.ClassBounds.{AreCases};
 ghost use Rattle.flatgrammar.specs.FlatViews.{set_of, node_of};
 ghost use Rattle.flatgrammar.specs.NodeSteps.{begin_count, is_done, is_name_node, callee, call_count, turned, takes};
 ghost use Rattle.flatgrammar.specs.NodeSteps.{read_at, IfSomeSet};
@@ -55,8 +56,22 @@ fn small(value: u32) -> u32
     }
 }
 
-/// Returns whether a set holds a symbol.
-pub(crate) fn has(set: &Set, value: u32) -> bool
+/// Returns the other case of a letter, or else the value itself.
+pub(crate) fn other_case(value: u32) -> u32
+    ensures cases { AreCases value result }
+    ensures same { small result ≡ small value }
+{
+    if 64 < value && value < 91 {
+        value + 32
+    } else if 96 < value && value < 123 {
+        value - 32
+    } else {
+        value
+    }
+}
+
+// Returns whether a set holds a symbol.
+fn has(set: &Set, value: u32) -> bool
     ensures { IsTrue result ↔ Has (set_of set.now) value }
 {
     match set {
@@ -73,8 +88,8 @@ pub struct Ends {
     pub greatest: u32,
 }
 
-/// Returns ends between which the symbols of a set are.
-pub(crate) fn ends_of_set(set: &Set) -> Ends
+// Returns ends between which the symbols of a set are.
+fn ends_of_set(set: &Set) -> Ends
     ensures { (c : ℕ) → Has (set_of set.now) c → (result.least ≤ c) × (c ≤ result.greatest) }
 {
     let (least, greatest) = match set {

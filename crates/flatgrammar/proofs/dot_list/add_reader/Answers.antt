@@ -1,62 +1,47 @@
-use Rattle.std.proofs.Common.{◌∙◌, ◌<◌, ◌≤◌, ◌+◌, sym, subst, arith, ap, length, length-set, refl, slice_get}
-use Rattle.flatgrammar.proofs.DotListLemmas.{AreDoneBelow, reader_taken, reader_left, readers_below, readers_above}
-use Rattle.flatgrammar.proofs.SliceGetLemmas.{set_other}
+use Rattle.std.proofs.Common.{◌↔◌, ℕ, arith, subst}
+use Rattle.std.proofs.lemmas.Result.{on_ok_weaker}
+use Rattle.flatgrammar.specs.Flat.{Has, Exactly, EitherCase, Between}
+use Rattle.flatgrammar.specs.FlatViews.{set_of}
+use Rattle.flatgrammar.specs.ItemClosures.{Reads}
+use Rattle.flatgrammar.proofs.DotListLemmas.{none_added, added_as, added_by_letter}
 use Rattle.flatgrammar.proofs.dot_list.add_reader.Goals as goal
-use Rattle.flatgrammar.proofs.dot_list.add_reader.Goals.{then-has+in_ok-push, else-has}
 
-pub loop-value-init : goal.loop-value-init
-loop-value-init c = record {
-  count = refl;
-  done = readers_below c.args.flat.now c.args.dot c.args.lists.now.items c.args.lists.now.items _
-      (λ k reads. (c.ends_of_set-ends.ensures k ((c.in-Some.ensures.some k).0 reads)).0);
-  left = λ k le. refl;
-}
+one_letter : (v i : ℕ) → Has (Between v v) i ↔ Has (Exactly v) i
+one_letter v i = (
+  (λ h. let lo = h.0 in let hi = h.1 in omega (arith, lo, hi)),
+  (λ same. (omega (arith, same), omega (arith, same))),
+)
 
-pub loop-value-preserved : goal.loop-value-preserved
-loop-value-preserved c =
-    let flat = c.args.flat.now in
-    let old = c.args.lists.now.items in
-    let lists = c.loop-value.lists.items in
-    let k = c.loop-value.value in
-    elim c.if-has.branch [
-      | then-has+in_ok-push w ↦
-          let same = ap (λ v. v.items) w.lists-is in
-          let within : k < length lists = (let t = c.loop-value-test.true in let e = c.min-end.ensures in
-          let l = c.len.ensures in let n = c.loop-value.invariant.count in let o = c.args.lists.now.ok.0 in
-          omega (arith, t, e, l, n, o)) in
-          record {
-            count = ap length same ∙ length-set lists k w.push.new.self ∙ c.loop-value.invariant.count;
-            done = subst (λ v. AreDoneBelow flat c.args.dot old v (k + 1)) (sym same)
-                (reader_taken flat c.args.dot old lists k w.index_mut.result.now w.push.new.self
-                w.index_mut.ensures.value within w.in_ok-push.ensures.items c.loop-value.invariant.left
-                c.loop-value.invariant.done);
-            left = λ n le. let below : k < n = omega (arith, le) in let least : k ≤ n = omega (arith, le) in
-                ap (λ v. slice_get v n) same ∙ set_other lists k n w.push.new.self below
-                ∙ c.loop-value.invariant.left n least;
-          }
-      | else-has w ↦
-          let same = ap (λ v. v.items) w.lists-is in
-          record {
-            count = ap length same ∙ c.loop-value.invariant.count;
-            done = subst (λ v. AreDoneBelow flat c.args.dot old v (k + 1)) (sym same)
-                (reader_left flat c.args.dot old lists k
-                (λ reads. let t = c.has.ensures.1 ((c.in-Some.ensures.some k).0 reads) in
-                let f = w.if-has.false in absurd (cc (t, f)))
-                c.loop-value.invariant.left c.loop-value.invariant.done);
-            left = λ n le. let least : k ≤ n = omega (arith, le) in
-                ap (λ v. slice_get v n) same ∙ c.loop-value.invariant.left n least;
-          }
-    ]
+pub returns-in-Some-Exactly : goal.returns-in-Some-Exactly
+returns-in-Some-Exactly c =
+    let arm = c.in-Some-Exactly in
+    on_ok_weaker c.add_range.result
+    (λ added. added_by_letter c.args.flat.now (Has (Exactly arm.value)) c.args.dot c.args.lists.now.items
+    c.add_range.new.lists.items
+    (subst (λ s. (i : ℕ) → Reads c.args.flat.now i c.args.dot ↔ Has (set_of s) i) arm.field-0-is arm.ensures.some)
+    (added_as (Has (Between arm.value arm.value)) (Has (Exactly arm.value)) c.args.dot c.args.lists.now.items
+    c.add_range.new.lists.items (λ i lt. one_letter arm.value i) added))
+    c.add_range.ensures
 
-pub returns : goal.returns
-returns c = readers_above c.args.flat.now c.args.dot c.args.lists.now.items c.loop-value.lists.items c.loop-value.value
-    (λ k le lt reads. let high = (c.ends_of_set-ends.ensures k ((c.in-Some.ensures.some k).0 reads)).1 in
-    let f = c.loop-value-test.false in let e = c.min-end.ensures in let l = c.len.ensures in
-    let n = c.loop-value.invariant.count in let o = c.args.lists.now.ok.0 in
-    omega (arith, le, lt, high, f, e, l, n, o))
-    c.loop-value.invariant.left c.loop-value.invariant.done
+pub returns-in-Some-EitherCase : goal.returns-in-Some-EitherCase
+returns-in-Some-EitherCase c =
+    let arm = c.in-Some-EitherCase in
+    on_ok_weaker c.add_both.result
+    (added_by_letter c.args.flat.now (Has (EitherCase arm.value)) c.args.dot c.args.lists.now.items
+    c.add_both.new.lists.items
+    (subst (λ s. (i : ℕ) → Reads c.args.flat.now i c.args.dot ↔ Has (set_of s) i) arm.field-0-is arm.ensures.some))
+    c.add_both.ensures
 
-pub returns-in_default : goal.returns-in_default
-returns-in_default c = readers_above c.args.flat.now c.args.dot c.args.lists.now.items c.args.lists.now.items 0
-    (λ k le lt reads. c.in_default.ensures.none k reads) (λ k le. refl)
-    (λ dots are k list lt at. absurd (omega (arith, lt)))
+pub returns-in-Some-Between : goal.returns-in-Some-Between
+returns-in-Some-Between c =
+    let arm = c.in-Some-Between in
+    on_ok_weaker c.add_range-in-Some-Between.result
+    (added_by_letter c.args.flat.now (Has (Between arm.low arm.high)) c.args.dot c.args.lists.now.items
+    c.add_range-in-Some-Between.new.lists.items
+    (subst (λ s. (i : ℕ) → Reads c.args.flat.now i c.args.dot ↔ Has (set_of s) i) arm.field-0-is arm.ensures.some))
+    c.add_range-in-Some-Between.ensures
+
+pub returns-in-None : goal.returns-in-None
+returns-in-None c = added_by_letter c.args.flat.now (λ i. Reads c.args.flat.now i c.args.dot) c.args.dot
+    c.args.lists.now.items c.args.lists.now.items (λ i. ((λ h. h), (λ h. h)))
+    (none_added (λ i. Reads c.args.flat.now i c.args.dot) c.args.dot c.args.lists.now.items c.in-None.ensures.none)
