@@ -85,12 +85,16 @@ LARGEST_CRATE = 105
 # abnftexts: its functions on values and on the list need what `Gathered` has.
 # pegexplain: its hints need what its notes have, and a crate of their own would be the 49th.
 # refusedlines: the list of parts and their texts need what `Following` and the pruned grammar have.
-LARGER = {"earley": 111, "lazydfa": 152, "abnftexts": 130, "pegexplain": 132, "refusedlines": 114}
+# pegnodes: whether a grammar is predictive is asked where its keys are found.
+LARGER = {
+    "earley": 111, "lazydfa": 152, "abnftexts": 130, "pegexplain": 132, "refusedlines": 114, "pegnodes": 147,
+}
 # The most entries that a folder has, and the folders that have more.
 LARGEST_FOLDER = 40
 WIDER = {
     "crates": MOST_CRATES, "docs/crates": MOST_CRATES, "must-fail": MOST_CRATES, "crates/fixpoint/proofs": 44,
-    "crates/lazydfa/proofs": 48, "scripts/oracles/rfc_texts": 48,
+    "crates/lazydfa/proofs": 48, "scripts/oracles/rfc_texts": 48, "crates/packrat/proofs": 46,
+    "crates/pegnodes/proofs": 43,
 }
 # Folders that hold no sources.
 BUILT = {".git", "__pycache__", "bin", "out"}

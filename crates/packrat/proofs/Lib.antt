@@ -28,3 +28,9 @@ pub mod SkippedLemmas
 pub mod KeptAtLemmas
 pub mod NextWrittenLemmas
 pub mod RecallsLemmas
+pub mod BelowLemmas
+pub mod NodeOutcomeLemmas
+pub mod SeenLemmas
+pub mod SeenRepetitionLemmas
+pub mod SeenTailLemmas
+pub mod PredictiveLemmas

@@ -14,12 +14,14 @@ use Rattle.memo.specs.declared.task.MatchTask.TheVariants.{Eval, Tail}
 use Rattle.pegnodes.specs.NodeWays.{Way, Leaf, Body, Members, Alternatives, Iterations, Operand, way_of}
 use Rattle.packrat.specs.MatchTasks.{LeadsBy, TailLeadsBy, Leads, is_key}
 use Rattle.pegnodes.specs.KeyMarks.{WayNames, WayNamesOnce, DoesNotRepeat, IsPlain, Single, single_root, single_below}
-use Rattle.pegnodes.specs.KeyMarks.{AreMarks, IsLoop, WayEntersOnce, IsIterated, once_plain, once_loop, once_iterated}
+use Rattle.pegnodes.specs.KeyMarks.{AreMarks, AreByNamers, IsLoop, WayEntersOnce, IsIterated}
+use Rattle.pegnodes.specs.KeyMarks.{once_plain, once_loop, once_iterated}
 use Rattle.std.proofs.Common.{◌<◌, ◌≤◌, ap, ◌∙◌}
 use Rattle.pegmatch.proofs.AsksLemmas.{goes_onward, is_visited}
 use Rattle.packrat.proofs.TaskReachLemmas.{reached_is_visited}
 use Rattle.packrat.proofs.WidthLemmas.{takes_width}
 use Rattle.packrat.proofs.TaskKidsLemmas.{takes_same}
+use Rattle.packrat.proofs.PredictiveLemmas.{predictive_once}
 
 module _ (rules : List Rule) (start : ℕ) (nodes : List Shape) (bodies ranks x : List ℕ)
     (sound : IsRanked rules start nodes bodies ranks) (root : ℕ) (is_root : slice_get bodies start ≡ Some root) where
@@ -35,7 +37,7 @@ module _ (rules : List Rule) (start : ℕ) (nodes : List Shape) (bodies ranks x 
   abbrev R : MatchTask → Type 0
   R a = Reach MatchTask (Leads rules nodes bodies x) (Eval root 0) a
 
-  -- who leads to node m at q where its asker n goes on in this way
+  -- the asker n, which goes on in this way, leads to node m at q by task a
   abbrev LeadsHere : Way → ℕ → ℕ → ℕ → MatchTask → Type 0
   LeadsHere Leaf n m q a = ⊥
   LeadsHere (Body id) n m q a = a ≡ Eval n q
@@ -160,7 +162,7 @@ module _ (rules : List Rule) (start : ℕ) (nodes : List Shape) (bodies ranks x 
       same_here (way_of plain.asker plain.shape) plain.asker m q a b plain.once (led_here m plain a q l)
       (led_here m plain b q k)
 
-  -- who leads to the first member, and to a later one
+  -- only the node itself leads to its first tail, at the same position
   first_by : (w : Way) (n p m q : ℕ) → LB w n p (Tail m zero q) → (n ≡ m) × (p ≡ q)
   first_by Leaf n p m q l = absurd l
   first_by (Body id) n p m q l = absurd (cc (l.2))
@@ -187,7 +189,7 @@ module _ (rules : List Rule) (start : ℕ) (nodes : List Shape) (bodies ranks x 
   first_led (Eval n p) m q l = let is = first_by (way_of n l.0) n p m q l.2 in cc (is.0, is.1)
   first_led (Tail n i p) m q l = absurd (not_first_by (way_of n l.0) n i p m q l.2)
 
-  -- the step to a later member: the position of the one before, and what that takes; of a choice the same position
+  -- a member of a sequence takes the bytes up to the next one, and alternatives stand at one position
   abbrev StepBy : Way → ℕ → ℕ → ℕ → Type 0
   StepBy Leaf i p q = ⊥
   StepBy (Body id) i p q = ⊥
@@ -241,7 +243,7 @@ module _ (rules : List Rule) (start : ℕ) (nodes : List Shape) (bodies ranks x 
         step = subst (λ v. StepBy (way_of v l.0) i p q) step.0 here;
       }
 
-  -- a node that is asked for once a unit
+  -- a step from one position leads to one position
   step_same : (w : Way) (i p r q s : ℕ) → p ≡ r → StepBy w i p q → StepBy w i r s → q ≡ s
   step_same Leaf i p r q s is a b = absurd a
   step_same (Body id) i p r q s is a b = absurd a
@@ -258,7 +260,7 @@ module _ (rules : List Rule) (start : ℕ) (nodes : List Shape) (bodies ranks x 
   abbrev OnePosition : ℕ → Type 0
   OnePosition n = (q r : ℕ) → R (Eval n q) → R (Eval n r) → q ≡ r
 
-  -- what led to a task that is not the root
+  -- some task led to each reached task that is not the root
   record Asker (b : MatchTask) : Type 0 where
     pub task : MatchTask
     pub reached : R task
@@ -324,7 +326,7 @@ module _ (rules : List Rule) (start : ℕ) (nodes : List Shape) (bodies ranks x 
       (one_position single) plain.once once
       (led_here m plain c.task q c.leads) (led_here m plain d.task r d.leads) c.reached d.reached
 
-  -- a repetition that one node enters, at one position at most
+  -- the entry n, which goes on in this way, enters the repetition m at q by task a
   abbrev EntersHere : Way → ℕ → ℕ → ℕ → MatchTask → Type 0
   EntersHere Leaf n m q a = ⊥
   EntersHere (Body id) n m q a = a ≡ Eval n q
@@ -355,7 +357,7 @@ module _ (rules : List Rule) (start : ℕ) (nodes : List Shape) (bodies ranks x 
   rest_enters_by (Iterations k s) n i p m q l = absurd l
   rest_enters_by (Operand k) n i p m q l = absurd l
 
-  -- the entry is one
+  -- an entry that stands at one position enters by one task, at one position
   same_entry : (w : Way) (n m q r : ℕ) (a b : MatchTask) → OnePosition n → WayEntersOnce start nodes bodies w m
       → EntersHere w n m q a → EntersHere w n m r b → R a → R b → (a ≡ b) × (q ≡ r)
   same_entry Leaf n m q r a b one o l k s t = absurd l
@@ -380,7 +382,7 @@ module _ (rules : List Rule) (start : ℕ) (nodes : List Shape) (bodies ranks x 
       let is : q ≡ r = one q r (subst R l s) (subst R k t) in (cc (l, k, is), is)
 
   module _ (m : ℕ) (loop : IsLoop start nodes bodies m) where
-    -- an iteration: from the repetition at p to that at q
+    -- an iteration leads from the repetition at p to that at q
     abbrev Iteration : ℕ → ℕ → Type 0
     Iteration p q = NodeTakes rules nodes bodies x loop.operand p q
 
@@ -406,7 +408,7 @@ module _ (rules : List Rule) (start : ℕ) (nodes : List Shape) (bodies ranks x 
         let there : slice_get nodes m ≡ Some other = subst (λ v. slice_get nodes v ≡ Some other) is at in
         cc (loop.is_star, there)
 
-    -- who leads to the repetition: its entry, or itself
+    -- only its entry and the repetition itself lead to the repetition
     led_in : (a : MatchTask) (q : ℕ) → L a (Eval m q) → Enters q a ⊎ ((p : ℕ) × (a ≡ Eval m p) × Iteration p q)
     led_in (Eval n p) q l = elim (loop.only n l.0 l.1 (names_by (way_of n l.0) n p m q l.2)) [
       | inl is ↦
@@ -451,7 +453,7 @@ module _ (rules : List Rule) (start : ℕ) (nodes : List Shape) (bodies ranks x 
         let low = on.low in
         omega arith
 
-    -- some iterations from one position to another
+    -- some iterations lead from one position to another
     data Turned : ℕ → ℕ → Type 0 where
       no_iteration : {p : ℕ} → Turned p p
       one_iteration : {p q r : ℕ} → Turned p q → R (Eval m q) → Iteration q r → Turned p r
@@ -576,7 +578,7 @@ module _ (rules : List Rule) (start : ℕ) (nodes : List Shape) (bodies ranks x 
       | inr a ↦ let same : m ≡ S = cc (a.2) in absurd (star_apart (sym same))
     ]
 
-    -- who leads to m at q: the repetition of one or more there, or the other one
+    -- one of two repetitions at q leads to m there
     data LedFrom (q : ℕ) (a : MatchTask) : Type 0 where
       from_plus : a ≡ Eval P q → LedFrom q a
       from_star : a ≡ Eval S q → it.loop.operand ≡ m → LedFrom q a
@@ -607,7 +609,7 @@ module _ (rules : List Rule) (start : ℕ) (nodes : List Shape) (bodies ranks x 
       | inr is ↦ absurd (subst (λ w. RB w n i p (Eval m q)) (star_way n l.0 is l.1) l.2)
     ]
 
-    -- the two are not asked for at one position
+    -- the two repetitions are not asked for at one position
     not_both : (q : ℕ) → it.loop.operand ≡ m → R (Eval P q) → R (Eval S q) → ⊥
     not_both q same r s =
         let b = entered_once S it.loop s q refl in
@@ -633,7 +635,7 @@ module _ (rules : List Rule) (start : ℕ) (nodes : List Shape) (bodies ranks x 
       ]
     ]
 
-  module _ (marks : ℕ → Bool) (tails : ℕ → ℕ → Bool) (are : AreMarks start nodes bodies marks tails) where
+  module _ (marks : ℕ → Bool) (tails : ℕ → ℕ → Bool) (are : AreByNamers start nodes bodies marks tails) where
     step_back : (n i : ℕ) → tails n (suc i) ≡ false → (shape : Shape) → slice_get nodes n ≡ Some shape → (p r q : ℕ)
         → R (Tail n i p) → R (Tail n i r) → StepBy (way_of n shape) i p q → StepBy (way_of n shape) i r q → p ≡ r
     step_back n i t node.Any at p r q a b c d = absurd c
@@ -659,17 +661,17 @@ module _ (rules : List Rule) (start : ℕ) (nodes : List Shape) (bodies ranks x 
     step_back n i t node.Open at p r q a b c d = absurd c
     step_back n i t node.Close at p r q a b c d = absurd c
 
-    pub one_leads : (a b c : MatchTask) → is_key marks tails c ≡ false → R a → L a c → R b → L b c → a ≡ b
-    one_leads a b (Eval m q) t r l s k = elim (are.plain m t) [
+    named_once : (a b c : MatchTask) → is_key marks tails c ≡ false → R a → L a c → R b → L b c → a ≡ b
+    named_once a b (Eval m q) t r l s k = elim (are.plain m t) [
       | once_plain plain ↦ one_of_plain m q plain a b l k
       | once_loop loop ↦ one_of_loop m loop q a b r l s k
       | once_iterated it ↦ one_of_iterated m it q a b r l s k
     ]
-    one_leads a b (Tail n zero q) t r l s k =
+    named_once a b (Tail n zero q) t r l s k =
         let one = first_led a n q l in
         let two = first_led b n q k in
         cc
-    one_leads a b (Tail n (suc i) q) t r l s k =
+    named_once a b (Tail n (suc i) q) t r l s k =
         let f = later_led a n i q l in
         let g = later_led b n i q k in
         let same : g.shape ≡ f.shape = cc (f.at, g.at) in
@@ -677,3 +679,10 @@ module _ (rules : List Rule) (start : ℕ) (nodes : List Shape) (bodies ranks x 
         step_back n i t f.shape f.at f.position g.position q (subst R f.is r) (subst R g.is s) f.step
         (subst (λ v. StepBy (way_of n v) i g.position q) same g.step) in
         cc (is, f.is, g.is)
+
+  module _ (marks : ℕ → Bool) (tails : ℕ → ℕ → Bool) (are : AreMarks start nodes bodies marks tails) where
+    pub one_leads : (a b c : MatchTask) → is_key marks tails c ≡ false → R a → L a c → R b → L b c → a ≡ b
+    one_leads a b c t r l s k = elim are.once [
+      | inl named ↦ named_once marks tails named a b c t r l s k
+      | inr good ↦ predictive_once rules start nodes bodies ranks x sound root is_root good a b c r l s k
+    ]

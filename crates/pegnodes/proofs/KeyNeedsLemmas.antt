@@ -220,21 +220,23 @@ module _ (start : ℕ) (nodes : List Shape) (bodies : List ℕ) where
         → AreMarks start nodes bodies (node_marks (marks_of nodes keys after))
         (tail_marks (marks_of nodes keys after))
     marks_are keys after singles widths single wide plain passed = record {
-      plain = plain;
-      fixed = λ n i m ms at there free.
-          let row : get_or (map (tails_of after) nodes) n [] ≡ tails_of after (Seq ms) =
-          get_or_from_slice_get (map (tails_of after) nodes) n (tails_of after (Seq ms)) []
-          (slice_get-map (tails_of after) nodes n ∙ ap (option_map (tails_of after)) at) in
-          let mark : get_or (map (λ k. get_or after k true) ms) i false ≡ get_or after m true =
-          get_or_from_slice_get (map (λ k. get_or after k true) ms) i (get_or after m true) false
-          (slice_get-map (λ k. get_or after k true) ms i ∙ ap (option_map (λ k. get_or after k true)) there) in
-          let none : get_or after m true ≡ false =
-          sym mark ∙ subst (λ v. get_or v (suc i) false ≡ false) row free in
-          ⊎_elim (λ w. inl (w.0, wide m w.0 w.1))
-          (λ a. inr (let x = named_at n i m (Seq ms) at there in
-          let is = (namer_is m (By a.0) a.1).1 n i x.0 x.1 in
-          subst (Single start nodes bodies) (sym is.0) (single a.0 a.2)))
-          (passed m none);
+      once = inl (record {
+        plain = plain;
+        fixed = λ n i m ms at there free.
+            let row : get_or (map (tails_of after) nodes) n [] ≡ tails_of after (Seq ms) =
+            get_or_from_slice_get (map (tails_of after) nodes) n (tails_of after (Seq ms)) []
+            (slice_get-map (tails_of after) nodes n ∙ ap (option_map (tails_of after)) at) in
+            let mark : get_or (map (λ k. get_or after k true) ms) i false ≡ get_or after m true =
+            get_or_from_slice_get (map (λ k. get_or after k true) ms) i (get_or after m true) false
+            (slice_get-map (λ k. get_or after k true) ms i ∙ ap (option_map (λ k. get_or after k true)) there) in
+            let none : get_or after m true ≡ false =
+            sym mark ∙ subst (λ v. get_or v (suc i) false ≡ false) row free in
+            ⊎_elim (λ w. inl (w.0, wide m w.0 w.1))
+            (λ a. inr (let x = named_at n i m (Seq ms) at there in
+            let is = (namer_is m (By a.0) a.1).1 n i x.0 x.1 in
+            subst (Single start nodes bodies) (sym is.0) (single a.0 a.2)))
+            (passed m none);
+      });
       root = λ m at. marked m at (get_or keys m true) refl;
     }
       where

@@ -9,7 +9,9 @@ pub mod CutFrontLemmas
 pub mod FilledBlanksLemmas
 pub mod FilledRunLemmas
 pub mod FilledSlotsLemmas
+pub mod ForesightLemmas
 pub mod HasShapeLemmas
+pub mod IsApartLemmas
 pub mod IsCutLemmas
 pub mod KeyNeedsLemmas
 pub mod NamersLemmas
@@ -22,4 +24,5 @@ pub mod PushCasesLemmas
 pub mod PushedMarksLemmas
 pub mod PutInLemmas
 pub mod RunTablesLemmas
+pub mod SettledLemmas
 pub mod WidthsLemmas

@@ -2,6 +2,7 @@
 use Rattle.std.specs.Prelude.{◌≡◌, ◌⊎◌, ℕ, suc, Bool, true, false, List, slice_get, Some}
 use Rattle.pegnodes.specs.Nodes.{Shape, Seq, Star}
 use Rattle.pegnodes.specs.Width.{Width}
+use Rattle.pegnodes.specs.Predictive.{IsPredictive}
 use Rattle.pegnodes.specs.NodeWays.{Way, Leaf, Body, Members, Alternatives, Iterations, Operand, way_of}
 
 module _ (start : ℕ) (nodes : List Shape) (bodies : List ℕ) where
@@ -85,10 +86,15 @@ module _ (start : ℕ) (nodes : List Shape) (bodies : List ℕ) where
     once_loop : IsLoop m → AskedOnce m
     once_iterated : IsIterated m → AskedOnce m
 
-  -- The marks: a node without one is asked for once, a tail without one stands after a member of some width, or in a
-  -- node that is asked for at one position at most; the start rule's body has one.
-  pub record AreMarks (marks : ℕ → Bool) (tails : ℕ → ℕ → Bool) : Type 0 where
+  -- A node without a mark is asked for once; a tail without one stands after a member of some width, or in a node that
+  -- is asked for at one position at most.
+  pub record AreByNamers (marks : ℕ → Bool) (tails : ℕ → ℕ → Bool) : Type 0 where
     pub plain : (m : ℕ) → marks m ≡ false → AskedOnce m
     pub fixed : (n i m : ℕ) (ms : List ℕ) → slice_get nodes n ≡ Some (Seq ms) → slice_get ms i ≡ Some m
         → tails n (suc i) ≡ false → ((w : ℕ) × Width nodes bodies m w) ⊎ Single n
+
+  -- The marks: what has none is asked for once by its namers, or since each byte says which way to go; the start rule's
+  -- body has one.
+  pub record AreMarks (marks : ℕ → Bool) (tails : ℕ → ℕ → Bool) : Type 0 where
+    pub once : AreByNamers marks tails ⊎ IsPredictive nodes bodies
     pub root : (m : ℕ) → slice_get bodies start ≡ Some m → marks m ≡ true

@@ -2,6 +2,7 @@ pub mod Bodies
 pub mod ByByte
 pub mod ByteTables
 pub mod ChoiceTables
+pub mod ClosedMarks
 pub mod Decides
 pub mod KeyLists
 pub mod KeyMarks
@@ -12,7 +13,9 @@ pub mod NodeLists
 pub mod NodeWays
 pub mod Nodes
 pub mod Numbering
+pub mod Predictive
 pub mod RunTables
+pub mod SettledNeeds
 pub mod Slots
 pub mod Templates
 pub mod Width

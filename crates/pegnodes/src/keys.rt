@@ -12,6 +12,7 @@ ghost use Rattle.pegnodes.specs.NodeWays.{way_of};
 
 use crate::namers::{Namer, namer_of, namers};
 use crate::node::Node;
+use crate::predictive::is_predictive;
 use crate::widths::{width_of, widths};
 use fixpoint::{Need, least};
 use ruletable::Memory;
@@ -341,16 +342,8 @@ pub fn is_key_from(node: &Node, after: &[bool], i: usize) -> bool
     }
 }
 
-/// Finds the keys of a grammar.
-///
-/// A node is no key if one node alone names it, once: it is asked for twice at a position only if that node is. The
-/// operand of a `+` that is asked for at one position at most is none. A tail of a sequence is no key after a member of
-/// a known width, since the position of the tail gives that of the sequence. Nor is it one in a sequence that is asked
-/// for at one position at most.
-///
-/// # Errors
-/// `Memory` if an allocation fails.
-pub fn find_keys(
+// Finds the keys by the namers of nodes.
+fn keys_by_namers(
     alloc: Global,
     nodes: &[Node],
     bodies: &[usize],
@@ -368,4 +361,46 @@ pub fn find_keys(
     let keys = node_keys(alloc, nodes, &namers, &singles, root)?;
     let after = after_keys(alloc, &namers, &singles, &widths)?;
     Ok(Keys { nodes: keys, after })
+}
+
+// Returns marks of so many nodes, of which this one alone is a key.
+fn root_alone(alloc: Global, count: usize, root: usize) -> Result<Keys, Memory>
+    ensures { IfOk result (λ keys. get_or keys.nodes.items root true ≡ true) }
+{
+    let mut keys = Vec::new(alloc);
+    keys.resize(count, false)?;
+    let mut after = Vec::new(alloc);
+    after.resize(count, false)?;
+    if root < count {
+        keys[root] = true;
+    }
+    Ok(Keys { nodes: keys, after })
+}
+
+/// Finds the keys of a grammar.
+///
+/// Where each byte says which way to go, as it does in LL(1) grammars, the start rule's body alone is a key.
+///
+/// Elsewhere a node is no key if one node alone names it, once: it is asked for twice at a position only if that node
+/// is. The operand of a `+` that is asked for at one position at most is none. A tail of a sequence is no key after a
+/// member of a known width, since the position of the tail gives that of the sequence. Nor is it one in a sequence that
+/// is asked for at one position at most.
+///
+/// # Errors
+/// `Memory` if an allocation fails.
+pub fn find_keys(
+    alloc: Global,
+    nodes: &[Node],
+    bodies: &[usize],
+    start: usize,
+) -> Result<Keys, Memory>
+    requires { start < length bodies.now }
+    ensures { IfOk result (λ keys. AreMarks start (shapes_of nodes.now) bodies.now
+        (node_marks (marks_of (shapes_of nodes.now) keys.nodes.items keys.after.items))
+        (tail_marks (marks_of (shapes_of nodes.now) keys.nodes.items keys.after.items))) }
+{
+    if is_predictive(alloc, nodes, bodies)? {
+        return root_alone(alloc, nodes.len(), bodies[start]);
+    }
+    keys_by_namers(alloc, nodes, bodies, start)
 }

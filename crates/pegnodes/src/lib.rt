@@ -1,16 +1,20 @@
 //! The numbered nodes of a grammar, which of them are keys of a packrat matcher, and what one byte decides of them.
 #![tactic(auto)]
 
+mod apart;
 mod bodies;
 mod by_byte;
 mod byte_tables;
 mod choice_table;
 mod cut;
+mod foresight;
 mod keys;
 mod namers;
 mod node;
 mod number;
+mod predictive;
 mod run_table;
+mod settled;
 mod template;
 mod widths;
 

@@ -5,7 +5,7 @@ use Rattle.pegnodes.specs.KeyNeeds.{AreKnown, AreSingles, IsPassed}
 use Rattle.pegnodes.specs.Nodes.{Shape, shapes_of}
 use Rattle.pegnodes.specs.declared.namers.Namer.{Namer}
 use Rattle.pegnodes.proofs.KeyNeedsLemmas as o
-use Rattle.pegnodes.proofs.keys.find_keys.Goals as goal
+use Rattle.pegnodes.proofs.keys.keys_by_namers.Goals as goal
 
 module _ (c : goal.After-drop-namers-2) where
   abbrev nodes : List Shape

@@ -1,0 +1,11 @@
+use Rattle.std.proofs.Common.{◌≡◌, ◌<◌, ℕ, suc, get_or, None, Some, drop}
+use Rattle.std.specs.Prelude.{slice_get}
+use Rattle.fixpoint.specs.NumberMarks.{IsMarked}
+use Rattle.pegnodes.specs.Predictive.{of_alternatives}
+use Rattle.pegnodes.specs.SettledNeeds.{IsSure}
+use Rattle.pegnodes.proofs.settled.are_alternatives_sure.Given as goal
+
+-- after those so far
+abbrev pub invariant-loop-i : goal.invariant-loop-i
+invariant-loop-i l = (j m : ℕ) → j < l.i → slice_get l.alternatives j ≡ Some m → IsMarked l.late m
+    → IsSure (of_alternatives (λ k. get_or l.row k None) (drop (suc j) l.alternatives))

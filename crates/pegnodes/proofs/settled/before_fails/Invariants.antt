@@ -1,0 +1,9 @@
+use Rattle.std.proofs.Common.{◌≡◌, ◌<◌, ℕ, suc, get_or, None, Some, drop}
+use Rattle.pegnodes.specs.declared.by_byte.ByteVerdict.TheVariants.{Fails}
+use Rattle.pegnodes.specs.Predictive.{of_alternatives}
+use Rattle.pegnodes.proofs.settled.before_fails.Given as goal
+
+-- not so after those so far
+abbrev pub invariant-loop-i : goal.invariant-loop-i
+invariant-loop-i l = (j : ℕ) → j < l.i
+    → of_alternatives (λ k. get_or l.row k None) (drop (suc j) l.alternatives) ≡ Some Fails → ⊥

@@ -1,0 +1,7 @@
+use Rattle.pegnodes.proofs.settled.is_node_sure.Goals as goal
+
+pub returns-in-Seq : goal.returns-in-Seq
+returns-in-Seq c = rw c.in-Seq.is (rw c.deref.ensures.value at c.are_members_sure.ensures)
+
+pub returns-in-Choice : goal.returns-in-Choice
+returns-in-Choice c = rw c.in-Choice.is (rw c.deref-in-Choice.ensures.value at c.are_alternatives_sure.ensures)
