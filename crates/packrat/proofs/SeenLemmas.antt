@@ -1,10 +1,8 @@
 -- What is seen of leaves, names, options and predicates where the next byte says which way to go.
 -- Serves: Packrat::match_unit
-use Rattle.std.proofs.Common.{◌≡◌, ◌⊎◌, inl, inr, ℕ, zero, suc, ◌+◌, ◌<◌, ◌≤◌, Bool, true, false, List, [], ◌∷◌}
+use Rattle.std.proofs.Common.{◌≡◌, ◌⊎◌, inl, inr, ℕ, zero, suc, ◌<◌, ◌≤◌, List, [], ◌∷◌}
 use Rattle.std.proofs.Common.{Option, Some, None, drop, length, refl, sym, subst, ap, arith, ◌∙◌}
-use Rattle.std.proofs.Common.{get_or}
-use Rattle.std.proofs.lemmas.Option.{slice_get-get_or}
-use Rattle.std.specs.Prelude.{slice_get, ◌==◌, if◌then◌else◌}
+use Rattle.std.specs.Prelude.{slice_get}
 use Rattle.pegread.specs.Pattern.{Rule}
 use Rattle.pegnodes.specs.Nodes as node
 use Rattle.pegnodes.specs.Nodes.{Shape}
@@ -13,23 +11,20 @@ use Rattle.pegnodes.specs.declared.by_byte.ByteVerdict.TheVariants.{Takes, Stays
 use Rattle.gramcheck.specs.Sound.{IsRanked}
 use Rattle.pegmatch.specs.KeptEvents.{SpellsSome}
 use Rattle.pegmatch.specs.Visits.{NodeTakes, NodeFails}
-use Rattle.pegmatch.proofs.AsksLemmas.{goes_onward, is_visited, visited_there}
+use Rattle.pegmatch.proofs.AsksLemmas.{goes_onward, is_visited}
 use Rattle.memo.specs.KeyLog.{position_of}
-use Rattle.memo.specs.Parts.{Reach, reach_root, reach_edge}
-use Rattle.memo.specs.Run.{Ends, ends}
+use Rattle.memo.specs.Parts.{Reach, reach_edge}
 use Rattle.memo.specs.declared.task.MatchTask.{MatchTask}
 use Rattle.memo.specs.declared.task.MatchTask.TheVariants.{Eval, Tail}
-use Rattle.pegnodes.specs.NodeWays.{Way, Leaf, Body, Members, Alternatives, Iterations, Operand, way_of}
+use Rattle.pegnodes.specs.NodeWays.{way_of}
 use Rattle.packrat.specs.MatchTasks.{LeadsBy, TailLeadsBy, Leads}
 use Rattle.pegnodes.specs.Predictive as pr
-use Rattle.pegnodes.specs.Predictive.{IsPredictive, then_rest, or_other, of_members, of_alternatives, of_star, of_plus}
-use Rattle.pegnodes.specs.Predictive.{of_opt, of_and, of_not, of_bytes, of_body, of_shape, Settled}
+use Rattle.pegnodes.specs.Predictive.{IsPredictive, of_members, of_alternatives}
+use Rattle.pegnodes.specs.Predictive.{of_opt, of_and, of_not, of_body}
 use Rattle.packrat.proofs.BelowLemmas as w
 use Rattle.packrat.proofs.NodeOutcomeLemmas as o
-use Rattle.packrat.proofs.EndsLemmas.{reached_ends}
 use Rattle.packrat.proofs.TaskKidsLemmas.{takes_same, takes_fails}
-use Rattle.packrat.proofs.TaskReachLemmas.{front_drop, drop_none, drop_front, reached_is_visited}
-use Rattle.packrat.proofs.ByteGivesLemmas.{name_has, seq_has, choice_has, star_has, plus_has, opt_has, and_has, not_has}
+use Rattle.packrat.proofs.TaskReachLemmas.{reached_is_visited}
 
 pub le_cases : (p q : ℕ) → p ≤ q → (q ≡ p) ⊎ (p < q)
 le_cases zero zero le = inl refl

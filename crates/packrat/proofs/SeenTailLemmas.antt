@@ -1,10 +1,8 @@
 -- What is seen of the rest of a sequence or choice where the next byte says which way to go.
 -- Serves: Packrat::match_unit
-use Rattle.std.proofs.Common.{◌≡◌, ◌⊎◌, inl, inr, ℕ, zero, suc, ◌+◌, ◌<◌, ◌≤◌, Bool, true, false, List, [], ◌∷◌}
+use Rattle.std.proofs.Common.{◌≡◌, ◌⊎◌, inl, inr, ℕ, suc, ◌<◌, ◌≤◌, List, [], ◌∷◌}
 use Rattle.std.proofs.Common.{Option, Some, None, drop, length, refl, sym, subst, ap, arith, ◌∙◌}
-use Rattle.std.proofs.Common.{get_or}
-use Rattle.std.proofs.lemmas.Option.{slice_get-get_or}
-use Rattle.std.specs.Prelude.{slice_get, ◌==◌, if◌then◌else◌}
+use Rattle.std.specs.Prelude.{slice_get}
 use Rattle.pegread.specs.Pattern.{Rule}
 use Rattle.pegnodes.specs.Nodes as node
 use Rattle.pegnodes.specs.Nodes.{Shape}
@@ -12,26 +10,20 @@ use Rattle.pegnodes.specs.declared.by_byte.ByteVerdict.{ByteVerdict}
 use Rattle.pegnodes.specs.declared.by_byte.ByteVerdict.TheVariants.{Takes, Stays, Fails}
 use Rattle.gramcheck.specs.Sound.{IsRanked}
 use Rattle.pegmatch.specs.KeptEvents.{SpellsSome}
-use Rattle.pegmatch.specs.Visits.{NodeTakes, NodeFails}
-use Rattle.pegmatch.proofs.AsksLemmas.{goes_onward, is_visited, visited_there}
+use Rattle.pegmatch.proofs.AsksLemmas.{goes_onward}
 use Rattle.memo.specs.KeyLog.{position_of}
-use Rattle.memo.specs.Parts.{Reach, reach_root, reach_edge}
-use Rattle.memo.specs.Run.{Ends, ends}
+use Rattle.memo.specs.Parts.{reach_edge}
 use Rattle.memo.specs.declared.task.MatchTask.{MatchTask}
 use Rattle.memo.specs.declared.task.MatchTask.TheVariants.{Eval, Tail}
-use Rattle.pegnodes.specs.NodeWays.{Way, Leaf, Body, Members, Alternatives, Iterations, Operand, way_of}
-use Rattle.packrat.specs.MatchTasks.{LeadsBy, TailLeadsBy, Leads}
+use Rattle.pegnodes.specs.NodeWays.{way_of}
+use Rattle.packrat.specs.MatchTasks.{TailLeadsBy}
 use Rattle.pegnodes.specs.Predictive as pr
-use Rattle.pegnodes.specs.Predictive.{IsPredictive, then_rest, or_other, of_members, of_alternatives, of_star, of_plus}
-use Rattle.pegnodes.specs.Predictive.{of_opt, of_and, of_not, of_bytes, of_body, of_shape, Settled}
-use Rattle.packrat.proofs.BelowLemmas as w
+use Rattle.pegnodes.specs.Predictive.{IsPredictive, then_rest, or_other}
+use Rattle.pegnodes.specs.Predictive.{Settled}
 use Rattle.packrat.proofs.NodeOutcomeLemmas as o
-use Rattle.packrat.proofs.EndsLemmas.{reached_ends}
 use Rattle.packrat.proofs.SeenLemmas as seen
-use Rattle.packrat.proofs.SeenLemmas.{le_cases, drop_past}
-use Rattle.packrat.proofs.TaskKidsLemmas.{takes_same, takes_fails}
-use Rattle.packrat.proofs.TaskReachLemmas.{front_drop, drop_none, drop_front, reached_is_visited}
-use Rattle.packrat.proofs.ByteGivesLemmas.{name_has, seq_has, choice_has, star_has, plus_has, opt_has, and_has, not_has}
+use Rattle.packrat.proofs.SeenLemmas.{drop_past}
+use Rattle.packrat.proofs.TaskReachLemmas.{front_drop}
 
 module _ (rules : List Rule) (start : ℕ) (nodes : List Shape) (bodies ranks x : List ℕ)
     (sound : IsRanked rules start nodes bodies ranks) (root : ℕ) (is_root : slice_get bodies start ≡ Some root)
