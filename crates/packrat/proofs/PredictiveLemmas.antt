@@ -192,8 +192,7 @@ module _ (rules : List Rule) (start : ℕ) (nodes : List Shape) (bodies ranks x 
 
     shape_seen : (shape : Shape) → At n shape → Seen n p
     shape_seen node.Any at = leaf_seen (no_kids node.Any at refl)
-        (λ b s. subst (Given n p) (sym ((good.at b).decided n node.Any at))
-        (
+        (λ b s. subst (Given n p) (sym ((good.at b).decided n node.Any at)) (
           (p + 1, o.any_takes rules start nodes bodies ranks x sound n p b at s),
           own_flat (no_kids node.Any at refl),
         ))
@@ -295,19 +294,25 @@ module _ (rules : List Rule) (start : ℕ) (nodes : List Shape) (bodies ranks x 
         → (shape ≡ node.Seq ms) ⊎ (shape ≡ node.Choice ms) → Sees (Tail n i p)
     tail_seen shape at ms m there is = elim is [
       | inl seq ↦
-          let here : At n (node.Seq ms) = at ∙ ap Some seq in
-          (node.Seq ms, here, subst (SeenMembers n i p) (sym (front_drop ms i m there))
-          (rest.members_seen rules start nodes bodies ranks x sound root is_root good n i p r ms m there here
-          (kids (Eval m p) (node.Seq ms, here, (m, there, inl refl)))
-          (λ q k t next. further_as (node.Seq ms) here q
-          (kids (Tail n (suc i) q) (node.Seq ms, here, (m, there, inr (k, q, next, t, refl)))))))
+          let here : At n (node.Seq ms) = at ∙ ap Some seq in (
+            node.Seq ms,
+            here,
+            subst (SeenMembers n i p) (sym (front_drop ms i m there))
+                (rest.members_seen rules start nodes bodies ranks x sound root is_root good n i p r ms m there here
+                (kids (Eval m p) (node.Seq ms, here, (m, there, inl refl)))
+                (λ q k t next. further_as (node.Seq ms) here q
+                (kids (Tail n (suc i) q) (node.Seq ms, here, (m, there, inr (k, q, next, t, refl)))))),
+          )
       | inr choice ↦
-          let here : At n (node.Choice ms) = at ∙ ap Some choice in
-          (node.Choice ms, here, subst (SeenAlternatives n i p) (sym (front_drop ms i m there))
-          (rest.alternatives_seen rules start nodes bodies ranks x sound root is_root good n i p r ms m there here
-          (kids (Eval m p) (node.Choice ms, here, (m, there, inl refl)))
-          (λ k f next. further_as (node.Choice ms) here p
-          (kids (Tail n (suc i) p) (node.Choice ms, here, (m, there, inr (k, next, f, refl)))))))
+          let here : At n (node.Choice ms) = at ∙ ap Some choice in (
+            node.Choice ms,
+            here,
+            subst (SeenAlternatives n i p) (sym (front_drop ms i m there))
+                (rest.alternatives_seen rules start nodes bodies ranks x sound root is_root good n i p r ms m there here
+                (kids (Eval m p) (node.Choice ms, here, (m, there, inl refl)))
+                (λ k f next. further_as (node.Choice ms) here p
+                (kids (Tail n (suc i) p) (node.Choice ms, here, (m, there, inr (k, next, f, refl)))))),
+          )
     ]
 
   of_kids : (a : MatchTask) → R a → ((c : MatchTask) → L a c → Sees c) → Sees a
@@ -422,12 +427,18 @@ module _ (rules : List Rule) (start : ℕ) (nodes : List Shape) (bodies ranks x 
         (next.near l (subst (λ v. B (Eval s q) (Eval l v)) here f))
       where
         next_reached : R (Eval s q)
-        next_reached = reach_edge r (shape, at,
-            subst (λ v. LeadsBy rules nodes bodies x v n p (Eval s q)) (sym way) (inr (q, t, refl)))
+        next_reached = reach_edge r (
+          shape,
+          at,
+          subst (λ v. LeadsBy rules nodes bodies x v n p (Eval s q)) (sym way) (inr (q, t, refl)),
+        )
 
         kid : Seen k p
-        kid = sees_task (reach_edge r (shape, at,
-            subst (λ v. LeadsBy rules nodes bodies x v n p (Eval k p)) (sym way) (inl refl)))
+        kid = sees_task (reach_edge r (
+          shape,
+          at,
+          subst (λ v. LeadsBy rules nodes bodies x v n p (Eval k p)) (sym way) (inl refl),
+        ))
 
         next : Seen s q
         next = sees_task next_reached

@@ -124,8 +124,11 @@ module _ (rules : List Rule) (start : ℕ) (nodes : List Shape) (bodies ranks x 
   module _ (n k s p : ℕ) (r : R (Eval n p)) (shape : Shape) (at : At n shape) (way : way_of n shape ≡ Iterations k s)
       (star : At s (node.Star k)) (kid : Seen k p) (next : (q : ℕ) → NT k p q → Seen s q) where
     first_kid : R (Eval k p)
-    first_kid = reach_edge r (shape, at,
-        subst (λ v. LeadsBy rules nodes bodies x v n p (Eval k p)) (sym way) (inl refl))
+    first_kid = reach_edge r (
+      shape,
+      at,
+      subst (λ v. LeadsBy rules nodes bodies x v n p (Eval k p)) (sym way) (inl refl),
+    )
 
     again_step : {t : MatchTask} → B (Eval n p) t
         → (t ≡ Eval n p) ⊎ (B (Eval k p) t ⊎ ((q : ℕ) × NT k p q × B (Eval s q) t))
@@ -138,8 +141,11 @@ module _ (rules : List Rule) (start : ℕ) (nodes : List Shape) (bodies ranks x 
     ]
 
     next_kid : (q : ℕ) → NT k p q → R (Eval s q)
-    next_kid q t = reach_edge r (shape, at,
-        subst (λ v. LeadsBy rules nodes bodies x v n p (Eval s q)) (sym way) (inr (q, t, refl)))
+    next_kid q t = reach_edge r (
+      shape,
+      at,
+      subst (λ v. LeadsBy rules nodes bodies x v n p (Eval s q)) (sym way) (inr (q, t, refl)),
+    )
 
     -- an operand of a repetition takes some bytes
     operand_moves : (q : ℕ) → NT k p q → p < q

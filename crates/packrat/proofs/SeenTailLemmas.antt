@@ -179,8 +179,11 @@ module _ (rules : List Rule) (start : ℕ) (nodes : List Shape) (bodies ranks x 
             let same : g.0 ≡ m = cc (g.1, there) in
             elim g.2 [
               | inl is ↦ inr (inl (subst (λ v. B v t) (is ∙ ap (λ v. Eval v p) same) c.2))
-              | inr e ↦ inr (inr (e.1, subst (λ v. NT v p e.1) same e.3,
-                  (e.0, e.2, subst (λ v. B v t) e.4 c.2)))
+              | inr e ↦ inr (inr (
+                e.1,
+                subst (λ v. NT v p e.1) same e.3,
+                (e.0, e.2, subst (λ v. B v t) e.4 c.2),
+              ))
             ]
       ]
 
